@@ -1,0 +1,20 @@
+-- A unit that was found in a stream.
+use Rattle.std.specs.Prelude.{ℕ, ◌-◌, List, take, drop, slice_index, ◌==◌, ◌&&◌, nat_le, if◌then◌else◌}
+use Rattle.hevc_spec.specs.Units.{NalUnit}
+
+-- its header, the stream in which it stands, the place of its first byte, and how many bytes it has
+pub record FoundUnit (H : Type 0) : Type 0 where
+  pub header : H
+  pub stream : List ℕ
+  pub offset : ℕ
+  pub size : ℕ
+
+abbrev pub bytes_of : {H : Type 0} → FoundUnit H → List ℕ
+bytes_of u = take u.size (drop u.offset u.stream)
+
+abbrev pub unit_of : {H : Type 0} → FoundUnit H → NalUnit
+unit_of u = record { offset = u.offset; bytes = bytes_of u }
+
+-- The start code has the zero_byte before it as its first, where there is one (B.2.1).
+abbrev pub start_code_offset : {H : Type 0} → FoundUnit H → ℕ
+start_code_offset u = if nat_le 4 u.offset && slice_index u.stream (u.offset - 4) == 0 then u.offset - 4 else u.offset - 3

@@ -1,0 +1,20 @@
+//! Units of an H.265 byte stream (Annex B), their headers (7.3.1.2), and the bits of their payload (7.3.1.1, 9.2).
+#![tactic(auto)]
+
+mod bit_error;
+mod header;
+mod load;
+mod nalu;
+mod nalu_header;
+mod nalu_type;
+mod reader;
+mod start_code;
+#[cfg(test)]
+mod tests;
+
+pub use bit_error::BitError;
+pub use header::{Header, UnitError};
+pub use nalu::Nalu;
+pub use nalu_header::NaluHeader;
+pub use nalu_type::NaluType;
+pub use reader::NaluReader;

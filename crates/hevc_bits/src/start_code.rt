@@ -1,0 +1,53 @@
+//! The search for the start code 00 00 01, and what stands behind a unit.
+
+ghost use Rattle.std.specs.Prelude.{◌≤◌, ◌<◌, ◌≡◌, length, take};
+ghost use Rattle.hevc_spec.specs.Units.{without_trailing_zeros};
+ghost use Rattle.hevc_bits.specs.StartCode.{IsFirstStart, NoneStands, StandsAt};
+
+/// The place of the first start code at `from` or behind it. A byte above 1 rules out three places at once.
+pub fn find_start_code(stream: &[u8], from: usize) -> Option<usize>
+    requires { from ≤ length stream.now }
+    ensures { IsFirstStart stream.now from result }
+{
+    let mut at = from;
+    while at + 2 < stream.len() {
+        let third = stream[at + 2];
+        if third > 1 {
+            at += 3;
+        } else if third == 0 {
+            at += 1;
+        } else if stream[at] == 0 && stream[at + 1] == 0 {
+            return Some(at);
+        } else {
+            at += 3;
+        }
+    }
+    None
+}
+
+/// The place of the next start code behind a unit's first byte, or the end of the stream.
+pub fn end_of_unit(stream: &[u8], offset: usize) -> usize
+    requires { offset ≤ length stream.now }
+    ensures behind { offset ≤ result }
+    ensures within { result ≤ length stream.now }
+    ensures none_before { NoneStands stream.now offset result }
+    ensures stands { result < length stream.now → StandsAt stream.now result }
+{
+    match find_start_code(stream, offset) {
+        Some(end) => end,
+        None => stream.len(),
+    }
+}
+
+/// The bytes without the zeros at their end.
+pub fn trim_trailing_zeros(bytes: &[u8]) -> &[u8]
+    ensures trimmed { result.now ≡ without_trailing_zeros bytes.now }
+    ensures front { result.now ≡ take (length result.now) bytes.now }
+    ensures shorter { length result.now ≤ length bytes.now }
+{
+    let mut len = bytes.len();
+    while len > 0 && bytes[len - 1] == 0 {
+        len -= 1;
+    }
+    &bytes[..len]
+}

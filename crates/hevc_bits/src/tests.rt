@@ -1,0 +1,163 @@
+//! Worked units and payloads.
+
+use crate::bit_error::BitError;
+use crate::header::{Header, UnitError};
+use crate::nalu::Nalu;
+use crate::nalu_header::NaluHeader;
+use crate::nalu_type::NaluType;
+use crate::reader::NaluReader;
+use std::convert::AsSlice;
+
+#[test]
+fn reads_bits_across_bytes(rt: HostRuntime) {
+    let mut r = NaluReader::new(&[0x01, 0x23, 0x45, 0x67, 0x89, 0xA0]);
+    assert_eq!(rt; r.read_bits(1), Ok(0));
+    assert_eq!(rt; r.num_bits_left(), 47);
+    assert!(rt; r.has_more_rsbp_data());
+    assert_eq!(rt; r.read_bits(8), Ok(2));
+    assert_eq!(rt; r.num_bits_left(), 39);
+    assert!(rt; r.has_more_rsbp_data());
+    assert_eq!(rt; r.read_bits(31), Ok(0x2345_6789));
+    assert_eq!(rt; r.num_bits_left(), 8);
+    assert!(rt; r.has_more_rsbp_data());
+    assert_eq!(rt; r.read_bits(1), Ok(1));
+    assert_eq!(rt; r.num_bits_left(), 7);
+    assert!(rt; r.has_more_rsbp_data());
+    assert_eq!(rt; r.read_bits(1), Ok(0));
+    assert_eq!(rt; r.num_bits_left(), 6);
+    assert!(rt; !r.has_more_rsbp_data());
+    assert_eq!(rt; r.read_bits(32), Err(BitError::OutOfRange));
+}
+
+#[test]
+fn tells_whether_more_stands_before_the_stop_bit(rt: HostRuntime) {
+    let mut short = NaluReader::new(&[0x18]);
+    assert_eq!(rt; short.num_bits_left(), 8);
+    assert!(rt; short.has_more_rsbp_data());
+    assert_eq!(rt; short.read_bits(4), Ok(1));
+    assert!(rt; !short.has_more_rsbp_data());
+    let mut long = NaluReader::new(&[0xAB, 0x80]);
+    assert_eq!(rt; long.num_bits_left(), 16);
+    assert!(rt; long.has_more_rsbp_data());
+    assert_eq!(rt; long.read_bits(8), Ok(0xAB));
+    assert_eq!(rt; long.num_bits_left(), 8);
+    assert!(rt; !long.has_more_rsbp_data());
+    assert!(rt; NaluReader::new(&[0x80, 0, 0, 3]).has_more_rsbp_data());
+    assert!(rt; !NaluReader::new(&[]).has_more_rsbp_data());
+}
+
+#[test]
+fn moves_behind_zero_bytes_where_no_more_stands(rt: HostRuntime) {
+    let mut r = NaluReader::new(&[0x80, 0, 0]);
+    assert!(rt; !r.has_more_rsbp_data());
+    assert_eq!(rt; r.num_bits_left(), 8);
+    assert_eq!(rt; r.read_bit(), Ok(true));
+}
+
+#[test]
+fn drops_a_03_behind_two_zero_bytes(rt: HostRuntime) {
+    let mut kept = NaluReader::new(&[0x03, 0x01]);
+    assert_eq!(rt; kept.read_bits(16), Ok(769));
+    assert_eq!(rt; kept.num_epb(), 0);
+    let mut dropped = NaluReader::new(&[0, 0, 0x03, 0x01]);
+    assert_eq!(rt; dropped.num_bits_left(), 32);
+    assert_eq!(rt; dropped.read_bits(24), Ok(1));
+    assert_eq!(rt; dropped.num_epb(), 1);
+    assert_eq!(rt; dropped.num_bits_left(), 0);
+}
+
+#[test]
+fn reads_exp_golomb_numbers(rt: HostRuntime) {
+    let mut r = NaluReader::new(&[0xA6]);
+    assert_eq!(rt; r.read_ue(), Ok(0));
+    assert_eq!(rt; r.read_ue(), Ok(1));
+    assert_eq!(rt; r.read_ue(), Ok(2));
+    let left = r.num_bits_left();
+    assert_eq!(rt; r.read_ue(), Err(BitError::OutOfBits));
+    assert_eq!(rt; r.num_bits_left(), left);
+    let mut signed = NaluReader::new(&[0x4C, 0x80]);
+    let mut bounded = signed.fork();
+    assert_eq!(rt; signed.read_se(), Ok(1));
+    assert_eq!(rt; signed.read_se(), Ok(-1));
+    assert_eq!(rt; bounded.read_se_bounded(-1, 0), Err(BitError::OutOfRange));
+    assert_eq!(rt; bounded.read_se_bounded(-1, 1), Ok(1));
+    assert_eq!(rt; bounded.read_ue_max(1), Err(BitError::OutOfRange));
+    assert_eq!(rt; bounded.read_ue_bounded(2, 2), Ok(2));
+    assert_eq!(rt; bounded.skip_bits(6), Ok(()));
+    assert_eq!(rt; bounded.skip_bits(5), Err(BitError::OutOfBits));
+    assert_eq!(rt; bounded.num_bits_left(), 4);
+}
+
+#[test]
+fn reads_the_greatest_exp_golomb_number(rt: HostRuntime) {
+    let mut greatest = NaluReader::new(&[0, 0, 0x03, 0, 0x01, 0, 0, 0x03, 0, 0]);
+    assert_eq!(rt; greatest.read_ue(), Ok(2_147_483_647));
+    assert_eq!(rt; greatest.num_epb(), 2);
+    assert_eq!(rt; greatest.num_bits_left(), 1);
+    let mut zeros = NaluReader::new(&[0, 0, 0x03, 0, 0, 0x80]);
+    assert_eq!(rt; zeros.read_ue(), Err(BitError::OutOfRange));
+    assert_eq!(rt; zeros.num_bits_left(), 48);
+    let mut greater = NaluReader::new(&[0, 0, 0x03, 0, 0x01, 0, 0, 0x03, 0, 0x02]);
+    assert_eq!(rt; greater.read_ue(), Err(BitError::OutOfRange));
+    let mut cut_off = NaluReader::new(&[0, 0, 0x03, 0, 0x01, 0x40]);
+    assert_eq!(rt; cut_off.read_ue(), Err(BitError::OutOfBits));
+    assert_eq!(rt; cut_off.num_bits_left(), 48);
+}
+
+#[test]
+fn cuts_units_out_of_a_stream(rt: HostRuntime) {
+    let stream = [0, 0, 0, 1, 0x46, 0x01, 0x50, 0, 0, 1, 0x48, 0x01, 0x80, 0];
+    let mut position = 0;
+    let Ok(unit) = Nalu::<NaluHeader>::next(&stream, &mut position) else {
+        return assert!(rt; false);
+    };
+    assert!(rt; unit.header().nalu_type() == NaluType::AudNut);
+    assert_eq!(rt; unit.header().layer_id(), 0);
+    assert_eq!(rt; unit.header().temporal_id_plus1(), 1);
+    assert!(rt; !unit.header().is_end());
+    assert_eq!(rt; unit.header().len(), 2);
+    assert_eq!(rt; unit.sc_offset(), 0);
+    assert_eq!(rt; unit.offset(), 4);
+    assert_eq!(rt; unit.size(), 3);
+    assert_eq!(rt; position, 4);
+    assert!(rt; unit.as_ref() == [0x46, 0x01, 0x50].as_slice());
+    assert_eq!(rt; unit.data().len(), 14);
+    position = unit.offset() + unit.size();
+    let Ok(end) = Nalu::<NaluHeader>::next(&stream, &mut position) else {
+        return assert!(rt; false);
+    };
+    assert!(rt; NaluHeader::parse(&[0x48, 0x01]) == Ok(*end.header()));
+    assert_eq!(rt; end.sc_offset(), 7);
+    assert!(rt; end.as_slice() == [0x48, 0x01].as_slice());
+    position = end.offset() + end.size();
+    assert!(rt; Nalu::<NaluHeader>::next(&stream, &mut position).is_err());
+    assert_eq!(rt; position, 12);
+}
+
+#[test]
+fn refuses_units_in_their_order(rt: HostRuntime) {
+    assert!(rt; refusal(&[0x42]) == Some(UnitError::NoNal));
+    assert!(rt; refusal(&[0, 0, 1, 0x42]) == Some(UnitError::TruncatedNalu));
+    assert!(rt; refusal(&[0, 0, 1, 0x48, 0x00]) == Some(UnitError::TruncatedNalu));
+    assert!(rt; refusal(&[0, 0, 1, 0x7C, 0x00, 0x80]) == Some(UnitError::InvalidNaluType(62)));
+    assert!(rt; refusal(&[0, 0, 1, 0x40, 0x00, 0x80]) == Some(UnitError::TemporalIdZero));
+    assert!(rt; refusal(&[0, 0, 1, 0x48, 0x00, 0x05]) == Some(UnitError::TemporalIdZero));
+    assert!(rt; refusal(&[0, 0, 1, 0x40, 0x01]).is_none());
+}
+
+fn refusal(stream: &[u8]) -> Option<UnitError> {
+    let mut position = 0;
+    Nalu::<NaluHeader>::next(stream, &mut position).err()
+}
+
+#[test]
+fn names_unit_types(rt: HostRuntime) {
+    assert!(rt; NaluType::n(48).is_none());
+    assert!(rt; NaluType::n(19) == Some(NaluType::IdrWRadl));
+    assert!(rt; NaluType::IdrWRadl.is_idr() && NaluType::IdrWRadl.is_irap());
+    assert!(rt; NaluType::BlaNLp.is_bla() && !NaluType::CraNut.is_bla());
+    assert!(rt; NaluType::CraNut.is_cra() && NaluType::RadlN.is_radl());
+    assert!(rt; NaluType::RaslR.is_rasl() && NaluType::RaslN.is_slnr());
+    assert!(rt; NaluType::default() == NaluType::TrailN);
+    assert!(rt; NaluType::TrailR < NaluType::TsaN);
+}

@@ -1,0 +1,30 @@
+//! What decoding a stream gives.
+use crate::decode_error::DecodeError;
+
+/// An output: a picture at the moment that it is due (C.5.2).
+#[derive(Clone, Copy, PartialEq, Eq)]
+pub struct Shown<H> {
+    /// The picture's number, from 0 upwards in decoding order.
+    pub number: u64,
+    /// What the backend gave for the picture.
+    pub handle: H,
+    /// PicOrderCntVal (8.3.1).
+    pub order_count: i32,
+    /// The number, from 0, of the unit at which the picture is output; behind the last unit the number
+    /// of units.
+    pub unit: u64,
+}
+
+/// A refusal, and the number, from 0, of the unit at which it came.
+#[derive(Clone, Copy, PartialEq, Eq)]
+pub struct Refused {
+    pub unit: u64,
+    pub error: DecodeError,
+}
+
+/// The backend, and how the stream ended: with the number of its pictures, or refused.
+#[derive(Drop)]
+pub struct Decoded<B> {
+    pub backend: B,
+    pub result: Result<u64, Refused>,
+}

@@ -1,0 +1,3 @@
+pub mod FormLaws
+pub mod TableLaws
+pub mod Spellings

@@ -1,0 +1,3 @@
+pub mod Projections
+pub mod Meanings
+pub mod Kept

@@ -1,0 +1,4 @@
+pub mod UnitLaws
+pub mod PlaceLaws
+pub mod Repeats
+pub mod BitSteps

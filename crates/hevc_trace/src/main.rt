@@ -1,0 +1,83 @@
+//! The program: decodes an H.265 byte stream from standard input over a backend that records its
+//! calls, and prints the calls and the pictures that come out.
+#![tactic(auto)]
+
+mod fault_plan;
+mod input;
+mod memory;
+mod output;
+mod program;
+mod report;
+mod sink;
+mod source;
+mod standard;
+#[cfg(test)]
+mod tests;
+mod word;
+
+use program::run;
+use standard::{StdSink, StdSource};
+use std::alloc::{AllocError, Global};
+use std::env::{Env, FillError};
+use std::io;
+use std::process::ExitCode;
+use word::Word;
+
+/// The status where there is no memory for the words.
+const NO_MEMORY: u8 = 5;
+
+/// The status where the system doesn't hand over the words.
+const NO_WORDS: u8 = 8;
+
+/// Why the words can't be had.
+enum WordsError {
+    NoMemory,
+    Refused,
+}
+
+impl From<AllocError> for WordsError {
+    fn from(_error: AllocError) -> WordsError {
+        WordsError::NoMemory
+    }
+}
+
+fn main(rt: HostRuntime) -> ExitCode {
+    let words = match command_line(&rt, rt.alloc()) {
+        Ok(words) => words,
+        Err(WordsError::NoMemory) => return ExitCode::from(NO_MEMORY),
+        Err(WordsError::Refused) => return ExitCode::from(NO_WORDS),
+    };
+    let mut source = StdSource::new(rt.reader());
+    let mut sink = StdSink::new(io::writer(&rt));
+    ExitCode::from(run(rt.alloc(), &words, &mut source, &mut sink))
+}
+
+/// The words of the command line behind the program's name.
+fn command_line(rt: &impl Env, alloc: Global) -> Result<Vec<Word>, WordsError> {
+    let mut words = Vec::new(alloc);
+    for number in 1..usize::MAX {
+        let Some(word) = word_at(rt, alloc, number)? else {
+            return Ok(words);
+        };
+        if words.push(word).is_err() {
+            return Err(WordsError::NoMemory);
+        }
+    }
+    Err(WordsError::Refused)
+}
+
+/// A word of the command line, or none behind the last. The room for it is doubled until it fits.
+fn word_at(rt: &impl Env, alloc: Global, number: usize) -> Result<Option<Word>, WordsError> {
+    for doublings in 0..16u32 {
+        let mut bytes = vec![in alloc; 0u8; 64usize << doublings]?;
+        match rt.arg(number, &mut bytes) {
+            Ok(length) => {
+                bytes.truncate(length);
+                return Ok(Some(Word::new(bytes)));
+            }
+            Err(FillError::NotPresent) => return Ok(None),
+            Err(FillError::TooLong) => {}
+        }
+    }
+    Err(WordsError::Refused)
+}

@@ -1,0 +1,9 @@
+pub mod Level
+pub mod PpsRangeExtension
+pub mod PpsSccExtension
+pub mod Profile
+pub mod ProfileTierLevel
+pub mod RefPicListModification
+pub mod ScalingLists
+pub mod ShortTermRefPicSet
+pub mod SliceType

@@ -1,0 +1,14 @@
+pub mod UnitTypes
+pub mod Meanings
+pub mod DependentSlices
+pub mod OrderCounts
+pub mod Pictures
+pub mod Buffer
+pub mod ReferenceSets
+pub mod ReferenceLists
+pub mod Walk
+pub mod Refusals
+pub mod Results
+pub mod Fates
+pub mod Clean
+pub mod Premises

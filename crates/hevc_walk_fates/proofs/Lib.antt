@@ -1,0 +1,5 @@
+pub mod Numbers
+pub mod Accepted
+pub mod Counts
+pub mod Fates
+pub mod Submitted

@@ -1,0 +1,4 @@
+pub mod Buffers
+pub mod Heads
+pub mod Parts
+pub mod Simulation

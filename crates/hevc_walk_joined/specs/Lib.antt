@@ -1,0 +1,3 @@
+pub mod Standings
+pub mod Raised
+pub mod Submissions
