@@ -1,10 +1,9 @@
 -- What the decoder answers, and what its answers tell of the backend.
 use Rattle.std.specs.Prelude.{ℕ, ◌≡◌, ◌≤◌, Result, Ok, Err}
 use Rattle.hevc_backend.specs.Trait.{Rose}
-use Rattle.hevc_backend.specs.declared.negotiation.NegotiationInfo.{NegotiationInfo}
 use Rattle.hevc_decoder.specs.declared.decoded.Refused.{Refused}
 use Rattle.hevc_decoder.specs.declared.decode_error.DecodeError.{DecodeError}
-use Rattle.hevc_decoder.specs.declared.decode_error.DecodeError.TheVariants.{NoNal, TruncatedNalu, InvalidNaluType, OutOfBits, OutOfRange, MissingPps, NoIndependentSlice, ChangedMidPicture, PocOutOfRange, DpbFull, NotEnoughOutputBuffers, CheckEvents, PictureNumbersSpent, Backend, NoMemory, NotYet}
+use Rattle.hevc_decoder.specs.declared.decode_error.DecodeError.TheVariants.{TruncatedNalu, InvalidNaluType, OutOfRange, NotYet, Backend, NoMemory}
 
 -- the backend's count of faults is as it was, unless the backend failed: then it rose
 abbrev pub CountsError : ℕ → ℕ → DecodeError → Type 0
@@ -27,7 +26,13 @@ IsNoBackend (Err error) = ¬ IsBackend error
 abbrev pub KeepsFaultless : {T : Type 0} → Type 0 → Type 0 → Result T DecodeError → Type 0
 KeepsFaultless before now result = before → now × IsNoBackend result
 
--- An answer to a stream, while only plain streams of IDR pictures are decoded.
+-- an answer without its unit
+abbrev pub without_unit : Result ℕ Refused → Result ℕ DecodeError
+without_unit (Ok pictures) = Ok pictures
+without_unit (Err refused) = Err refused.error
+
+-- An answer to a stream, while only plain streams of IDR pictures are decoded: a unit whose header is refused (nuh_temporal_id_plus1 is
+-- row 1 of table 0), what isn't built yet, and the two that the units don't decide.
 abbrev pub IsAnswer : DecodeError → Type 0
 IsAnswer TruncatedNalu = Unit {0}
 IsAnswer (InvalidNaluType number) = Unit {0}
@@ -37,11 +42,6 @@ IsAnswer Backend = Unit {0}
 IsAnswer NoMemory = Unit {0}
 IsAnswer error = ⊥
 
-abbrev pub Answers : {T : Type 0} → Result T DecodeError → Type 0
-Answers (Ok value) = Unit {0}
-Answers (Err error) = IsAnswer error
-
--- an answer without its unit
-abbrev pub error_of : Result ℕ Refused → Result ℕ DecodeError
-error_of (Ok pictures) = Ok pictures
-error_of (Err refused) = Err refused.error
+abbrev pub AnswersOnly : Result ℕ Refused → Type 0
+AnswersOnly (Ok pictures) = Unit {0}
+AnswersOnly (Err refused) = IsAnswer refused.error

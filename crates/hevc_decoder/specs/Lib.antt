@@ -1,2 +1,9 @@
 pub mod Answers
+pub mod Does
 pub mod Errors
+pub mod Headline
+pub mod Maps
+pub mod Runs
+pub mod State
+pub mod StreamMeanings
+pub mod Tickets

@@ -8,45 +8,47 @@ use hevc_bits::UnitError;
 use std::alloc::{AllocError, AllocFailed};
 
 /// Why a stream is refused, or a call of the decoder.
+///
+/// Of a unit: `NoNal`, there is none left; `TruncatedNalu`, it has fewer than two bytes;
+/// `InvalidNaluType`, its type is one of 48 to 63 (Table 7-1); `OutOfBits`, its payload ends before an
+/// element does; `OutOfRange`, an element's value isn't allowed, with its table and row in
+/// docs/TABLES.md; `NotYet`, it asks for what isn't built, with the numbers that docs/TABLES.md lists.
+///
+/// Of a slice: `MissingPps`, it names a picture parameter set that isn't kept (7.4.7.1);
+/// `NoIndependentSlice`, it is dependent, and follows no independent slice whose header it could take
+/// (7.4.7.1); `ChangedMidPicture`, it is a later slice of a picture, and names a sequence parameter
+/// set of another format than the accepted one (7.4.2.4.2).
+///
+/// Of a picture: `PocOutOfRange`, its order count leaves the range of 32 bits (8.3.1); `DpbFull`, it is
+/// to be stored while the decoded picture buffer is full (C.5.2.3); `PictureNumbersSpent`, there is no
+/// number left for it.
+///
+/// Of the backend: `NotEnoughOutputBuffers`, it has no free frame, and so many are needed;
+/// `CheckEvents`, a format was negotiated and is to be accepted first; `Backend`, it failed.
+/// `NoMemory`: there is no memory.
 #[derive(Clone, Copy, PartialEq, Eq)]
 pub enum DecodeError {
-    /// There is no unit left.
     NoNal,
-    /// A unit has fewer than two bytes.
     TruncatedNalu,
-    /// A unit has this type, 48 to 63.
     InvalidNaluType(u8),
-    /// A unit's payload ends before an element does.
     OutOfBits,
-    /// An element's value isn't allowed: its table and row in docs/TABLES.md.
     OutOfRange {
         table: u8,
         row: u8,
     },
-    /// A slice names a picture parameter set that isn't kept.
     MissingPps(u8),
-    /// A dependent slice follows no independent slice whose header it could take.
     NoIndependentSlice,
-    /// A later slice of a picture names a sequence parameter set of another format.
     ChangedMidPicture {
         accepted: NegotiationInfo,
         named: NegotiationInfo,
     },
-    /// A picture's order count leaves the range of 32 bits (8.3.1).
     PocOutOfRange,
-    /// A picture is to be stored, and the decoded picture buffer is full (C.5.2.3).
     DpbFull,
-    /// The backend has no free frame; so many are needed.
     NotEnoughOutputBuffers(usize),
-    /// A format was negotiated, and is to be accepted first.
     CheckEvents,
-    /// There is no picture number left.
     PictureNumbersSpent,
-    /// The backend failed.
     Backend,
-    /// There is no memory.
     NoMemory,
-    /// What the unit asks for isn't built yet; docs/TABLES.md lists the cases.
     NotYet {
         table: u8,
         row: u8,

@@ -15,16 +15,20 @@ pub struct Shown<H> {
     pub unit: u64,
 }
 
-/// A refusal, and the number, from 0, of the unit at which it came.
+/// A refusal.
 #[derive(Clone, Copy, PartialEq, Eq)]
 pub struct Refused {
+    /// The number, from 0, of the unit at which it came; behind the last unit the number of units.
     pub unit: u64,
+    /// Why.
     pub error: DecodeError,
 }
 
-/// The backend, and how the stream ended: with the number of its pictures, or refused.
+/// What is left of a decoding.
 #[derive(Drop)]
 pub struct Decoded<B> {
+    /// The backend, behind the last call that it took.
     pub backend: B,
+    /// How the stream ended: with the number of its pictures, or refused.
     pub result: Result<u64, Refused>,
 }

@@ -1,192 +1,130 @@
 //! The walk over the units of a stream, for IDR pictures of one slice.
-ghost use Rattle.std.specs.Prelude.{◌≡◌, ◌+◌, ◌<◌, ◌≤◌, ◌^◌, length, IfOk, IfErr, IsTrue};
-ghost use Rattle.hevc_spec.specs.Units.{units, units_from, kept_bytes};
-ghost use Rattle.hevc_decoder.specs.Answers.{CountsErrors, KeepsFaultless, Answers, error_of};
+ghost use Rattle.std.specs.Prelude.{◌≡◌, ◌+◌, ◌<◌, ◌^◌, ℕ, List, length, OnOk};
+ghost use Rattle.hevc_bits.specs.FoundUnit.{bytes_of};
+ghost use Rattle.hevc_tables.specs.UnitMeanings.{unit_meaning, kept_behind};
+ghost use Rattle.hevc_plain.specs.Kept.{kept_sets};
+ghost use Rattle.hevc_plain.specs.Projections.{plain_header};
+ghost use Rattle.hevc_walk.specs.Meanings.{SequenceSet};
+ghost use Rattle.hevc_walk_idr.specs.IdrWalk.{idr_part};
+ghost use Rattle.hevc_decoder.specs.Answers.{CountsErrors, KeepsFaultless};
+ghost use Rattle.hevc_decoder.specs.Does.{Runs, TakesUnit};
+ghost use Rattle.hevc_decoder.specs.Maps.{format_of};
+ghost use Rattle.hevc_decoder.specs.State.{standing, traces, open_picture, finish, output_stored, leave, begin, start, store, change_picture, close};
+ghost use Rattle.hevc_decoder.specs.StreamMeanings.{first_format, picture_meaning, slice_meaning, slice_of};
 
 use crate::decode_error::DecodeError;
-use crate::decoded::{Refused, Shown};
-use crate::plain::slice_header::SliceHeader;
-use crate::sets::Sets;
+use crate::decoded::Shown;
+use crate::format::{is_accepted, negotiation_info};
+use crate::state::{IdrPicture, Open, State, Stored};
 use hevc_backend::{NegotiationInfo, StatelessH265DecoderBackend};
-use hevc_bits::{Nalu, NaluHeader, NaluType, UnitError};
-
-/// What is known of a picture apart from its samples.
-#[derive(Clone, Copy)]
-pub(crate) struct PictureFacts {
-    pub number: u64,
-    /// PicOrderCntVal (8.3.1): 0 for an IDR picture.
-    pub pic_order_cnt_val: i32,
-    /// PicOutputFlag (8.1.3).
-    pub pic_output_flag: bool,
-    /// `sps_max_num_reorder_pics`, in pictures.
-    pub max_num_reorder_pics: u8,
-}
-
-/// The picture whose slices come.
-#[derive(Drop)]
-pub(crate) struct Open<P> {
-    pub facts: PictureFacts,
-    pub picture: P,
-}
-
-/// A picture in the decoded picture buffer.
-#[derive(Clone, Copy)]
-pub(crate) struct Stored<H> {
-    pub facts: PictureFacts,
-    pub handle: H,
-    pub needed_for_output: bool,
-}
+use hevc_bits::{Nalu, NaluHeader};
+use hevc_plain::{ParameterSets, SliceHeader, UnitMeaning};
 
 /// The decoder of a stream of IDR pictures.
-///
-/// Each of them empties the buffer before it is decoded (C.5.2.2), so that one picture at most is
-/// stored.
 pub(crate) struct Decoder<B: StatelessH265DecoderBackend> {
     pub backend: B,
-    pub sets: Sets,
-    /// The format of the first sequence parameter set, once the backend was told of it.
-    pub accepted: Option<NegotiationInfo>,
-    pub open: Option<Open<B::Picture>>,
-    pub stored: Option<Stored<B::Handle>>,
-    /// How many pictures began.
-    pub begun: u64,
+    pub sets: ParameterSets,
+    pub state: State<B::Handle, B::Picture>,
 }
 
 impl<B: StatelessH265DecoderBackend> Decoder<B> {
-    /// Takes all units of a stream, and gives the number of its pictures.
-    pub(crate) fn walk(
-        &mut self,
-        stream: &[u8],
-        shown: &mut Vec<Shown<B::Handle>>,
-    ) -> Result<u64, Refused>
-        requires first { self.old.begun ≡ 0 }
-        requires short { length stream.now < 2 ^ 60 }
-        ensures cause { CountsErrors (B.faults self.old.backend) (B.faults self.new.backend) (error_of result) }
-        ensures faultless { KeepsFaultless (B.is_faultless self.old.backend) (B.is_faultless self.new.backend) (error_of result) }
-        ensures answer { Answers (error_of result) }
-        ensures unit { IfErr result (λ refused. refused.unit ≤ length (units stream.now)) }
-    {
-        let mut position = 0;
-        let mut unit = 0;
-        loop {
-            match self.step(stream, &mut position, unit, shown) {
-                Ok(true) => unit += 1,
-                Ok(false) => return Ok(self.begun),
-                Err(error) => return Err(Refused { unit, error }),
-            }
-        }
-    }
-
-    /// Takes the unit at a position. Where there is none left, the stream is over: the answer is false.
-    fn step(
-        &mut self,
-        stream: &[u8],
-        position: &mut usize,
-        unit: u64,
-        shown: &mut Vec<Shown<B::Handle>>,
-    ) -> Result<bool, DecodeError>
-        requires room { self.old.begun + 1 < 2 ^ 64 }
-        requires short { length stream.now < 2 ^ 60 }
-        requires within { position.old ≤ length stream.now }
-        ensures cause { CountsErrors (B.faults self.old.backend) (B.faults self.new.backend) result }
-        ensures faultless { KeepsFaultless (B.is_faultless self.old.backend) (B.is_faultless self.new.backend) result }
-        ensures answer { Answers result }
-        ensures begun { self.new.begun ≤ self.old.begun + 1 }
-        ensures moves { IfOk result (λ more. IsTrue more → position.old < position.new) }
-        ensures inside { position.new ≤ length stream.now }
-        ensures units { IfOk result (λ more. IsTrue more →
-            length (units_from kept_bytes position.old stream.now) ≡ 1 + length (units_from kept_bytes position.new stream.now)) }
-    {
-        let nalu = match Nalu::next(stream, position) {
-            Ok(nalu) => nalu,
-            Err(UnitError::NoNal) => {
-                self.close(unit, shown)?;
-                return Ok(false);
-            }
-            Err(error) => return Err(error.into()),
-        };
-        *position = nalu.offset() + nalu.size();
-        self.take(&nalu, unit, shown)?;
-        Ok(true)
-    }
-
     /// Takes a unit.
-    fn take(
+    pub(crate) fn take(
         &mut self,
         nalu: &Nalu<'_, NaluHeader>,
         unit: u64,
         shown: &mut Vec<Shown<B::Handle>>,
     ) -> Result<(), DecodeError>
-        requires room { self.old.begun + 1 < 2 ^ 64 }
+        requires room { self.old.state.begun + 1 < 2 ^ 64 }
         requires short { length nalu.now.stream < 2 ^ 60 }
+        requires accepted { (standing self.old.state).accepted ≡ first_format (kept_sets self.old.sets) }
         ensures cause { CountsErrors (B.faults self.old.backend) (B.faults self.new.backend) result }
         ensures faultless { KeepsFaultless (B.is_faultless self.old.backend) (B.is_faultless self.new.backend) result }
-        ensures answer { Answers result }
-        ensures begun { self.new.begun ≤ self.old.begun + 1 }
+        ensures part { TakesUnit result unit (traces (B.log self.old.backend) shown.old.items self.old.state) (traces (B.log self.new.backend) shown.new.items self.new.state)
+            (picture_meaning (first_format (kept_sets self.old.sets)) (bytes_of nalu.now) (unit_meaning (kept_sets self.old.sets) (bytes_of nalu.now))) (standing self.old.state) (standing self.new.state) }
+        ensures kept { OnOk result (kept_sets self.new.sets ≡ kept_behind (kept_sets self.old.sets) (unit_meaning (kept_sets self.old.sets) (bytes_of nalu.now))) }
     {
-        let nalu_type = nalu.header().nalu_type();
-        match nalu_type {
-            NaluType::SpsNut => self.take_sequence_set(payload(nalu)),
-            NaluType::PpsNut => self.sets.take_picture_set(payload(nalu)),
-            NaluType::VpsNut => Err(DecodeError::NotYet { table: 0, row: 32 }),
-            _ if self.accepted.is_none() => Ok(()),
-            NaluType::IdrWRadl | NaluType::IdrNLp => self.take_slice(nalu, unit, shown),
-            _ if is_awaited(nalu_type) => Err(DecodeError::NotYet {
-                table: 0,
-                row: nalu_type as u8,
-            }),
-            _ => Ok(()),
+        match self.sets.take_unit(nalu)? {
+            UnitMeaning::SequenceSet(set) => self.take_sequence_set(negotiation_info(&set)),
+            UnitMeaning::Slice(header) => self.take_slice(&header, nalu, unit, shown),
+            UnitMeaning::NotYet { table, row } => Err(DecodeError::NotYet { table, row }),
+            UnitMeaning::PictureSet(_) | UnitMeaning::Other => Ok(()),
         }
     }
 
-    /// Keeps a sequence parameter set. The backend is told of the first one.
-    fn take_sequence_set(&mut self, payload: &[u8]) -> Result<(), DecodeError>
-        requires { length payload.now < 2 ^ 60 }
+    /// The backend is told of the format of the first sequence parameter set.
+    #[tactic(auto, using(crate::proofs::Doing::part_rules))]
+    fn take_sequence_set(&mut self, info: NegotiationInfo) -> Result<(), DecodeError>
         ensures cause { CountsErrors (B.faults self.old.backend) (B.faults self.new.backend) result }
         ensures faultless { KeepsFaultless (B.is_faultless self.old.backend) (B.is_faultless self.new.backend) result }
-        ensures answer { Answers result }
-        ensures begun { self.new.begun ≡ self.old.begun }
+        ensures part { (shown : List (Shown B.Handle)) (k : ℕ) → Runs result k (traces (B.log self.old.backend) shown self.old.state) (traces (B.log self.new.backend) shown self.new.state)
+            (idr_part (SequenceSet (format_of info)) (standing self.old.state)) (standing self.new.state) }
+        ensures sets { self.new.sets ≡ self.old.sets }
     {
-        let set = self.sets.take_sequence_set(payload)?;
-        match self.accepted {
-            None => self.negotiate(set.format),
-            Some(_) => Ok(()),
+        if self.state.accepted.is_none() {
+            self.backend.new_sequence(&info)?;
+            self.state.accepted = Some(info);
         }
-    }
-
-    /// Tells the backend of the format of a sequence.
-    fn negotiate(&mut self, info: NegotiationInfo) -> Result<(), DecodeError>
-        ensures cause { CountsErrors (B.faults self.old.backend) (B.faults self.new.backend) result }
-        ensures faultless { KeepsFaultless (B.is_faultless self.old.backend) (B.is_faultless self.new.backend) result }
-        ensures answer { Answers result }
-        ensures begun { self.new.begun ≡ self.old.begun }
-    {
-        self.backend.new_sequence(&info)?;
-        self.accepted = Some(info);
         Ok(())
     }
 
-    /// Takes a slice of an IDR picture, which begins a picture.
+    /// Takes the slice of an IDR picture, which begins a picture.
     fn take_slice(
         &mut self,
+        header: &SliceHeader,
         nalu: &Nalu<'_, NaluHeader>,
         unit: u64,
         shown: &mut Vec<Shown<B::Handle>>,
     ) -> Result<(), DecodeError>
-        requires room { self.old.begun + 1 < 2 ^ 64 }
-        requires short { length nalu.now.stream < 2 ^ 60 }
+        requires room { self.old.state.begun + 1 < 2 ^ 64 }
         ensures cause { CountsErrors (B.faults self.old.backend) (B.faults self.new.backend) result }
         ensures faultless { KeepsFaultless (B.is_faultless self.old.backend) (B.is_faultless self.new.backend) result }
-        ensures answer { Answers result }
-        ensures begun { self.new.begun ≤ self.old.begun + 1 }
+        ensures part { TakesUnit result unit (traces (B.log self.old.backend) shown.old.items self.old.state) (traces (B.log self.new.backend) shown.new.items self.new.state)
+            (slice_meaning (standing self.old.state).accepted (slice_of nalu.now.header (bytes_of nalu.now) (plain_header header.now))) (standing self.old.state) (standing self.new.state) }
+        ensures sets { self.new.sets ≡ self.old.sets }
     {
-        let header = self.sets.read_slice_header(payload(nalu))?;
-        if self.accepted != Some(header.sequence_set.format) {
+        if !is_accepted(&negotiation_info(&header.sequence_set), self.state.accepted) {
             return Err(DecodeError::NotYet { table: 5, row: 0 });
         }
+        self.change_picture(header, nalu, unit, shown)
+    }
+
+    /// The open picture is over, and the next one begins.
+    fn change_picture(
+        &mut self,
+        header: &SliceHeader,
+        nalu: &Nalu<'_, NaluHeader>,
+        unit: u64,
+        shown: &mut Vec<Shown<B::Handle>>,
+    ) -> Result<(), DecodeError>
+        requires room { self.old.state.begun + 1 < 2 ^ 64 }
+        ensures cause { CountsErrors (B.faults self.old.backend) (B.faults self.new.backend) result }
+        ensures faultless { KeepsFaultless (B.is_faultless self.old.backend) (B.is_faultless self.new.backend) result }
+        ensures part { Runs result unit (traces (B.log self.old.backend) shown.old.items self.old.state) (traces (B.log self.new.backend) shown.new.items self.new.state)
+            (change_picture (slice_of nalu.now.header (bytes_of nalu.now) (plain_header header.now)) (standing self.old.state)) (standing self.new.state) }
+        ensures sets { self.new.sets ≡ self.old.sets }
+    {
         self.finish(unit, shown)?;
-        self.empty_buffer(header.no_output_of_prior_pics_flag, unit, shown)?;
-        self.begin(&header, nalu)
+        self.start(header, nalu, unit, shown)
+    }
+
+    /// The buffer is emptied, and the next picture begins.
+    fn start(
+        &mut self,
+        header: &SliceHeader,
+        nalu: &Nalu<'_, NaluHeader>,
+        unit: u64,
+        shown: &mut Vec<Shown<B::Handle>>,
+    ) -> Result<(), DecodeError>
+        requires room { self.old.state.begun + 1 < 2 ^ 64 }
+        ensures cause { CountsErrors (B.faults self.old.backend) (B.faults self.new.backend) result }
+        ensures faultless { KeepsFaultless (B.is_faultless self.old.backend) (B.is_faultless self.new.backend) result }
+        ensures part { Runs result unit (traces (B.log self.old.backend) shown.old.items self.old.state) (traces (B.log self.new.backend) shown.new.items self.new.state)
+            (start (slice_of nalu.now.header (bytes_of nalu.now) (plain_header header.now)) (standing self.old.state)) (standing self.new.state) }
+        ensures sets { self.new.sets ≡ self.old.sets }
+    {
+        self.empty_buffer(header.start.no_output_of_prior_pics_flag, unit, shown)?;
+        self.begin(header, nalu)
     }
 
     /// The picture whose slices came is over: it is stored (C.5.2.3), and output at once where no picture
@@ -194,26 +132,45 @@ impl<B: StatelessH265DecoderBackend> Decoder<B> {
     fn finish(&mut self, unit: u64, shown: &mut Vec<Shown<B::Handle>>) -> Result<(), DecodeError>
         ensures cause { CountsErrors (B.faults self.old.backend) (B.faults self.new.backend) result }
         ensures faultless { KeepsFaultless (B.is_faultless self.old.backend) (B.is_faultless self.new.backend) result }
-        ensures answer { Answers result }
-        ensures begun { self.new.begun ≡ self.old.begun }
+        ensures part { Runs result unit (traces (B.log self.old.backend) shown.old.items self.old.state) (traces (B.log self.new.backend) shown.new.items self.new.state)
+            (finish (standing self.old.state)) (standing self.new.state) }
+        ensures sets { self.new.sets ≡ self.old.sets }
     {
-        let Some(open) = self.open.take() else {
-            return Ok(());
-        };
-        let Open { facts, picture } = open;
+        match self.state.open.take() {
+            Some(open) => self.store(open, unit, shown),
+            None => Ok(()),
+        }
+    }
+
+    /// Submits a picture and stores it.
+    #[tactic(auto, using(crate::proofs::Doing::part_rules), unfolding(crate::specs::State::store))]
+    fn store(
+        &mut self,
+        over: Open<B::Picture>,
+        unit: u64,
+        shown: &mut Vec<Shown<B::Handle>>,
+    ) -> Result<(), DecodeError>
+        ensures cause { CountsErrors (B.faults self.old.backend) (B.faults self.new.backend) result }
+        ensures faultless { KeepsFaultless (B.is_faultless self.old.backend) (B.is_faultless self.new.backend) result }
+        ensures part { Runs result unit (traces (B.log self.old.backend) shown.old.items self.old.state) (traces (B.log self.new.backend) shown.new.items self.new.state)
+            (store (open_picture over) (standing self.old.state)) (standing self.new.state) }
+        ensures sets { self.new.sets ≡ self.old.sets }
+    {
+        let Open { facts, picture } = over;
         let handle = self.backend.submit_picture(facts.number, picture)?;
-        self.stored = Some(Stored {
-            facts,
+        self.state.stored = Some(Stored {
+            number: facts.number,
             handle,
             needed_for_output: facts.pic_output_flag,
         });
-        if facts.max_num_reorder_pics == 0 {
-            self.output_stored(unit, shown)?;
+        if facts.max_num_reorder_pics > 0 {
+            return Ok(());
         }
-        Ok(())
+        self.output_stored(unit, shown)
     }
 
     /// Outputs the stored picture where it is still to be output.
+    #[tactic(auto, using(crate::proofs::Doing::part_rules), unfolding(crate::specs::State::output_stored))]
     fn output_stored(
         &mut self,
         unit: u64,
@@ -221,20 +178,21 @@ impl<B: StatelessH265DecoderBackend> Decoder<B> {
     ) -> Result<(), DecodeError>
         ensures cause { CountsErrors (B.faults self.old.backend) (B.faults self.new.backend) result }
         ensures faultless { KeepsFaultless (B.is_faultless self.old.backend) (B.is_faultless self.new.backend) result }
-        ensures answer { Answers result }
-        ensures begun { self.new.begun ≡ self.old.begun }
+        ensures part { Runs result unit (traces (B.log self.old.backend) shown.old.items self.old.state) (traces (B.log self.new.backend) shown.new.items self.new.state)
+            (output_stored (standing self.old.state)) (standing self.new.state) }
+        ensures sets { self.new.sets ≡ self.old.sets }
     {
-        let Some(stored) = &mut self.stored else {
+        let Some(stored) = &mut self.state.stored else {
             return Ok(());
         };
         if stored.needed_for_output {
-            stored.needed_for_output = false;
             shown.push(Shown {
-                number: stored.facts.number,
+                number: stored.number,
                 handle: stored.handle,
-                order_count: stored.facts.pic_order_cnt_val,
+                order_count: 0,
                 unit,
             })?;
+            stored.needed_for_output = false;
         }
         Ok(())
     }
@@ -248,13 +206,16 @@ impl<B: StatelessH265DecoderBackend> Decoder<B> {
     ) -> Result<(), DecodeError>
         ensures cause { CountsErrors (B.faults self.old.backend) (B.faults self.new.backend) result }
         ensures faultless { KeepsFaultless (B.is_faultless self.old.backend) (B.is_faultless self.new.backend) result }
-        ensures answer { Answers result }
-        ensures begun { self.new.begun ≡ self.old.begun }
+        ensures part { Runs result unit (traces (B.log self.old.backend) shown.old.items self.old.state) (traces (B.log self.new.backend) shown.new.items self.new.state)
+            (leave no_output_of_prior_pics (standing self.old.state)) (standing self.new.state) }
+        ensures sets { self.new.sets ≡ self.old.sets }
     {
-        if !no_output_of_prior_pics {
-            self.output_stored(unit, shown)?;
+        if no_output_of_prior_pics {
+            self.state.stored = None;
+            return Ok(());
         }
-        self.stored = None;
+        self.output_stored(unit, shown)?;
+        self.state.stored = None;
         Ok(())
     }
 
@@ -264,57 +225,48 @@ impl<B: StatelessH265DecoderBackend> Decoder<B> {
         header: &SliceHeader,
         nalu: &Nalu<'_, NaluHeader>,
     ) -> Result<(), DecodeError>
-        requires { self.old.begun + 1 < 2 ^ 64 }
+        requires { self.old.state.begun + 1 < 2 ^ 64 }
         ensures cause { CountsErrors (B.faults self.old.backend) (B.faults self.new.backend) result }
         ensures faultless { KeepsFaultless (B.is_faultless self.old.backend) (B.is_faultless self.new.backend) result }
-        ensures answer { Answers result }
-        ensures begun { self.new.begun ≤ self.old.begun + 1 }
+        ensures part { (shown : List (Shown B.Handle)) (k : ℕ) → Runs result k (traces (B.log self.old.backend) shown self.old.state) (traces (B.log self.new.backend) shown self.new.state)
+            (begin (slice_of nalu.now.header (bytes_of nalu.now) (plain_header header.now)) (standing self.old.state)) (standing self.new.state) }
+        ensures sets { self.new.sets ≡ self.old.sets }
     {
-        let facts = PictureFacts {
-            number: self.begun,
-            pic_order_cnt_val: 0,
-            pic_output_flag: header.pic_output_flag,
-            max_num_reorder_pics: header.sequence_set.limits.reorder,
-        };
+        let number = self.state.begun;
         let mut picture = self.backend.new_picture(
-            facts.number,
+            number,
             nalu.header().nalu_type(),
-            facts.pic_order_cnt_val,
-            facts.pic_output_flag,
+            0,
+            header.pic_output_flag,
             0,
         )?;
-        self.backend.begin_picture(facts.number, &mut picture)?;
-        self.backend
-            .decode_slice(facts.number, &mut picture, 0, nalu)?;
-        self.open = Some(Open { facts, picture });
-        self.begun += 1;
+        self.backend.begin_picture(number, &mut picture)?;
+        self.backend.decode_slice(number, &mut picture, 0, nalu)?;
+        self.state.open = Some(Open {
+            facts: IdrPicture {
+                number,
+                pic_output_flag: header.pic_output_flag,
+                max_num_reorder_pics: header.sequence_set.ordering.max_num_reorder_pics,
+            },
+            picture,
+        });
+        self.state.begun += 1;
         Ok(())
     }
 
     /// Behind the last unit the open picture is over, and what waits is output.
-    fn close(&mut self, unit: u64, shown: &mut Vec<Shown<B::Handle>>) -> Result<(), DecodeError>
+    pub(crate) fn close(
+        &mut self,
+        unit: u64,
+        shown: &mut Vec<Shown<B::Handle>>,
+    ) -> Result<(), DecodeError>
         ensures cause { CountsErrors (B.faults self.old.backend) (B.faults self.new.backend) result }
         ensures faultless { KeepsFaultless (B.is_faultless self.old.backend) (B.is_faultless self.new.backend) result }
-        ensures answer { Answers result }
-        ensures begun { self.new.begun ≡ self.old.begun }
+        ensures part { Runs result unit (traces (B.log self.old.backend) shown.old.items self.old.state) (traces (B.log self.new.backend) shown.new.items self.new.state)
+            (close (standing self.old.state)) (standing self.new.state) }
+        ensures sets { self.new.sets ≡ self.old.sets }
     {
         self.finish(unit, shown)?;
         self.output_stored(unit, shown)
     }
-}
-
-/// The bytes behind a unit's header.
-fn payload<'a>(nalu: &'a Nalu<'_, NaluHeader>) -> &'a [u8]
-    ensures { length result.now ≤ length nalu.now.stream }
-{
-    match nalu.as_ref() {
-        [_, _, payload @ ..] => payload,
-        _ => &[],
-    }
-}
-
-/// The types of slices and of ends (Table 7-1) that aren't decoded yet.
-fn is_awaited(nalu_type: NaluType) -> bool {
-    let number = nalu_type as u8;
-    number <= 9 || (16..=21).contains(&number) || number == 36 || number == 37
 }

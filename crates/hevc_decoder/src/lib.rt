@@ -4,9 +4,10 @@
 mod decode_error;
 mod decoded;
 mod decoder;
-mod plain;
-mod sets;
+mod format;
+mod state;
 mod stream;
+mod walk;
 
 pub use decode_error::DecodeError;
 pub use decoded::{Decoded, Refused, Shown};

@@ -56,7 +56,7 @@ line_spelled row form allowed value bits r rest (found v mid) e h = by_test (all
 
 pub spelled_from_read : {A : Type 0} (t : Table A) (bits : List Bool) (r : A) (rest : List Bool) → read t bits ≡ gives r rest → Spells t r bits rest
 spelled_from_read (done x) bits r rest e = record { lines = []; has = (cc, refl); good = tt; parts = cc }
-spelled_from_read (missing id) bits r rest e = absurd cc
+spelled_from_read (missing row id) bits r rest e = absurd cc
 spelled_from_read (element row form allowed value) bits r rest e = line_spelled row form allowed value bits r rest (form_at form bits) refl e
 spelled_from_read (sized t f) bits r rest e =
     let m = gives_then (read t bits) (λ x rest. gives (f x (length bits - length rest)) rest) r rest e in
@@ -80,7 +80,7 @@ spelled_from_read (part t k) bits r rest e =
 
 pub read_lines : {A : Type 0} (t : Table A) (r : A) (ls : List Line) (rest : List Bool) → HasLines t r ls → AreGood ls → read t (joined ls ++ rest) ≡ gives r rest
 read_lines (done x) r ls rest h g = rw (h.0, h.1) refl
-read_lines (missing id) r ls rest h g = absurd h
+read_lines (missing row id) r ls rest h g = absurd h
 read_lines (element row form allowed value) r ls rest h g =
     let l : Line = record { head = record { row = row; form = form; allowed = allowed }; value = h.0; bits = h.1 } in
     let good : AreGood (l ∷ []) = subst AreGood h.3 g in
@@ -134,7 +134,7 @@ line_breaks row form allowed value bits fault rest (found v mid) e h = by_test (
 
 pub breaks_from_refused : {A : Type 0} (t : Table A) (bits : List Bool) (fault : Fault) (rest : List Bool) → read t bits ≡ refuses fault rest → BreaksOff t fault bits rest
 breaks_from_refused (done x) bits fault rest e = absurd cc
-breaks_from_refused (missing id) bits fault rest e = record { lines = []; next = lacks id; has = (refl, refl); good = tt; parts = cc; breaks = cc }
+breaks_from_refused (missing row id) bits fault rest e = record { lines = []; next = lacks row id; has = (refl, refl); good = tt; parts = cc; breaks = cc }
 breaks_from_refused (element row form allowed value) bits fault rest e = line_breaks row form allowed value bits fault rest (form_at form bits) refl e
 breaks_from_refused (sized t f) bits fault rest e =
     elim (refuses_then (read t bits) (λ x rest. gives (f x (length bits - length rest)) rest) fault rest e) [
@@ -162,7 +162,7 @@ breaks_from_refused (part t k) bits fault rest e =
 element_refuses : {A : Type 0} (head : Head) (value : ℕ → A) (bits : List Bool) (fault : Fault) → Breaks (line head) bits fault
     → line_found head.row value bits (within head.allowed (form_at head.form bits)) ≡ refuses fault bits
 element_refuses head value bits out_of_bits b = rw (form_ended_again head.form bits b) refl
-element_refuses head value bits (not_kept id) b = absurd b
+element_refuses head value bits (not_kept row id) b = absurd b
 element_refuses head value bits (out_of_range row) b =
     elim (b.1) [
       | inl s ↦
@@ -175,8 +175,8 @@ element_refuses head value bits (out_of_range row) b =
 next_refuses : {A : Type 0} (t : Table A) (ls : List Line) (next : Next) (fault : Fault) (rest : List Bool) → HasNext t ls next → AreGood ls → Breaks next rest fault
     → read t (joined ls ++ rest) ≡ refuses fault rest
 next_refuses (done x) ls next fault rest h g b = absurd h
-next_refuses (missing id) ls next fault rest h g b =
-    let is : fault ≡ not_kept id = subst (λ (n : Next). Breaks n rest fault) h.0 b in
+next_refuses (missing row id) ls next fault rest h g b =
+    let is : fault ≡ not_kept row id = subst (λ (n : Next). Breaks n rest fault) h.0 b in
     rw (h.1, is) refl
 next_refuses (element row form allowed value) ls next fault rest h g b =
     let head : Head = record { row = row; form = form; allowed = allowed } in
@@ -230,7 +230,7 @@ one_spelling form v w a b x y p q e =
 -- Two lists of lines of a table that fronts of one payload spell agree line by line.
 pub lines_agree : {A : Type 0} (t : Table A) (r r' : A) (ls ls' : List Line) (x y : List Bool) → HasLines t r ls → HasLines t r' ls' → AreGood ls → AreGood ls' → joined ls ++ x ≡ joined ls' ++ y → ls ≡ ls'
 lines_agree (done z) r r' ls ls' x y h h' g g' e = h.1 ∙ sym h'.1
-lines_agree (missing id) r r' ls ls' x y h h' g g' e = absurd h
+lines_agree (missing row id) r r' ls ls' x y h h' g g' e = absurd h
 lines_agree (element row form allowed value) r r' ls ls' x y h h' g g' e =
     let head : Head = record { row = row; form = form; allowed = allowed } in
     let make = λ (v : ℕ) (b : List Bool). let l : Line = record { head = head; value = v; bits = b } in l in

@@ -21,3 +21,6 @@ pub use records::{
 pub use sequence_set::read_sequence_set;
 pub use slice_header::read_slice_header;
 pub use unit_meaning::UnitMeaning;
+
+#[cfg(test)]
+mod tests;

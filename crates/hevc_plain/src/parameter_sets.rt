@@ -1,5 +1,5 @@
 //! The parameter sets that are kept (7.4.2.4), and what a unit means behind them.
-ghost use Rattle.std.specs.Prelude.{◌≡◌, ◌<◌, ◌≤◌, ◌^◌, ◌||◌, ◌==◌, length, drop, IfOk, OnOk};
+ghost use Rattle.std.specs.Prelude.{◌≡◌, ◌<◌, ◌≤◌, ◌^◌, ◌||◌, ◌==◌, length, drop, IfOk, OnOk, OnErr};
 ghost use Rattle.hevc_spec.specs.Payload.{payload_bits};
 ghost use Rattle.hevc_spec.specs.UnitHeader.{UnitHeader};
 ghost use Rattle.hevc_spec.specs.Table.{read};
@@ -9,7 +9,7 @@ ghost use Rattle.hevc_tables.specs.PlainSequenceSet.{plain_sequence_set};
 ghost use Rattle.hevc_tables.specs.PlainPictureSet.{plain_picture_set};
 ghost use Rattle.hevc_tables.specs.PlainSliceHeader.{plain_slice_header};
 ghost use Rattle.hevc_tables.specs.KeptSets.{nothing_kept, with_sequence_set, with_picture_set};
-ghost use Rattle.hevc_tables.specs.UnitMeanings.{sequence_set, picture_set, slice, not_yet, meaning_read, is_idr_type, is_slice_type, is_end, other_meaning, unit_meaning, kept_behind};
+ghost use Rattle.hevc_tables.specs.UnitMeanings.{sequence_set, picture_set, slice, not_yet, meaning_read, is_idr_type, is_slice_type, is_end, other_meaning, typed_meaning, unit_meaning, kept_behind};
 ghost use Rattle.hevc_plain.specs.Kept.{kept_sets};
 ghost use Rattle.hevc_plain.specs.Meanings.{plain_meaning};
 ghost use Rattle.hevc_plain.specs.Projections.{plain_set, plain_picture_set as plain_picture};
@@ -45,20 +45,34 @@ impl ParameterSets {
 
     /// Takes a unit of a stream of less than 2^60 bytes, tells what it means, and keeps it where it is a parameter set.
     ///
-    /// Errors: no memory.
+    /// Errors: no memory; what is kept then stays.
     pub fn take_unit(&mut self, nalu: &Nalu<'_, NaluHeader>) -> Result<UnitMeaning, AllocError>
         requires { length nalu.now.stream < 2 ^ 60 }
         ensures meaning { IfOk result (λ m. plain_meaning nalu.now.header m ≡ unit_meaning (kept_sets self.old) (bytes_of nalu.now)) }
         ensures kept { IfOk result (λ _. kept_sets self.new ≡ kept_behind (kept_sets self.old) (unit_meaning (kept_sets self.old) (bytes_of nalu.now))) }
+        ensures stays { OnErr result (kept_sets self.new ≡ kept_sets self.old) }
     {
-        let nalu_type = nalu.header().nalu_type();
+        self.take_payload(nalu.header().nalu_type(), payload(nalu))
+    }
+
+    /// Takes the payload of a unit of this type.
+    fn take_payload(
+        &mut self,
+        nalu_type: NaluType,
+        payload: &[u8],
+    ) -> Result<UnitMeaning, AllocError>
+        requires { length payload.now < 2 ^ 60 }
+        ensures meaning { (h : UnitHeader) → h.nal_unit_type ≡ nalu_type_number nalu_type → IfOk result (λ m. plain_meaning h m ≡ typed_meaning (kept_sets self.old) h (payload_bits 0 payload.now)) }
+        ensures kept { (h : UnitHeader) → IfOk result (λ m. kept_sets self.new ≡ kept_behind (kept_sets self.old) (plain_meaning h m)) }
+        ensures stays { OnErr result (kept_sets self.new ≡ kept_sets self.old) }
+    {
         if is_sequence_set(nalu_type) {
-            return self.take_sequence_set(payload(nalu));
+            self.take_sequence_set(payload)
+        } else if is_picture_set(nalu_type) {
+            self.take_picture_set(payload)
+        } else {
+            Ok(self.meaning_of(nalu_type, payload))
         }
-        if is_picture_set(nalu_type) {
-            return self.take_picture_set(payload(nalu));
-        }
-        Ok(self.meaning_of(nalu_type, payload(nalu)))
     }
 
     /// Reads a sequence parameter set, and keeps it where it is plain.
@@ -67,6 +81,7 @@ impl ParameterSets {
         requires { length payload.now < 2 ^ 60 }
         ensures meaning { (h : UnitHeader) → IfOk result (λ m. plain_meaning h m ≡ meaning_read sequence_set (not_yet 5 1) (read plain_sequence_set (payload_bits 0 payload.now))) }
         ensures kept { (h : UnitHeader) → IfOk result (λ m. kept_sets self.new ≡ kept_behind (kept_sets self.old) (plain_meaning h m)) }
+        ensures stays { OnErr result (kept_sets self.new ≡ kept_sets self.old) }
     {
         match read_sequence_set(&mut NaluReader::new(payload)) {
             Ok(set) => {
@@ -78,7 +93,8 @@ impl ParameterSets {
     }
 
     fn keep_sequence_set(&mut self, set: SequenceSet) -> Result<(), AllocError>
-        ensures { OnOk result (kept_sets self.new ≡ with_sequence_set (plain_set set) (kept_sets self.old)) }
+        ensures kept { OnOk result (kept_sets self.new ≡ with_sequence_set (plain_set set) (kept_sets self.old)) }
+        ensures stays { OnErr result (kept_sets self.new ≡ kept_sets self.old) }
     {
         self.sequence_sets
             .insert(set.identity.seq_parameter_set_id, set)?;
@@ -94,6 +110,7 @@ impl ParameterSets {
         requires { length payload.now < 2 ^ 60 }
         ensures meaning { (h : UnitHeader) → IfOk result (λ m. plain_meaning h m ≡ meaning_read picture_set (not_yet 11 1) (read (plain_picture_set (kept_sets self.old).sequence_sets) (payload_bits 0 payload.now))) }
         ensures kept { (h : UnitHeader) → IfOk result (λ m. kept_sets self.new ≡ kept_behind (kept_sets self.old) (plain_meaning h m)) }
+        ensures stays { OnErr result (kept_sets self.new ≡ kept_sets self.old) }
     {
         match read_picture_set(&mut NaluReader::new(payload), &self.sequence_sets) {
             Ok(set) => {
@@ -105,7 +122,8 @@ impl ParameterSets {
     }
 
     fn keep_picture_set(&mut self, set: PictureSet) -> Result<(), AllocError>
-        ensures { OnOk result (kept_sets self.new ≡ with_picture_set (plain_picture set) (kept_sets self.old)) }
+        ensures kept { OnOk result (kept_sets self.new ≡ with_picture_set (plain_picture set) (kept_sets self.old)) }
+        ensures stays { OnErr result (kept_sets self.new ≡ kept_sets self.old) }
     {
         self.picture_sets.insert(set.ids.pic_parameter_set_id, set)?;
         Ok(())
@@ -114,7 +132,8 @@ impl ParameterSets {
     /// What a unit means that is no sequence or picture parameter set.
     fn meaning_of(&self, nalu_type: NaluType, payload: &[u8]) -> UnitMeaning
         requires { length payload.now < 2 ^ 60 }
-        ensures { (h : UnitHeader) → h.nal_unit_type ≡ nalu_type_number nalu_type → plain_meaning h result ≡ other_meaning (kept_sets self.now) h (payload_bits 0 payload.now) }
+        ensures meaning { (h : UnitHeader) → h.nal_unit_type ≡ nalu_type_number nalu_type → plain_meaning h result ≡ other_meaning (kept_sets self.now) h (payload_bits 0 payload.now) }
+        ensures keeps { (h : UnitHeader) → kept_sets self.now ≡ kept_behind (kept_sets self.now) (plain_meaning h result) }
     {
         if is_video_set(nalu_type) {
             UnitMeaning::NotYet { table: 0, row: 32 }
@@ -136,7 +155,8 @@ impl ParameterSets {
     #[tactic(auto, using(crate::proofs::Meanings::not_read, crate::proofs::Meanings::at_whole_byte))]
     fn slice_meaning(&self, payload: &[u8]) -> UnitMeaning
         requires { length payload.now < 2 ^ 60 }
-        ensures { (h : UnitHeader) → plain_meaning h result ≡ meaning_read (slice h) (not_yet 14 1) (read (plain_slice_header (kept_sets self.now).picture_sets (kept_sets self.now).sequence_sets) (payload_bits 0 payload.now)) }
+        ensures meaning { (h : UnitHeader) → plain_meaning h result ≡ meaning_read (slice h) (not_yet 14 1) (read (plain_slice_header (kept_sets self.now).picture_sets (kept_sets self.now).sequence_sets) (payload_bits 0 payload.now)) }
+        ensures keeps { (h : UnitHeader) → kept_sets self.now ≡ kept_behind (kept_sets self.now) (plain_meaning h result) }
     {
         let mut reader = NaluReader::new(payload);
         match read_slice_header(&mut reader, &self.sequence_sets, &self.picture_sets) {

@@ -1,9 +1,10 @@
-//! Plain picture parameter sets (7.3.2.3).
-ghost use Rattle.std.specs.Prelude.{◌≡◌, ◌+◌, pos, neg_ℤ};
+//! Plain picture parameter sets (7.3.2.3, table 11).
+ghost use Rattle.std.specs.Prelude.{◌≡◌, ◌+◌, pos, neg_ℤ, Bool, List, IfOk, IfErr};
 ghost use Rattle.hevc_spec.specs.Payload.{bits};
-ghost use Rattle.hevc_spec.specs.Table.{read};
-ghost use Rattle.hevc_sets.specs.Reads.{Reads};
-ghost use Rattle.hevc_tables.specs.PlainPictureSet.{qp_bd_offset_y, ids, presence, quantiser, prediction, filter_offsets, deblocking, set_end, picture_set_of, plain_picture_set as picture_set_table};
+ghost use Rattle.hevc_spec.specs.Table.{read, gives, refuses, Fault};
+ghost use Rattle.hevc_spec.specs.Lines.{Spells, BreaksOff};
+ghost use Rattle.hevc_sets.specs.Reads.{Reads, FailsAt};
+ghost use Rattle.hevc_tables.specs.PlainPictureSet.{PlainPictureSet, qp_bd_offset_y, ids, presence, quantiser, prediction, filter_offsets, deblocking, set_end, picture_set_of, plain_picture_set as picture_set_table};
 ghost use Rattle.hevc_plain.specs.Projections.{plain_set, plain_ids, plain_presence, plain_quantiser, plain_deblocking, plain_picture_set, found_set};
 
 use crate::records::{Deblocking, Ids, PictureSet, Presence, Quantiser, SequenceSet};
@@ -13,10 +14,32 @@ use hevc_sets::elements::{bits_u8, flag, flag_if, se_i8, ue, ue_u8, ue_u8_if, ze
 use hevc_spec::Row;
 use std::collections::BTreeMap;
 
-/// Reads the payload of a plain picture parameter set, with the sequence parameter sets that are kept. A set that isn't plain is out
-/// of range at the row that says so.
-#[tactic(auto, unfolding(hevc_tables::specs::PlainPictureSet::plain_picture_set, hevc_tables::specs::PlainPictureSet::named))]
+/// Reads the payload of a plain picture parameter set with the sequence parameter sets that are kept, by table 11.
+///
+/// Errors: `MissingSps` where the sequence parameter set that it names isn't kept, `OutOfBits` where the payload ends within an
+/// element, and `OutOfRange` with the row of the first element that isn't allowed. A set that isn't plain is out of range at the
+/// row that says so. The reader then stands where that element begins, or behind the ids.
+#[tactic(auto, using(hevc_sets::proofs::Meaning::is_found, hevc_sets::proofs::Meaning::is_only, hevc_sets::proofs::Meaning::is_refused, hevc_sets::proofs::Meaning::is_broken))]
 pub fn read_picture_set(
+    r: &mut NaluReader<'_>,
+    sequence_sets: &BTreeMap<u8, SequenceSet>,
+) -> Result<PictureSet, ParseError>
+    ensures read { Reads plain_picture_set result r.new (read (picture_set_table (found_set sequence_sets.now)) (bits r.old)) }
+    // What is read has lines that are allowed and that the payload spells, up to where the reader stands.
+    ensures found { IfOk result (λ x. Spells (picture_set_table (found_set sequence_sets.now)) (plain_picture_set x) (bits r.old) (bits r.new)) }
+    // What has such lines is read.
+    ensures only { (x : PlainPictureSet) (rest : List Bool) → Spells (picture_set_table (found_set sequence_sets.now)) x (bits r.old) rest → Reads plain_picture_set result r.new (gives x rest) }
+    // A refusal is the first line that breaks, and the reader stands before it.
+    ensures refused { IfErr result (λ e. FailsAt e (picture_set_table (found_set sequence_sets.now)) (bits r.old) r.new) }
+    // Where a line breaks, that is the refusal.
+    ensures broken { (fault : Fault) (rest : List Bool) → BreaksOff (picture_set_table (found_set sequence_sets.now)) fault (bits r.old) rest → Reads plain_picture_set result r.new (refuses fault rest) }
+{
+    read_rows(r, sequence_sets)
+}
+
+/// Rows 1 to 28 of table 11.
+#[tactic(auto, unfolding(hevc_tables::specs::PlainPictureSet::plain_picture_set, hevc_tables::specs::PlainPictureSet::named))]
+fn read_rows(
     r: &mut NaluReader<'_>,
     sequence_sets: &BTreeMap<u8, SequenceSet>,
 ) -> Result<PictureSet, ParseError>

@@ -1,18 +1,19 @@
-//! Profile, tier and level of a plain set (7.3.3).
+//! Profile, tier and level of a plain set (7.3.3, table 2).
 ghost use Rattle.std.specs.Prelude.{◌≡◌, ◌<◌, ◌+◌, IfOk};
 ghost use Rattle.hevc_spec.specs.Payload.{bits, IsAhead};
 ghost use Rattle.hevc_spec.specs.Table.{read};
 ghost use Rattle.hevc_sets.specs.Reads.{Reads};
-ghost use Rattle.hevc_tables.specs.PlainProfile.{is_level as is_level_number};
-ghost use Rattle.hevc_tables.specs.PlainProfile.{names, names_extensions, names_inbld, profiles, compatibility_flags, source_flags, reserved_flags, inbld_flag, constraint_flags, level, plain_profile as profile_table};
+ghost use Rattle.hevc_tables.specs.PlainProfile.{is_level as is_level_number, conforms_to as conforms_to_number};
+ghost use Rattle.hevc_tables.specs.PlainProfile.{has_range_extensions_flags, has_inbld_flag, profiles, compatibility_flags, source_flags, reserved_flags, inbld_flag, constraint_flags, level, plain_profile as profile_table};
 ghost use Rattle.hevc_plain.specs.Projections.{plain_profiles, plain_profile};
 
 use crate::profile_records::{Profile, Profiles};
 use hevc_bits::NaluReader;
 use hevc_sets::ParseError;
-use hevc_sets::elements::{bits_u8, check, flag, out_of_range, refusal, skip};
+use hevc_sets::elements::{bits_u8, check, flag, flag_if, out_of_range, refusal, skip};
 use hevc_spec::Row;
 
+/// Reads profile, tier and level of a set of one sub-layer, by table 2.
 #[tactic(auto, unfolding(hevc_tables::specs::PlainProfile::plain_profile))]
 pub(crate) fn read_profile(r: &mut NaluReader<'_>) -> Result<Profile, ParseError>
     ensures read { Reads plain_profile result r.new (read profile_table (bits r.old)) }
@@ -76,10 +77,9 @@ fn read_constraint_flags(r: &mut NaluReader<'_>, profiles: &Profiles) -> Result<
     ensures read { Reads (λ _. 0) result r.new (read (constraint_flags (plain_profiles profiles.now)) (bits r.old)) }
     ensures moves { IsAhead r.old r.new }
 {
-    check(r, Row(2, 6), !names_any_extension(profiles))?;
-    read_reserved_flags(r, names_profile(profiles, 2))?;
-    read_inbld_flag(r, names_any_inbld(profiles))?;
-    Ok(())
+    check(r, Row(2, 6), !has_extensions(profiles))?;
+    read_reserved_flags(r, conforms_to(profiles, 2))?;
+    read_inbld_flag(r, has_inbld(profiles))
 }
 
 /// Rows 10 to 13 of table 2.
@@ -98,13 +98,14 @@ fn read_reserved_flags(r: &mut NaluReader<'_>, is_main10: bool) -> Result<(), Pa
 }
 
 /// Rows 14 and 15 of table 2.
-#[tactic(auto, unfolding(hevc_tables::specs::PlainProfile::inbld_flag, hevc_spec::specs::Rows::either))]
+#[tactic(auto, unfolding(hevc_tables::specs::PlainProfile::inbld_flag, hevc_spec::specs::Rows::when))]
 fn read_inbld_flag(r: &mut NaluReader<'_>, present: bool) -> Result<(), ParseError>
     ensures read { Reads (λ _. 0) result r.new (read (inbld_flag present) (bits r.old)) }
     ensures moves { IsAhead r.old r.new }
 {
+    flag_if(r, present, Row(2, 14))?;
     if present {
-        skip(r, Row(2, 14), 1)
+        Ok(())
     } else {
         skip(r, Row(2, 15), 1)
     }
@@ -138,36 +139,38 @@ fn is_level(value: u8) -> bool
     )
 }
 
-/// Whether a set belongs to the profile of this number.
-fn names_profile(profiles: &Profiles, number: u8) -> bool
+/// Whether a set conforms to the profile of this number.
+fn conforms_to(profiles: &Profiles, number: u8) -> bool
     requires { number < 32 }
-    ensures { result ≡ names (plain_profiles profiles.now) number }
+    ensures { result ≡ conforms_to_number (plain_profiles profiles.now) number }
 {
     profiles.general_profile_idc == number
         || profiles.general_profile_compatibility_flag[usize::from(number)]
 }
 
-fn names_any_extension(profiles: &Profiles) -> bool
-    ensures { result ≡ names_extensions (plain_profiles profiles.now) }
+/// Whether constraint flags of the range extensions' profile stand in a set.
+fn has_extensions(profiles: &Profiles) -> bool
+    ensures { result ≡ has_range_extensions_flags (plain_profiles profiles.now) }
 {
-    names_profile(profiles, 4)
-        || names_profile(profiles, 5)
-        || names_profile(profiles, 6)
-        || names_profile(profiles, 7)
-        || names_profile(profiles, 8)
-        || names_profile(profiles, 9)
-        || names_profile(profiles, 10)
-        || names_profile(profiles, 11)
+    conforms_to(profiles, 4)
+        || conforms_to(profiles, 5)
+        || conforms_to(profiles, 6)
+        || conforms_to(profiles, 7)
+        || conforms_to(profiles, 8)
+        || conforms_to(profiles, 9)
+        || conforms_to(profiles, 10)
+        || conforms_to(profiles, 11)
 }
 
-fn names_any_inbld(profiles: &Profiles) -> bool
-    ensures { result ≡ names_inbld (plain_profiles profiles.now) }
+/// Whether `general_inbld_flag` stands in a set.
+fn has_inbld(profiles: &Profiles) -> bool
+    ensures { result ≡ has_inbld_flag (plain_profiles profiles.now) }
 {
-    names_profile(profiles, 1)
-        || names_profile(profiles, 2)
-        || names_profile(profiles, 3)
-        || names_profile(profiles, 4)
-        || names_profile(profiles, 5)
-        || names_profile(profiles, 9)
-        || names_profile(profiles, 11)
+    conforms_to(profiles, 1)
+        || conforms_to(profiles, 2)
+        || conforms_to(profiles, 3)
+        || conforms_to(profiles, 4)
+        || conforms_to(profiles, 5)
+        || conforms_to(profiles, 9)
+        || conforms_to(profiles, 11)
 }

@@ -1,9 +1,10 @@
-//! Plain sequence parameter sets (7.3.2.2).
-ghost use Rattle.std.specs.Prelude.{◌≡◌, ◌≤◌, ◌+◌, IfOk};
+//! Plain sequence parameter sets (7.3.2.2, table 5).
+ghost use Rattle.std.specs.Prelude.{◌≡◌, ◌≤◌, ◌+◌, Bool, List, IfOk, IfErr};
 ghost use Rattle.hevc_spec.specs.Payload.{bits};
-ghost use Rattle.hevc_spec.specs.Table.{read};
-ghost use Rattle.hevc_sets.specs.Reads.{Reads};
-ghost use Rattle.hevc_tables.specs.PlainSequenceSet.{identity, samples, sub_width_c, sub_height_c, leaves_some, window, cropping, depths, ordering, blocks, tools, set_end, plain_sequence_set};
+ghost use Rattle.hevc_spec.specs.Table.{read, gives, refuses, Fault};
+ghost use Rattle.hevc_spec.specs.Lines.{Spells, BreaksOff};
+ghost use Rattle.hevc_sets.specs.Reads.{Reads, FailsAt};
+ghost use Rattle.hevc_tables.specs.PlainSequenceSet.{PlainSequenceSet, identity, samples, sub_width_c, sub_height_c, leaves_some, window, cropping, depths, ordering, blocks, tools, set_end, plain_sequence_set};
 ghost use Rattle.hevc_plain.specs.Projections.{plain_identity, plain_samples, plain_depths, plain_ordering, plain_blocks, plain_set};
 
 use crate::profile::read_profile;
@@ -13,9 +14,28 @@ use hevc_sets::ParseError;
 use hevc_sets::elements::{bits_u8, check, flag, flag_if, ue, ue_u8, ue_u16, zero, zero_if};
 use hevc_spec::Row;
 
-/// Reads the payload of a plain sequence parameter set. A set that isn't plain is out of range at the row that says so.
-#[tactic(auto, unfolding(hevc_tables::specs::PlainSequenceSet::plain_sequence_set))]
+/// Reads the payload of a plain sequence parameter set, by table 5.
+///
+/// Errors: `OutOfBits` where the payload ends within an element, and `OutOfRange` with the row of the first element that isn't
+/// allowed. A set that isn't plain is out of range at the row that says so. The reader then stands where that element begins.
+#[tactic(auto, using(hevc_sets::proofs::Meaning::is_found, hevc_sets::proofs::Meaning::is_only, hevc_sets::proofs::Meaning::is_refused, hevc_sets::proofs::Meaning::is_broken))]
 pub fn read_sequence_set(r: &mut NaluReader<'_>) -> Result<SequenceSet, ParseError>
+    ensures read { Reads plain_set result r.new (read plain_sequence_set (bits r.old)) }
+    // What is read has lines that are allowed and that the payload spells, up to where the reader stands.
+    ensures found { IfOk result (λ x. Spells plain_sequence_set (plain_set x) (bits r.old) (bits r.new)) }
+    // What has such lines is read.
+    ensures only { (x : PlainSequenceSet) (rest : List Bool) → Spells plain_sequence_set x (bits r.old) rest → Reads plain_set result r.new (gives x rest) }
+    // A refusal is the first line that breaks, and the reader stands before it.
+    ensures refused { IfErr result (λ e. FailsAt e plain_sequence_set (bits r.old) r.new) }
+    // Where a line breaks, that is the refusal.
+    ensures broken { (fault : Fault) (rest : List Bool) → BreaksOff plain_sequence_set fault (bits r.old) rest → Reads plain_set result r.new (refuses fault rest) }
+{
+    read_rows(r)
+}
+
+/// Rows 1 to 43 of table 5.
+#[tactic(auto, unfolding(hevc_tables::specs::PlainSequenceSet::plain_sequence_set))]
+fn read_rows(r: &mut NaluReader<'_>) -> Result<SequenceSet, ParseError>
     ensures { Reads plain_set result r.new (read plain_sequence_set (bits r.old)) }
 {
     let identity = read_identity(r)?;

@@ -1,9 +1,10 @@
-//! Plain slice segment headers (7.3.6.1).
-ghost use Rattle.std.specs.Prelude.{◌≡◌, ◌≤◌, ◌%◌, pos, neg_ℤ, ◌+ℤ◌};
+//! Plain slice segment headers (7.3.6.1, table 14).
+ghost use Rattle.std.specs.Prelude.{◌≡◌, ◌≤◌, ◌%◌, pos, neg_ℤ, ◌+ℤ◌, Bool, List, IfOk, IfErr};
 ghost use Rattle.hevc_spec.specs.Payload.{bits, bits_left, IsAhead};
-ghost use Rattle.hevc_spec.specs.Table.{read};
-ghost use Rattle.hevc_sets.specs.Reads.{Reads};
-ghost use Rattle.hevc_tables.specs.PlainSliceHeader.{start, kind, adaptive_offset, has_chroma, chroma_offset, chroma_offsets, is_slice_qp, slice_quantiser, slice_filter_offsets, slice_deblocking, loop_filter, header_of, header_fields, plain_slice_header};
+ghost use Rattle.hevc_spec.specs.Table.{read, gives, refuses, Fault};
+ghost use Rattle.hevc_spec.specs.Lines.{Spells, BreaksOff};
+ghost use Rattle.hevc_sets.specs.Reads.{Reads, FailsAt};
+ghost use Rattle.hevc_tables.specs.PlainSliceHeader.{PlainSliceHeader, start, kind, adaptive_offset, has_chroma, chroma_offset, chroma_offsets, is_slice_qp, slice_quantiser, slice_filter_offsets, slice_deblocking, loop_filter, header_of, header_fields, plain_slice_header};
 ghost use Rattle.hevc_plain.specs.Projections.{plain_set, plain_picture_set, plain_start, plain_offset, plain_header, found_set, found_picture_set};
 
 use crate::records::{AdaptiveOffset, PictureSet, SequenceSet, SliceHeader, Start};
@@ -15,10 +16,35 @@ use hevc_sets::elements::{
 use hevc_spec::Row;
 use std::collections::BTreeMap;
 
-/// Reads the header of a plain slice from the first bit of its payload on, where a whole byte begins, with the sets that are kept. A header that isn't plain is
-/// out of range at the row that says so.
-#[tactic(auto, unfolding(hevc_tables::specs::PlainSliceHeader::plain_slice_header, hevc_tables::specs::PlainSliceHeader::aligned))]
+/// Reads the header of a plain slice with the sets that are kept, by table 14: from the first bit of its payload, where a whole byte
+/// begins, to the first byte of its slice data.
+///
+/// Errors: `MissingPps` and `MissingSps` where a set that it names isn't kept, `OutOfBits` where the payload ends within an
+/// element, and `OutOfRange` with the row of the first element that isn't allowed. A header that isn't plain is out of range at
+/// the row that says so. The reader then stands where that element begins, or behind the picture parameter set's id.
+#[tactic(auto, using(hevc_sets::proofs::Meaning::is_found, hevc_sets::proofs::Meaning::is_only, hevc_sets::proofs::Meaning::is_refused, hevc_sets::proofs::Meaning::is_broken))]
 pub fn read_slice_header(
+    r: &mut NaluReader<'_>,
+    sequence_sets: &BTreeMap<u8, SequenceSet>,
+    picture_sets: &BTreeMap<u8, PictureSet>,
+) -> Result<SliceHeader, ParseError>
+    requires { bits_left r.old % 8 ≡ 0 }
+    ensures read { Reads plain_header result r.new (read (plain_slice_header (found_picture_set picture_sets.now) (found_set sequence_sets.now)) (bits r.old)) }
+    // What is read has lines that are allowed and that the payload spells, up to where the reader stands.
+    ensures found { IfOk result (λ x. Spells (plain_slice_header (found_picture_set picture_sets.now) (found_set sequence_sets.now)) (plain_header x) (bits r.old) (bits r.new)) }
+    // What has such lines is read.
+    ensures only { (x : PlainSliceHeader) (rest : List Bool) → Spells (plain_slice_header (found_picture_set picture_sets.now) (found_set sequence_sets.now)) x (bits r.old) rest → Reads plain_header result r.new (gives x rest) }
+    // A refusal is the first line that breaks, and the reader stands before it.
+    ensures refused { IfErr result (λ e. FailsAt e (plain_slice_header (found_picture_set picture_sets.now) (found_set sequence_sets.now)) (bits r.old) r.new) }
+    // Where a line breaks, that is the refusal.
+    ensures broken { (fault : Fault) (rest : List Bool) → BreaksOff (plain_slice_header (found_picture_set picture_sets.now) (found_set sequence_sets.now)) fault (bits r.old) rest → Reads plain_header result r.new (refuses fault rest) }
+{
+    read_rows(r, sequence_sets, picture_sets)
+}
+
+/// Rows 1 to 53 of table 14.
+#[tactic(auto, unfolding(hevc_tables::specs::PlainSliceHeader::plain_slice_header, hevc_tables::specs::PlainSliceHeader::aligned))]
+fn read_rows(
     r: &mut NaluReader<'_>,
     sequence_sets: &BTreeMap<u8, SequenceSet>,
     picture_sets: &BTreeMap<u8, PictureSet>,

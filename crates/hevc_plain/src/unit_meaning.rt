@@ -1,15 +1,14 @@
 //! What a unit means where it stands.
 use crate::records::{PictureSet, SequenceSet, SliceHeader};
 
-/// What a unit means behind the parameter sets that are kept, while plain ones alone are read.
+/// What a unit means behind the parameter sets that are kept, while plain ones alone are read: a parameter set that is kept from here
+/// on, the header of the first slice of an IDR picture, something that isn't read yet (docs/TABLES.md has its table and row), or
+/// nothing.
 #[derive(Clone, Copy)]
 pub enum UnitMeaning {
     SequenceSet(SequenceSet),
     PictureSet(PictureSet),
-    /// The first slice of an IDR picture.
     Slice(SliceHeader),
-    /// A unit that asks for something that isn't read yet: docs/TABLES.md has the numbers.
     NotYet { table: u8, row: u8 },
-    /// A unit that asks nothing.
     Other,
 }

@@ -1,12 +1,12 @@
 -- A loop over repeated rows: what an exit and an end give.
-use Rattle.std.proofs.Common.{◌≡◌, ℕ, ◌+◌, ◌-◌, ◌<◌, ◌≤◌, Bool, List, Result, Ok, Err, refl, sym, ap, ◌∙◌, rules, arith}
+use Rattle.std.proofs.Common.{◌≡◌, ℕ, ◌-◌, ◌<◌, Bool, List, refl}
 use Rattle.hevc_spec.specs.Payload.{Place, bits}
-use Rattle.hevc_spec.specs.Table.{Table, Reading, gives, refuses, Fault, reading_then, read, part, out_of_bits, out_of_range, not_kept}
+use Rattle.hevc_spec.specs.Table.{Table, Reading, read, part, out_of_bits, out_of_range, not_kept}
 use Rattle.hevc_spec.specs.Rows.{repeat, row}
 use Rattle.hevc_spec.proofs.Repeats.{repeat_refused, repeat_more, repeat_done}
 use Rattle.hevc_sets.specs.declared.parse_error.ParseError.{ParseError}
 use Rattle.hevc_sets.specs.declared.parse_error.ParseError.TheVariants.{WrongNaluType, OutOfBits, OutOfRange, MissingSps, MissingPps, NoMemory}
-use Rattle.hevc_sets.specs.Reads.{Refuses}
+use Rattle.hevc_sets.specs.Reads.{Refuses, names_sequence_set, names_picture_set}
 
 -- what a part refuses the whole refuses
 pub part_refused : {A B : Type 0} (e : ParseError) (new : Place) (t : Table A) (k : A → Table B) (all : List Bool) → Refuses e new (read t all) → Refuses e new (read (part t k) all)
@@ -22,8 +22,8 @@ pub loop_refused : {S : Type 0} (e : ParseError) (new : Place) (body : ℕ → S
 loop_refused WrongNaluType new body i n s all total so_far lt h = absurd h
 loop_refused OutOfBits new body i n s all total so_far lt h = repeat_refused body i n s all total so_far out_of_bits (bits new) lt h
 loop_refused (OutOfRange table number) new body i n s all total so_far lt h = repeat_refused body i n s all total so_far (out_of_range (row table number)) (bits new) lt h
-loop_refused (MissingSps id) new body i n s all total so_far lt h = repeat_refused body i n s all total so_far (not_kept id) (bits new) lt h
-loop_refused (MissingPps id) new body i n s all total so_far lt h = repeat_refused body i n s all total so_far (not_kept id) (bits new) lt h
+loop_refused (MissingSps id) new body i n s all total so_far lt h = repeat_refused body i n s all total so_far (not_kept names_sequence_set id) (bits new) lt h
+loop_refused (MissingPps id) new body i n s all total so_far lt h = repeat_refused body i n s all total so_far (not_kept names_picture_set id) (bits new) lt h
 loop_refused NoMemory new body i n s all total so_far lt h = absurd h
 
 -- what a loop over repeated rows wants

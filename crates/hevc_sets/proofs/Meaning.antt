@@ -1,5 +1,5 @@
 -- From what reading gives to what the lines say, in both directions.
-use Rattle.std.proofs.Common.{◌≡◌, ℕ, Bool, List, Result, Ok, Err, refl, sym, ap, subst, ◌∙◌}
+use Rattle.std.proofs.Common.{Bool, List, Result, Ok, Err, subst}
 use Rattle.std.specs.Prelude.{IfOk, IfErr}
 use Rattle.hevc_spec.specs.Payload.{Place, bits}
 use Rattle.hevc_spec.specs.Table.{Table, Fault, Reading, gives, refuses, read, out_of_bits, out_of_range, not_kept}
@@ -8,7 +8,7 @@ use Rattle.hevc_spec.specs.Lines.{Spells, BreaksOff}
 use Rattle.hevc_laws.proofs.TableLaws.{spelled_from_read, read_from_spelled, breaks_from_refused, refused_from_breaks}
 use Rattle.hevc_sets.specs.declared.parse_error.ParseError.{ParseError}
 use Rattle.hevc_sets.specs.declared.parse_error.ParseError.TheVariants.{WrongNaluType, OutOfBits, OutOfRange, MissingSps, MissingPps, NoMemory}
-use Rattle.hevc_sets.specs.Reads.{Reads, Refuses, FailsAt}
+use Rattle.hevc_sets.specs.Reads.{Reads, FailsAt, names_sequence_set, names_picture_set}
 
 module _ {X A : Type 0} (view : X → A) (t : Table A) (all : List Bool) (new : Place) where
   -- what is read is spelled
@@ -22,8 +22,8 @@ module _ {X A : Type 0} (view : X → A) (t : Table A) (all : List Bool) (new : 
   is_refused (Err WrongNaluType) h = absurd h
   is_refused (Err OutOfBits) h = breaks_from_refused t all out_of_bits (bits new) h
   is_refused (Err (OutOfRange table number)) h = breaks_from_refused t all (out_of_range (row table number)) (bits new) h
-  is_refused (Err (MissingSps id)) h = breaks_from_refused t all (not_kept id) (bits new) h
-  is_refused (Err (MissingPps id)) h = breaks_from_refused t all (not_kept id) (bits new) h
+  is_refused (Err (MissingSps id)) h = breaks_from_refused t all (not_kept names_sequence_set id) (bits new) h
+  is_refused (Err (MissingPps id)) h = breaks_from_refused t all (not_kept names_picture_set id) (bits new) h
   is_refused (Err NoMemory) h = absurd h
 
   -- what is spelled is read

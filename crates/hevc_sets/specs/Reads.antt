@@ -1,5 +1,5 @@
 -- What reading by a table answered, and where it left the reader.
-use Rattle.std.specs.Prelude.{◌≡◌, ℕ, List, Bool, Result, Ok, Err}
+use Rattle.std.specs.Prelude.{◌≡◌, List, Bool, Result, Ok, Err}
 use Rattle.hevc_spec.specs.declared.Row.{Row}
 use Rattle.hevc_spec.specs.Payload.{Place, bits}
 use Rattle.hevc_spec.specs.Table.{Table, Reading, gives, refuses, out_of_bits, out_of_range, not_kept}
@@ -15,13 +15,21 @@ abbrev pub error_at : BitError → Row → ParseError
 error_at bit_errors.OutOfBits r = OutOfBits
 error_at bit_errors.OutOfRange r = OutOfRange r.0 r.1
 
+-- pps_seq_parameter_set_id (7.4.3.3.1), which names a sequence set
+abbrev pub names_sequence_set : Row
+names_sequence_set = row 11 2
+
+-- slice_pic_parameter_set_id (7.4.7.1), which names a picture set
+abbrev pub names_picture_set : Row
+names_picture_set = row 14 3
+
 -- The error is the refusal, and the reader stands where the refused element began. Such reading takes no memory.
 abbrev pub Refuses : {A : Type 0} → ParseError → Place → Reading A → Type 0
 Refuses WrongNaluType new reading = ⊥
 Refuses OutOfBits new reading = reading ≡ refuses out_of_bits (bits new)
 Refuses (OutOfRange table number) new reading = reading ≡ refuses (out_of_range (row table number)) (bits new)
-Refuses (MissingSps id) new reading = reading ≡ refuses (not_kept id) (bits new)
-Refuses (MissingPps id) new reading = reading ≡ refuses (not_kept id) (bits new)
+Refuses (MissingSps id) new reading = reading ≡ refuses (not_kept names_sequence_set id) (bits new)
+Refuses (MissingPps id) new reading = reading ≡ refuses (not_kept names_picture_set id) (bits new)
 Refuses NoMemory new reading = ⊥
 
 -- The result, seen by a view, is the value that reading gives, and the reader stands behind its last bit.
@@ -34,6 +42,6 @@ abbrev pub FailsAt : {A : Type 0} → ParseError → Table A → List Bool → P
 FailsAt WrongNaluType t all new = ⊥
 FailsAt OutOfBits t all new = BreaksOff t out_of_bits all (bits new)
 FailsAt (OutOfRange table number) t all new = BreaksOff t (out_of_range (row table number)) all (bits new)
-FailsAt (MissingSps id) t all new = BreaksOff t (not_kept id) all (bits new)
-FailsAt (MissingPps id) t all new = BreaksOff t (not_kept id) all (bits new)
+FailsAt (MissingSps id) t all new = BreaksOff t (not_kept names_sequence_set id) all (bits new)
+FailsAt (MissingPps id) t all new = BreaksOff t (not_kept names_picture_set id) all (bits new)
 FailsAt NoMemory t all new = ⊥

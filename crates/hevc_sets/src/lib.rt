@@ -5,3 +5,6 @@ pub mod elements;
 mod parse_error;
 
 pub use parse_error::ParseError;
+
+#[cfg(test)]
+mod tests;

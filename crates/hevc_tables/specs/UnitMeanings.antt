@@ -1,22 +1,21 @@
 -- What a unit means where it stands, while only plain sets and plain slices of IDR pictures are read.
-use Rattle.std.specs.Prelude.{ℕ, Bool, true, false, List, [], ◌∷◌, Option, Some, None, is_none, Result, Ok, Err, ◌==◌, ◌||◌, ◌&&◌, not, nat_le, if◌then◌else◌}
+use Rattle.std.specs.Prelude.{ℕ, Bool, List, is_none, Result, Ok, Err, ◌==◌, ◌||◌, ◌&&◌, nat_le, if◌then◌else◌}
 use Rattle.hevc_spec.specs.UnitHeader.{UnitHeader, HeaderFault, unit_header}
 use Rattle.hevc_spec.specs.Payload.{payload}
-use Rattle.hevc_spec.specs.Table.{Reading, gives, refuses, Fault, read}
+use Rattle.hevc_spec.specs.Table.{Reading, gives, refuses, read}
 use Rattle.hevc_tables.specs.PlainSequenceSet.{PlainSequenceSet, plain_sequence_set}
 use Rattle.hevc_tables.specs.PlainPictureSet.{PlainPictureSet, plain_picture_set}
 use Rattle.hevc_tables.specs.PlainSliceHeader.{PlainSliceHeader, plain_slice_header}
 use Rattle.hevc_tables.specs.KeptSets.{KeptSets, with_sequence_set, with_picture_set}
 
+-- A fault of the unit's header; a parameter set that is kept from here on; the header of an IDR slice, with the unit's own; something
+-- that isn't read yet, by the numbers of docs/TABLES.md; or nothing that is asked for (7.4.2.2).
 pub data UnitMeaning : Type 0 where
-  -- a fault of the unit's header
   faulty : HeaderFault → UnitMeaning
   sequence_set : PlainSequenceSet → UnitMeaning
   picture_set : PlainPictureSet → UnitMeaning
   slice : UnitHeader → PlainSliceHeader → UnitMeaning
-  -- a unit that asks for something that isn't read yet: docs/TABLES.md has the numbers
   not_yet : (table row : ℕ) → UnitMeaning
-  -- a unit that asks nothing
   other : UnitMeaning
 
 -- the payload is read by the table of its kind, or not at all
@@ -24,6 +23,7 @@ abbrev pub meaning_read : {A : Type 0} → (A → UnitMeaning) → UnitMeaning �
 meaning_read means refused (gives set rest) = means set
 meaning_read means refused (refuses fault rest) = refused
 
+-- the types of IDR pictures (Table 7-1)
 abbrev pub is_idr_type : ℕ → Bool
 is_idr_type t = t == 19 || t == 20
 
@@ -31,11 +31,12 @@ is_idr_type t = t == 19 || t == 20
 abbrev pub is_slice_type : ℕ → Bool
 is_slice_type t = nat_le t 9 || (nat_le 16 t && nat_le t 21)
 
--- the end of a sequence or of the bitstream
+-- the types of an end of sequence and of an end of bitstream (Table 7-1)
 abbrev pub is_end : ℕ → Bool
 is_end t = t == 36 || t == 37
 
--- What a unit means that is no sequence or picture set. Behind the first sequence set slices and ends ask for something.
+-- What a unit means that is no sequence or picture set (7.4.2.2): a video set isn't read yet; before the first sequence set no other
+-- unit asks for anything; behind it slices of IDR pictures are read, and other slices and ends aren't yet.
 abbrev pub other_meaning : KeptSets → UnitHeader → List Bool → UnitMeaning
 other_meaning kept h bits =
     if h.nal_unit_type == 32 then not_yet 0 32
@@ -44,22 +45,23 @@ other_meaning kept h bits =
     else if is_slice_type h.nal_unit_type || is_end h.nal_unit_type then not_yet 0 h.nal_unit_type
     else other
 
--- the cases in order, with the payload's bits
+-- what a unit with this header means (7.4.2.2), by the bits of its payload
 abbrev pub typed_meaning : KeptSets → UnitHeader → List Bool → UnitMeaning
 typed_meaning kept h bits =
     if h.nal_unit_type == 33 then meaning_read sequence_set (not_yet 5 1) (read plain_sequence_set bits)
     else if h.nal_unit_type == 34 then meaning_read picture_set (not_yet 11 1) (read (plain_picture_set kept.sequence_sets) bits)
     else other_meaning kept h bits
 
+-- a unit whose header is faulty means its fault (7.3.1.2)
 abbrev pub headed_meaning : KeptSets → List ℕ → Result UnitHeader HeaderFault → UnitMeaning
 headed_meaning kept bytes (Ok header) = typed_meaning kept header (payload bytes)
 headed_meaning kept bytes (Err fault) = faulty fault
 
--- what a unit of these bytes means behind the sets that are kept
+-- what a unit of these bytes means behind the sets that are kept (7.3.1.1, 7.4.2.4.2)
 unfoldable pub unit_meaning : KeptSets → List ℕ → UnitMeaning
 unit_meaning kept bytes = headed_meaning kept bytes (unit_header bytes)
 
--- the sets that are kept behind a unit
+-- the sets that are kept behind a unit (7.4.2.4.2)
 abbrev pub kept_behind : KeptSets → UnitMeaning → KeptSets
 kept_behind kept (sequence_set set) = with_sequence_set set kept
 kept_behind kept (picture_set set) = with_picture_set set kept

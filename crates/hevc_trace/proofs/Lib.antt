@@ -1,2 +1,3 @@
 pub mod Bytes
+pub mod Joined
 pub mod Pieces

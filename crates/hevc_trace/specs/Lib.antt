@@ -1,5 +1,6 @@
 pub mod Faults
+pub mod Lines
 pub mod Memory
 pub mod Prefix
 pub mod Report
-pub mod Written
+pub mod Status

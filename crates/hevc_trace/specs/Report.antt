@@ -1,37 +1,76 @@
--- The report of a run, as bytes.
-use Rattle.std.specs.Prelude.{ℕ, ◌+◌, List, [], ◌++◌, length, codes, decimal, Result, Ok, Err, if◌then◌else◌}
+-- The report on a stream, as bytes: what the units ask for, which pictures come out, and how the stream ends.
+use Rattle.std.specs.Prelude.{ℕ, ℤ, ◌+◌, Bool, List, [], ◌∷◌, ◌++◌, length, codes, decimal, Option, Some, None, Result, Ok, Err, if◌then◌else◌}
 use Rattle.std.specs.List.{flat_map}
 use Rattle.std.specs.Fmt.{signed_decimal}
-use Rattle.hevc_bits.specs.NaluType.{nalu_type_number}
-use Rattle.hevc_backend.specs.declared.negotiation.NegotiationInfo.{NegotiationInfo}
-use Rattle.hevc_backend.specs.declared.call.Call.{Call}
-use Rattle.hevc_backend.specs.declared.call.Call.TheVariants.{NewSequence, NewPicture, BeginPicture, DecodeSlice, SubmitPicture}
+use Rattle.hevc_walk.specs.Meanings.{Format}
+use Rattle.hevc_walk.specs.ReferenceLists.{RefPicListEntry, CurrentPicture, DpbEntry}
+use Rattle.hevc_walk.specs.Walk.{Call, NewSequence, NewPicture, BeginPicture, DecodeSlice, SubmitPicture}
+use Rattle.hevc_walk.specs.Results.{OutputPicture, calls, outputs, verdict}
 use Rattle.hevc_decoder.specs.declared.decode_error.DecodeError.{DecodeError}
 use Rattle.hevc_decoder.specs.declared.decode_error.DecodeError.TheVariants as errors
-use Rattle.hevc_decoder.specs.declared.decoded.Shown.{Shown}
 use Rattle.hevc_decoder.specs.declared.decoded.Refused.{Refused}
+use Rattle.hevc_decoder.specs.Headline.{all_asked}
+use Rattle.hevc_decoder.specs.Maps.{answer_of}
+use Rattle.hevc_decoder.specs.StreamMeanings.{meanings}
 
 -- the line of a sequence: its size in luma samples, profile, bit depths, chroma format, and how many pictures the buffer holds
-abbrev pub seq_line : NegotiationInfo → List ℕ
-seq_line info = codes "seq " ++ decimal info.coded_resolution.width ++ codes "x" ++ decimal info.coded_resolution.height
-    ++ codes " profile " ++ decimal info.general_profile_idc
-    ++ codes " depth " ++ decimal (info.bit_depth_luma_minus8 + 8) ++ codes " " ++ decimal (info.bit_depth_chroma_minus8 + 8)
-    ++ codes " chroma " ++ decimal info.chroma_format_idc ++ codes " buffer " ++ decimal info.max_num_pics ++ codes "\n"
+abbrev pub sequence_line : Format → List ℕ
+sequence_line format = codes "seq " ++ decimal format.coded_width ++ codes "x" ++ decimal format.coded_height
+    ++ codes " profile " ++ decimal format.general_profile_idc
+    ++ codes " depth " ++ decimal (format.bit_depth_luma_minus8 + 8) ++ codes " " ++ decimal (format.bit_depth_chroma_minus8 + 8)
+    ++ codes " chroma " ++ decimal format.chroma_format_idc ++ codes " buffer " ++ decimal format.max_num_pics ++ codes "\n"
 
--- the line of a call; where the slices of a picture come there is none
-abbrev pub call_line : Call ℕ → List ℕ
-call_line (NewSequence info) = seq_line info
-call_line (NewPicture number nalu_type order_count output timestamp) =
-    codes "pic " ++ decimal number ++ codes " type " ++ decimal (nalu_type_number nalu_type) ++ codes " poc " ++ signed_decimal order_count
+-- the line of a picture: its number, the type of its units, its order count, and whether it is to be output
+abbrev pub picture_line : ℕ → ℕ → ℤ → Bool → List ℕ
+picture_line number nal_unit_type order_count output =
+    codes "pic " ++ decimal number ++ codes " type " ++ decimal nal_unit_type ++ codes " poc " ++ signed_decimal order_count
     ++ codes " output " ++ decimal (if output then 1 else 0) ++ codes "\n"
-call_line (BeginPicture number) = []
-call_line (DecodeSlice number address bytes) =
-    codes "slice " ++ decimal number ++ codes " at " ++ decimal address ++ codes " size " ++ decimal (length bytes) ++ codes " list0 - list1 -\n"
-call_line (SubmitPicture number handle) = codes "submit " ++ decimal number ++ codes " handle " ++ decimal handle ++ codes "\n"
 
--- the line of an output
-abbrev pub shown_line : Shown ℕ → List ℕ
-shown_line output = codes "show " ++ decimal output.number ++ codes " poc " ++ signed_decimal output.order_count
+-- a place of a reference picture list: a picture's number, `c` for the current picture, `x` for none
+abbrev pub place_text : Option RefPicListEntry → List ℕ
+place_text None = codes "x"
+place_text (Some CurrentPicture) = codes "c"
+place_text (Some (DpbEntry number)) = decimal number
+
+-- the places joined by commas
+abbrev pub list_text : List (Option RefPicListEntry) → List ℕ
+list_text [] = codes "-"
+list_text (place ∷ places) = place_text place ++ flat_map (λ p. codes "," ++ place_text p) places
+
+-- the line of a slice: its picture, its address, how many bytes its unit has, and its reference picture lists
+abbrev pub slice_line : ℕ → ℕ → ℕ → List (Option RefPicListEntry) → List (Option RefPicListEntry) → List ℕ
+slice_line number address size list0 list1 =
+    codes "slice " ++ decimal number ++ codes " at " ++ decimal address ++ codes " size " ++ decimal size
+    ++ codes " list0 " ++ list_text list0 ++ codes " list1 " ++ list_text list1 ++ codes "\n"
+
+-- the line of a submitted picture: its number and its handle
+abbrev pub submission_line : ℕ → ℕ → List ℕ
+submission_line number handle = codes "submit " ++ decimal number ++ codes " handle " ++ decimal handle ++ codes "\n"
+
+-- the line of a call, where the next handle is this one; where the slices of a picture come there is none
+abbrev pub call_line : ℕ → Call → List ℕ
+call_line handle (NewSequence format) = sequence_line format
+call_line handle (NewPicture number nal_unit_type order_count output timestamp) = picture_line number nal_unit_type order_count output
+call_line handle (BeginPicture number set) = []
+call_line handle (DecodeSlice number address bytes list0 list1) = slice_line number address (length bytes) list0 list1
+call_line handle (SubmitPicture number) = submission_line number handle
+
+-- the next handle behind a call; a submission takes one
+abbrev pub handle_behind : ℕ → Call → ℕ
+handle_behind handle (NewSequence format) = handle
+handle_behind handle (NewPicture number nal_unit_type order_count output timestamp) = handle
+handle_behind handle (BeginPicture number set) = handle
+handle_behind handle (DecodeSlice number address bytes list0 list1) = handle
+handle_behind handle (SubmitPicture number) = handle + 1
+
+-- the lines of these calls, whose submissions get this handle and those behind it, in order
+abbrev pub calls_text : ℕ → List Call → List ℕ
+calls_text handle [] = []
+calls_text handle (call ∷ calls) = call_line handle call ++ calls_text (handle_behind handle call) calls
+
+-- the line of a picture that comes out: its number, its order count, and the unit at which it does
+abbrev pub output_line : OutputPicture → List ℕ
+output_line output = codes "show " ++ decimal output.number ++ codes " poc " ++ signed_decimal output.order_count
     ++ codes " unit " ++ decimal output.unit ++ codes "\n"
 
 -- the name of a cause, and its numbers
@@ -58,6 +97,11 @@ abbrev pub last_line : ℕ → Result ℕ Refused → List ℕ
 last_line shown (Ok pictures) = codes "end pictures " ++ decimal pictures ++ codes " shown " ++ decimal shown ++ codes "\n"
 last_line shown (Err refused) = codes "refused unit " ++ decimal refused.unit ++ codes " " ++ cause_text refused.error ++ codes "\n"
 
--- a line for each call in order, one for each output in order, and the last
-abbrev pub report : List (Call ℕ) → List (Shown ℕ) → Result ℕ Refused → List ℕ
-report log shown result = flat_map call_line log ++ flat_map shown_line shown ++ last_line (length shown) result
+-- how a stream ends: with the number of its pictures, or refused
+abbrev pub ending_of : List ℕ → Result ℕ Refused
+ending_of stream = answer_of (verdict (meanings stream))
+
+-- a line for each call that the units ask for, one for each picture that comes out, and the last; the handles are 0, 1, 2 and so on
+abbrev pub report_of : List ℕ → List ℕ
+report_of stream = calls_text 0 (all_asked (calls (meanings stream))) ++ flat_map output_line (outputs (meanings stream))
+    ++ last_line (length (outputs (meanings stream))) (ending_of stream)

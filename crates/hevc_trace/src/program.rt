@@ -1,9 +1,11 @@
 //! The top call: from the words of the command line to the status.
-ghost use Rattle.std.specs.Prelude.{◌≡◌, ◌≢◌, ◌≤◌, ◌<◌, ℕ, List, [], length, IfOk, IfSome, IsErrOf, if◌then◌else◌};
+ghost use Rattle.std.specs.Prelude.{◌≡◌, ◌≢◌, ◌≤◌, ◌<◌, ◌⊎◌, ◌↔◌, ℕ, List, [], length, IfOk, IfSome, IsErrOf, IsTrue, is_ok};
 ghost use Rattle.std.specs.String.{string_bytes};
-ghost use Rattle.std.specs.Io.KnownBytes.{IsAtEnd};
+ghost use Rattle.std.specs.Io.KnownBytes.{Appends, IsAtEnd};
 ghost use Rattle.hevc_trace.specs.Faults.{Rose};
-ghost use Rattle.hevc_trace.specs.Written.{IsReport, WritesReport, IsDone};
+ghost use Rattle.hevc_trace.specs.Prefix.{AppendsPrefix};
+ghost use Rattle.hevc_trace.specs.Report.{ending_of, report_of};
+ghost use Rattle.hevc_trace.specs.Status.{status_of, IsDone, WantsMemory};
 
 use crate::input::{INPUT_LIMIT, InputError, read_all};
 use crate::output::write_all;
@@ -47,14 +49,18 @@ struct Report {
 pub fn run<S: Source, K: Sink>(alloc: Global, words: &[Word], source: &mut S, sink: &mut K) -> u8
     ensures statuses { result ≤ 6 }
 
-    // On 0 and 1 the input was read whole, and a report with that status was written.
-    ensures end { result ≤ 1 → IsAtEnd (S.left source.new) }
-    ensures report { result ≤ 1 → WritesReport (K.written sink.old) (K.written sink.new) result }
+    // On 0 and 1 all was read, the report on it was written, and the status tells whether it was decoded.
+    ensures whole { words.now ≡ [] → result ≤ 1 → IsAtEnd (S.left source.new) × IfSome (S.left source.old) (λ s.
+        Appends (K.written sink.old) (K.written sink.new) (report_of s) × (result ≡ status_of (ending_of s))) }
+    // That is so for no longer input than may be.
+    ensures limit { words.now ≡ [] → result ≤ 1 → IfSome (S.left source.old) (λ s. length s ≤ INPUT_LIMIT) }
+    // Whatever the status, what was written is a front of that report.
+    ensures part { words.now ≡ [] → IfSome (S.left source.old) (λ s.
+        AppendsPrefix (K.written sink.old) (K.written sink.new) (report_of s)) }
 
-    // Words that are no command: nothing is read or written.
-    ensures command { words.now ≡ [] → result ≢ 2 }
-    ensures other_words { words.now ≢ [] → result ≡ 2 }
-    ensures untouched { result ≡ 2 → (source.new ≡ source.old) × (sink.new ≡ sink.old) }
+    // 2 exactly where there are words, and then nothing is read or written.
+    ensures command { (result ≡ 2) ⊎ (words.now ≡ []) }
+    ensures faulty { result ≡ 2 → (words.now ≢ []) × (source.new ≡ source.old) × (sink.new ≡ sink.old) }
 
     ensures read { result ≡ 3 → Rose (S.faults source.old) (S.faults source.new) × (sink.new ≡ sink.old) }
     ensures write { result ≡ 4 → Rose (K.faults sink.old) (K.faults sink.new) }
@@ -83,8 +89,11 @@ fn write_report<S: Source, K: Sink>(
     source: &mut S,
     sink: &mut K,
 ) -> Result<bool, Stop>
-    ensures end { IfOk result (λ _. IsAtEnd (S.left source.new)) }
-    ensures report { IfOk result (λ is_decoded. WritesReport (K.written sink.old) (K.written sink.new) (if is_decoded then 0 else 1)) }
+    ensures whole { IfOk result (λ is_decoded. IsAtEnd (S.left source.new) × IfSome (S.left source.old) (λ s.
+        Appends (K.written sink.old) (K.written sink.new) (report_of s) × (is_decoded ≡ is_ok (ending_of s)))) }
+    ensures limit { IfOk result (λ _. IfSome (S.left source.old) (λ s. length s ≤ INPUT_LIMIT)) }
+    ensures part { IfSome (S.left source.old) (λ s.
+        AppendsPrefix (K.written sink.old) (K.written sink.new) (report_of s)) }
     ensures read { IsErrOf result Stop.Read → Rose (S.faults source.old) (S.faults source.new) × (sink.new ≡ sink.old) }
     ensures write { IsErrOf result Stop.Write → Rose (K.faults sink.old) (K.faults sink.new) }
     ensures long { IsErrOf result Stop.TooLong → (sink.new ≡ sink.old) × IfSome (S.left source.old) (λ s. INPUT_LIMIT < length s) }
@@ -108,17 +117,12 @@ fn write_report<S: Source, K: Sink>(
 /// The report on a stream.
 fn report_on(alloc: Global, stream: &[u8]) -> Result<Report, AllocError>
     requires { length stream.now ≤ INPUT_LIMIT }
-    ensures { IfOk result (λ report. IsReport (string_bytes report.text) (if report.is_decoded then 0 else 1)) }
+    ensures text { IfOk result (λ report. string_bytes report.text ≡ report_of stream.now) }
+    ensures decoded { IfOk result (λ report. report.is_decoded ≡ is_ok (ending_of stream.now)) }
 {
     let mut shown = Vec::new(alloc);
     let decoded = decode_stream(alloc, Backend::new(alloc), stream, &mut shown);
-    if let Err(
-        Refused {
-            error: DecodeError::NoMemory,
-            ..
-        },
-    ) = decoded.result
-    {
+    if wants_memory(decoded.result) {
         return Err(AllocError);
     }
     let text = report_text(alloc, decoded.backend.calls(), &shown, decoded.result)?;
@@ -126,4 +130,19 @@ fn report_on(alloc: Global, stream: &[u8]) -> Result<Report, AllocError>
         text,
         is_decoded: decoded.result.is_ok(),
     })
+}
+
+/// Whether the decoding ended for want of memory.
+fn wants_memory(answer: Result<u64, Refused>) -> bool
+    ensures { IsTrue result ↔ WantsMemory answer }
+{
+    match answer {
+        Err(
+            Refused {
+                error: DecodeError::NoMemory,
+                ..
+            },
+        ) => true,
+        _ => false,
+    }
 }

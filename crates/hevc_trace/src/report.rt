@@ -2,7 +2,7 @@
 ghost use Rattle.std.specs.Prelude.{◌≡◌, ◌++◌, OnOk, IfOk};
 ghost use Rattle.std.specs.List.{flat_map};
 ghost use Rattle.std.specs.String.{string_bytes};
-ghost use Rattle.hevc_trace.specs.Report.{call_line, shown_line, report};
+ghost use Rattle.hevc_trace.specs.Lines.{log_line, shown_line, text_of};
 
 mod last;
 mod line;
@@ -20,7 +20,7 @@ pub(crate) fn report_text(
     shown: &[Shown<u64>],
     verdict: Result<u64, Refused>,
 ) -> Result<String, AllocError>
-    ensures { IfOk result (λ text. string_bytes text ≡ report log.now shown.now verdict) }
+    ensures { IfOk result (λ text. string_bytes text ≡ text_of log.now shown.now verdict) }
 {
     let mut text = String::new(alloc);
     push_calls(&mut text, log)?;
@@ -31,7 +31,7 @@ pub(crate) fn report_text(
 
 #[tactic(auto, using(std::proofs::Common::append_assoc))]
 fn push_calls(text: &mut String, log: &[Call<u64>]) -> Result<(), AllocError>
-    ensures { OnOk result (string_bytes text.new ≡ string_bytes text.old ++ flat_map call_line log.now) }
+    ensures { OnOk result (string_bytes text.new ≡ string_bytes text.old ++ flat_map log_line log.now) }
 {
     for call in log {
         push_call(text, call)?;

@@ -5,12 +5,11 @@ ghost use Rattle.std.specs.Io.{WritesAtMost};
 ghost use Rattle.std.specs.Io.KnownBytes.{WriteAppends};
 ghost use Rattle.hevc_trace.specs.Faults.{Rose, TakesSome};
 
-/// Why a write was refused.
+/// Why a write was refused: it failed and the sink counted a fault, or there was no memory for the
+/// bytes.
 #[derive(Clone, Copy, Debug, PartialEq, Eq)]
 pub enum SinkError {
-    /// The write failed, and the sink counted a fault.
     Failed,
-    /// There was no memory for the bytes.
     NoMemory,
 }
 

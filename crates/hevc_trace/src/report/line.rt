@@ -1,7 +1,9 @@
 //! One line of the report.
 ghost use Rattle.std.specs.Prelude.{◌≡◌, ◌++◌, OnOk};
 ghost use Rattle.std.specs.String.{string_bytes};
-ghost use Rattle.hevc_trace.specs.Report.{call_line, seq_line, shown_line};
+ghost use Rattle.hevc_decoder.specs.Maps.{format_of};
+ghost use Rattle.hevc_trace.specs.Lines.{log_line, shown_line};
+ghost use Rattle.hevc_trace.specs.Report.{sequence_line};
 
 use hevc_backend::{Call, NegotiationInfo};
 use hevc_decoder::Shown;
@@ -10,7 +12,7 @@ use std::alloc::AllocError;
 /// Adds the line of a call. Where the slices of a picture come there is none.
 #[tactic(auto, using(std::proofs::Common::append_assoc))]
 pub(crate) fn push_call(text: &mut String, call: &Call<u64>) -> Result<(), AllocError>
-    ensures { OnOk result (string_bytes text.new ≡ string_bytes text.old ++ call_line call.now) }
+    ensures { OnOk result (string_bytes text.new ≡ string_bytes text.old ++ log_line call.now) }
 {
     match call {
         Call::NewSequence { info } => push_sequence(text, info),
@@ -45,7 +47,7 @@ pub(crate) fn push_call(text: &mut String, call: &Call<u64>) -> Result<(), Alloc
 }
 
 fn push_sequence(text: &mut String, info: &NegotiationInfo) -> Result<(), AllocError>
-    ensures { OnOk result (string_bytes text.new ≡ string_bytes text.old ++ seq_line info.now) }
+    ensures { OnOk result (string_bytes text.new ≡ string_bytes text.old ++ sequence_line (format_of info.now)) }
 {
     let width = info.coded_resolution.width;
     let height = info.coded_resolution.height;

@@ -1,7 +1,7 @@
 use Rattle.std.proofs.Common.{◌≡◌, ◌++◌, take}
 use Rattle.std.specs.String.{string_bytes}
 use Rattle.std.specs.List.{flat_map}
-use Rattle.hevc_trace.specs.Report.{shown_line}
+use Rattle.hevc_trace.specs.Lines.{shown_line}
 use Rattle.hevc_trace.proofs.report.push_outputs.Given as goal
 
 -- the lines of the outputs so far

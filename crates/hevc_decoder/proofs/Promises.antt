@@ -1,0 +1,267 @@
+-- From a whole run to what is promised of it.
+use Rattle.std.proofs.Common.{◌≡◌, ℕ, ◌+◌, ◌≤◌, List, [], ◌∷◌, ◌++◌, map, length, refl, sym, ◌∙◌, ap, subst, arith, Option, Some, None, Result, Ok, Err}
+use Rattle.std.specs.Prelude.{OnOk}
+use Rattle.std.specs.List.{AllByRecursion}
+use Rattle.std.proofs.lemmas.List.{map-append, append-nil}
+use Rattle.hevc_backend.specs.declared.call.Call.{Call}
+use Rattle.hevc_backend.specs.declared.call.Call.TheVariants as code
+use Rattle.hevc_walk.specs.Meanings.{Meaning}
+use Rattle.hevc_walk.specs.Pictures.{pictures}
+use Rattle.hevc_walk.specs.Walk as walk
+use Rattle.hevc_walk.specs.Walk.{Event, Called, Output}
+use Rattle.hevc_walk.specs.Refusals.{Refusal, stop}
+use Rattle.hevc_walk.specs.Results.{OutputPicture, calls_in, outputs_in, events, calls, outputs, verdict, full, full_or, stop_or}
+use Rattle.hevc_walk.specs.Fates.{times, output_numbers}
+use Rattle.hevc_walk.specs.Clean.{IsClean}
+use Rattle.hevc_walk_joined.proofs.Joined.{events-same, verdict-same}
+use Rattle.hevc_walk_fates.specs.Submissions.{submitted_in, submitted_numbers}
+use Rattle.hevc_walk_fates.proofs.Fates.{output_once, output_displayed}
+use Rattle.hevc_walk_fates.proofs.Submitted.{submitted_once}
+use Rattle.hevc_walk_bound.proofs.Bound.{clean_ok}
+use Rattle.hevc_walk_units.specs.Units.{at_first}
+use Rattle.hevc_walk_idr.specs.IdrWalk.{idr_first, idr_verdict_from, AreIdrMeanings}
+use Rattle.hevc_walk_idr.proofs.Simulation.{simulates_first, idr_events, idr_verdict}
+use Rattle.hevc_decoder.specs.declared.decoded.Shown.{Shown}
+use Rattle.hevc_decoder.specs.declared.decoded.Refused.{Refused}
+use Rattle.hevc_decoder.specs.declared.decode_error.DecodeError.{DecodeError}
+use Rattle.hevc_decoder.specs.declared.decode_error.DecodeError.TheVariants as errors
+use Rattle.hevc_decoder.specs.Answers.{IsNoBackend, without_unit, IsAnswer, AnswersOnly}
+use Rattle.hevc_decoder.specs.Maps.{call_of, output_picture, answer_of}
+use Rattle.hevc_decoder.specs.Tickets.{Among, shown_ticket, submissions}
+use Rattle.hevc_decoder.specs.Does.{Traces}
+use Rattle.hevc_decoder.specs.Runs.{CallFollows, UpTo, EndsAt, Ends, Ended}
+use Rattle.hevc_decoder.specs.Headline.{Grew, Appended, IsFront, asked, all_asked, AnswersError, AnswersVerdict, CutsCalls, NextIs, EndsCallsAt, EndsCalls, CutsOutputs, EndsOutputsAt, EndsOutputs, AllSubmitted, SubmittedOnce, shown_numbers, ComeOutOnce, AreDisplayed, IsOkOrNoMemory, IsNoMemory}
+use Rattle.hevc_decoder.proofs.Doing.{among_left, outputs_in_both}
+use Rattle.std.proofs.lemmas.Grind.{flat_map-append}
+use Rattle.hevc_walk.specs.Results.{call_at}
+
+calls_both : (d e : List (ℕ × Event)) → calls_in (d ++ e) ≡ calls_in d ++ calls_in e
+calls_both d e = flat_map-append (λ (x : ℕ × Event). call_at x.0 x.1) d e
+
+calls_up : (k : ℕ) (es : List (ℕ × Event)) → AllByRecursion (λ e. e.0 ≤ k) es → AllByRecursion (λ c. c.0 ≤ k) (calls_in es)
+calls_up k [] a = tt
+calls_up k ((j, Called c) ∷ es) (p, a) = (p, calls_up k es a)
+calls_up k ((j, Output number order_count) ∷ es) (p, a) = calls_up k es a
+
+calls_on : (k : ℕ) (es : List (ℕ × Event)) → AllByRecursion (λ e. k ≤ e.0) es → AllByRecursion (λ c. k ≤ c.0) (calls_in es)
+calls_on k [] a = tt
+calls_on k ((j, Called c) ∷ es) (p, a) = (p, calls_on k es a)
+calls_on k ((j, Output number order_count) ∷ es) (p, a) = calls_on k es a
+
+outputs_up : (k : ℕ) (es : List (ℕ × Event)) → AllByRecursion (λ e. e.0 ≤ k) es → AllByRecursion (λ o. o.unit ≤ k) (outputs_in es)
+outputs_up k [] a = tt
+outputs_up k ((j, Called c) ∷ es) (p, a) = outputs_up k es a
+outputs_up k ((j, Output number order_count) ∷ es) (p, a) = (p, outputs_up k es a)
+
+outputs_on : (k : ℕ) (es : List (ℕ × Event)) → AllByRecursion (λ e. k ≤ e.0) es → AllByRecursion (λ o. k ≤ o.unit) (outputs_in es)
+outputs_on k [] a = tt
+outputs_on k ((j, Called c) ∷ es) (p, a) = outputs_on k es a
+outputs_on k ((j, Output number order_count) ∷ es) (p, a) = (p, outputs_on k es a)
+
+next_call : (k : ℕ) (es : List (ℕ × Event)) → CallFollows k es → NextIs k (calls_in es)
+next_call k [] h = h
+next_call k ((j, Called c) ∷ es) h = h
+next_call k ((j, Output number order_count) ∷ es) h = absurd h
+
+times_both : (n : ℕ) (xs ys : List ℕ) → times n (xs ++ ys) ≡ times n xs + times n ys
+times_both n [] ys = omega arith
+times_both n (x ∷ xs) ys = let h = times_both n xs ys in omega arith
+
+-- the numbers of the pictures that calls submit
+abbrev numbers_asked : List walk.Call → List ℕ
+numbers_asked [] = []
+numbers_asked (walk.SubmitPicture n ∷ cs) = n ∷ numbers_asked cs
+numbers_asked (walk.NewSequence info ∷ cs) = numbers_asked cs
+numbers_asked (walk.NewPicture number t c o s ∷ cs) = numbers_asked cs
+numbers_asked (walk.BeginPicture number set ∷ cs) = numbers_asked cs
+numbers_asked (walk.DecodeSlice number address bytes list0 list1 ∷ cs) = numbers_asked cs
+
+numbers_of_all : (cs : List (ℕ × walk.Call)) → submitted_in cs ≡ numbers_asked (all_asked cs)
+numbers_of_all [] = refl
+numbers_of_all ((k, walk.SubmitPicture n) ∷ cs) = ap (λ ns. n ∷ ns) (numbers_of_all cs)
+numbers_of_all ((k, walk.NewSequence info) ∷ cs) = numbers_of_all cs
+numbers_of_all ((k, walk.NewPicture number t c o s) ∷ cs) = numbers_of_all cs
+numbers_of_all ((k, walk.BeginPicture number set) ∷ cs) = numbers_of_all cs
+numbers_of_all ((k, walk.DecodeSlice number address bytes list0 list1) ∷ cs) = numbers_of_all cs
+
+numbers_of_made : {H : Type 0} (cs : List (Call H)) → map (λ t. t.0) (submissions cs) ≡ numbers_asked (map call_of cs)
+numbers_of_made [] = refl
+numbers_of_made (code.SubmitPicture number handle ∷ cs) = ap (λ ns. number ∷ ns) (numbers_of_made cs)
+numbers_of_made (code.NewSequence info ∷ cs) = numbers_of_made cs
+numbers_of_made (code.NewPicture number t c o s ∷ cs) = numbers_of_made cs
+numbers_of_made (code.BeginPicture number ∷ cs) = numbers_of_made cs
+numbers_of_made (code.DecodeSlice number address bytes ∷ cs) = numbers_of_made cs
+
+numbers_both : (cs ds : List walk.Call) → numbers_asked (cs ++ ds) ≡ numbers_asked cs ++ numbers_asked ds
+numbers_both [] ds = refl
+numbers_both (walk.SubmitPicture n ∷ cs) ds = ap (λ ns. n ∷ ns) (numbers_both cs ds)
+numbers_both (walk.NewSequence info ∷ cs) ds = numbers_both cs ds
+numbers_both (walk.NewPicture number t c o s ∷ cs) ds = numbers_both cs ds
+numbers_both (walk.BeginPicture number set ∷ cs) ds = numbers_both cs ds
+numbers_both (walk.DecodeSlice number address bytes list0 list1 ∷ cs) ds = numbers_both cs ds
+
+numbers_shown : {H : Type 0} (os : List (Shown H)) → shown_numbers os ≡ map (λ o. o.number) (map output_picture os)
+numbers_shown [] = refl
+numbers_shown (o ∷ os) = ap (λ ns. o.number ∷ ns) (numbers_shown os)
+
+-- a verdict without a refusal
+full_refused : (f : Option ℕ) (s : Option Refusal) (n m : ℕ) → answer_of (full_or f (stop_or s (Ok n))) ≡ Ok m → s ≡ None
+full_refused (Some k) s n m e = absurd (cc e)
+full_refused None (Some r) n m e = absurd (cc e)
+full_refused None None n m e = refl
+
+-- the clauses of a run
+module _ {H : Type 0} (us : List Meaning) (r : Result ℕ Refused) (old new : Traces H) (are : AreIdrMeanings None us) (x : Ended r us old new) where
+  events_are : events us ≡ x.done ++ x.rest
+  events_are = sym (events-same us) ∙ idr_events us 0 idr_first at_first are simulates_first ∙ x.whole
+
+  calls_are : calls us ≡ calls_in x.done ++ calls_in x.rest
+  calls_are = ap calls_in events_are ∙ calls_both x.done x.rest
+
+  outputs_are : outputs us ≡ outputs_in x.done ++ outputs_in x.rest
+  outputs_are = ap outputs_in events_are ∙ outputs_in_both x.done x.rest
+
+  verdict_is : idr_verdict_from idr_first 0 us ≡ verdict us
+  verdict_is = sym (idr_verdict us 0 idr_first at_first are simulates_first) ∙ verdict-same us
+
+  asked_are : all_asked (calls us) ≡ map call_of x.does.calls ++ all_asked (calls_in x.rest)
+  asked_are = ap all_asked calls_are ∙ map-append asked (calls_in x.done) (calls_in x.rest) ∙ ap (λ l. l ++ all_asked (calls_in x.rest)) (sym x.does.made)
+
+  given_are : outputs us ≡ map output_picture x.does.out ++ outputs_in x.rest
+  given_are = outputs_are ∙ ap (λ l. l ++ outputs_in x.rest) (sym x.does.given)
+
+  pub calls_of : Grew old.log new.log (λ l. IsFront (map call_of l) (all_asked (calls us)))
+  calls_of = (x.does.calls, x.does.log, (all_asked (calls_in x.rest), asked_are))
+
+  pub outputs_of : Appended old.shown new.shown (λ o. IsFront (map output_picture o) (outputs us))
+  outputs_of = (x.does.out, x.does.shown, (outputs_in x.rest, given_are))
+
+  all_made : x.rest ≡ [] → map call_of x.does.calls ≡ all_asked (calls us)
+  all_made none = sym (asked_are ∙ ap (λ es. map call_of x.does.calls ++ all_asked (calls_in es)) none ∙ append-nil (map call_of x.does.calls))
+
+  all_given : x.rest ≡ [] → map output_picture x.does.out ≡ outputs us
+  all_given none = sym (given_are ∙ ap (λ es. map output_picture x.does.out ++ outputs_in es) none ∙ append-nil (map output_picture x.does.out))
+
+  answers_at : (e : DecodeError) (s : Refused) → EndsAt e s us x.done x.rest → AnswersError e s (verdict us)
+  answers_at errors.Backend s y = tt
+  answers_at errors.NoMemory s y = tt
+  answers_at e s y = ap answer_of (sym verdict_is) ∙ y.0
+
+  answers_by : (q : Result ℕ Refused) → Ends q us x.done x.rest → AnswersVerdict q (verdict us)
+  answers_by (Ok n) y = ap answer_of (sym verdict_is) ∙ y.0
+  answers_by (Err s) y = answers_at s.error s y
+
+  pub answer_is : AnswersVerdict r (verdict us)
+  answer_is = answers_by r x.ends
+
+  abbrev cuts_calls : (k : ℕ) → UpTo k x.done x.rest → CutsCalls k (map call_of x.does.calls) (calls us)
+  cuts_calls k y = record { made = calls_in x.done; unmade = calls_in x.rest; whole = calls_are; calls_are = x.does.made; made_before = calls_up k x.done y.done_before; unmade_behind = calls_on k x.rest y.rest_behind }
+
+  calls_at_end : (e : DecodeError) (s : Refused) → EndsAt e s us x.done x.rest → EndsCallsAt e s.unit (map call_of x.does.calls) (calls us)
+  calls_at_end errors.Backend s y = record { cut = cuts_calls s.unit y.0; next = next_call s.unit x.rest y.1 }
+  calls_at_end errors.NoMemory s y = cuts_calls s.unit y
+  calls_at_end e s y = all_made y.1
+
+  calls_by : (q : Result ℕ Refused) → Ends q us x.done x.rest → EndsCalls q (map call_of x.does.calls) (calls us)
+  calls_by (Ok n) y = all_made y.1
+  calls_by (Err s) y = calls_at_end s.error s y
+
+  pub whole_calls_of : Grew old.log new.log (λ l. EndsCalls r (map call_of l) (calls us))
+  whole_calls_of = (x.does.calls, x.does.log, calls_by r x.ends)
+
+  cuts_outputs : (k : ℕ) → UpTo k x.done x.rest → CutsOutputs k (map output_picture x.does.out) (outputs us)
+  cuts_outputs k y = record { ungiven = outputs_in x.rest; whole = given_are; given_before = subst (AllByRecursion (λ o. o.unit ≤ k)) (sym x.does.given) (outputs_up k x.done y.done_before); ungiven_behind = outputs_on k x.rest y.rest_behind }
+
+  outputs_at_end : (e : DecodeError) (s : Refused) → EndsAt e s us x.done x.rest → EndsOutputsAt e s.unit (map output_picture x.does.out) (outputs us)
+  outputs_at_end errors.Backend s y = cuts_outputs s.unit y.0
+  outputs_at_end errors.NoMemory s y = cuts_outputs s.unit y
+  outputs_at_end e s y = all_given y.1
+
+  outputs_by : (q : Result ℕ Refused) → Ends q us x.done x.rest → EndsOutputs q (map output_picture x.does.out) (outputs us)
+  outputs_by (Ok n) y = all_given y.1
+  outputs_by (Err s) y = outputs_at_end s.error s y
+
+  pub whole_outputs_of : Appended old.shown new.shown (λ o. EndsOutputs r (map output_picture o) (outputs us))
+  whole_outputs_of = (x.does.out, x.does.shown, outputs_by r x.ends)
+
+  pub handles_of : old.tickets ≡ [] → Grew old.log new.log (λ l. Appended old.shown new.shown (λ o. AllSubmitted l o))
+  handles_of empty = (
+    x.does.calls,
+    x.does.log,
+    (
+      x.does.out,
+      x.does.shown,
+      λ t h. subst (λ (ts : List (ℕ × H)). Among t (ts ++ submissions x.does.calls)) empty (x.does.tied t (among_left t (map shown_ticket x.does.out) new.tickets h)),
+    ),
+  )
+
+  pub submitted_once_of : Grew old.log new.log (λ l. SubmittedOnce l)
+  submitted_once_of = (
+    x.does.calls,
+    x.does.log,
+    λ n.
+        let once : times n (submitted_numbers us) ≤ 1 = submitted_once us n in
+        let are : submitted_numbers us ≡ map (λ t. t.0) (submissions x.does.calls) ++ numbers_asked (all_asked (calls_in x.rest))
+        = numbers_of_all (calls us) ∙ ap numbers_asked asked_are ∙ numbers_both (map call_of x.does.calls) (all_asked (calls_in x.rest)) ∙ ap (λ ns. ns ++ numbers_asked (all_asked (calls_in x.rest))) (sym (numbers_of_made x.does.calls)) in
+        let both : times n (submitted_numbers us) ≡ times n (map (λ t. t.0) (submissions x.does.calls)) + times n (numbers_asked (all_asked (calls_in x.rest)))
+        = ap (times n) are ∙ times_both n (map (λ t. t.0) (submissions x.does.calls)) (numbers_asked (all_asked (calls_in x.rest))) in
+        omega arith,
+  )
+
+  numbers_are : output_numbers us ≡ shown_numbers x.does.out ++ map (λ o. o.number) (outputs_in x.rest)
+  numbers_are = ap (map (λ o. o.number)) given_are ∙ map-append (λ (o : OutputPicture). o.number) (map output_picture x.does.out) (outputs_in x.rest)
+      ∙ ap (λ ns. ns ++ map (λ o. o.number) (outputs_in x.rest)) (sym (numbers_shown x.does.out))
+
+  pub once_of : Appended old.shown new.shown (λ o. ComeOutOnce o)
+  once_of = (
+    x.does.out,
+    x.does.shown,
+    λ n.
+        let once : times n (output_numbers us) ≤ 1 = output_once us n in
+        let both : times n (output_numbers us) ≡ times n (shown_numbers x.does.out) + times n (map (λ o. o.number) (outputs_in x.rest))
+        = ap (times n) numbers_are ∙ times_both n (shown_numbers x.does.out) (map (λ o. o.number) (outputs_in x.rest)) in
+        omega arith,
+  )
+
+  stops_none : (m : ℕ) → answer_of (verdict us) ≡ Ok m → stop us ≡ None
+  stops_none m e = full_refused (full us) (stop us) (length (pictures us)) m e
+
+  fates_by : (q : Result ℕ Refused) → Ends q us x.done x.rest → OnOk q (Appended old.shown new.shown (λ o. AreDisplayed us o))
+  fates_by (Ok m) y = (
+    x.does.out,
+    x.does.shown,
+    λ n.
+        ap (times n) (sym (numbers_are ∙ ap (λ es. shown_numbers x.does.out ++ map (λ o. o.number) (outputs_in es)) y.1 ∙ append-nil (shown_numbers x.does.out)))
+        ∙ output_displayed us (stops_none m (ap answer_of (sym verdict_is) ∙ y.0)) n,
+  )
+  fates_by (Err s) y = tt
+
+  pub fates_of : OnOk r (Appended old.shown new.shown (λ o. AreDisplayed us o))
+  fates_of = fates_by r x.ends
+
+  completes_at : (n : ℕ) (e : DecodeError) (s : Refused) → verdict us ≡ Ok n → IsNoBackend {T = ℕ} (Err e) → EndsAt e s us x.done x.rest → IsNoMemory e
+  completes_at n errors.Backend s is fine y = absurd (fine tt)
+  completes_at n errors.NoMemory s is fine y = tt
+  completes_at n e s is fine y = absurd (let a : answer_of (verdict us) ≡ Err s = ap answer_of (sym verdict_is) ∙ y.0 in cc (sym (ap answer_of is) ∙ a))
+
+  completes_by : (n : ℕ) (q : Result ℕ Refused) → verdict us ≡ Ok n → IsNoBackend (without_unit q) → Ends q us x.done x.rest → IsOkOrNoMemory q
+  completes_by n (Ok m) is fine y = tt
+  completes_by n (Err s) is fine y = completes_at n s.error s is fine y
+
+  only_at : (e : DecodeError) (s : Refused) → s.error ≡ e → AnswersOnly (answer_of (idr_verdict_from idr_first 0 us)) → EndsAt e s us x.done x.rest → IsAnswer e
+  only_at errors.Backend s is v y = tt
+  only_at errors.NoMemory s is v y = tt
+  only_at e s is v y = subst IsAnswer is (subst AnswersOnly y.0 v)
+
+  only_by : (q : Result ℕ Refused) → AnswersOnly (answer_of (idr_verdict_from idr_first 0 us)) → Ends q us x.done x.rest → AnswersOnly q
+  only_by (Ok m) v y = tt
+  only_by (Err s) v y = only_at s.error s refl v y
+
+  pub answers_only_of : AnswersOnly (answer_of (idr_verdict_from idr_first 0 us)) → AnswersOnly r
+  answers_only_of v = only_by r v x.ends
+
+  pub completes : (n : ℕ) → verdict us ≡ Ok n → IsNoBackend (without_unit r) → IsOkOrNoMemory r
+  completes n is fine = completes_by n r is fine x.ends
+
+  pub completes_clean : IsClean us → IsNoBackend (without_unit r) → IsOkOrNoMemory r
+  completes_clean clean fine = completes (length (pictures us)) (clean_ok us clean) fine

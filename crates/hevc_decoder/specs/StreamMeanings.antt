@@ -1,0 +1,103 @@
+-- What the units of a stream mean for the pictures, behind the parameter sets that are kept there, while only plain sets and plain
+-- slices of IDR pictures are read.
+use Rattle.std.specs.Prelude.{ℕ, ◌+◌, ◌-◌, ◌*◌, ◌^◌, true, false, List, [], ◌∷◌, option_map, Option, None, if◌then◌else◌}
+use Rattle.hevc_spec.specs.Units.{NalUnit, units}
+use Rattle.hevc_spec.specs.UnitHeader.{UnitHeader, HeaderFault, truncated, unspecified_type, temporal_id_zero}
+use Rattle.hevc_tables.specs.Level.{max_luma_ps_of_level}
+use Rattle.hevc_tables.specs.Profile.{max_dpb_pic_buf_of_profile}
+use Rattle.hevc_tables.specs.PlainSequenceSet.{PlainSequenceSet, max_dpb_size}
+use Rattle.hevc_tables.specs.PlainSliceHeader.{PlainSliceHeader}
+use Rattle.hevc_tables.specs.KeptSets.{KeptSets, nothing_kept}
+use Rattle.hevc_tables.specs.UnitMeanings as unit
+use Rattle.hevc_walk.specs.Meanings.{Format, Limits, SliceHeader, I, NamedSets, Slice, UnitCause, TruncatedNalu, InvalidNaluType, OutOfRange, NotYet, Meaning, SequenceSet, CodedSlice, Other, Refused}
+use Rattle.hevc_walk.specs.Walk.{is_accepted}
+
+-- the format that a sequence set asks for, with MaxDpbSize (A.4.2)
+abbrev pub format_of_set : PlainSequenceSet → Format
+format_of_set s = record {
+  coded_width = s.pic_width_in_luma_samples;
+  coded_height = s.pic_height_in_luma_samples;
+  general_profile_idc = s.profile.general_profile_idc;
+  bit_depth_luma_minus8 = s.bit_depth_luma_minus8;
+  bit_depth_chroma_minus8 = s.bit_depth_chroma_minus8;
+  chroma_format_idc = s.chroma_format_idc;
+  max_num_pics = max_dpb_size (max_luma_ps_of_level s.profile.general_level_idc) (max_dpb_pic_buf_of_profile s.profile.general_profile_idc) (s.pic_width_in_luma_samples * s.pic_height_in_luma_samples);
+}
+
+abbrev pub limits_of_set : PlainSequenceSet → Limits
+limits_of_set s = record {
+  max_num_reorder = s.max_num_reorder_pics;
+  max_latency_increase_plus1 = s.max_latency_increase_plus1;
+  max_dec_pic_buffering_minus1 = s.max_dec_pic_buffering_minus1;
+}
+
+-- The sequence set has no short-term reference picture sets.
+abbrev pub sets_of : PlainSequenceSet → NamedSets
+sets_of s = record {
+  format = format_of_set s;
+  limits = limits_of_set s;
+  max_pic_order_cnt_lsb = 2 ^ (s.log2_max_pic_order_cnt_lsb_minus4 + 4);
+  short_term_ref_pic_sets = [];
+  pps_curr_pic_ref_enabled_flag = false;
+}
+
+-- An IDR picture has no order count bits and no reference pictures in its slices (7.4.7.1), and an I slice no lists.
+abbrev pub header_of : PlainSliceHeader → SliceHeader
+header_of s = record {
+  slice_type = I;
+  pic_output_flag = s.pic_output_flag;
+  pic_order_cnt_lsb = 0;
+  curr_rps_idx = 0;
+  short_term_ref_pic_set = record { negative_pics = []; positive_pics = [] };
+  long_term_pics = [];
+  num_pic_total_curr = 0;
+  list0 = record { num_ref_idx_active = 0; list_entry = None };
+  list1 = record { num_ref_idx_active = 0; list_entry = None };
+}
+
+-- the first slice of an IDR picture, of these bytes
+abbrev pub slice_of : UnitHeader → List ℕ → PlainSliceHeader → Slice
+slice_of h bytes s = record {
+  nal_unit_type = h.nal_unit_type;
+  temporal_id = h.nuh_temporal_id_plus1 - 1;
+  bytes = bytes;
+  first_slice_segment_in_pic_flag = true;
+  no_output_of_prior_pics_flag = s.no_output_of_prior_pics_flag;
+  pic_parameter_set_id = s.slice_pic_parameter_set_id;
+  dependent_slice_segment_flag = false;
+  segment_address = 0;
+  header = header_of s;
+  sets = sets_of s.sequence_set;
+}
+
+-- A change of format isn't built yet: 5, 0 stands for a slice that would begin one.
+abbrev pub slice_meaning : Option Format → Slice → Meaning
+slice_meaning accepted s = if is_accepted s.format accepted then CodedSlice s else Refused (NotYet 5 0)
+
+-- the fault of a unit's header; nuh_temporal_id_plus1 is row 1 of table 0
+abbrev pub header_cause : HeaderFault → UnitCause
+header_cause truncated = TruncatedNalu
+header_cause (unspecified_type number) = InvalidNaluType number
+header_cause temporal_id_zero = OutOfRange 0 1
+
+-- the format of the first sequence set, which is the one that is accepted
+abbrev pub first_format : KeptSets → Option Format
+first_format kept = option_map format_of_set kept.first_sequence_set
+
+-- what a unit means for the pictures
+abbrev pub picture_meaning : Option Format → List ℕ → unit.UnitMeaning → Meaning
+picture_meaning accepted bytes (unit.faulty fault) = Refused (header_cause fault)
+picture_meaning accepted bytes (unit.sequence_set set) = SequenceSet (format_of_set set)
+picture_meaning accepted bytes (unit.picture_set set) = Other
+picture_meaning accepted bytes (unit.slice h s) = slice_meaning accepted (slice_of h bytes s)
+picture_meaning accepted bytes (unit.not_yet table row) = Refused (NotYet table row)
+picture_meaning accepted bytes unit.other = Other
+
+-- what the units mean from these kept sets on
+abbrev pub meanings_from : KeptSets → List NalUnit → List Meaning
+meanings_from kept [] = []
+meanings_from kept (u ∷ us) = picture_meaning (first_format kept) u.bytes (unit.unit_meaning kept u.bytes) ∷ meanings_from (unit.kept_behind kept (unit.unit_meaning kept u.bytes)) us
+
+-- what the units of a stream mean
+abbrev pub meanings : List ℕ → List Meaning
+meanings stream = meanings_from nothing_kept (units stream)

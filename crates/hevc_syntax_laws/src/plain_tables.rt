@@ -1,0 +1,51 @@
+//! What a payload means by the table of a plain sequence set, picture set or slice header.
+ghost use Rattle.std.specs.Prelude.{ℕ, Option};
+ghost use Rattle.hevc_tables.specs.PlainSequenceSet.{PlainSequenceSet, plain_sequence_set};
+ghost use Rattle.hevc_tables.specs.PlainPictureSet.{PlainPictureSet, plain_picture_set};
+ghost use Rattle.hevc_tables.specs.PlainSliceHeader.{plain_slice_header};
+ghost use Rattle.hevc_syntax_laws.specs.Meanings.{IsDecided, HasOneRecord, BreaksOnce, ExcludesBreaks, LinesAgree};
+
+/// A payload spells one plain sequence set or breaks off at one line, and never both.
+#[tactic(auto, using(crate::proofs::Laws::is_decided, crate::proofs::Laws::has_one_record, crate::proofs::Laws::breaks_once, crate::proofs::Laws::excludes_breaks))]
+pub fn one_sequence_set_meaning()
+    ensures decided { IsDecided plain_sequence_set }
+    ensures one_record { HasOneRecord plain_sequence_set }
+    ensures one_break { BreaksOnce plain_sequence_set }
+    ensures not_both { ExcludesBreaks plain_sequence_set }
+{}
+
+/// Two lists of lines of the table of plain sequence sets that the beginnings of one payload spell agree line by line.
+#[tactic(auto, using(crate::proofs::Laws::all_lines_agree))]
+pub fn sequence_set_lines_agree()
+    ensures { LinesAgree plain_sequence_set }
+{}
+
+/// With the sequence sets that are kept, a payload spells one plain picture set or breaks off at one line, and never both.
+#[tactic(auto, using(crate::proofs::Laws::is_decided, crate::proofs::Laws::has_one_record, crate::proofs::Laws::breaks_once, crate::proofs::Laws::excludes_breaks))]
+pub fn one_picture_set_meaning()
+    ensures decided { (sequence_sets : ℕ → Option PlainSequenceSet) → IsDecided (plain_picture_set sequence_sets) }
+    ensures one_record { (sequence_sets : ℕ → Option PlainSequenceSet) → HasOneRecord (plain_picture_set sequence_sets) }
+    ensures one_break { (sequence_sets : ℕ → Option PlainSequenceSet) → BreaksOnce (plain_picture_set sequence_sets) }
+    ensures not_both { (sequence_sets : ℕ → Option PlainSequenceSet) → ExcludesBreaks (plain_picture_set sequence_sets) }
+{}
+
+/// Two lists of lines of the table of plain picture sets that the beginnings of one payload spell agree line by line.
+#[tactic(auto, using(crate::proofs::Laws::all_lines_agree))]
+pub fn picture_set_lines_agree()
+    ensures { (sequence_sets : ℕ → Option PlainSequenceSet) → LinesAgree (plain_picture_set sequence_sets) }
+{}
+
+/// With the sets that are kept, a payload spells one plain slice header or breaks off at one line, and never both.
+#[tactic(auto, using(crate::proofs::Laws::is_decided, crate::proofs::Laws::has_one_record, crate::proofs::Laws::breaks_once, crate::proofs::Laws::excludes_breaks))]
+pub fn one_slice_header_meaning()
+    ensures decided { (picture_sets : ℕ → Option PlainPictureSet) (sequence_sets : ℕ → Option PlainSequenceSet) → IsDecided (plain_slice_header picture_sets sequence_sets) }
+    ensures one_record { (picture_sets : ℕ → Option PlainPictureSet) (sequence_sets : ℕ → Option PlainSequenceSet) → HasOneRecord (plain_slice_header picture_sets sequence_sets) }
+    ensures one_break { (picture_sets : ℕ → Option PlainPictureSet) (sequence_sets : ℕ → Option PlainSequenceSet) → BreaksOnce (plain_slice_header picture_sets sequence_sets) }
+    ensures not_both { (picture_sets : ℕ → Option PlainPictureSet) (sequence_sets : ℕ → Option PlainSequenceSet) → ExcludesBreaks (plain_slice_header picture_sets sequence_sets) }
+{}
+
+/// Two lists of lines of the table of plain slice headers that the beginnings of one payload spell agree line by line.
+#[tactic(auto, using(crate::proofs::Laws::all_lines_agree))]
+pub fn slice_header_lines_agree()
+    ensures { (picture_sets : ℕ → Option PlainPictureSet) (sequence_sets : ℕ → Option PlainSequenceSet) → LinesAgree (plain_slice_header picture_sets sequence_sets) }
+{}

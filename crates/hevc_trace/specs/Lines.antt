@@ -1,0 +1,27 @@
+-- What is written of a log and of the pictures that came out.
+use Rattle.std.specs.Prelude.{ℕ, List, [], ◌++◌, length, codes, decimal, Result}
+use Rattle.std.specs.List.{flat_map}
+use Rattle.hevc_bits.specs.NaluType.{nalu_type_number}
+use Rattle.hevc_backend.specs.declared.call.Call.{Call}
+use Rattle.hevc_backend.specs.declared.call.Call.TheVariants.{NewSequence, NewPicture, BeginPicture, DecodeSlice, SubmitPicture}
+use Rattle.hevc_decoder.specs.declared.decoded.Shown.{Shown}
+use Rattle.hevc_decoder.specs.declared.decoded.Refused.{Refused}
+use Rattle.hevc_decoder.specs.Maps.{format_of, output_picture}
+use Rattle.hevc_trace.specs.Report.{sequence_line, picture_line, submission_line, output_line, last_line}
+
+-- the line of a call of the log
+abbrev pub log_line : Call ℕ → List ℕ
+log_line (NewSequence info) = sequence_line (format_of info)
+log_line (NewPicture number nalu_type order_count output timestamp) = picture_line number (nalu_type_number nalu_type) order_count output
+log_line (BeginPicture number) = []
+log_line (DecodeSlice number address bytes) =
+    codes "slice " ++ decimal number ++ codes " at " ++ decimal address ++ codes " size " ++ decimal (length bytes) ++ codes " list0 - list1 -\n"
+log_line (SubmitPicture number handle) = submission_line number handle
+
+-- the line of an output
+abbrev pub shown_line : Shown ℕ → List ℕ
+shown_line output = output_line (output_picture output)
+
+-- a line for each call of the log, one for each output, and the last
+abbrev pub text_of : List (Call ℕ) → List (Shown ℕ) → Result ℕ Refused → List ℕ
+text_of log shown result = flat_map log_line log ++ flat_map shown_line shown ++ last_line (length shown) result
