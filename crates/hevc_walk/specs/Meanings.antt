@@ -87,7 +87,7 @@ pub record Slice : Type 0 where
   pub sets : NamedSets
   pub open sets use *
 
--- Why a unit is refused by what it and the kept sets say. A table and a row are those of the syntax tables.
+-- Why a unit is refused by what it and the kept sets say. A table and a row are those of docs/TABLES.md.
 pub data UnitCause : Type 0 where
   TruncatedNalu : UnitCause
   InvalidNaluType : (nal_unit_type : ℕ) → UnitCause

@@ -98,7 +98,7 @@ context (p ∷ before) = record {
 abbrev pub new_picture : ℕ → Slice → List Picture → Picture
 new_picture k s before = record { head = head (context before) s; first = s; unit = k; slices = (k, s) ∷ []; sequence_ends = false; bitstream_ends = false }
 
--- a slice at unit k begins a picture, or belongs to the latest_head (7.4.2.4.5)
+-- a slice at unit k begins a picture, or belongs to the latest one (7.4.2.4.5)
 abbrev pub with_slice : ℕ → Slice → List Picture → List Picture
 with_slice k s [] = new_picture k s [] ∷ []
 with_slice k s (p ∷ before) = if s.first_slice_segment_in_pic_flag then new_picture k s (p ∷ before) ∷ p ∷ before else record p { slices = p.slices ++ (k, s) ∷ [] } ∷ before
