@@ -5,8 +5,8 @@ use Rattle.hevc_spec.specs.UnitHeader.{UnitHeader, HeaderFault, truncated, unspe
 use Rattle.hevc_bits.specs.declared.header.UnitError.{UnitError}
 use Rattle.hevc_bits.specs.declared.header.UnitError.TheVariants.{NoNal, TruncatedNalu, InvalidNaluType, TemporalIdZero}
 use Rattle.hevc_bits.specs.ParsedHeader as bits
-use Rattle.hevc_tables.specs.KeptSets.{KeptSets}
-use Rattle.hevc_tables.specs.UnitMeanings.{faulty, unit_meaning, headed_meaning, kept_behind}
+use Rattle.hevc_plain_tables.specs.KeptSets.{KeptSets}
+use Rattle.hevc_plain_tables.specs.UnitMeanings.{faulty, unit_meaning, headed_meaning, kept_behind}
 use Rattle.hevc_walk.specs.Meanings.{Meaning, Refused}
 use Rattle.hevc_walk.specs.Walk.{at_unit}
 use Rattle.hevc_walk_idr.specs.IdrWalk.{IdrStanding, idr_part, idr_refusal}

@@ -1,5 +1,5 @@
 -- What the units of a stream mean is what the walk over IDR pictures is for.
-use Rattle.std.proofs.Common.{◌+◌, ◌≡◌, ℕ, ◌<◌, ◌≤◌, ◌/◌, ◌*◌, List, [], ◌∷◌, refl, sym, ap, subst, arith, Option, Some, None, Result, Ok, Err, Bool, true, false, if◌then◌else◌, ◌==◌, ◌&&◌, ◌||◌}
+use Rattle.std.proofs.Common.{◌+◌, ◌-◌, ◌≡◌, ℕ, ◌<◌, ◌≤◌, ◌/◌, ◌*◌, List, [], ◌∷◌, refl, sym, ap, subst, arith, Option, Some, None, Result, Ok, Err, Bool, true, false, if◌then◌else◌, ◌==◌, ◌&&◌, ◌||◌}
 use Rattle.std.specs.Prelude.{nat_le, min, is_none}
 use Rattle.std.proofs.lemmas.Bool.Decides.{nat_tests}
 use Rattle.hevc_spec.specs.Units.{NalUnit}
@@ -8,11 +8,14 @@ use Rattle.hevc_spec.specs.Payload.{payload}
 use Rattle.hevc_spec.specs.Table.{Reading, gives, refuses, read}
 use Rattle.hevc_tables.specs.Level.{max_luma_ps_of_level}
 use Rattle.hevc_tables.specs.Profile.{max_dpb_pic_buf_of_profile}
-use Rattle.hevc_tables.specs.PlainSequenceSet.{PlainSequenceSet, plain_sequence_set, max_dpb_size}
-use Rattle.hevc_tables.specs.PlainPictureSet.{PlainPictureSet, plain_picture_set}
-use Rattle.hevc_tables.specs.PlainSliceHeader.{PlainSliceHeader, plain_slice_header}
-use Rattle.hevc_tables.specs.KeptSets.{KeptSets}
-use Rattle.hevc_tables.specs.UnitMeanings as unit
+use Rattle.hevc_tables.specs.Sps.{PlainSps}
+use Rattle.hevc_tables.specs.SpsSizes.{max_dpb_size}
+use Rattle.hevc_tables.specs.Pps.{PlainPps}
+use Rattle.hevc_plain_tables.specs.PlainSequenceSet.{plain_sequence_set}
+use Rattle.hevc_plain_tables.specs.PlainPictureSet.{plain_picture_set}
+use Rattle.hevc_plain_tables.specs.PlainSliceHeader.{PlainSlice, plain_slice_header}
+use Rattle.hevc_plain_tables.specs.KeptSets.{KeptSets}
+use Rattle.hevc_plain_tables.specs.UnitMeanings as unit
 use Rattle.hevc_walk.specs.UnitTypes.{is_idr}
 use Rattle.hevc_walk.specs.Meanings.{Format, Meaning, CodedSlice, SequenceSet, EndOfSequence, EndOfBitstream, Other, Refused, NotYet}
 use Rattle.hevc_walk.specs.Walk.{is_accepted}
@@ -40,23 +43,23 @@ pic_buf profile = by_test (nat_le 1 profile && nat_le profile 5)
     by_test true = omega arith
     by_test false = omega arith
 
-has_room : (s : PlainSequenceSet) → 0 < (format_of_set s).max_num_pics
-has_room s = dpb_size (max_luma_ps_of_level s.profile.general_level_idc) (max_dpb_pic_buf_of_profile s.profile.general_profile_idc) (s.pic_width_in_luma_samples * s.pic_height_in_luma_samples) (pic_buf s.profile.general_profile_idc)
+has_room : (s : PlainSps) → 0 < (format_of_set s).max_num_pics
+has_room s = dpb_size (max_luma_ps_of_level s.profile_tier_level.general_level_idc) (max_dpb_pic_buf_of_profile s.profile_tier_level.general_profile_idc) s.pic_size_in_samples_y (pic_buf s.profile_tier_level.general_profile_idc)
 
 -- a slice comes with its unit's header, of an IDR picture
 abbrev pub IsOfIdr : unit.UnitMeaning → Type 0
 IsOfIdr (unit.slice h s) = is_idr h.nal_unit_type ≡ true
 IsOfIdr m = Unit {0}
 
-read_idr : (h : UnitHeader) (r : Reading PlainSliceHeader) → is_idr h.nal_unit_type ≡ true → IsOfIdr (unit.meaning_read (unit.slice h) (unit.not_yet 14 1) r)
+read_idr : (h : UnitHeader) (r : Reading PlainSlice) → is_idr h.nal_unit_type ≡ true → IsOfIdr (unit.meaning_read (unit.slice h) (unit.not_yet 14 1) r)
 read_idr h (gives set rest) is = is
 read_idr h (refuses fault rest) is = tt
 
-read_set : (r : Reading PlainSequenceSet) → IsOfIdr (unit.meaning_read unit.sequence_set (unit.not_yet 5 1) r)
+read_set : (r : Reading PlainSps) → IsOfIdr (unit.meaning_read unit.sequence_set (unit.not_yet 5 1) r)
 read_set (gives set rest) = tt
 read_set (refuses fault rest) = tt
 
-read_picture_set : (r : Reading PlainPictureSet) → IsOfIdr (unit.meaning_read unit.picture_set (unit.not_yet 11 1) r)
+read_picture_set : (r : Reading PlainPps) → IsOfIdr (unit.meaning_read unit.picture_set (unit.not_yet 11 1) r)
 read_picture_set (gives set rest) = tt
 read_picture_set (refuses fault rest) = tt
 
@@ -75,9 +78,9 @@ typed_idr : (kept : KeptSets) (h : UnitHeader) (bits : List Bool) → IsOfIdr (u
 typed_idr kept h bits = by_tests (h.nal_unit_type == 33) (h.nal_unit_type == 34) (other_idr kept h bits)
   where
     by_tests : (a b : Bool) → IsOfIdr (unit.other_meaning kept h bits)
-        → IsOfIdr (if a then unit.meaning_read unit.sequence_set (unit.not_yet 5 1) (read plain_sequence_set bits) else if b then unit.meaning_read unit.picture_set (unit.not_yet 11 1) (read (plain_picture_set kept.sequence_sets) bits) else unit.other_meaning kept h bits)
+        → IsOfIdr (if a then unit.meaning_read unit.sequence_set (unit.not_yet 5 1) (read plain_sequence_set bits) else if b then unit.meaning_read unit.picture_set (unit.not_yet 11 1) (read (plain_picture_set (h.nuh_temporal_id_plus1 - 1) kept.sequence_sets) bits) else unit.other_meaning kept h bits)
     by_tests true b o = read_set (read plain_sequence_set bits)
-    by_tests false true o = read_picture_set (read (plain_picture_set kept.sequence_sets) bits)
+    by_tests false true o = read_picture_set (read (plain_picture_set (h.nuh_temporal_id_plus1 - 1) kept.sequence_sets) bits)
     by_tests false false o = o
 
 headed_idr : (kept : KeptSets) (bytes : List ℕ) (r : Result UnitHeader HeaderFault) → IsOfIdr (unit.headed_meaning kept bytes r)
@@ -119,7 +122,7 @@ behind : (kept : KeptSets) (bytes : List ℕ) (m : unit.UnitMeaning) → accepte
 behind kept bytes (unit.faulty fault) = stays (first_format kept) _ (λ f e. cc e)
 behind kept bytes (unit.sequence_set set) = first kept.first_sequence_set refl
   where
-    first : (f : Option PlainSequenceSet) → kept.first_sequence_set ≡ f → accepted_behind (first_format kept) (SequenceSet (format_of_set set)) ≡ first_format (unit.kept_behind kept (unit.sequence_set set))
+    first : (f : Option PlainSps) → kept.first_sequence_set ≡ f → accepted_behind (first_format kept) (SequenceSet (format_of_set set)) ≡ first_format (unit.kept_behind kept (unit.sequence_set set))
     first None e = rw e refl
     first (Some g) e = rw e refl
 behind kept bytes (unit.picture_set set) = stays (first_format kept) _ (λ f e. cc e)

@@ -5,9 +5,9 @@ use Rattle.std.specs.List.{AllByRecursion}
 use Rattle.std.specs.Result.{IsErrAnd}
 use Rattle.std.proofs.lemmas.Result.{err_from_is_err_and}
 use Rattle.std.proofs.lemmas.List.{append-nil}
-use Rattle.hevc_tables.specs.KeptSets.{KeptSets}
-use Rattle.hevc_tables.specs.PlainSequenceSet.{PlainSequenceSet}
-use Rattle.hevc_tables.specs.UnitMeanings as unit
+use Rattle.hevc_plain_tables.specs.KeptSets.{KeptSets}
+use Rattle.hevc_tables.specs.Sps.{PlainSps}
+use Rattle.hevc_plain_tables.specs.UnitMeanings as unit
 use Rattle.hevc_walk.specs.Meanings.{Format, Meaning, CodedSlice, SequenceSet, EndOfSequence, EndOfBitstream, Other, Refused, NotYet}
 use Rattle.hevc_walk.specs.Walk.{Event, Called, Output, at_unit, is_accepted}
 use Rattle.hevc_walk.specs.Refusals.{Cause}
@@ -202,7 +202,7 @@ pub accepted_kept : (kept : KeptSets) (bytes : List ℕ) (m : unit.UnitMeaning) 
 accepted_kept kept bytes (unit.faulty fault) i is = is
 accepted_kept kept bytes (unit.sequence_set set) i is = first kept.first_sequence_set refl
   where
-    first : (f : Option PlainSequenceSet) → kept.first_sequence_set ≡ f → (idr_sequence_part i.accepted (format_of_set set) i).next.accepted ≡ first_format (unit.kept_behind kept (unit.sequence_set set))
+    first : (f : Option PlainSps) → kept.first_sequence_set ≡ f → (idr_sequence_part i.accepted (format_of_set set) i).next.accepted ≡ first_format (unit.kept_behind kept (unit.sequence_set set))
     first None e = let none : i.accepted ≡ None = is ∙ ap (option_map format_of_set) e in rw (none, e) refl
     first (Some f) e = let some : i.accepted ≡ Some (format_of_set f) = is ∙ ap (option_map format_of_set) e in rw (some, e) refl
 accepted_kept kept bytes (unit.picture_set set) i is = is

@@ -1,8 +1,9 @@
 -- A slice is taken where its format is the accepted one, and a picture is output as it is stored where none may wait.
-use Rattle.std.proofs.Common.{◌≡◌, ◌⊎◌, inl, inr, ℕ, ◌+◌, Bool, true, false, ◌&&◌, ◌==◌, List, [], append_assoc, refl, ◌∙◌, ap, subst, arith, Option, Some, None, if◌then◌else◌}
+use Rattle.std.proofs.Common.{Global, ◌≡◌, ◌⊎◌, inl, inr, ℕ, ◌+◌, Bool, true, false, ◌&&◌, ◌==◌, List, [], append_assoc, refl, ◌∙◌, ap, subst, arith, Option, Some, None, if◌then◌else◌}
 use Rattle.std.proofs.lemmas.Bool.Decides.{nat_tests}
 use Rattle.hevc_spec.specs.UnitHeader.{UnitHeader}
-use Rattle.hevc_plain.specs.declared.records.PictureSet.{PictureSet}
+use Rattle.std.specs.declared.rc.Rc.{Rc}
+use Rattle.hevc_types_d.specs.declared.pps.Pps.{Pps}
 use Rattle.hevc_plain.specs.declared.unit_meaning.UnitMeaning.{UnitMeaning}
 use Rattle.hevc_plain.specs.declared.unit_meaning.UnitMeaning.TheVariants as plain
 use Rattle.hevc_plain.specs.Meanings.{plain_meaning}
@@ -77,7 +78,7 @@ unfolding store submit
 store_waits p i e = rw (e, and_true p.pic_output_flag, and_false p.pic_output_flag) refl
 
 -- a picture set, and a unit that means nothing, ask nothing of the pictures
-pub nothing_asked : (a : Option Format) (bytes : List ℕ) (h : UnitHeader) (m : UnitMeaning) → ((set : PictureSet) × (m ≡ plain.PictureSet set)) ⊎ (m ≡ plain.Other) → picture_meaning a bytes (plain_meaning h m) ≡ Other
+pub nothing_asked : (a : Option Format) (bytes : List ℕ) (h : UnitHeader) (m : UnitMeaning) → ((set : Rc Pps Global) × (m ≡ plain.PictureSet set)) ⊎ (m ≡ plain.Other) → picture_meaning a bytes (plain_meaning h m) ≡ Other
 nothing_asked a bytes h m (inl (set, is)) = ap (λ (n : UnitMeaning). picture_meaning a bytes (plain_meaning h n)) is
 nothing_asked a bytes h m (inr is) = ap (λ (n : UnitMeaning). picture_meaning a bytes (plain_meaning h n)) is
 

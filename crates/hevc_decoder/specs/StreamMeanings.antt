@@ -1,38 +1,41 @@
 -- What the units of a stream mean for the pictures, behind the parameter sets that are kept there, while only plain sets and plain
 -- slices of IDR pictures are read.
-use Rattle.std.specs.Prelude.{ℕ, ◌+◌, ◌-◌, ◌*◌, ◌^◌, true, false, List, [], ◌∷◌, option_map, Option, None, if◌then◌else◌}
+use Rattle.std.specs.Prelude.{ℕ, ◌+◌, ◌-◌, ◌^◌, slice_index_or, true, false, List, [], ◌∷◌, option_map, Option, None, if◌then◌else◌}
 use Rattle.hevc_spec.specs.Units.{NalUnit, units}
 use Rattle.hevc_spec.specs.UnitHeader.{UnitHeader, HeaderFault, truncated, unspecified_type, temporal_id_zero}
-use Rattle.hevc_tables.specs.Level.{max_luma_ps_of_level}
-use Rattle.hevc_tables.specs.Profile.{max_dpb_pic_buf_of_profile}
-use Rattle.hevc_tables.specs.PlainSequenceSet.{PlainSequenceSet, max_dpb_size}
-use Rattle.hevc_tables.specs.PlainSliceHeader.{PlainSliceHeader}
-use Rattle.hevc_tables.specs.KeptSets.{KeptSets, nothing_kept}
-use Rattle.hevc_tables.specs.UnitMeanings as unit
+use Rattle.hevc_tables.specs.Sps.{PlainSps}
+use Rattle.hevc_tables.specs.SpsSizes.{max_dpb_size_of}
+use Rattle.hevc_plain_tables.specs.PlainSliceHeader.{PlainSlice}
+use Rattle.hevc_plain_tables.specs.KeptSets.{KeptSets, nothing_kept}
+use Rattle.hevc_plain_tables.specs.UnitMeanings as unit
 use Rattle.hevc_walk.specs.Meanings.{Format, Limits, SliceHeader, I, NamedSets, Slice, UnitCause, TruncatedNalu, InvalidNaluType, OutOfRange, NotYet, Meaning, SequenceSet, CodedSlice, Other, Refused}
 use Rattle.hevc_walk.specs.Walk.{is_accepted}
 
 -- the format that a sequence set asks for, with MaxDpbSize (A.4.2)
-abbrev pub format_of_set : PlainSequenceSet → Format
+abbrev pub format_of_set : PlainSps → Format
 format_of_set s = record {
   coded_width = s.pic_width_in_luma_samples;
   coded_height = s.pic_height_in_luma_samples;
-  general_profile_idc = s.profile.general_profile_idc;
+  general_profile_idc = s.profile_tier_level.general_profile_idc;
   bit_depth_luma_minus8 = s.bit_depth_luma_minus8;
   bit_depth_chroma_minus8 = s.bit_depth_chroma_minus8;
   chroma_format_idc = s.chroma_format_idc;
-  max_num_pics = max_dpb_size (max_luma_ps_of_level s.profile.general_level_idc) (max_dpb_pic_buf_of_profile s.profile.general_profile_idc) (s.pic_width_in_luma_samples * s.pic_height_in_luma_samples);
+  max_num_pics = max_dpb_size_of s;
 }
 
-abbrev pub limits_of_set : PlainSequenceSet → Limits
+-- the number of the highest sub-layer (7.4.3.2.1)
+abbrev pub of_highest : PlainSps → List ℕ → ℕ
+of_highest s numbers = slice_index_or numbers s.max_sub_layers_minus1 0
+
+abbrev pub limits_of_set : PlainSps → Limits
 limits_of_set s = record {
-  max_num_reorder = s.max_num_reorder_pics;
-  max_latency_increase_plus1 = s.max_latency_increase_plus1;
-  max_dec_pic_buffering_minus1 = s.max_dec_pic_buffering_minus1;
+  max_num_reorder = of_highest s s.max_num_reorder_pics;
+  max_latency_increase_plus1 = of_highest s s.max_latency_increase_plus1;
+  max_dec_pic_buffering_minus1 = of_highest s s.max_dec_pic_buffering_minus1;
 }
 
 -- The sequence set has no short-term reference picture sets.
-abbrev pub sets_of : PlainSequenceSet → NamedSets
+abbrev pub sets_of : PlainSps → NamedSets
 sets_of s = record {
   format = format_of_set s;
   limits = limits_of_set s;
@@ -42,10 +45,10 @@ sets_of s = record {
 }
 
 -- An IDR picture has no order count bits and no reference pictures in its slices (7.4.7.1), and an I slice no lists.
-abbrev pub header_of : PlainSliceHeader → SliceHeader
+abbrev pub header_of : PlainSlice → SliceHeader
 header_of s = record {
   slice_type = I;
-  pic_output_flag = s.pic_output_flag;
+  pic_output_flag = s.header.pic_output_flag;
   pic_order_cnt_lsb = 0;
   curr_rps_idx = 0;
   short_term_ref_pic_set = record { negative_pics = []; positive_pics = [] };
@@ -56,14 +59,14 @@ header_of s = record {
 }
 
 -- the first slice of an IDR picture, of these bytes
-abbrev pub slice_of : UnitHeader → List ℕ → PlainSliceHeader → Slice
+abbrev pub slice_of : UnitHeader → List ℕ → PlainSlice → Slice
 slice_of h bytes s = record {
   nal_unit_type = h.nal_unit_type;
   temporal_id = h.nuh_temporal_id_plus1 - 1;
   bytes = bytes;
   first_slice_segment_in_pic_flag = true;
-  no_output_of_prior_pics_flag = s.no_output_of_prior_pics_flag;
-  pic_parameter_set_id = s.slice_pic_parameter_set_id;
+  no_output_of_prior_pics_flag = s.header.no_output_of_prior_pics_flag;
+  pic_parameter_set_id = s.header.pic_parameter_set_id;
   dependent_slice_segment_flag = false;
   segment_address = 0;
   header = header_of s;

@@ -1,9 +1,9 @@
 //! The walk over the units of a stream, for IDR pictures of one slice.
 ghost use Rattle.std.specs.Prelude.{◌≡◌, ◌+◌, ◌<◌, ◌^◌, ℕ, List, length, OnOk};
 ghost use Rattle.hevc_bits.specs.FoundUnit.{bytes_of};
-ghost use Rattle.hevc_tables.specs.UnitMeanings.{unit_meaning, kept_behind};
+ghost use Rattle.hevc_plain_tables.specs.UnitMeanings.{unit_meaning, kept_behind};
 ghost use Rattle.hevc_plain.specs.Kept.{kept_sets};
-ghost use Rattle.hevc_plain.specs.Projections.{plain_header};
+ghost use Rattle.hevc_plain.specs.PlainSlice.{slice_with};
 ghost use Rattle.hevc_walk.specs.Meanings.{SequenceSet};
 ghost use Rattle.hevc_walk_idr.specs.IdrWalk.{idr_part};
 ghost use Rattle.hevc_decoder.specs.Answers.{CountsErrors, KeepsFaultless};
@@ -14,11 +14,13 @@ ghost use Rattle.hevc_decoder.specs.StreamMeanings.{first_format, picture_meanin
 
 use crate::decode_error::DecodeError;
 use crate::decoded::Shown;
-use crate::format::{is_accepted, negotiation_info};
+use crate::format::{is_accepted, max_num_reorder, negotiation_info};
 use crate::state::{IdrPicture, Open, State, Stored};
 use hevc_backend::{NegotiationInfo, StatelessH265DecoderBackend};
 use hevc_bits::{Nalu, NaluHeader};
-use hevc_plain::{ParameterSets, SliceHeader, UnitMeaning};
+use hevc_plain::{ParameterSets, UnitMeaning};
+use hevc_types_c::Sps;
+use hevc_types_d::SliceHeader;
 
 /// The decoder of a stream of IDR pictures.
 pub(crate) struct Decoder<B: StatelessH265DecoderBackend> {
@@ -46,7 +48,10 @@ impl<B: StatelessH265DecoderBackend> Decoder<B> {
     {
         match self.sets.take_unit(nalu)? {
             UnitMeaning::SequenceSet(set) => self.take_sequence_set(negotiation_info(&set)),
-            UnitMeaning::Slice(header) => self.take_slice(&header, nalu, unit, shown),
+            UnitMeaning::Slice {
+                header,
+                sequence_set,
+            } => self.take_slice(&header, &sequence_set, nalu, unit, shown),
             UnitMeaning::NotYet { table, row } => Err(DecodeError::NotYet { table, row }),
             UnitMeaning::PictureSet(_) | UnitMeaning::Other => Ok(()),
         }
@@ -72,6 +77,7 @@ impl<B: StatelessH265DecoderBackend> Decoder<B> {
     fn take_slice(
         &mut self,
         header: &SliceHeader,
+        sequence_set: &Sps,
         nalu: &Nalu<'_, NaluHeader>,
         unit: u64,
         shown: &mut Vec<Shown<B::Handle>>,
@@ -80,19 +86,20 @@ impl<B: StatelessH265DecoderBackend> Decoder<B> {
         ensures cause { CountsErrors (B.faults self.old.backend) (B.faults self.new.backend) result }
         ensures faultless { KeepsFaultless (B.is_faultless self.old.backend) (B.is_faultless self.new.backend) result }
         ensures part { TakesUnit result unit (traces (B.log self.old.backend) shown.old.items self.old.state) (traces (B.log self.new.backend) shown.new.items self.new.state)
-            (slice_meaning (standing self.old.state).accepted (slice_of nalu.now.header (bytes_of nalu.now) (plain_header header.now))) (standing self.old.state) (standing self.new.state) }
+            (slice_meaning (standing self.old.state).accepted (slice_of nalu.now.header (bytes_of nalu.now) (slice_with header.now sequence_set.now))) (standing self.old.state) (standing self.new.state) }
         ensures sets { self.new.sets ≡ self.old.sets }
     {
-        if !is_accepted(&negotiation_info(&header.sequence_set), self.state.accepted) {
+        if !is_accepted(&negotiation_info(sequence_set), self.state.accepted) {
             return Err(DecodeError::NotYet { table: 5, row: 0 });
         }
-        self.change_picture(header, nalu, unit, shown)
+        self.change_picture(header, sequence_set, nalu, unit, shown)
     }
 
     /// The open picture is over, and the next one begins.
     fn change_picture(
         &mut self,
         header: &SliceHeader,
+        sequence_set: &Sps,
         nalu: &Nalu<'_, NaluHeader>,
         unit: u64,
         shown: &mut Vec<Shown<B::Handle>>,
@@ -101,17 +108,18 @@ impl<B: StatelessH265DecoderBackend> Decoder<B> {
         ensures cause { CountsErrors (B.faults self.old.backend) (B.faults self.new.backend) result }
         ensures faultless { KeepsFaultless (B.is_faultless self.old.backend) (B.is_faultless self.new.backend) result }
         ensures part { Runs result unit (traces (B.log self.old.backend) shown.old.items self.old.state) (traces (B.log self.new.backend) shown.new.items self.new.state)
-            (change_picture (slice_of nalu.now.header (bytes_of nalu.now) (plain_header header.now)) (standing self.old.state)) (standing self.new.state) }
+            (change_picture (slice_of nalu.now.header (bytes_of nalu.now) (slice_with header.now sequence_set.now)) (standing self.old.state)) (standing self.new.state) }
         ensures sets { self.new.sets ≡ self.old.sets }
     {
         self.finish(unit, shown)?;
-        self.start(header, nalu, unit, shown)
+        self.start(header, sequence_set, nalu, unit, shown)
     }
 
     /// The buffer is emptied, and the next picture begins.
     fn start(
         &mut self,
         header: &SliceHeader,
+        sequence_set: &Sps,
         nalu: &Nalu<'_, NaluHeader>,
         unit: u64,
         shown: &mut Vec<Shown<B::Handle>>,
@@ -120,11 +128,11 @@ impl<B: StatelessH265DecoderBackend> Decoder<B> {
         ensures cause { CountsErrors (B.faults self.old.backend) (B.faults self.new.backend) result }
         ensures faultless { KeepsFaultless (B.is_faultless self.old.backend) (B.is_faultless self.new.backend) result }
         ensures part { Runs result unit (traces (B.log self.old.backend) shown.old.items self.old.state) (traces (B.log self.new.backend) shown.new.items self.new.state)
-            (start (slice_of nalu.now.header (bytes_of nalu.now) (plain_header header.now)) (standing self.old.state)) (standing self.new.state) }
+            (start (slice_of nalu.now.header (bytes_of nalu.now) (slice_with header.now sequence_set.now)) (standing self.old.state)) (standing self.new.state) }
         ensures sets { self.new.sets ≡ self.old.sets }
     {
-        self.empty_buffer(header.start.no_output_of_prior_pics_flag, unit, shown)?;
-        self.begin(header, nalu)
+        self.empty_buffer(header.no_output_of_prior_pics_flag, unit, shown)?;
+        self.begin(header, sequence_set, nalu)
     }
 
     /// The picture whose slices came is over: it is stored (C.5.2.3), and output at once where no picture
@@ -223,13 +231,14 @@ impl<B: StatelessH265DecoderBackend> Decoder<B> {
     fn begin(
         &mut self,
         header: &SliceHeader,
+        sequence_set: &Sps,
         nalu: &Nalu<'_, NaluHeader>,
     ) -> Result<(), DecodeError>
         requires { self.old.state.begun + 1 < 2 ^ 64 }
         ensures cause { CountsErrors (B.faults self.old.backend) (B.faults self.new.backend) result }
         ensures faultless { KeepsFaultless (B.is_faultless self.old.backend) (B.is_faultless self.new.backend) result }
         ensures part { (shown : List (Shown B.Handle)) (k : ℕ) → Runs result k (traces (B.log self.old.backend) shown self.old.state) (traces (B.log self.new.backend) shown self.new.state)
-            (begin (slice_of nalu.now.header (bytes_of nalu.now) (plain_header header.now)) (standing self.old.state)) (standing self.new.state) }
+            (begin (slice_of nalu.now.header (bytes_of nalu.now) (slice_with header.now sequence_set.now)) (standing self.old.state)) (standing self.new.state) }
         ensures sets { self.new.sets ≡ self.old.sets }
     {
         let number = self.state.begun;
@@ -246,7 +255,7 @@ impl<B: StatelessH265DecoderBackend> Decoder<B> {
             facts: IdrPicture {
                 number,
                 pic_output_flag: header.pic_output_flag,
-                max_num_reorder_pics: header.sequence_set.ordering.max_num_reorder_pics,
+                max_num_reorder_pics: max_num_reorder(sequence_set),
             },
             picture,
         });

@@ -1,7 +1,7 @@
 //! The units of a stream, one by one.
 ghost use Rattle.std.specs.Prelude.{◌≡◌, ◌+◌, ◌<◌, ◌≤◌, ◌^◌, length, IfOk, IfErr, IsTrue};
 ghost use Rattle.hevc_spec.specs.Units.{units, units_from, kept_bytes};
-ghost use Rattle.hevc_tables.specs.KeptSets.{nothing_kept};
+ghost use Rattle.hevc_plain_tables.specs.KeptSets.{nothing_kept};
 ghost use Rattle.hevc_plain.specs.Kept.{kept_sets};
 ghost use Rattle.hevc_walk_idr.specs.IdrWalk.{idr_first};
 ghost use Rattle.hevc_decoder.specs.Answers.{CountsErrors, KeepsFaultless, without_unit};

@@ -2,22 +2,22 @@
 //! extensions, and their readers.
 #![tactic(auto)]
 
+mod assembly;
+mod conformance;
 mod parameter_sets;
+mod picture_assembly;
+mod picture_records;
 mod picture_set;
-mod profile;
-mod profile_records;
-mod records;
+mod plain_slice;
+mod sequence_records;
 mod sequence_set;
 mod slice_header;
+mod slice_records;
 mod unit_meaning;
 
 pub use parameter_sets::ParameterSets;
 pub use picture_set::read_picture_set;
-pub use profile_records::Profile;
-pub use records::{
-    AdaptiveOffset, Blocks, Deblocking, Depths, Identity, Ids, Ordering, PictureSet, Presence,
-    Quantiser, Samples, SequenceSet, SliceHeader, Start,
-};
+pub use plain_slice::PlainSlice;
 pub use sequence_set::read_sequence_set;
 pub use slice_header::read_slice_header;
 pub use unit_meaning::UnitMeaning;

@@ -1,79 +1,114 @@
 //! Plain sequence parameter sets (7.3.2.2, table 5).
-ghost use Rattle.std.specs.Prelude.{◌≡◌, ◌≤◌, ◌+◌, Bool, List, IfOk, IfErr};
+ghost use Rattle.std.specs.Prelude.{◌≡◌, ◌≤◌, min, Bool, List, IfOk, IfErr, IsTrue};
 ghost use Rattle.hevc_spec.specs.Payload.{bits};
 ghost use Rattle.hevc_spec.specs.Table.{read, gives, refuses, Fault};
 ghost use Rattle.hevc_spec.specs.Lines.{Spells, BreaksOff};
-ghost use Rattle.hevc_sets.specs.Reads.{Reads, FailsAt};
-ghost use Rattle.hevc_tables.specs.PlainSequenceSet.{PlainSequenceSet, identity, samples, sub_width_c, sub_height_c, leaves_some, window, cropping, depths, ordering, blocks, tools, set_end, plain_sequence_set};
-ghost use Rattle.hevc_plain.specs.Projections.{plain_identity, plain_samples, plain_depths, plain_ordering, plain_blocks, plain_set};
+ghost use Rattle.hevc_elements.specs.Reads.{Reads, FailsAt};
+ghost use Rattle.hevc_tables.specs.Sps.{PlainSps};
+ghost use Rattle.hevc_tables.specs.SpsSizes.{sub_width_c, sub_height_c, leaves_some};
+ghost use Rattle.hevc_types_a.specs.ProfileTierLevel.{plain_profile_tier_level};
+ghost use Rattle.hevc_types_c.specs.Sps.{plain_sps};
+ghost use Rattle.hevc_plain_tables.specs.PlainSequenceSet.{identity, plain_profile, samples, frame, window, cropping, depths, ordering, block_sizes, blocks, ctb_log2_size_y, max_tb_log2_size_y, tools, set_end, plain_sequence_set};
+ghost use Rattle.hevc_plain.specs.SequenceRecords.{plain_identity, plain_samples, plain_cropping, plain_frame, plain_depths, plain_ordering, plain_blocks, plain_tools, plain_more_tools};
 
-use crate::profile::read_profile;
-use crate::records::{Blocks, Depths, Identity, Ordering, Samples, SequenceSet};
+use crate::assembly::SetElements;
+use crate::conformance::has_range_extensions_flags;
+use crate::sequence_records::{
+    Blocks, Cropping, Depths, Frame, Identity, MoreTools, Ordering, Samples, Tools,
+};
 use hevc_bits::NaluReader;
-use hevc_sets::ParseError;
-use hevc_sets::elements::{bits_u8, check, flag, flag_if, ue, ue_u8, ue_u16, zero, zero_if};
+use hevc_elements::ParseError;
+use hevc_elements::rows::{bits_u8, check, flag, flag_if, ue, ue_u8, ue_u16, zero, zero_if};
+use hevc_profile::read_profile_tier_level;
 use hevc_spec::Row;
+use hevc_types_a::ProfileTierLevel;
+use hevc_types_c::Sps;
+use std::alloc::Global;
 
-/// Reads the payload of a plain sequence parameter set, by table 5.
+/// Reads the payload of a plain sequence parameter set, by table 5. It takes no memory; the set's lists are empty, and would take it
+/// from `alloc`.
 ///
 /// Errors: `OutOfBits` where the payload ends within an element, and `OutOfRange` with the row of the first element that isn't
 /// allowed. A set that isn't plain is out of range at the row that says so. The reader then stands where that element begins.
-#[tactic(auto, using(hevc_sets::proofs::Meaning::is_found, hevc_sets::proofs::Meaning::is_only, hevc_sets::proofs::Meaning::is_refused, hevc_sets::proofs::Meaning::is_broken))]
-pub fn read_sequence_set(r: &mut NaluReader<'_>) -> Result<SequenceSet, ParseError>
-    ensures read { Reads plain_set result r.new (read plain_sequence_set (bits r.old)) }
+#[tactic(auto, using(hevc_elements::proofs::Meaning::is_found, hevc_elements::proofs::Meaning::is_only, hevc_elements::proofs::Meaning::is_refused, hevc_elements::proofs::Meaning::is_broken))]
+pub fn read_sequence_set(alloc: Global, r: &mut NaluReader<'_>) -> Result<Sps, ParseError>
+    ensures read { Reads plain_sps result r.new (read plain_sequence_set (bits r.old)) }
     // What is read has lines that are allowed and that the payload spells, up to where the reader stands.
-    ensures found { IfOk result (λ x. Spells plain_sequence_set (plain_set x) (bits r.old) (bits r.new)) }
+    ensures found { IfOk result (λ x. Spells plain_sequence_set (plain_sps x) (bits r.old) (bits r.new)) }
     // What has such lines is read.
-    ensures only { (x : PlainSequenceSet) (rest : List Bool) → Spells plain_sequence_set x (bits r.old) rest → Reads plain_set result r.new (gives x rest) }
+    ensures only { (x : PlainSps) (rest : List Bool) → Spells plain_sequence_set x (bits r.old) rest → Reads plain_sps result r.new (gives x rest) }
     // A refusal is the first line that breaks, and the reader stands before it.
     ensures refused { IfErr result (λ e. FailsAt e plain_sequence_set (bits r.old) r.new) }
     // Where a line breaks, that is the refusal.
-    ensures broken { (fault : Fault) (rest : List Bool) → BreaksOff plain_sequence_set fault (bits r.old) rest → Reads plain_set result r.new (refuses fault rest) }
+    ensures broken { (fault : Fault) (rest : List Bool) → BreaksOff plain_sequence_set fault (bits r.old) rest → Reads plain_sps result r.new (refuses fault rest) }
 {
-    read_rows(r)
+    read_rows(alloc, r)
 }
 
 /// Rows 1 to 43 of table 5.
-#[tactic(auto, unfolding(hevc_tables::specs::PlainSequenceSet::plain_sequence_set))]
-fn read_rows(r: &mut NaluReader<'_>) -> Result<SequenceSet, ParseError>
-    ensures { Reads plain_set result r.new (read plain_sequence_set (bits r.old)) }
+#[tactic(auto, unfolding(hevc_plain_tables::specs::PlainSequenceSet::plain_sequence_set))]
+fn read_rows(alloc: Global, r: &mut NaluReader<'_>) -> Result<Sps, ParseError>
+    ensures { Reads plain_sps result r.new (read plain_sequence_set (bits r.old)) }
 {
     let identity = read_identity(r)?;
-    let samples = read_samples(r)?;
-    read_cropping(r, &samples)?;
+    let frame = read_frame(r)?;
     let depths = read_depths(r)?;
     let ordering = read_ordering(r)?;
     let blocks = read_blocks(r)?;
-    let sample_adaptive_offset_enabled_flag = read_tools(r)?;
-    read_end(r)?;
-    Ok(SequenceSet {
+    let tools = read_tools(r)?;
+    let more_tools = read_end(r)?;
+    let elements = SetElements {
         identity,
-        samples,
+        frame,
         depths,
         ordering,
         blocks,
-        sample_adaptive_offset_enabled_flag,
-    })
+        tools,
+        more_tools,
+    };
+    Ok(elements.into_set(alloc))
 }
 
 /// Rows 1 to 5 of table 5.
-#[tactic(auto, unfolding(hevc_tables::specs::PlainSequenceSet::identity))]
+#[tactic(auto, unfolding(hevc_plain_tables::specs::PlainSequenceSet::identity))]
 fn read_identity(r: &mut NaluReader<'_>) -> Result<Identity, ParseError>
     ensures { Reads plain_identity result r.new (read identity (bits r.old)) }
 {
-    bits_u8(r, Row(5, 1), 4, 0, 15)?;
+    let video_parameter_set_id = bits_u8(r, Row(5, 1), 4, 0, 15)?;
     bits_u8(r, Row(5, 2), 3, 0, 0)?;
-    flag(r, Row(5, 3))?;
-    let profile = read_profile(r)?;
+    let temporal_id_nesting_flag = flag(r, Row(5, 3))?;
+    let profile_tier_level = read_plain_profile(r)?;
     let seq_parameter_set_id = ue_u8(r, Row(5, 5), 0, 15)?;
     Ok(Identity {
-        profile,
+        video_parameter_set_id,
+        temporal_id_nesting_flag,
+        profile_tier_level,
         seq_parameter_set_id,
     })
 }
 
+/// Row 4 of table 5.
+#[tactic(auto, unfolding(hevc_plain_tables::specs::PlainSequenceSet::plain_profile))]
+fn read_plain_profile(r: &mut NaluReader<'_>) -> Result<ProfileTierLevel, ParseError>
+    ensures { Reads plain_profile_tier_level result r.new (read plain_profile (bits r.old)) }
+{
+    let profile = read_profile_tier_level(r, 0)?;
+    check(r, Row(2, 6), !has_range_extensions_flags(&profile))?;
+    Ok(profile)
+}
+
+/// Rows 6 to 12 of table 5.
+#[tactic(auto, unfolding(hevc_plain_tables::specs::PlainSequenceSet::frame))]
+fn read_frame(r: &mut NaluReader<'_>) -> Result<Frame, ParseError>
+    ensures { Reads plain_frame result r.new (read frame (bits r.old)) }
+{
+    let samples = read_samples(r)?;
+    let cropping = read_cropping(r, &samples)?;
+    Ok(Frame { samples, cropping })
+}
+
 /// Rows 6 to 9 of table 5.
-#[tactic(auto, unfolding(hevc_tables::specs::PlainSequenceSet::samples))]
+#[tactic(auto, unfolding(hevc_plain_tables::specs::PlainSequenceSet::samples))]
 fn read_samples(r: &mut NaluReader<'_>) -> Result<Samples, ParseError>
     ensures { Reads plain_samples result r.new (read samples (bits r.old)) }
 {
@@ -84,26 +119,40 @@ fn read_samples(r: &mut NaluReader<'_>) -> Result<Samples, ParseError>
     Ok(Samples {
         chroma_format_idc,
         separate_colour_plane_flag,
+        chroma_array_type: if separate_colour_plane_flag {
+            0
+        } else {
+            chroma_format_idc
+        },
         pic_width_in_luma_samples,
         pic_height_in_luma_samples,
     })
 }
 
 /// Rows 10 to 12 of table 5.
-#[tactic(auto, unfolding(hevc_tables::specs::PlainSequenceSet::cropping, hevc_spec::specs::Rows::when))]
-fn read_cropping(r: &mut NaluReader<'_>, samples: &Samples) -> Result<(), ParseError>
-    ensures { Reads (λ _. 0) result r.new (read (cropping (plain_samples samples.now)) (bits r.old)) }
+#[tactic(auto, unfolding(hevc_plain_tables::specs::PlainSequenceSet::cropping, hevc_spec::specs::Rows::when))]
+fn read_cropping(r: &mut NaluReader<'_>, samples: &Samples) -> Result<Cropping, ParseError>
+    ensures read { Reads plain_cropping result r.new (read (cropping (plain_samples samples.now)) (bits r.old)) }
+    ensures window { IfOk result (λ c. IsTrue c.conformance_window_flag → IsTrue (leaves_some samples.now.chroma_array_type samples.now.pic_width_in_luma_samples samples.now.pic_height_in_luma_samples c.conf_win_left_offset c.conf_win_right_offset c.conf_win_top_offset c.conf_win_bottom_offset)) }
 {
     if flag(r, Row(5, 10))? {
-        read_window(r, samples)?;
+        read_window(r, samples)
+    } else {
+        Ok(Cropping {
+            conformance_window_flag: false,
+            conf_win_left_offset: 0,
+            conf_win_right_offset: 0,
+            conf_win_top_offset: 0,
+            conf_win_bottom_offset: 0,
+        })
     }
-    Ok(())
 }
 
 /// Rows 11 and 12 of table 5.
-#[tactic(auto, unfolding(hevc_tables::specs::PlainSequenceSet::window))]
-fn read_window(r: &mut NaluReader<'_>, samples: &Samples) -> Result<(), ParseError>
-    ensures { Reads (λ _. 0) result r.new (read (window (plain_samples samples.now)) (bits r.old)) }
+#[tactic(auto, unfolding(hevc_plain_tables::specs::PlainSequenceSet::window))]
+fn read_window(r: &mut NaluReader<'_>, samples: &Samples) -> Result<Cropping, ParseError>
+    ensures read { Reads plain_cropping result r.new (read (window (plain_samples samples.now)) (bits r.old)) }
+    ensures window { IfOk result (λ c. IsTrue (leaves_some samples.now.chroma_array_type samples.now.pic_width_in_luma_samples samples.now.pic_height_in_luma_samples c.conf_win_left_offset c.conf_win_right_offset c.conf_win_top_offset c.conf_win_bottom_offset)) }
 {
     let left = ue(r, Row(5, 11), 0, 2_147_483_647)?;
     let right = ue(r, Row(5, 11), 0, 2_147_483_647)?;
@@ -114,26 +163,32 @@ fn read_window(r: &mut NaluReader<'_>, samples: &Samples) -> Result<(), ParseErr
         Row(5, 12),
         leaves_part(samples, left, right, top, bottom),
     )?;
-    Ok(())
+    Ok(Cropping {
+        conformance_window_flag: true,
+        conf_win_left_offset: left,
+        conf_win_right_offset: right,
+        conf_win_top_offset: top,
+        conf_win_bottom_offset: bottom,
+    })
 }
 
 /// Whether the conformance cropping window leaves some of the picture.
+#[tactic(auto, unfolding(hevc_tables::specs::SpsSizes::leaves_some))]
 fn leaves_part(samples: &Samples, left: u32, right: u32, top: u32, bottom: u32) -> bool
-    ensures { result ≡ leaves_some (plain_samples samples.now) left right top bottom }
+    ensures { result ≡ leaves_some samples.now.chroma_array_type samples.now.pic_width_in_luma_samples samples.now.pic_height_in_luma_samples left right top bottom }
 {
     let width = u64::from(samples.pic_width_in_luma_samples);
     let height = u64::from(samples.pic_height_in_luma_samples);
-    sub_width(samples) * (u64::from(left) + u64::from(right)) < width
-        && sub_height(samples) * (u64::from(top) + u64::from(bottom)) < height
+    sub_width(samples.chroma_array_type) * (u64::from(left) + u64::from(right)) < width
+        && sub_height(samples.chroma_array_type) * (u64::from(top) + u64::from(bottom)) < height
 }
 
 /// SubWidthC (Table 6-1), 1 where the planes are coded apart.
-fn sub_width(samples: &Samples) -> u64
-    ensures value { result ≡ sub_width_c (plain_samples samples.now) }
+fn sub_width(chroma_array_type: u8) -> u64
+    ensures value { result ≡ sub_width_c chroma_array_type }
     ensures small { result ≤ 2 }
 {
-    let is_halved = samples.chroma_format_idc == 1 || samples.chroma_format_idc == 2;
-    if !samples.separate_colour_plane_flag && is_halved {
+    if chroma_array_type == 1 || chroma_array_type == 2 {
         2
     } else {
         1
@@ -141,19 +196,15 @@ fn sub_width(samples: &Samples) -> u64
 }
 
 /// SubHeightC (Table 6-1), 1 where the planes are coded apart.
-fn sub_height(samples: &Samples) -> u64
-    ensures value { result ≡ sub_height_c (plain_samples samples.now) }
+fn sub_height(chroma_array_type: u8) -> u64
+    ensures value { result ≡ sub_height_c chroma_array_type }
     ensures small { result ≤ 2 }
 {
-    if !samples.separate_colour_plane_flag && samples.chroma_format_idc == 1 {
-        2
-    } else {
-        1
-    }
+    if chroma_array_type == 1 { 2 } else { 1 }
 }
 
 /// Rows 13 to 15 of table 5.
-#[tactic(auto, unfolding(hevc_tables::specs::PlainSequenceSet::depths))]
+#[tactic(auto, unfolding(hevc_plain_tables::specs::PlainSequenceSet::depths))]
 fn read_depths(r: &mut NaluReader<'_>) -> Result<Depths, ParseError>
     ensures { Reads plain_depths result r.new (read depths (bits r.old)) }
 {
@@ -168,15 +219,16 @@ fn read_depths(r: &mut NaluReader<'_>) -> Result<Depths, ParseError>
 }
 
 /// Rows 16 to 19 of table 5.
-#[tactic(auto, unfolding(hevc_tables::specs::PlainSequenceSet::ordering))]
+#[tactic(auto, unfolding(hevc_plain_tables::specs::PlainSequenceSet::ordering))]
 fn read_ordering(r: &mut NaluReader<'_>) -> Result<Ordering, ParseError>
     ensures { Reads plain_ordering result r.new (read ordering (bits r.old)) }
 {
-    flag(r, Row(5, 16))?;
+    let sub_layer_ordering_info_present_flag = flag(r, Row(5, 16))?;
     let max_dec_pic_buffering_minus1 = ue_u8(r, Row(5, 17), 0, 16)?;
     let max_num_reorder_pics = ue_u8(r, Row(5, 18), 0, max_dec_pic_buffering_minus1)?;
     let max_latency_increase_plus1 = ue_u8(r, Row(5, 19), 0, 255)?;
     Ok(Ordering {
+        sub_layer_ordering_info_present_flag,
         max_dec_pic_buffering_minus1,
         max_num_reorder_pics,
         max_latency_increase_plus1,
@@ -184,52 +236,73 @@ fn read_ordering(r: &mut NaluReader<'_>) -> Result<Ordering, ParseError>
 }
 
 /// Rows 20 to 24 of table 5.
-#[tactic(auto, unfolding(hevc_tables::specs::PlainSequenceSet::blocks))]
+#[tactic(auto, unfolding(hevc_plain_tables::specs::PlainSequenceSet::blocks))]
 fn read_blocks(r: &mut NaluReader<'_>) -> Result<Blocks, ParseError>
-    ensures { Reads plain_blocks result r.new (read blocks (bits r.old)) }
+    ensures read { Reads plain_blocks result r.new (read blocks (bits r.old)) }
+    ensures small { IfOk result (λ b. max_tb_log2_size_y (plain_blocks b) ≤ min (ctb_log2_size_y (plain_blocks b)) 5) }
+{
+    let blocks = read_block_sizes(r)?;
+    let ctb_log2_size_y = blocks.log2_min_luma_coding_block_size_minus3
+        + 3
+        + blocks.log2_diff_max_min_luma_coding_block_size;
+    let max_tb_log2_size_y = blocks.log2_min_luma_transform_block_size_minus2
+        + 2
+        + blocks.log2_diff_max_min_luma_transform_block_size;
+    check(r, Row(5, 24), max_tb_log2_size_y <= ctb_log2_size_y.min(5))?;
+    Ok(blocks)
+}
+
+/// Rows 20 to 23 of table 5.
+#[tactic(auto, unfolding(hevc_plain_tables::specs::PlainSequenceSet::block_sizes))]
+fn read_block_sizes(r: &mut NaluReader<'_>) -> Result<Blocks, ParseError>
+    ensures { Reads plain_blocks result r.new (read block_sizes (bits r.old)) }
 {
     let log2_min_luma_coding_block_size_minus3 = ue_u8(r, Row(5, 20), 0, 3)?;
     let log2_diff_max_min_luma_coding_block_size = ue_u8(r, Row(5, 21), 0, 6)?;
     let log2_min_luma_transform_block_size_minus2 = ue_u8(r, Row(5, 22), 0, 3)?;
     let log2_diff_max_min_luma_transform_block_size = ue_u8(r, Row(5, 23), 0, 3)?;
-    let ctb_log2_size_y = log2_min_luma_coding_block_size_minus3
-        + 3
-        + log2_diff_max_min_luma_coding_block_size;
-    let max_tb_log2_size_y = log2_min_luma_transform_block_size_minus2
-        + 2
-        + log2_diff_max_min_luma_transform_block_size;
-    check(r, Row(5, 24), max_tb_log2_size_y <= ctb_log2_size_y.min(5))?;
     Ok(Blocks {
         log2_min_luma_coding_block_size_minus3,
         log2_diff_max_min_luma_coding_block_size,
+        log2_min_luma_transform_block_size_minus2,
+        log2_diff_max_min_luma_transform_block_size,
     })
 }
 
-/// Rows 25 to 30 of table 5. Gives `sample_adaptive_offset_enabled_flag`.
-#[tactic(auto, unfolding(hevc_tables::specs::PlainSequenceSet::tools, hevc_spec::specs::Rows::when))]
-fn read_tools(r: &mut NaluReader<'_>) -> Result<bool, ParseError>
-    ensures { Reads (λ b. b) result r.new (read tools (bits r.old)) }
+/// Rows 25 to 30 of table 5.
+#[tactic(auto, unfolding(hevc_plain_tables::specs::PlainSequenceSet::tools, hevc_spec::specs::Rows::when))]
+fn read_tools(r: &mut NaluReader<'_>) -> Result<Tools, ParseError>
+    ensures { Reads plain_tools result r.new (read tools (bits r.old)) }
 {
-    ue(r, Row(5, 25), 0, 4)?;
-    ue(r, Row(5, 26), 0, 4)?;
+    let max_transform_hierarchy_depth_inter = ue_u8(r, Row(5, 25), 0, 4)?;
+    let max_transform_hierarchy_depth_intra = ue_u8(r, Row(5, 26), 0, 4)?;
     let scaling_list_enabled_flag = flag(r, Row(5, 27))?;
     zero_if(r, scaling_list_enabled_flag, Row(5, 28))?;
-    flag(r, Row(5, 30))?;
+    let amp_enabled_flag = flag(r, Row(5, 30))?;
     let sample_adaptive_offset_enabled_flag = flag(r, Row(5, 30))?;
     zero(r, Row(5, 30))?;
-    Ok(sample_adaptive_offset_enabled_flag)
+    Ok(Tools {
+        max_transform_hierarchy_depth_inter,
+        max_transform_hierarchy_depth_intra,
+        scaling_list_enabled_flag,
+        amp_enabled_flag,
+        sample_adaptive_offset_enabled_flag,
+    })
 }
 
 /// Rows 35 to 43 of table 5.
-#[tactic(auto, unfolding(hevc_tables::specs::PlainSequenceSet::set_end))]
-fn read_end(r: &mut NaluReader<'_>) -> Result<(), ParseError>
-    ensures { Reads (λ _. 0) result r.new (read set_end (bits r.old)) }
+#[tactic(auto, unfolding(hevc_plain_tables::specs::PlainSequenceSet::set_end))]
+fn read_end(r: &mut NaluReader<'_>) -> Result<MoreTools, ParseError>
+    ensures { Reads plain_more_tools result r.new (read set_end (bits r.old)) }
 {
     ue(r, Row(5, 35), 0, 0)?;
     zero(r, Row(5, 37))?;
-    flag(r, Row(5, 41))?;
-    flag(r, Row(5, 41))?;
+    let temporal_mvp_enabled_flag = flag(r, Row(5, 41))?;
+    let strong_intra_smoothing_enabled_flag = flag(r, Row(5, 41))?;
     zero(r, Row(5, 41))?;
     zero(r, Row(5, 43))?;
-    Ok(())
+    Ok(MoreTools {
+        temporal_mvp_enabled_flag,
+        strong_intra_smoothing_enabled_flag,
+    })
 }

@@ -1,17 +1,19 @@
 -- What a unit means, from what its payload spells.
 use Rattle.std.proofs.Common.{◌≡◌, ℕ, ◌≤◌, Bool, true, false, List, Ok, refl, sym, ap, ◌∙◌, arith}
-use Rattle.std.specs.Prelude.{◌==◌, ◌||◌, Option, Some, None, IsSome, is_none, if◌then◌else◌}
+use Rattle.std.specs.Prelude.{◌-◌, ◌==◌, ◌||◌, Option, Some, None, IsSome, is_none, if◌then◌else◌}
 use Rattle.std.proofs.lemmas.Bool.Decides.{nat_tests}
 use Rattle.hevc_spec.specs.UnitHeader.{UnitHeader, unit_header}
 use Rattle.hevc_spec.specs.Payload.{payload}
 use Rattle.hevc_spec.specs.Table.{Table, Reading, gives, refuses, read}
 use Rattle.hevc_spec.specs.Lines.{Spells}
 use Rattle.hevc_laws.proofs.TableLaws.{spelled_from_read, read_from_spelled}
-use Rattle.hevc_tables.specs.PlainSequenceSet.{PlainSequenceSet, plain_sequence_set}
-use Rattle.hevc_tables.specs.PlainPictureSet.{PlainPictureSet, plain_picture_set}
-use Rattle.hevc_tables.specs.PlainSliceHeader.{PlainSliceHeader, plain_slice_header}
-use Rattle.hevc_tables.specs.KeptSets.{KeptSets}
-use Rattle.hevc_tables.specs.UnitMeanings.{UnitMeaning, sequence_set, picture_set, slice, not_yet, other, meaning_read, is_idr_type, is_slice_type, is_end, typed_meaning, unit_meaning}
+use Rattle.hevc_tables.specs.Sps.{PlainSps}
+use Rattle.hevc_plain_tables.specs.PlainSequenceSet.{plain_sequence_set}
+use Rattle.hevc_tables.specs.Pps.{PlainPps}
+use Rattle.hevc_plain_tables.specs.PlainPictureSet.{plain_picture_set}
+use Rattle.hevc_plain_tables.specs.PlainSliceHeader.{PlainSlice, plain_slice_header}
+use Rattle.hevc_plain_tables.specs.KeptSets.{KeptSets}
+use Rattle.hevc_plain_tables.specs.UnitMeanings.{UnitMeaning, sequence_set, picture_set, slice, not_yet, other, meaning_read, is_idr_type, is_slice_type, is_end, typed_meaning, unit_meaning}
 use Rattle.hevc_syntax_laws.specs.Meanings.{SpellsNone}
 use Rattle.hevc_syntax_laws.specs.NotRead.{IsNotRead, video_set, no_plain_sequence_set, no_plain_picture_set, no_plain_slice, other_slice_or_end}
 
@@ -60,7 +62,7 @@ module _ (kept : KeptSets) (bytes : List ℕ) (h : UnitHeader) (header : unit_he
   of_sequence_set : h.nal_unit_type ≡ 33 → unit_meaning kept bytes ≡ meaning_read sequence_set (not_yet 5 1) (read plain_sequence_set (payload bytes))
   of_sequence_set e = typed ∙ rw e refl
 
-  of_picture_set : h.nal_unit_type ≡ 34 → unit_meaning kept bytes ≡ meaning_read picture_set (not_yet 11 1) (read (plain_picture_set kept.sequence_sets) (payload bytes))
+  of_picture_set : h.nal_unit_type ≡ 34 → unit_meaning kept bytes ≡ meaning_read picture_set (not_yet 11 1) (read (plain_picture_set (h.nuh_temporal_id_plus1 - 1) kept.sequence_sets) (payload bytes))
   of_picture_set e = typed ∙ rw e refl
 
   of_slice : is_idr_type h.nal_unit_type ≡ true → IsSome kept.first_sequence_set
@@ -73,20 +75,20 @@ module _ (kept : KeptSets) (bytes : List ℕ) (h : UnitHeader) (header : unit_he
   of_awaited : is_idr_type h.nal_unit_type ≡ false → (is_slice_type h.nal_unit_type || is_end h.nal_unit_type) ≡ true → IsSome kept.first_sequence_set → unit_meaning kept bytes ≡ not_yet 0 h.nal_unit_type
   of_awaited e awaited some = typed ∙ rw (awaited_isnt h.nal_unit_type 33 awaited (grind arith) (grind arith), awaited_isnt h.nal_unit_type 34 awaited (grind arith) (grind arith), awaited_isnt h.nal_unit_type 32 awaited (grind arith) (grind arith), is_some kept.first_sequence_set some, e, awaited) refl
 
-  pub sequence_set_means : (set : PlainSequenceSet) (rest : List Bool) → h.nal_unit_type ≡ 33 → Spells plain_sequence_set set (payload bytes) rest → unit_meaning kept bytes ≡ sequence_set set
+  pub sequence_set_means : (set : PlainSps) (rest : List Bool) → h.nal_unit_type ≡ 33 → Spells plain_sequence_set set (payload bytes) rest → unit_meaning kept bytes ≡ sequence_set set
   sequence_set_means set rest e s = of_sequence_set e ∙ spelled_means plain_sequence_set sequence_set (not_yet 5 1) (payload bytes) set rest s
 
-  pub picture_set_means : (set : PlainPictureSet) (rest : List Bool) → h.nal_unit_type ≡ 34 → Spells (plain_picture_set kept.sequence_sets) set (payload bytes) rest → unit_meaning kept bytes ≡ picture_set set
-  picture_set_means set rest e s = of_picture_set e ∙ spelled_means (plain_picture_set kept.sequence_sets) picture_set (not_yet 11 1) (payload bytes) set rest s
+  pub picture_set_means : (set : PlainPps) (rest : List Bool) → h.nal_unit_type ≡ 34 → Spells (plain_picture_set (h.nuh_temporal_id_plus1 - 1) kept.sequence_sets) set (payload bytes) rest → unit_meaning kept bytes ≡ picture_set set
+  picture_set_means set rest e s = of_picture_set e ∙ spelled_means (plain_picture_set (h.nuh_temporal_id_plus1 - 1) kept.sequence_sets) picture_set (not_yet 11 1) (payload bytes) set rest s
 
-  pub slice_means : (header : PlainSliceHeader) (rest : List Bool) → is_idr_type h.nal_unit_type ≡ true → IsSome kept.first_sequence_set
+  pub slice_means : (header : PlainSlice) (rest : List Bool) → is_idr_type h.nal_unit_type ≡ true → IsSome kept.first_sequence_set
       → Spells (plain_slice_header kept.picture_sets kept.sequence_sets) header (payload bytes) rest → unit_meaning kept bytes ≡ slice h header
   slice_means header rest e some s = of_slice e some ∙ spelled_means (plain_slice_header kept.picture_sets kept.sequence_sets) (slice h) (not_yet 14 1) (payload bytes) header rest s
 
   pub not_read_means : (table row : ℕ) → IsNotRead kept h (payload bytes) table row → unit_meaning kept bytes ≡ not_yet table row
   not_read_means table row (video_set e a b) = of_video_set e ∙ rw (a, b) refl
   not_read_means table row (no_plain_sequence_set e none a b) = of_sequence_set e ∙ none_means plain_sequence_set sequence_set (not_yet 5 1) (payload bytes) none ∙ rw (a, b) refl
-  not_read_means table row (no_plain_picture_set e none a b) = of_picture_set e ∙ none_means (plain_picture_set kept.sequence_sets) picture_set (not_yet 11 1) (payload bytes) none ∙ rw (a, b) refl
+  not_read_means table row (no_plain_picture_set e none a b) = of_picture_set e ∙ none_means (plain_picture_set (h.nuh_temporal_id_plus1 - 1) kept.sequence_sets) picture_set (not_yet 11 1) (payload bytes) none ∙ rw (a, b) refl
   not_read_means table row (no_plain_slice some e none a b) = of_slice e some ∙ none_means (plain_slice_header kept.picture_sets kept.sequence_sets) (slice h) (not_yet 14 1) (payload bytes) none ∙ rw (a, b) refl
   not_read_means table row (other_slice_or_end some e awaited a b) = of_awaited e awaited some ∙ rw (a, b) refl
 
@@ -94,7 +96,7 @@ module _ (kept : KeptSets) (bytes : List ℕ) (h : UnitHeader) (header : unit_he
     -- the cases of the definition in turn
     by_tests : (a b c d e f : Bool) → (h.nal_unit_type == 33) ≡ a → (h.nal_unit_type == 34) ≡ b → (h.nal_unit_type == 32) ≡ c → is_none kept.first_sequence_set ≡ d → is_idr_type h.nal_unit_type ≡ e → (is_slice_type h.nal_unit_type || is_end h.nal_unit_type) ≡ f
         → (if a then meaning_read sequence_set (not_yet 5 1) (read plain_sequence_set (payload bytes))
-        else if b then meaning_read picture_set (not_yet 11 1) (read (plain_picture_set kept.sequence_sets) (payload bytes))
+        else if b then meaning_read picture_set (not_yet 11 1) (read (plain_picture_set (h.nuh_temporal_id_plus1 - 1) kept.sequence_sets) (payload bytes))
         else if c then not_yet 0 32 else if d then other
         else if e then meaning_read (slice h) (not_yet 14 1) (read (plain_slice_header kept.picture_sets kept.sequence_sets) (payload bytes))
         else if f then not_yet 0 h.nal_unit_type else other) ≡ not_yet table row
@@ -103,7 +105,7 @@ module _ (kept : KeptSets) (bytes : List ℕ) (h : UnitHeader) (header : unit_he
         let n = refused_means plain_sequence_set sequence_set (not_yet 5 1) (payload bytes) (not_yet table row) (λ x g. absurd cc) m in
         no_plain_sequence_set (is_number h.nal_unit_type 33 p) n.0 (cc (n.1)) (cc (n.1))
     by_tests false true c d e f p q r s t u m =
-        let n = refused_means (plain_picture_set kept.sequence_sets) picture_set (not_yet 11 1) (payload bytes) (not_yet table row) (λ x g. absurd cc) m in
+        let n = refused_means (plain_picture_set (h.nuh_temporal_id_plus1 - 1) kept.sequence_sets) picture_set (not_yet 11 1) (payload bytes) (not_yet table row) (λ x g. absurd cc) m in
         no_plain_picture_set (is_number h.nal_unit_type 34 q) n.0 (cc (n.1)) (cc (n.1))
     by_tests false false true d e f p q r s t u m =
         let at_table : table ≡ 0 = cc in

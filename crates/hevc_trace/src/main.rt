@@ -2,6 +2,9 @@
 //! calls, and prints the calls and the pictures that come out.
 #![tactic(auto)]
 
+ghost use Rattle.std.specs.Prelude.{◌≡◌, ◌≤◌, All, IfOk, IfSome, length};
+ghost use Rattle.hevc_trace.specs.declared.WordsError.TheVariants.{NoMemory};
+
 mod fault_plan;
 mod input;
 mod memory;
@@ -26,6 +29,9 @@ use word::Word;
 /// The status where there is no memory for the words.
 const NO_MEMORY: u8 = 5;
 
+/// How many bytes a word may have.
+const LONGEST_WORD: usize = 2_097_152;
+
 /// The status where the system doesn't hand over the words.
 const NO_WORDS: u8 = 8;
 
@@ -36,6 +42,8 @@ enum WordsError {
 }
 
 impl From<AllocError> for WordsError {
+    ghost from_gives = { λ _ e. e ≡ NoMemory };
+
     fn from(_error: AllocError) -> WordsError {
         WordsError::NoMemory
     }
@@ -52,8 +60,10 @@ fn main(rt: HostRuntime) -> ExitCode {
     ExitCode::from(run(rt.alloc(), &words, &mut source, &mut sink))
 }
 
-/// The words of the command line behind the program's name.
-fn command_line(rt: &impl Env, alloc: Global) -> Result<Vec<Word>, WordsError> {
+/// The words of the command line behind the program's name, each of at most 2 MiB.
+fn command_line(rt: &impl Env, alloc: Global) -> Result<Vec<Word>, WordsError>
+    ensures { IfOk result (λ words. All (λ word. length word ≤ LONGEST_WORD) words.items) }
+{
     let mut words = Vec::new(alloc);
     for number in 1..usize::MAX {
         let Some(word) = word_at(rt, alloc, number)? else {
@@ -67,7 +77,9 @@ fn command_line(rt: &impl Env, alloc: Global) -> Result<Vec<Word>, WordsError> {
 }
 
 /// A word of the command line, or none behind the last. The room for it is doubled until it fits.
-fn word_at(rt: &impl Env, alloc: Global, number: usize) -> Result<Option<Word>, WordsError> {
+fn word_at(rt: &impl Env, alloc: Global, number: usize) -> Result<Option<Word>, WordsError>
+    ensures { IfOk result (λ found. IfSome found (λ word. length word ≤ LONGEST_WORD)) }
+{
     for doublings in 0..16u32 {
         let mut bytes = vec![in alloc; 0u8; 64usize << doublings]?;
         match rt.arg(number, &mut bytes) {

@@ -1,26 +1,38 @@
-//! The system's input and output, of whose bytes nothing is told.
-ghost use Rattle.std.specs.declared.option.Option.TheVariants.{None};
+//! The system's input and output.
+ghost use Rattle.std.specs.Prelude.{◌≡◌};
+ghost use Rattle.hevc_trace.specs.Standard.{StandardSource, StandardSink};
 
 use crate::sink::{Sink, SinkError};
 use crate::source::{Failed, Source};
 use std::io::{Read, Write};
+use std::marker::Model;
 
-/// The standard input, or any other reader. It tells nothing of its bytes.
+/// The standard input, or any other reader. It tells of its bytes what the reader tells; of those of standard input that is
+/// nothing.
 #[derive(Drop)]
-pub struct StdSource<R> {
+pub struct StdSource<R: Read> {
     reader: R,
     faults: u64,
 }
 
+impl<R: Read> Model for StdSource<R> {
+    ghost Value = { StandardSource };
+
+    ghost view = { λ source. record { left = R.remaining source.reader; faults = source.faults } };
+}
+
 impl<R: Read> StdSource<R> {
     /// A source over a reader, with no fault counted.
-    pub fn new(reader: R) -> StdSource<R> {
+    pub fn new(reader: R) -> StdSource<R>
+        ensures left { result.left ≡ R.remaining reader }
+        ensures faults { result.faults ≡ 0 }
+    {
         StdSource { reader, faults: 0 }
     }
 }
 
 impl<R: Read> Source for StdSource<R> {
-    ghost left = { λ _. None };
+    ghost left = { λ source. source.left };
 
     ghost faults = { λ source. source.faults };
 
@@ -35,22 +47,32 @@ impl<R: Read> Source for StdSource<R> {
     }
 }
 
-/// The standard output, or any other writer. It tells nothing of its bytes.
+/// The standard output, or any other writer. It tells of what was written what the writer tells; of standard output that is
+/// nothing.
 #[derive(Drop)]
-pub struct StdSink<W> {
+pub struct StdSink<W: Write> {
     writer: W,
     faults: u64,
 }
 
+impl<W: Write> Model for StdSink<W> {
+    ghost Value = { StandardSink };
+
+    ghost view = { λ sink. record { written = W.contents sink.writer; faults = sink.faults } };
+}
+
 impl<W: Write> StdSink<W> {
     /// A sink over a writer, with no fault counted.
-    pub fn new(writer: W) -> StdSink<W> {
+    pub fn new(writer: W) -> StdSink<W>
+        ensures written { result.written ≡ W.contents writer }
+        ensures faults { result.faults ≡ 0 }
+    {
         StdSink { writer, faults: 0 }
     }
 }
 
 impl<W: Write> Sink for StdSink<W> {
-    ghost written = { λ _. None };
+    ghost written = { λ sink. sink.written };
 
     ghost faults = { λ sink. sink.faults };
 

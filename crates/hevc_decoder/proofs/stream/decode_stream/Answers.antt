@@ -1,6 +1,6 @@
 use Rattle.std.proofs.Common.{refl}
 use Rattle.hevc_spec.specs.Units.{units}
-use Rattle.hevc_tables.specs.KeptSets.{nothing_kept}
+use Rattle.hevc_plain_tables.specs.KeptSets.{nothing_kept}
 use Rattle.hevc_walk_idr.specs.IdrWalk.{idr_first}
 use Rattle.hevc_decoder.proofs.Premises.{are_idr, verdict_answer}
 use Rattle.hevc_decoder.proofs.Promises.{answers_only_of, calls_of, outputs_of, answer_is, whole_calls_of, whole_outputs_of, handles_of, submitted_once_of, once_of, fates_of, completes, completes_clean}

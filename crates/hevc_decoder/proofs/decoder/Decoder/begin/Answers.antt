@@ -30,7 +30,7 @@ returns-in_err-decode_slice-clause-part g c shown k =
 pub returns-clause-part : goal.returns-clause-part
 unfolding begin
 returns-clause-part g c shown k =
-    rw (sym c.header.ensures.value, sym c.nalu_type.ensures) (record {
+    rw (sym c.header.ensures.value, sym c.nalu_type.ensures, c.max_num_reorder.ensures) (record {
       does = does_then _ _ _ _ _
           (does_call _ (traces (g.B.StatelessH265DecoderBackend.log c.new_picture.new.self) shown c.args.self.now.state) k (code.NewPicture c.args.self.now.state.begun c.nalu_type.result (pos 0) c.args.header.now.pic_output_flag 0) c.in_ok-picture.ensures.log refl refl)
           (does_then _ _ _ _ _

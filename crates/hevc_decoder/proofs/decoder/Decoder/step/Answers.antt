@@ -1,7 +1,7 @@
 use Rattle.std.proofs.Common.{inl, inr, sym, ◌∙◌, ap, arith, Err}
 use Rattle.hevc_bits.specs.FoundUnit.{bytes_of}
 use Rattle.hevc_bits.specs.declared.header.UnitError.{UnitError}
-use Rattle.hevc_tables.specs.UnitMeanings.{unit_meaning}
+use Rattle.hevc_plain_tables.specs.UnitMeanings.{unit_meaning}
 use Rattle.hevc_plain.specs.Kept.{kept_sets}
 use Rattle.hevc_walk_idr.specs.IdrWalk.{IdrStanding}
 use Rattle.hevc_decoder.specs.State.{standing}

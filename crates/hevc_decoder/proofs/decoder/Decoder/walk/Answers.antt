@@ -1,6 +1,6 @@
 use Rattle.std.proofs.Common.{◌≡◌, refl, sym, ◌∙◌, ap, arith}
 use Rattle.hevc_spec.specs.Units.{units}
-use Rattle.hevc_tables.specs.KeptSets.{KeptSets}
+use Rattle.hevc_plain_tables.specs.KeptSets.{KeptSets}
 use Rattle.hevc_walk_idr.specs.IdrWalk.{IdrStanding}
 use Rattle.hevc_decoder.specs.StreamMeanings.{first_format, meanings_from}
 use Rattle.hevc_decoder.proofs.Running.{reached_start, reached_more, ended_whole, ended_by}

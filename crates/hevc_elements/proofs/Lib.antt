@@ -1,0 +1,5 @@
+pub mod ElementLaws
+pub mod Loops
+pub mod Meaning
+pub mod LongBits
+pub mod AnswerLaws

@@ -1,0 +1,5 @@
+pub mod PlainSequenceSet
+pub mod PlainPictureSet
+pub mod PlainSliceHeader
+pub mod KeptSets
+pub mod UnitMeanings

@@ -1,0 +1,1 @@
+//! Plain sets and slice headers, the sets that are kept, and what a unit means behind them, as definitions.

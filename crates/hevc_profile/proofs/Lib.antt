@@ -1,0 +1,3 @@
+pub mod LevelNumbers
+pub mod ArrayPlaces
+pub mod TableNames

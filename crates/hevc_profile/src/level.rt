@@ -1,0 +1,32 @@
+//! Levels (7.3.3, rows 27 and 31 of table 2).
+ghost use Rattle.hevc_spec.specs.Payload.{bits, IsAhead};
+ghost use Rattle.hevc_spec.specs.Table.{read};
+ghost use Rattle.hevc_elements.specs.Reads.{Reads};
+ghost use Rattle.hevc_part_tables.specs.ProfileTierLevelTable.{level as level_table};
+ghost use Rattle.hevc_types_a.specs.Level.{level_number};
+
+use hevc_bits::NaluReader;
+use hevc_elements::ParseError;
+use hevc_elements::rows::{out_of_range, refusal};
+use hevc_spec::Row;
+use hevc_types_a::Level;
+
+/// The level whose number stands there, u(8). Other numbers are out of range.
+#[tactic(auto, using(crate::proofs::LevelNumbers::level_numbers), unfolding(hevc_part_tables::specs::ProfileTierLevelTable::level))]
+pub(crate) fn read_level(r: &mut NaluReader<'_>, row: Row) -> Result<Level, ParseError>
+    ensures read { Reads level_number result r.new (read (level_table row) (bits r.old)) }
+    ensures moves { IsAhead r.old r.new }
+{
+    let mut ahead = r.fork();
+    let value = match ahead.read_bits(8) {
+        Ok(value) => value as u8,
+        Err(error) => return Err(refusal(error, row)),
+    };
+    match Level::n(value) {
+        Some(level) => {
+            *r = ahead;
+            Ok(level)
+        }
+        None => Err(out_of_range(row)),
+    }
+}

@@ -1,3 +1,0 @@
-pub mod ElementLaws
-pub mod Loops
-pub mod Meaning

@@ -1,0 +1,7 @@
+pub mod OrderLaws
+pub mod Shifts
+pub mod LinedUp
+pub mod Listed
+pub mod FilledArrays
+pub mod Parts
+pub mod TableNames

@@ -1,0 +1,15 @@
+use Rattle.std.proofs.Common.{◌≡◌, ◌-◌, length}
+use Rattle.hevc_spec.specs.Payload.{bits, IsAhead}
+use Rattle.hevc_spec.specs.Table.{read}
+use Rattle.hevc_spec.specs.Rows.{repeat}
+use Rattle.hevc_part_tables.specs.ShortTermTable.{next_member_before, listed_before}
+use Rattle.hevc_short_term.proofs.Listed.{DownTo}
+use Rattle.hevc_short_term.proofs.listed_members.read_listed_before.Given as goal
+
+abbrev pub invariant-loop-i : goal.invariant-loop-i
+invariant-loop-i l = record {
+  same : read (repeat next_member_before l.i (l.count - l.i) l.members.items) (bits l.r) ≡ read (listed_before l.count) (bits l.fn.r);
+  count : length l.members.items ≡ l.i;
+  order : DownTo l.members.items;
+  ahead : IsAhead l.fn.r l.r;
+}

@@ -1,0 +1,19 @@
+//! Short-term reference picture sets, and their reader.
+#![tactic(auto)]
+
+mod arrays;
+mod listed_members;
+mod listed_set;
+mod member_flags;
+mod predicted_members;
+mod predicted_set;
+mod prediction;
+mod records;
+mod set_of_members;
+mod short_term_set;
+mod sides;
+
+pub use short_term_set::read_short_term_set;
+
+#[cfg(test)]
+mod tests;

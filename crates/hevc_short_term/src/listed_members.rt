@@ -1,0 +1,107 @@
+//! Members that are written out (7.3.7, rows 9 to 12 of table 7).
+ghost use Rattle.std.specs.Prelude.{◌≡◌, ◌≤◌, ℤ, pos, negsuc, ◌+ℤ◌, ◌-ℤ◌, ◌<ℤ◌, ◌≤ℤ◌, IfOk, length};
+ghost use Rattle.hevc_spec.specs.Payload.{bits, IsAhead};
+ghost use Rattle.hevc_spec.specs.Table.{read};
+ghost use Rattle.hevc_elements.specs.Reads.{Reads};
+ghost use Rattle.hevc_part_tables.specs.ShortTermTable.{member_before, member_after, listed_before, listed_after, last_delta};
+ghost use Rattle.hevc_short_term.specs.Sides.{LieBefore, LieAfter};
+
+use arrayvec::ArrayVec;
+use hevc_bits::NaluReader;
+use hevc_elements::ParseError;
+use hevc_elements::rows::{flag, ue};
+use hevc_part_tables::ShortTermMember;
+use hevc_spec::Row;
+
+/// Rows 9 and 10 of table 7, for so many members.
+#[tactic(auto, using(hevc_elements::proofs::Loops::loops, crate::proofs::Listed::listed), unfolding(hevc_part_tables::specs::ShortTermTable::listed_before, hevc_part_tables::specs::ShortTermTable::next_member_before))]
+pub(crate) fn read_listed_before(
+    r: &mut NaluReader<'_>,
+    count: u8,
+) -> Result<ArrayVec<ShortTermMember, 17>, ParseError>
+    requires { count ≤ 16 }
+    ensures read { Reads (λ ms. ms.items) result r.new (read (listed_before count) (bits r.old)) }
+    ensures moves { IsAhead r.old r.new }
+    ensures all { IfOk result (λ ms. length ms.items ≡ count) }
+    ensures before { IfOk result (λ ms. LieBefore ms.items) }
+{
+    let mut members = ArrayVec::new();
+    for i in 0..count {
+        let member = read_member_before(r, members.as_slice())?;
+        members.push(member);
+    }
+    Ok(members)
+}
+
+/// Rows 9 and 10 of table 7, for the member behind these.
+#[tactic(auto, unfolding(hevc_part_tables::specs::ShortTermTable::member_before))]
+fn read_member_before(
+    r: &mut NaluReader<'_>,
+    members: &[ShortTermMember],
+) -> Result<ShortTermMember, ParseError>
+    requires least { negsuc 4294967295 ≤ℤ last_delta members.now }
+    requires most { last_delta members.now ≤ℤ pos 0 }
+    ensures read { Reads (λ m. m) result r.new (read (member_before (last_delta members.now)) (bits r.old)) }
+    ensures moves { IsAhead r.old r.new }
+    ensures below { IfOk result (λ m. m.delta_poc <ℤ last_delta members.now) }
+    ensures near { IfOk result (λ m. (last_delta members.now -ℤ pos 32768) ≤ℤ m.delta_poc) }
+{
+    let delta_poc_s0_minus1 = ue(r, Row(7, 9), 0, 32767)?;
+    let used_by_curr_pic = flag(r, Row(7, 10))?;
+    Ok(ShortTermMember {
+        delta_poc: difference_of_last(members) - (i64::from(delta_poc_s0_minus1) + 1),
+        used_by_curr_pic,
+    })
+}
+
+/// Rows 11 and 12 of table 7, for so many members.
+#[tactic(auto, using(hevc_elements::proofs::Loops::loops, crate::proofs::Listed::listed), unfolding(hevc_part_tables::specs::ShortTermTable::listed_after, hevc_part_tables::specs::ShortTermTable::next_member_after))]
+pub(crate) fn read_listed_after(
+    r: &mut NaluReader<'_>,
+    count: u8,
+) -> Result<ArrayVec<ShortTermMember, 17>, ParseError>
+    requires { count ≤ 16 }
+    ensures read { Reads (λ ms. ms.items) result r.new (read (listed_after count) (bits r.old)) }
+    ensures moves { IsAhead r.old r.new }
+    ensures all { IfOk result (λ ms. length ms.items ≡ count) }
+    ensures after { IfOk result (λ ms. LieAfter ms.items) }
+{
+    let mut members = ArrayVec::new();
+    for i in 0..count {
+        let member = read_member_after(r, members.as_slice())?;
+        members.push(member);
+    }
+    Ok(members)
+}
+
+/// Rows 11 and 12 of table 7, for the member behind these.
+#[tactic(auto, unfolding(hevc_part_tables::specs::ShortTermTable::member_after))]
+fn read_member_after(
+    r: &mut NaluReader<'_>,
+    members: &[ShortTermMember],
+) -> Result<ShortTermMember, ParseError>
+    requires least { pos 0 ≤ℤ last_delta members.now }
+    requires most { last_delta members.now ≤ℤ pos 4294967295 }
+    ensures read { Reads (λ m. m) result r.new (read (member_after (last_delta members.now)) (bits r.old)) }
+    ensures moves { IsAhead r.old r.new }
+    ensures above { IfOk result (λ m. last_delta members.now <ℤ m.delta_poc) }
+    ensures near { IfOk result (λ m. m.delta_poc ≤ℤ (last_delta members.now +ℤ pos 32768)) }
+{
+    let delta_poc_s1_minus1 = ue(r, Row(7, 11), 0, 32767)?;
+    let used_by_curr_pic = flag(r, Row(7, 12))?;
+    Ok(ShortTermMember {
+        delta_poc: difference_of_last(members) + (i64::from(delta_poc_s1_minus1) + 1),
+        used_by_curr_pic,
+    })
+}
+
+/// The difference of the last member, else 0.
+#[tactic(auto, using(crate::proofs::Listed::last_is))]
+fn difference_of_last(members: &[ShortTermMember]) -> i64
+    ensures { result ≡ last_delta members.now }
+{
+    match members.len() {
+        0 => 0,
+        count => members[count - 1].delta_poc,
+    }
+}

@@ -1,0 +1,79 @@
+//! Short-term reference picture sets (7.3.7, table 7).
+ghost use Rattle.std.specs.Prelude.{◌≡◌, ◌≤◌, Bool, List, IfOk, IfErr, length, map};
+ghost use Rattle.hevc_spec.specs.Payload.{bits, IsAhead};
+ghost use Rattle.hevc_spec.specs.Table.{read, gives, refuses, Fault};
+ghost use Rattle.hevc_spec.specs.Lines.{Spells, BreaksOff};
+ghost use Rattle.hevc_elements.specs.Reads.{Reads, FailsAt};
+ghost use Rattle.hevc_elements.specs.Answers.{IsOfElement};
+ghost use Rattle.hevc_tables.specs.ShortTermRefPicSet.{PlainShortTermRefPicSet};
+ghost use Rattle.hevc_part_tables.specs.ShortTermTable.{short_term_ref_pic_set};
+ghost use Rattle.hevc_types_a.specs.ShortTermRefPicSet.{plain_short_term_ref_pic_set};
+
+use crate::listed_set::read_listed_set;
+use crate::predicted_set::read_predicted_set;
+use hevc_bits::NaluReader;
+use hevc_elements::ParseError;
+use hevc_elements::rows::flag_if;
+use hevc_spec::Row;
+use hevc_types_a::ShortTermRefPicSet;
+
+/// Reads a short-term reference picture set, by table 7 (7.3.7).
+///
+/// `sets` are the sets of the sequence parameter set in their order, at least those before number `st_rps_idx`; `count` is
+/// num_short_term_ref_pic_sets, 0 to 64. The set that is read is number `st_rps_idx` of these, or, where it is `count`, that of
+/// a slice header. `buffering` is sps_max_dec_pic_buffering_minus1 of the highest sub-layer, 0 to 16.
+///
+/// A predicted set has each member of the set that predicts it and, as difference 0, that set's own picture, moved by the shift,
+/// where its flag says so and the sum isn't 0 (7-61, 7-62).
+///
+/// Errors: `OutOfBits` where the payload ends within an element, and `OutOfRange` with table and row of the first element that
+/// isn't allowed; row 6 where a predicted set has more than 16 members or a difference that isn't of 32 bits. The reader then
+/// stands where that element begins.
+#[tactic(auto, using(hevc_elements::proofs::Meaning::is_found, hevc_elements::proofs::Meaning::is_only, hevc_elements::proofs::Meaning::is_refused, hevc_elements::proofs::Meaning::is_broken, hevc_elements::proofs::AnswerLaws::is_answered, crate::proofs::TableNames::set_names))]
+pub fn read_short_term_set(
+    r: &mut NaluReader<'_>,
+    sets: &[ShortTermRefPicSet],
+    count: u8,
+    buffering: u8,
+    st_rps_idx: u8,
+) -> Result<ShortTermRefPicSet, ParseError>
+    requires in_count { st_rps_idx ≤ count }
+    requires few { count ≤ 64 }
+    requires known { st_rps_idx ≤ length sets.now }
+    requires room { buffering ≤ 16 }
+    ensures read { Reads plain_short_term_ref_pic_set result r.new (read (short_term_ref_pic_set (map plain_short_term_ref_pic_set sets.now) count buffering st_rps_idx) (bits r.old)) }
+    // What is read has lines that are allowed and that the payload spells, up to where the reader stands.
+    ensures found { IfOk result (λ x. Spells (short_term_ref_pic_set (map plain_short_term_ref_pic_set sets.now) count buffering st_rps_idx) (plain_short_term_ref_pic_set x) (bits r.old) (bits r.new)) }
+    // What has such lines is read.
+    ensures only { (x : PlainShortTermRefPicSet) (rest : List Bool) → Spells (short_term_ref_pic_set (map plain_short_term_ref_pic_set sets.now) count buffering st_rps_idx) x (bits r.old) rest → Reads plain_short_term_ref_pic_set result r.new (gives x rest) }
+    // A refusal is the first line that breaks, and the reader stands before it.
+    ensures refused { IfErr result (λ e. FailsAt e (short_term_ref_pic_set (map plain_short_term_ref_pic_set sets.now) count buffering st_rps_idx) (bits r.old) r.new) }
+    // Where a line breaks, that is the refusal.
+    ensures broken { (fault : Fault) (rest : List Bool) → BreaksOff (short_term_ref_pic_set (map plain_short_term_ref_pic_set sets.now) count buffering st_rps_idx) fault (bits r.old) rest → Reads plain_short_term_ref_pic_set result r.new (refuses fault rest) }
+    // There are no other refusals than of an element.
+    ensures answers { IfErr result (λ e. IsOfElement e) }
+    ensures moves { IsAhead r.old r.new }
+{
+    read_rows(r, sets, count, buffering, st_rps_idx)
+}
+
+/// Rows 1 to 12 of table 7.
+#[tactic(auto, unfolding(hevc_part_tables::specs::ShortTermTable::short_term_ref_pic_set, hevc_spec::specs::Rows::either))]
+fn read_rows(
+    r: &mut NaluReader<'_>,
+    sets: &[ShortTermRefPicSet],
+    count: u8,
+    buffering: u8,
+    st_rps_idx: u8,
+) -> Result<ShortTermRefPicSet, ParseError>
+    requires known { st_rps_idx ≤ length sets.now }
+    requires room { buffering ≤ 16 }
+    ensures read { Reads plain_short_term_ref_pic_set result r.new (read (short_term_ref_pic_set (map plain_short_term_ref_pic_set sets.now) count buffering st_rps_idx) (bits r.old)) }
+    ensures moves { IsAhead r.old r.new }
+{
+    if flag_if(r, st_rps_idx != 0, Row(7, 1))? {
+        read_predicted_set(r, sets, count, st_rps_idx)
+    } else {
+        read_listed_set(r, buffering)
+    }
+}

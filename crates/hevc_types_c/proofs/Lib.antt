@@ -1,0 +1,2 @@
+pub mod RecordEquality
+pub mod SpsLemmas

@@ -1,0 +1,3 @@
+pub mod Sps
+pub mod SpsRangeExtension
+pub mod SpsSccExtension

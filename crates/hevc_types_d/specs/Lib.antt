@@ -1,0 +1,2 @@
+pub mod Pps
+pub mod SliceHeader
