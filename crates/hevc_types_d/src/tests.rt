@@ -133,18 +133,18 @@ fn an_independent_slice_keeps_its_header(rt: HostRuntime) -> Result<(), Fail> {
 
 /// The header of a dependent segment, whose own elements are set.
 fn dependent_header(rt: &HostRuntime) -> Result<SliceHeader, Fail> {
-    let mut own = SliceHeader::new(rt.alloc());
-    own.first_slice_segment_in_pic_flag = true;
-    own.no_output_of_prior_pics_flag = true;
-    own.pic_parameter_set_id = 3;
-    own.dependent_slice_segment_flag = true;
-    own.segment_address = 7;
-    own.num_entry_point_offsets = 1;
-    own.offset_len_minus1 = 9;
-    own.entry_point_offset_minus1.push(700)?;
-    own.header_bit_size = 40;
-    own.n_emulation_prevention_bytes = 2;
-    Ok(own)
+    let mut header = SliceHeader::new(rt.alloc());
+    header.first_slice_segment_in_pic_flag = true;
+    header.no_output_of_prior_pics_flag = true;
+    header.pic_parameter_set_id = 3;
+    header.dependent_slice_segment_flag = true;
+    header.segment_address = 7;
+    header.num_entry_point_offsets = 1;
+    header.offset_len_minus1 = 9;
+    header.entry_point_offset_minus1.push(700)?;
+    header.header_bit_size = 40;
+    header.n_emulation_prevention_bytes = 2;
+    Ok(header)
 }
 
 #[test]
