@@ -1,5 +1,6 @@
 -- What a call of a backend leaves in its log and in its count of faults.
-use Rattle.std.specs.Prelude.{ℕ, ◌+◌, ◌-◌, ◌^◌, ◌≤◌, ◌≡◌, ◌≢◌, min, List, [], ◌∷◌, ◌++◌, Option, Some, None, Result, Ok, Err}
+use Rattle.std.specs.Prelude.{ℕ, ◌≤◌, ◌≡◌, List, [], ◌∷◌, ◌++◌, Option, Some, None, Result, Ok, Err}
+use Rattle.hevc_faults.specs.Faults.{Rose}
 use Rattle.hevc_backend.specs.declared.error.BackendError.{BackendError}
 use Rattle.hevc_backend.specs.declared.error.BackendError.TheVariants.{Failed, NoMemory}
 
@@ -12,10 +13,6 @@ logged (Some log) calls = Some (log ++ calls)
 abbrev pub Logs : {T X : Type 0} → Option (List X) → Option (List X) → Result T BackendError → (T → X) → Type 0
 Logs before now (Ok value) call = now ≡ logged before (call value ∷ [])
 Logs before now (Err error) call = now ≡ before
-
--- the count has risen, or stands at its last value
-abbrev pub Rose : ℕ → ℕ → Type 0
-Rose before now = min (before + 1) (2 ^ 64 - 1) ≤ now
 
 -- the count is as it was, unless the backend failed: then it rose
 abbrev pub CountsFault : ℕ → ℕ → BackendError → Type 0

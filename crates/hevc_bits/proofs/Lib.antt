@@ -3,5 +3,9 @@ pub mod StartCodes
 pub mod TypeTags
 pub mod PlaceLemmas
 pub mod Steps
-pub mod Exits
 pub mod Spelled
+pub mod WordSteps
+pub mod WordCounts
+pub mod WordFills
+pub mod WordReads
+pub mod WordBits

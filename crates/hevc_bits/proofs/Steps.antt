@@ -1,49 +1,16 @@
 -- One more bit, in the loops that read a number.
-use Rattle.std.proofs.Common.{◌≡◌, ℕ, zero, suc, ◌+◌, ◌-◌, ◌*◌, ◌^◌, ◌<◌, ◌≤◌, Bool, true, false, List, [], ◌∷◌, ◌++◌, length, take, drop, Result, Ok, Err, refl, sym, ap, ◌∙◌, arith}
+use Rattle.std.proofs.Common.{◌≡◌, ℕ, zero, suc, ◌+◌, ◌*◌, ◌^◌, ◌<◌, ◌≤◌, Bool, true, false, List, [], ◌∷◌, ◌++◌, length, take, drop, Result, Ok, Err, refl, sym, ap, ◌∙◌, arith, ◌⊎◌, inl, inr}
 use Rattle.std.proofs.Math.ListN.{length-take, length-drop}
 use Rattle.std.proofs.lemmas.List.{take-append-drop}
 use Rattle.hevc_spec.proofs.UnitLaws.{drop-drop}
 use Rattle.hevc_spec.specs.Payload.{Place, bits}
 use Rattle.hevc_bits.specs.declared.bit_error.BitError.{BitError}
+use Rattle.hevc_bits.specs.declared.bit_error.BitError.TheVariants.{OutOfBits, OutOfRange}
+use Rattle.std.proofs.lemmas.Bool.{cases_lt}
 use Rattle.hevc_bits.specs.Reading.{Finds}
-use Rattle.std.proofs.lemmas.Grind.{pow_more}
-use mir.Val.{bool_byte}
 use Rattle.std.specs.Prelude.{if◌then◌else◌, IfOk}
 use Rattle.hevc_spec.specs.Bits.{u, IsAtFront, number, bits_at, Found, found, out_of_bounds, ended, bits_after, golomb_at, less_one, number_after}
 use Rattle.hevc_spec.proofs.BitSteps.{bits_at-found, bits_at-ended, bits_at-front, spelled-bound, golomb_after, bits_after-zero, bits_after-nil, bits_after-cons, golomb_after-zero, golomb_after-nil, golomb_after-one, golomb_after-more, golomb_after-many}
-
-pub bits_end : (v n i : ℕ) (all : List Bool) (total : Found) → i < n → all ≡ [] → bits_after v (n - i) all ≡ total → total ≡ ended
-bits_end v n i all total lt e so_far =
-    let k : n - i ≡ suc (n - (i + 1)) = omega arith in
-    let one : bits_after v (n - i) all ≡ ended = rw (k, e) (bits_after-nil v (n - (i + 1))) in
-    sym so_far ∙ one
-
-pub bits_all : (v n i : ℕ) (all : List Bool) (total : Found) → n ≤ i → bits_after v (n - i) all ≡ total → total ≡ found v all
-bits_all v n i all total le so_far =
-    let k : n - i ≡ 0 = omega arith in
-    let one : bits_after v (n - i) all ≡ found v all = rw k (bits_after-zero v all) in
-    sym so_far ∙ one
-
-bool_byte-cond : (b : Bool) → bool_byte b ≡ (if b then 1 else 0)
-bool_byte-cond true = refl
-bool_byte-cond false = refl
-
-bool_byte-small : (b : Bool) → bool_byte b ≤ 1
-bool_byte-small true = omega arith
-bool_byte-small false = omega arith
-
-pub twice_below : (v : ℕ) (b : Bool) (n i : ℕ) → v < 2 ^ (i + 1) → n ≡ bool_byte b → 2 * v + n < 2 ^ (i + 1 + 1)
-twice_below v b n i h is =
-    let e : 2 ^ (i + 1 + 1) ≡ 2 ^ (i + 1) * 2 = pow_more 2 (i + 1) in
-    let small = bool_byte-small b in
-    omega arith
-
-pub bits_more : (v n i : ℕ) (all : List Bool) (b : Bool) (m : ℕ) (rest : List Bool) (total : Found) → i < n → m ≡ bool_byte b → all ≡ b ∷ rest
-    → bits_after v (n - i) all ≡ total → bits_after (2 * v + m) (n - (i + 1)) rest ≡ total
-bits_more v n i all b m rest total lt is e so_far =
-    let k : n - i ≡ suc (n - (i + 1)) = omega arith in
-    let one : bits_after v (n - i) all ≡ bits_after (2 * v + (if b then 1 else 0)) (n - (i + 1)) rest = rw (k, e) (bits_after-cons v (n - (i + 1)) b rest) in
-    rw (is, bool_byte-cond) (sym one ∙ so_far)
 
 number_least : (v : ℕ) (bits : List Bool) → v ≤ number_after v bits
 number_least v [] = omega arith
@@ -93,19 +60,47 @@ unfolding bits_at
 front_bound (Ok v) old new n e = spelled-bound n v (bits old) (bits new) (bits_at-front n (bits old) v (bits new) e)
 front_bound (Err e) old new n f = tt
 
-pub skip_end : (n i : ℕ) (all here : List Bool) → i < n → here ≡ [] → here ≡ drop i all → bits_at n all ≡ ended
-skip_end n i all here lt none same = let k : length (drop i all) ≡ 0 = ap length (sym same ∙ none) in bits_at-ended n all (omega (arith, length-drop i all))
+-- bits that stand at the front of some that are left
+record Stand (m v : ℕ) (here rest : List Bool) : Type 0 where
+  pub enough : m ≤ length here
+  pub behind : rest ≡ drop m here
 
-pub skip_all : (n i : ℕ) (all here : List Bool) → i ≤ length all → n ≤ i → i ≤ n → here ≡ drop i all → bits_at n all ≡ found (number (take n all)) here
-skip_all n i all here enough a b same =
-    let e : i ≡ n = omega arith in
-    bits_at-found n all (omega arith) ∙ ap (λ (x : List Bool). found (number (take n all)) x) (sym (same ∙ rw e refl))
+stand : (m v : ℕ) (here rest : List Bool) → bits_at m here ≡ found v rest → Stand m v here rest
+stand m v here rest e = by_order (cases_lt (length here) m)
+  where
+    by_order : (length here < m) ⊎ (m ≤ length here) → Stand m v here rest
+    by_order (inl few) = absurd (cc (e, bits_at-ended m here few))
+    by_order (inr enough) =
+        let f = sym (bits_at-found m here enough) ∙ e in
+        let same : drop m here ≡ rest = cc in
+        record { enough = enough; behind = sym same }
 
-pub skip_more : (i : ℕ) (all here rest : List Bool) (b : Bool) → here ≡ b ∷ rest → here ≡ drop i all → (i + 1 ≤ length all) × (rest ≡ drop (i + 1) all)
-skip_more i all here rest b some same =
-    let k : length (drop i all) ≡ suc (length rest) = ap length (sym same ∙ some) in
-    let e : b ∷ rest ≡ drop i all = sym some ∙ same in
-    (omega (arith, length-drop i all), ap (drop 1) e ∙ drop-drop i 1 all)
+-- so many bits are passed over, behind others that were
+pub skip_more : (i m : ℕ) (all here : List Bool) (v : ℕ) (rest : List Bool) → i ≤ length all → here ≡ drop i all → bits_at m here ≡ found v rest → (i + m ≤ length all) × (rest ≡ drop (i + m) all)
+skip_more i m all here v rest before same e =
+    let k = stand m v here rest e in
+    (omega (arith, k.enough, ap length same, length-drop i all), k.behind ∙ ap (drop m) same ∙ drop-drop i m all)
+
+pub skip_all : (n : ℕ) (all here : List Bool) → n ≤ length all → here ≡ drop n all → bits_at n all ≡ found (number (take n all)) here
+skip_all n all here enough same = bits_at-found n all enough ∙ ap (λ (x : List Bool). found (number (take n all)) x) (sym same)
+
+skip_ended : (n m i : ℕ) (all here : List Bool) → here ≡ drop i all → i + m ≤ n → bits_at m here ≡ ended → bits_at n all ≡ ended
+skip_ended n m i all here same le e = by_order (cases_lt (length here) m)
+  where
+    by_order : (length here < m) ⊎ (m ≤ length here) → bits_at n all ≡ ended
+    by_order (inl few) = bits_at-ended n all (omega (arith, few, ap length same, length-drop i all))
+    by_order (inr enough) = absurd (cc (e, bits_at-found m here enough))
+
+never_out : (m : ℕ) (here : List Bool) → bits_at m here ≡ out_of_bounds → ⊥
+never_out m here e = by_order (cases_lt (length here) m)
+  where
+    by_order : (length here < m) ⊎ (m ≤ length here) → ⊥
+    by_order (inl few) = absurd (cc (e, bits_at-ended m here few))
+    by_order (inr enough) = absurd (cc (e, bits_at-found m here enough))
+
+pub skip_refused : {X : Type 0} (value : X → ℕ) (e : BitError) (n m i : ℕ) (all : List Bool) (here after p : Place) → bits here ≡ drop i all → i + m ≤ n → Finds (λ v. v) (Err e) here after (bits_at m (bits here)) → Finds value (Err e) p p (bits_at n all)
+skip_refused value OutOfBits n m i all here after p same le f = (skip_ended n m i all (bits here) same le f.0, refl)
+skip_refused value OutOfRange n m i all here after p same le f = absurd (never_out m (bits here) f.0)
 
 pub passed_front : (n : ℕ) (all here : List Bool) → n ≤ length all → here ≡ drop n all → (passed : List Bool) × (all ≡ passed ++ here) × (length passed ≡ n)
 passed_front n all here enough same = (take n all, sym (take-append-drop n all) ∙ ap (λ (x : List Bool). take n all ++ x) (sym same), grind (arith, length-take))

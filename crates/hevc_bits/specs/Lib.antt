@@ -1,3 +1,4 @@
+pub mod Cached
 pub mod FrontHeader
 pub mod FoundUnit
 pub mod NaluType

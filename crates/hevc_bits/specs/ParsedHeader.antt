@@ -5,14 +5,14 @@ use Rattle.hevc_bits.specs.declared.header.UnitError.{UnitError}
 use Rattle.hevc_bits.specs.declared.header.UnitError.TheVariants.{TruncatedNalu, InvalidNaluType, TemporalIdZero}
 
 -- the error that tells of a fault
-abbrev pub unit_error : HeaderFault → UnitError
-unit_error truncated = TruncatedNalu
-unit_error (unspecified_type t) = InvalidNaluType t
-unit_error temporal_id_zero = TemporalIdZero
+abbrev pub header_error : HeaderFault → UnitError
+header_error truncated = TruncatedNalu
+header_error (unspecified_type t) = InvalidNaluType t
+header_error temporal_id_zero = TemporalIdZero
 
 abbrev pub answer_of : Result UnitHeader HeaderFault → Result UnitHeader UnitError
 answer_of (Ok header) = Ok header
-answer_of (Err fault) = Err (unit_error fault)
+answer_of (Err fault) = Err (header_error fault)
 
 -- the header of a unit's bytes, or the error of its first fault
 abbrev pub parsed_header : List ℕ → Result UnitHeader UnitError

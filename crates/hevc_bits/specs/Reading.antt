@@ -1,6 +1,6 @@
 -- What a read answered, and where it left the reader.
 use Rattle.std.specs.Prelude.{◌≡◌, ℕ, ◌<◌, ◌≤◌, [], ◌∷◌, length, Bool, true, false, Result, Ok, Err, Option, Some, None, ℤ}
-use Rattle.hevc_spec.specs.Payload.{Place, bits, with_bits, has_more, PassesBytes}
+use Rattle.hevc_spec.specs.Payload.{Place, bits, with_bits, has_more, PassesBytes, IsAhead, IsReached}
 use Rattle.hevc_spec.specs.Bits.{Found, found, out_of_bounds, ended, bits_after, less_one, signed}
 use Rattle.hevc_bits.specs.declared.bit_error.BitError.{BitError}
 use Rattle.hevc_bits.specs.declared.bit_error.BitError.TheVariants.{OutOfBits, OutOfRange}
@@ -22,6 +22,11 @@ abbrev pub FindsSigned : Result ℤ BitError → Place → Place → Found → T
 FindsSigned (Ok x) old new f = (n : ℕ) × (f ≡ found n (bits new)) × (signed n ≡ x)
 FindsSigned (Err OutOfBits) old new f = (f ≡ ended) × (new ≡ old)
 FindsSigned (Err OutOfRange) old new f = (f ≡ out_of_bounds) × (new ≡ old)
+
+-- A number was found, and the reader stands behind it; or none was looked for, and the reader stands where it stood.
+abbrev pub MayFind : Option ℕ → Place → Place → Found → Type 0
+MayFind (Some n) old new f = (f ≡ found n (bits new)) × IsAhead old new × IsReached old new
+MayFind None old new f = new ≡ old
 
 -- The answer to whether there is more, by the place with a byte loaded: where there is more the reader stands there, and where not, behind all bytes.
 abbrev pub LooksForMore : Bool → Place → Place → Option Place → Type 0

@@ -11,6 +11,7 @@ mod reader;
 mod start_code;
 #[cfg(test)]
 mod tests;
+mod word;
 
 pub use bit_error::BitError;
 pub use header::{Header, UnitError};

@@ -50,7 +50,7 @@ impl<'a, U: Header> Model for Nalu<'a, U> {
 
     ghost view = { λ n. record { header = n.header; stream = n.stream.now; offset = n.offset; size = n.size } };
 
-    ghost invariant = { λ n. (3 ≤ n.offset) × (n.offset + n.size ≤ length n.stream.now) × (U.parsed (take n.size (drop n.offset n.stream.now)) ≡ Ok n.header) };
+    ghost invariant = { λ n. (3 ≤ n.offset) × (n.offset + n.size ≤ length n.stream.now) × (U.parsed (take n.size (drop n.offset n.stream.now)) ≡ Ok n.header) × (U.header_len n.header ≤ n.size) };
 }
 
 impl<'a, U: Header> Nalu<'a, U> {
@@ -143,6 +143,14 @@ impl<'a, U: Header> Nalu<'a, U> {
         ensures within { length result.now ≤ length self.now.stream }
     {
         &self.stream[self.offset..self.offset + self.size]
+    }
+
+    /// The unit's bytes behind its header, a part of the stream.
+    pub fn payload(&self) -> &'a [u8]
+        ensures value { result.now ≡ drop (U.header_len self.now.header) (bytes_of self.now) }
+        ensures shorter { length result.now < length self.now.stream }
+    {
+        &self.stream[self.offset + self.header.len()..self.offset + self.size]
     }
 }
 

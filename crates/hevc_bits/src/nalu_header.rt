@@ -84,14 +84,15 @@ impl PartialEq for NaluHeader {
 
 impl Header for NaluHeader {
     ghost use Rattle.std.specs.Prelude.{◌==◌};
-    ghost use Rattle.hevc_spec.specs.Units.{kept_bytes, is_end_type};
+    ghost use Rattle.hevc_spec.specs.UnitTypes.{is_end as is_end_number};
+    ghost use Rattle.hevc_spec.specs.Units.{kept_bytes};
     ghost use Rattle.hevc_bits.specs.ParsedHeader.{parsed_header};
 
     ghost parsed = { parsed_header };
 
     ghost kept = { kept_bytes };
 
-    ghost ends = { λ h. is_end_type h.nal_unit_type };
+    ghost ends = { λ h. is_end_number h.nal_unit_type };
 
     ghost header_len = { λ _. 2 };
 

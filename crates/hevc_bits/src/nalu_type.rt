@@ -1,6 +1,6 @@
 //! The types of units (table 7-1).
 
-ghost use Rattle.std.specs.Prelude.{◌≡◌, ◌≤◌, ◌%◌, ◌↔◌, IsTrue};
+ghost use Rattle.std.specs.Prelude.{◌≡◌, ◌≤◌, ◌↔◌};
 
 /// The type of a unit, `nal_unit_type` 0 to 47 (table 7-1). H.265 leaves 48 to 63 unspecified.
 #[derive(Clone, Copy, Default, PartialEq, Eq, PartialOrd, Ord)]
@@ -106,6 +106,7 @@ pub enum NaluType {
 
 impl NaluType {
     ghost use Rattle.hevc_bits.specs.NaluType.{nalu_type_number};
+    ghost use Rattle.hevc_spec.specs.UnitTypes.{is_idr, is_irap, is_bla, is_cra, is_radl, is_rasl, is_slnr};
 
     /// The type of this number, and `None` exactly above 47.
     pub fn n(value: u32) -> Option<NaluType>
@@ -167,14 +168,14 @@ impl NaluType {
 
     /// Whether it is a slice of an instantaneous decoding refresh picture: types 19 and 20.
     pub fn is_idr(&self) -> bool
-        ensures { IsTrue result ↔ ((19 ≤ nalu_type_number self.now) × (nalu_type_number self.now ≤ 20)) }
+        ensures { result ≡ is_idr (nalu_type_number self.now) }
     {
         matches!(self, NaluType::IdrWRadl | NaluType::IdrNLp)
     }
 
     /// Whether it is a slice of an intra random access point picture: types 16 to 23.
     pub fn is_irap(&self) -> bool
-        ensures { IsTrue result ↔ ((16 ≤ nalu_type_number self.now) × (nalu_type_number self.now ≤ 23)) }
+        ensures { result ≡ is_irap (nalu_type_number self.now) }
     {
         matches!(
             self,
@@ -191,7 +192,7 @@ impl NaluType {
 
     /// Whether it is a slice of a broken link access picture: types 16 to 18.
     pub fn is_bla(&self) -> bool
-        ensures { IsTrue result ↔ ((16 ≤ nalu_type_number self.now) × (nalu_type_number self.now ≤ 18)) }
+        ensures { result ≡ is_bla (nalu_type_number self.now) }
     {
         matches!(
             self,
@@ -201,28 +202,28 @@ impl NaluType {
 
     /// Whether it is a slice of a clean random access picture: type 21.
     pub fn is_cra(&self) -> bool
-        ensures { IsTrue result ↔ (nalu_type_number self.now ≡ 21) }
+        ensures { result ≡ is_cra (nalu_type_number self.now) }
     {
         matches!(self, NaluType::CraNut)
     }
 
     /// Whether it is a slice of a random access decodable leading picture: types 6 and 7.
     pub fn is_radl(&self) -> bool
-        ensures { IsTrue result ↔ ((6 ≤ nalu_type_number self.now) × (nalu_type_number self.now ≤ 7)) }
+        ensures { result ≡ is_radl (nalu_type_number self.now) }
     {
         matches!(self, NaluType::RadlN | NaluType::RadlR)
     }
 
     /// Whether it is a slice of a random access skipped leading picture: types 8 and 9.
     pub fn is_rasl(&self) -> bool
-        ensures { IsTrue result ↔ ((8 ≤ nalu_type_number self.now) × (nalu_type_number self.now ≤ 9)) }
+        ensures { result ≡ is_rasl (nalu_type_number self.now) }
     {
         matches!(self, NaluType::RaslN | NaluType::RaslR)
     }
 
     /// Whether it is a slice of a sub-layer non-reference picture: the even types up to 14.
     pub fn is_slnr(&self) -> bool
-        ensures { IsTrue result ↔ ((nalu_type_number self.now ≤ 14) × (nalu_type_number self.now % 2 ≡ 0)) }
+        ensures { result ≡ is_slnr (nalu_type_number self.now) }
     {
         matches!(
             self,

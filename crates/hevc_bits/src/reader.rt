@@ -4,36 +4,28 @@ ghost use Rattle.std.specs.Prelude.{◌≡◌, ℕ, ◌+◌, ◌*◌, ◌≤◌,
 ghost use Rattle.hevc_spec.specs.Payload.{Place, bits, payload_bits, first_place, bits_left, with_bits, has_more, low_bits, IsAhead, IsReached};
 ghost use Rattle.std.specs.List.{list_any};
 ghost use Rattle.hevc_spec.specs.Bits.{u, skip, ue, number, IsSpelled, IsAtFront, bits_at, bits_after, golomb_at, ue_at, within, in_range, in_signed_range, signed as signed_of};
-ghost use Rattle.hevc_bits.specs.Reading.{TakesBit, Finds, FindsSigned, LooksForMore, LoadsByte, PassesZeros};
+ghost use Rattle.hevc_bits.specs.Reading.{TakesBit, Finds, FindsSigned, LooksForMore, MayFind, PassesZeros};
 
 use crate::bit_error::BitError;
-use crate::load::next_byte;
+use crate::word::Word;
 use std::marker::Model;
 
 /// A reader of the payload bits of a byte slice: its bits, most significant first, without each 03 that stands directly
 /// behind two zero bytes (7.3.1.1). A refused read leaves the reader as it was.
 #[derive(Drop)]
 pub struct NaluReader<'a> {
-    /// The bytes that aren't loaded yet.
-    behind: &'a [u8],
-    /// How many zero bytes stand directly before them, counted up to 2.
-    zeros: u8,
-    /// The byte that is loaded, and how many of its low bits are unread.
-    loaded: u8,
-    unread: u8,
-    /// The 03 bytes dropped so far.
-    dropped: usize,
+    word: Word<'a>,
 }
 
 impl<'a> Model for NaluReader<'a> {
-    ghost use Rattle.std.specs.Prelude.{◌≤◌, ◌+◌, length, ◌<◌, ◌^◌};
-    ghost use Rattle.hevc_spec.specs.Payload.{Place, low_bits};
+    ghost use Rattle.hevc_spec.specs.Payload.{Place};
+    ghost use Rattle.hevc_bits.specs.Cached.{place_of, IsFilled};
 
     ghost Value = { Place };
 
-    ghost view = { λ r. record { loaded = low_bits r.unread r.loaded; zero_run = r.zeros; behind = r.behind.now; dropped = r.dropped } };
+    ghost view = { λ r. place_of r.word };
 
-    ghost invariant = { λ r. (r.unread ≤ 8) × (r.zeros ≤ 2) × (r.dropped + length r.behind.now < 2 ^ 60) };
+    ghost invariant = { λ r. IsFilled r.word };
 }
 
 impl<'a> NaluReader<'a> {
@@ -44,11 +36,7 @@ impl<'a> NaluReader<'a> {
         ensures payload { bits result ≡ payload_bits 0 bytes.now }
     {
         NaluReader {
-            behind: bytes,
-            zeros: 0,
-            loaded: 0,
-            unread: 0,
-            dropped: 0,
+            word: Word::new(bytes),
         }
     }
 
@@ -56,13 +44,7 @@ impl<'a> NaluReader<'a> {
     pub fn fork(&self) -> NaluReader<'a>
         ensures { result ≡ self.now }
     {
-        NaluReader {
-            behind: self.behind,
-            zeros: self.zeros,
-            loaded: self.loaded,
-            unread: self.unread,
-            dropped: self.dropped,
-        }
+        NaluReader { word: self.word }
     }
 
     /// How many bits are left: eight for each byte behind the one being read, a 03 that isn't passed yet among them, and the unread bits of that one.
@@ -71,7 +53,7 @@ impl<'a> NaluReader<'a> {
         ensures value { result ≡ bits_left self.now }
         ensures small { result < 2 ^ 63 + 9 }
     {
-        8 * self.behind.len() + usize::from(self.unread)
+        8 * self.word.behind().len() + self.word.unread()
     }
 
     /// How many 03 bytes were dropped so far.
@@ -79,7 +61,7 @@ impl<'a> NaluReader<'a> {
         ensures value { result ≡ self.now.dropped }
         ensures small { result < 2 ^ 60 }
     {
-        self.dropped
+        self.word.dropped()
     }
 
     /// The next payload bit. `OutOfBits` where there is none.
@@ -88,11 +70,10 @@ impl<'a> NaluReader<'a> {
         ensures moves { IsAhead self.old self.new }
         ensures place { IsReached self.old self.new }
     {
-        if !self.load() {
+        if !self.word.has(1) {
             return Err(BitError::OutOfBits);
         }
-        self.unread -= 1;
-        Ok((self.loaded >> self.unread) & 1 == 1)
+        Ok(self.word.take(1) == 1)
     }
 
     /// The next `num_bits` bits as a number, the most significant first; no bits give 0. `OutOfRange` for more than 31
@@ -114,7 +95,6 @@ impl<'a> NaluReader<'a> {
     }
 
     /// Passes the next `num_bits` bits over. `OutOfBits` where fewer are left.
-    #[tactic(auto, using(crate::proofs::Steps::skip_end, crate::proofs::Steps::skip_all))]
     pub fn skip_bits(&mut self, num_bits: usize) -> Result<(), BitError>
         ensures read { Finds (λ _. number (take num_bits (bits self.old))) result self.old self.new (bits_at num_bits (bits self.old)) }
         ensures moves { IsAhead self.old self.new }
@@ -122,10 +102,15 @@ impl<'a> NaluReader<'a> {
         // The bits that are passed over are the payload's next ones.
         ensures in_order { IfOk result (λ _. (passed : List Bool) × (bits self.old ≡ passed ++ bits self.new) × (length passed ≡ num_bits)) }
     {
-        let mut ahead = self.fork();
-        for _ in 0..num_bits {
-            ahead.read_bit()?;
+        if num_bits <= 31 {
+            self.read_bits(num_bits)?;
+            return Ok(());
         }
+        let mut ahead = self.fork();
+        for _ in 0..num_bits / 31 {
+            ahead.read_bits(31)?;
+        }
+        ahead.read_bits(num_bits % 31)?;
         *self = ahead;
         Ok(())
     }
@@ -203,36 +188,14 @@ impl<'a> NaluReader<'a> {
     pub fn has_more_rsbp_data(&mut self) -> bool
         ensures { LooksForMore result self.old self.new (with_bits self.old) }
     {
-        if !self.load() {
+        if !self.word.load() {
             return false;
         }
         if self.holds_more() {
             return true;
         }
-        self.behind = &[];
+        self.word.pass_bytes();
         false
-    }
-
-    /// Loads the next payload byte, unless a bit of the loaded one is unread. False where there is none to load.
-    #[tactic(auto, using(hevc_spec::proofs::PlaceLaws::low_bits_length))]
-    fn load(&mut self) -> bool
-        ensures loads { LoadsByte result self.old self.new }
-        ensures same { bits self.new ≡ bits self.old }
-        ensures level { bits_left self.new + 8 * self.new.dropped ≡ bits_left self.old + 8 * self.old.dropped }
-        ensures none { result ≡ false → bits self.old ≡ [] }
-    {
-        if self.unread > 0 {
-            return true;
-        }
-        let Some(next) = next_byte(self.zeros, self.dropped, self.behind) else {
-            return false;
-        };
-        self.zeros = next.zeros;
-        self.behind = next.behind;
-        self.dropped = next.dropped;
-        self.loaded = next.byte;
-        self.unread = 8;
-        true
     }
 
     /// Whether a one stands behind the next bit in the loaded byte, or a byte that isn't 0 behind that.
@@ -240,11 +203,10 @@ impl<'a> NaluReader<'a> {
         requires { 0 < length self.now.loaded }
         ensures { result ≡ has_more self.now }
     {
-        holds_one(self.loaded, self.unread - 1) || holds_nonzero(self.behind)
+        holds_one(self.word.reached(), self.word.unread() - 1) || holds_nonzero(self.word.behind())
     }
 
     /// So many bits behind the number `front`, which is 0 or the first one of an Exp-Golomb number.
-    #[tactic(auto, using(crate::proofs::Steps::bits_end, crate::proofs::Steps::bits_all))]
     fn read_behind(&mut self, front: u32, num_bits: usize) -> Result<u32, BitError>
         requires front { front ≤ 1 }
         requires fits { num_bits ≤ 31 }
@@ -252,13 +214,10 @@ impl<'a> NaluReader<'a> {
         ensures moves { IsAhead self.old self.new }
         ensures place { IsReached self.old self.new }
     {
-        let mut ahead = self.fork();
-        let mut value = front;
-        for _ in 0..num_bits {
-            value = 2 * value + u32::from(ahead.read_bit()?);
+        if !self.word.has(num_bits) {
+            return Err(BitError::OutOfBits);
         }
-        *self = ahead;
-        Ok(value)
+        Ok((front << num_bits) + self.word.take(num_bits) as u32)
     }
 
     /// Passes the zeros of an Exp-Golomb number and its first one, and counts the zeros.
@@ -280,9 +239,32 @@ impl<'a> NaluReader<'a> {
         Ok(zeros)
     }
 
-    /// The next Exp-Golomb number of at most 31 zeros, up to 2147483647.
-    #[tactic(auto, using(crate::proofs::Steps::bits_least), unfolding(hevc_spec::specs::Bits::ue_at))]
+    /// The next Exp-Golomb number, up to 2147483647.
     fn read_exp_golomb(&mut self) -> Result<u32, BitError>
+        ensures read { Finds (λ n. n) result self.old self.new (ue_at (bits self.old)) }
+        ensures moves { IsAhead self.old self.new }
+        ensures place { IsReached self.old self.new }
+        ensures bound { IfOk result (λ n. n ≤ 2147483647) }
+    {
+        if let Some(value) = self.read_held_golomb() {
+            return Ok(value);
+        }
+        self.read_any_golomb()
+    }
+
+    /// The same, where its bits are in the word, as those of a number of up to 15 zeros are.
+    fn read_held_golomb(&mut self) -> Option<u32>
+        ensures { MayFind result self.old self.new (ue_at (bits self.old)) }
+    {
+        self.word.has(32);
+        self.word.take_golomb()
+    }
+
+    /// The same, zeros and bits apart.
+    #[cold]
+    #[inline(never)]
+    #[tactic(auto, using(crate::proofs::Steps::bits_least), unfolding(hevc_spec::specs::Bits::ue_at))]
+    fn read_any_golomb(&mut self) -> Result<u32, BitError>
         ensures read { Finds (λ n. n) result self.old self.new (ue_at (bits self.old)) }
         ensures moves { IsAhead self.old self.new }
         ensures place { IsReached self.old self.new }
@@ -300,11 +282,11 @@ impl<'a> NaluReader<'a> {
 }
 
 /// Whether one of the low `count` bits is 1.
-fn holds_one(byte: u8, count: u8) -> bool
+fn holds_one(number: u64, count: usize) -> bool
     requires { count < 8 }
-    ensures { result ≡ list_any (λ b. b) (low_bits count byte) }
+    ensures { result ≡ list_any (λ b. b) (low_bits count number) }
 {
-    byte % (1 << count) != 0
+    number % (1 << count) != 0
 }
 
 /// Whether a byte isn't 0.

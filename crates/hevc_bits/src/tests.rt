@@ -67,6 +67,74 @@ fn drops_a_03_behind_two_zero_bytes(rt: HostRuntime) {
 }
 
 #[test]
+fn counts_a_byte_as_it_is_reached(rt: HostRuntime) {
+    let mut r = NaluReader::new(&[0, 0, 0x03, 0, 0, 0x03, 0, 0, 0x03, 0x01, 0xFF]);
+    assert_eq!(rt; r.read_bits(31), Ok(0));
+    assert_eq!(rt; r.num_epb(), 1);
+    assert_eq!(rt; r.num_bits_left(), 49);
+    assert_eq!(rt; r.read_bits(31), Ok(127));
+    assert_eq!(rt; r.num_epb(), 3);
+    assert_eq!(rt; r.num_bits_left(), 2);
+    assert_eq!(rt; r.read_bits(3), Err(BitError::OutOfBits));
+    assert_eq!(rt; r.num_bits_left(), 2);
+    assert_eq!(rt; r.read_bits(2), Ok(3));
+    assert_eq!(rt; r.num_bits_left(), 0);
+}
+
+#[test]
+fn reads_across_the_border_of_the_word(rt: HostRuntime) {
+    let bytes = [
+        0x12, 0x34, 0x56, 0x78, 0x9A, 0xBC, 0xDE, 0xF0, 0x12, 0x34, 0x56, 0x78,
+    ];
+    for lead in 0..32 {
+        let mut r = NaluReader::new(&bytes);
+        assert_eq!(rt; r.skip_bits(lead), Ok(()));
+        let mut each = r.fork();
+        assert_eq!(rt; each.skip_bits(31), Ok(()));
+        let straddling = each.read_bits(20);
+        assert!(rt; r.read_bits(31).is_ok());
+        assert_eq!(rt; r.num_bits_left(), 65 - lead);
+        assert_eq!(rt; r.read_bits(20), straddling);
+        assert_eq!(rt; r.num_epb(), 0);
+    }
+    let mut far = NaluReader::new(&bytes);
+    assert_eq!(rt; far.skip_bits(70), Ok(()));
+    assert_eq!(rt; far.skip_bits(40), Err(BitError::OutOfBits));
+    assert_eq!(rt; far.num_bits_left(), 26);
+}
+
+#[test]
+fn reads_short_slices(rt: HostRuntime) {
+    let mut none = NaluReader::new(&[]);
+    assert_eq!(rt; none.read_bit(), Err(BitError::OutOfBits));
+    assert_eq!(rt; none.read_ue(), Err(BitError::OutOfBits));
+    assert_eq!(rt; none.read_bits(0), Ok(0));
+    let mut one = NaluReader::new(&[0x80]);
+    assert_eq!(rt; one.read_bits(9), Err(BitError::OutOfBits));
+    assert_eq!(rt; one.read_bits(8), Ok(0x80));
+    let mut two = NaluReader::new(&[0, 0x01]);
+    assert_eq!(rt; two.read_ue(), Err(BitError::OutOfBits));
+    assert_eq!(rt; two.read_bits(16), Ok(1));
+    let mut last_03 = NaluReader::new(&[0, 0, 0x03]);
+    assert_eq!(rt; last_03.read_bits(16), Ok(0));
+    assert_eq!(rt; last_03.num_bits_left(), 8);
+    assert_eq!(rt; last_03.num_epb(), 0);
+    assert_eq!(rt; last_03.read_bit(), Err(BitError::OutOfBits));
+    assert_eq!(rt; last_03.num_bits_left(), 8);
+}
+
+#[test]
+fn refuses_32_zeros_across_the_border_of_the_word(rt: HostRuntime) {
+    let mut r = NaluReader::new(&[0x12, 0x34, 0x56, 0x78, 0x99, 0, 0, 0x03, 0, 0, 0x80, 0x01]);
+    assert_eq!(rt; r.skip_bits(39), Ok(()));
+    assert_eq!(rt; r.read_ue(), Ok(0));
+    assert_eq!(rt; r.num_bits_left(), 56);
+    assert_eq!(rt; r.read_ue(), Err(BitError::OutOfRange));
+    assert_eq!(rt; r.num_bits_left(), 56);
+    assert_eq!(rt; r.num_epb(), 0);
+}
+
+#[test]
 fn reads_exp_golomb_numbers(rt: HostRuntime) {
     let mut r = NaluReader::new(&[0xA6]);
     assert_eq!(rt; r.read_ue(), Ok(0));
@@ -121,6 +189,7 @@ fn cuts_units_out_of_a_stream(rt: HostRuntime) {
     assert_eq!(rt; unit.size(), 3);
     assert_eq!(rt; position, 4);
     assert!(rt; unit.as_ref() == [0x46, 0x01, 0x50].as_slice());
+    assert!(rt; unit.payload() == [0x50].as_slice());
     assert_eq!(rt; unit.data().len(), 14);
     position = unit.offset() + unit.size();
     let Ok(end) = Nalu::<NaluHeader>::next(&stream, &mut position) else {

@@ -28,7 +28,7 @@ no_backend TruncatedNalu h = h
 no_backend (InvalidNaluType number) h = h
 no_backend TemporalIdZero h = h
 
-refused_by : {H : Type 0} (fault : HeaderFault) (k : ℕ) (a : Traces H) (i : IdrStanding) → RefusesBy (unit_error (bits.unit_error fault)) (idr_refusal (Refused (header_cause fault))) a a (at_unit k (idr_part (Refused (header_cause fault)) i).events)
+refused_by : {H : Type 0} (fault : HeaderFault) (k : ℕ) (a : Traces H) (i : IdrStanding) → RefusesBy (unit_error (bits.header_error fault)) (idr_refusal (Refused (header_cause fault))) a a (at_unit k (idr_part (Refused (header_cause fault)) i).events)
 refused_by truncated k a i = (refl, does_nothing a a refl refl refl)
 refused_by (unspecified_type number) k a i = (refl, does_nothing a a refl refl refl)
 refused_by temporal_id_zero k a i = (refl, does_nothing a a refl refl refl)
@@ -41,9 +41,9 @@ by_header : {H : Type 0} (r : Result UnitHeader HeaderFault) (e : UnitError) (ke
     → RefusesBy (unit_error e) (idr_refusal (picture_meaning (first_format kept) bytes (unit_meaning kept bytes))) a a (at_unit k (idr_part (picture_meaning (first_format kept) bytes (unit_meaning kept bytes)) i).events)
 by_header (Ok h) e kept bytes k a i is answer = absurd (cc answer)
 by_header (Err fault) e kept bytes k a i is answer =
-    let same : bits.unit_error fault ≡ e = cc answer in
+    let same : bits.header_error fault ≡ e = cc answer in
     subst (λ (x : UnitError). RefusesBy (unit_error x) (idr_refusal (picture_meaning (first_format kept) bytes (unit_meaning kept bytes))) a a (at_unit k (idr_part (picture_meaning (first_format kept) bytes (unit_meaning kept bytes)) i).events)) same
-    (subst (λ (u : Meaning). RefusesBy (unit_error (bits.unit_error fault)) (idr_refusal u) a a (at_unit k (idr_part u i).events))
+    (subst (λ (u : Meaning). RefusesBy (unit_error (bits.header_error fault)) (idr_refusal u) a a (at_unit k (idr_part u i).events))
     (sym (ap (picture_meaning (first_format kept) bytes) (means_fault kept bytes fault is))) (refused_by fault k a i))
 
 pub refuses_header : {H : Type 0} (e : UnitError) (kept : KeptSets) (us : List NalUnit) (k : ℕ) (a : Traces H) (i : IdrStanding) → (u : NalUnit) × (others : List NalUnit) × (us ≡ u ∷ others) × (bits.parsed_header u.bytes ≡ Err e)

@@ -6,24 +6,25 @@ use Rattle.hevc_spec.specs.Units.{NalUnit}
 use Rattle.hevc_spec.specs.UnitHeader.{UnitHeader, HeaderFault, truncated, unspecified_type, temporal_id_zero, unit_header}
 use Rattle.hevc_spec.specs.Payload.{payload}
 use Rattle.hevc_spec.specs.Table.{Reading, gives, refuses, read}
-use Rattle.hevc_tables.specs.Level.{max_luma_ps_of_level}
-use Rattle.hevc_tables.specs.Profile.{max_dpb_pic_buf_of_profile}
-use Rattle.hevc_tables.specs.Sps.{PlainSps}
-use Rattle.hevc_tables.specs.SpsSizes.{max_dpb_size}
-use Rattle.hevc_tables.specs.Pps.{PlainPps}
+use Rattle.hevc_records.specs.Level.{max_luma_ps_of_level}
+use Rattle.hevc_records.specs.Profile.{max_dpb_pic_buf_of_profile}
+use Rattle.hevc_records.specs.Sps.{PlainSps}
+use Rattle.hevc_records.specs.SpsSizes.{max_dpb_size}
+use Rattle.hevc_records.specs.Pps.{PlainPps}
 use Rattle.hevc_plain_tables.specs.PlainSequenceSet.{plain_sequence_set}
 use Rattle.hevc_plain_tables.specs.PlainPictureSet.{plain_picture_set}
 use Rattle.hevc_plain_tables.specs.PlainSliceHeader.{PlainSlice, plain_slice_header}
 use Rattle.hevc_plain_tables.specs.KeptSets.{KeptSets}
 use Rattle.hevc_plain_tables.specs.UnitMeanings as unit
-use Rattle.hevc_walk.specs.UnitTypes.{is_idr}
+use Rattle.hevc_spec.specs.UnitTypes.{is_idr, is_slice, is_end}
 use Rattle.hevc_walk.specs.Meanings.{Format, Meaning, CodedSlice, SequenceSet, EndOfSequence, EndOfBitstream, Other, Refused, NotYet}
 use Rattle.hevc_walk.specs.Walk.{is_accepted}
 use Rattle.hevc_walk.specs.Refusals.{Cause, Refusal}
-use Rattle.hevc_walk_idr.specs.IdrWalk.{IdrStanding, idr_part, idr_refusal, idr_verdict_from, refused_at, IsIdrSlice, IsIdrMeaning, accepted_behind, AreIdrMeanings}
+use Rattle.hevc_walk_idr.specs.IdrWalk.{IdrStanding, idr_part, idr_refusal, idr_verdict_from, refused_at, IsIdrMeaning, accepted_behind, AreIdrMeanings}
 use Rattle.hevc_decoder.specs.Answers.{IsAnswer, AnswersOnly}
-use Rattle.hevc_decoder.specs.Maps.{unit_error, error_of, answer_of}
-use Rattle.hevc_decoder.specs.StreamMeanings.{format_of_set, header_cause, first_format, picture_meaning, slice_meaning, slice_of, meanings_from}
+use Rattle.hevc_decoder.specs.Maps.{cause_error, error_of, answer_of}
+use Rattle.hevc_decoder.specs.StreamMeanings.{header_cause, first_format, picture_meaning, slice_of, meanings_from}
+use Rattle.hevc_stream.specs.Sequences.{format_of_set}
 use Rattle.hevc_decoder.proofs.Slices.{same_format-equal}
 
 -- the buffer has room for a picture
@@ -64,9 +65,9 @@ read_picture_set (gives set rest) = tt
 read_picture_set (refuses fault rest) = tt
 
 other_idr : (kept : KeptSets) (h : UnitHeader) (bits : List Bool) → IsOfIdr (unit.other_meaning kept h bits)
-other_idr kept h bits = by_tests (h.nal_unit_type == 32) (is_none kept.first_sequence_set) (unit.is_idr_type h.nal_unit_type) refl (unit.is_slice_type h.nal_unit_type || unit.is_end h.nal_unit_type)
+other_idr kept h bits = by_tests (h.nal_unit_type == 32) (is_none kept.first_sequence_set) (is_idr h.nal_unit_type) refl (is_slice h.nal_unit_type || is_end h.nal_unit_type)
   where
-    by_tests : (a b c : Bool) → unit.is_idr_type h.nal_unit_type ≡ c → (d : Bool)
+    by_tests : (a b c : Bool) → is_idr h.nal_unit_type ≡ c → (d : Bool)
         → IsOfIdr (if a then unit.not_yet 0 32 else if b then unit.other else if c then unit.meaning_read (unit.slice h) (unit.not_yet 14 1) (read (plain_slice_header kept.picture_sets kept.sequence_sets) bits) else if d then unit.not_yet 0 h.nal_unit_type else unit.other)
     by_tests true b c is d = tt
     by_tests false true c is d = tt
@@ -143,7 +144,7 @@ are_idr (u ∷ us) kept = (
 
 -- ---- which refusals there are
 
-header_answer : (fault : HeaderFault) → IsAnswer (unit_error (header_cause fault))
+header_answer : (fault : HeaderFault) → IsAnswer (cause_error (header_cause fault))
 header_answer truncated = tt
 header_answer (unspecified_type number) = tt
 header_answer temporal_id_zero = (refl, refl)

@@ -6,7 +6,7 @@ use Rattle.std.specs.Result.{IsErrAnd}
 use Rattle.std.proofs.lemmas.Result.{err_from_is_err_and}
 use Rattle.std.proofs.lemmas.List.{append-nil}
 use Rattle.hevc_plain_tables.specs.KeptSets.{KeptSets}
-use Rattle.hevc_tables.specs.Sps.{PlainSps}
+use Rattle.hevc_records.specs.Sps.{PlainSps}
 use Rattle.hevc_plain_tables.specs.UnitMeanings as unit
 use Rattle.hevc_walk.specs.Meanings.{Format, Meaning, CodedSlice, SequenceSet, EndOfSequence, EndOfBitstream, Other, Refused, NotYet}
 use Rattle.hevc_walk.specs.Walk.{Event, Called, Output, at_unit, is_accepted}
@@ -15,7 +15,8 @@ use Rattle.hevc_walk_idr.specs.IdrWalk.{IdrStanding, idr_first, idr_part, idr_se
 use Rattle.hevc_decoder.specs.declared.decode_error.DecodeError.{DecodeError}
 use Rattle.hevc_decoder.specs.declared.decode_error.DecodeError.TheVariants as errors
 use Rattle.hevc_decoder.specs.Maps.{error_of, answer_of}
-use Rattle.hevc_decoder.specs.StreamMeanings.{format_of_set, first_format, picture_meaning, slice_of}
+use Rattle.hevc_decoder.specs.StreamMeanings.{first_format, picture_meaning, slice_of}
+use Rattle.hevc_stream.specs.Sequences.{format_of_set}
 use Rattle.hevc_decoder.specs.Does.{Traces, Does, CallIsNext, Stops, Took, Refuses, StopsAtEnd, EndsWhole, StepsOn}
 use Rattle.hevc_decoder.specs.Runs.{CallFollows, UpTo, Ended, Reached}
 use Rattle.hevc_decoder.proofs.Doing.{does_nothing, does_then}

@@ -6,7 +6,7 @@ use Rattle.std.specs.declared.rc.Rc.{Rc}
 use Rattle.hevc_types_d.specs.declared.pps.Pps.{Pps}
 use Rattle.hevc_plain.specs.declared.unit_meaning.UnitMeaning.{UnitMeaning}
 use Rattle.hevc_plain.specs.declared.unit_meaning.UnitMeaning.TheVariants as plain
-use Rattle.hevc_plain.specs.Meanings.{plain_meaning}
+use Rattle.hevc_plain.specs.TakenUnits.{plain_meaning}
 use Rattle.hevc_walk.specs.Meanings.{Format, Slice, NotYet, Meaning, CodedSlice, Other, Refused, same_format}
 use Rattle.hevc_walk.specs.Walk.{Event, ◌>>=◌, is_accepted, at_unit}
 use Rattle.hevc_walk_idr.specs.IdrWalk.{OpenPicture, IdrStanding, idr_slice_part, idr_closing, open_of, finish_events, leave_events, stored_behind, begin_events}

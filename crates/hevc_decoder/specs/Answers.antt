@@ -1,6 +1,6 @@
 -- What the decoder answers, and what its answers tell of the backend.
 use Rattle.std.specs.Prelude.{ℕ, ◌≡◌, ◌≤◌, Result, Ok, Err}
-use Rattle.hevc_backend.specs.Trait.{Rose}
+use Rattle.hevc_faults.specs.Faults.{Rose}
 use Rattle.hevc_decoder.specs.declared.decoded.Refused.{Refused}
 use Rattle.hevc_decoder.specs.declared.decode_error.DecodeError.{DecodeError}
 use Rattle.hevc_decoder.specs.declared.decode_error.DecodeError.TheVariants.{TruncatedNalu, InvalidNaluType, OutOfRange, NotYet, Backend, NoMemory}

@@ -60,12 +60,12 @@ NextIs k [] = ⊥
 NextIs k (c ∷ cs) = c.0 ≡ k
 
 -- and the next call, which failed, is one of unit k
-pub record FailsAt (k : ℕ) (calls : List walk.Call) (all : List (ℕ × walk.Call)) : Type 0 where
+pub record FailsInUnit (k : ℕ) (calls : List walk.Call) (all : List (ℕ × walk.Call)) : Type 0 where
   pub cut : CutsCalls k calls all
   pub next : NextIs k cut.unmade
 
 abbrev pub EndsCallsAt : DecodeError → ℕ → List walk.Call → List (ℕ × walk.Call) → Type 0
-EndsCallsAt errors.Backend k calls all = FailsAt k calls all
+EndsCallsAt errors.Backend k calls all = FailsInUnit k calls all
 EndsCallsAt errors.NoMemory k calls all = CutsCalls k calls all
 EndsCallsAt error k calls all = calls ≡ all_asked all
 

@@ -2,6 +2,7 @@
 use Rattle.std.specs.Prelude.{ℕ, [], Result, Ok, Err}
 use Rattle.hevc_bits.specs.NaluType.{nalu_type_number}
 use Rattle.hevc_backend.specs.declared.negotiation.NegotiationInfo.{NegotiationInfo}
+use Rattle.hevc_backend.specs.Negotiation.{format_of}
 use Rattle.hevc_backend.specs.declared.call.Call.{Call}
 use Rattle.hevc_backend.specs.declared.call.Call.TheVariants as code
 use Rattle.hevc_walk.specs.Meanings as meaning
@@ -14,17 +15,6 @@ use Rattle.hevc_decoder.specs.declared.decoded.Shown.{Shown}
 use Rattle.hevc_decoder.specs.declared.decoded.Refused.{Refused}
 use Rattle.hevc_decoder.specs.declared.decode_error.DecodeError.{DecodeError}
 use Rattle.hevc_decoder.specs.declared.decode_error.DecodeError.TheVariants as errors
-
-abbrev pub format_of : NegotiationInfo → Format
-format_of info = record {
-  coded_width = info.coded_resolution.width;
-  coded_height = info.coded_resolution.height;
-  general_profile_idc = info.general_profile_idc;
-  bit_depth_luma_minus8 = info.bit_depth_luma_minus8;
-  bit_depth_chroma_minus8 = info.bit_depth_chroma_minus8;
-  chroma_format_idc = info.chroma_format_idc;
-  max_num_pics = info.max_num_pics;
-}
 
 abbrev pub info_of : Format → NegotiationInfo
 info_of f = record {
@@ -47,16 +37,16 @@ call_of (code.SubmitPicture number handle) = walk.SubmitPicture number
 abbrev pub output_picture : {H : Type 0} → Shown H → OutputPicture
 output_picture o = record { number = o.number; order_count = o.order_count; unit = o.unit }
 
-abbrev pub unit_error : UnitCause → DecodeError
-unit_error meaning.TruncatedNalu = errors.TruncatedNalu
-unit_error (meaning.InvalidNaluType nal_unit_type) = errors.InvalidNaluType nal_unit_type
-unit_error meaning.OutOfBits = errors.OutOfBits
-unit_error (meaning.OutOfRange table row) = errors.OutOfRange table row
-unit_error (meaning.MissingPps pic_parameter_set_id) = errors.MissingPps pic_parameter_set_id
-unit_error (meaning.NotYet table row) = errors.NotYet table row
+abbrev pub cause_error : UnitCause → DecodeError
+cause_error meaning.TruncatedNalu = errors.TruncatedNalu
+cause_error (meaning.InvalidNaluType nal_unit_type) = errors.InvalidNaluType nal_unit_type
+cause_error meaning.OutOfBits = errors.OutOfBits
+cause_error (meaning.OutOfRange table row) = errors.OutOfRange table row
+cause_error (meaning.MissingPps pic_parameter_set_id) = errors.MissingPps pic_parameter_set_id
+cause_error (meaning.NotYet table row) = errors.NotYet table row
 
 abbrev pub error_of : Cause → DecodeError
-error_of (UnitRefused cause) = unit_error cause
+error_of (UnitRefused cause) = cause_error cause
 error_of NoIndependentSlice = errors.NoIndependentSlice
 error_of (ChangedMidPicture accepted named) = errors.ChangedMidPicture (info_of accepted) (info_of named)
 error_of PocOutOfRange = errors.PocOutOfRange

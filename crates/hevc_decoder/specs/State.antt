@@ -8,7 +8,7 @@ use Rattle.hevc_decoder.specs.declared.state.Open.{Open}
 use Rattle.hevc_decoder.specs.declared.state.Stored.{Stored}
 use Rattle.hevc_decoder.specs.declared.state.State.{State}
 use Rattle.hevc_decoder.specs.declared.decoded.Shown.{Shown}
-use Rattle.hevc_decoder.specs.Maps.{format_of}
+use Rattle.hevc_backend.specs.Negotiation.{format_of}
 use Rattle.hevc_decoder.specs.Does.{Traces}
 
 abbrev pub open_picture : {P : Type 0} → Open P → OpenPicture

@@ -1,38 +1,15 @@
 -- What the units of a stream mean for the pictures, behind the parameter sets that are kept there, while only plain sets and plain
 -- slices of IDR pictures are read.
-use Rattle.std.specs.Prelude.{ℕ, ◌+◌, ◌-◌, ◌^◌, slice_index_or, true, false, List, [], ◌∷◌, option_map, Option, None, if◌then◌else◌}
+use Rattle.std.specs.Prelude.{ℕ, ◌+◌, ◌-◌, ◌^◌, true, false, List, [], ◌∷◌, option_map, Option, None, if◌then◌else◌}
 use Rattle.hevc_spec.specs.Units.{NalUnit, units}
 use Rattle.hevc_spec.specs.UnitHeader.{UnitHeader, HeaderFault, truncated, unspecified_type, temporal_id_zero}
-use Rattle.hevc_tables.specs.Sps.{PlainSps}
-use Rattle.hevc_tables.specs.SpsSizes.{max_dpb_size_of}
+use Rattle.hevc_records.specs.Sps.{PlainSps}
+use Rattle.hevc_stream.specs.Sequences.{format_of_set, limits_of_set}
 use Rattle.hevc_plain_tables.specs.PlainSliceHeader.{PlainSlice}
 use Rattle.hevc_plain_tables.specs.KeptSets.{KeptSets, nothing_kept}
 use Rattle.hevc_plain_tables.specs.UnitMeanings as unit
-use Rattle.hevc_walk.specs.Meanings.{Format, Limits, SliceHeader, I, NamedSets, Slice, UnitCause, TruncatedNalu, InvalidNaluType, OutOfRange, NotYet, Meaning, SequenceSet, CodedSlice, Other, Refused}
+use Rattle.hevc_walk.specs.Meanings.{Format, SliceHeader, I, NamedSets, Slice, UnitCause, TruncatedNalu, InvalidNaluType, OutOfRange, NotYet, Meaning, SequenceSet, CodedSlice, Other, Refused}
 use Rattle.hevc_walk.specs.Walk.{is_accepted}
-
--- the format that a sequence set asks for, with MaxDpbSize (A.4.2)
-abbrev pub format_of_set : PlainSps → Format
-format_of_set s = record {
-  coded_width = s.pic_width_in_luma_samples;
-  coded_height = s.pic_height_in_luma_samples;
-  general_profile_idc = s.profile_tier_level.general_profile_idc;
-  bit_depth_luma_minus8 = s.bit_depth_luma_minus8;
-  bit_depth_chroma_minus8 = s.bit_depth_chroma_minus8;
-  chroma_format_idc = s.chroma_format_idc;
-  max_num_pics = max_dpb_size_of s;
-}
-
--- the number of the highest sub-layer (7.4.3.2.1)
-abbrev pub of_highest : PlainSps → List ℕ → ℕ
-of_highest s numbers = slice_index_or numbers s.max_sub_layers_minus1 0
-
-abbrev pub limits_of_set : PlainSps → Limits
-limits_of_set s = record {
-  max_num_reorder = of_highest s s.max_num_reorder_pics;
-  max_latency_increase_plus1 = of_highest s s.max_latency_increase_plus1;
-  max_dec_pic_buffering_minus1 = of_highest s s.max_dec_pic_buffering_minus1;
-}
 
 -- The sequence set has no short-term reference picture sets.
 abbrev pub sets_of : PlainSps → NamedSets
@@ -45,8 +22,8 @@ sets_of s = record {
 }
 
 -- An IDR picture has no order count bits and no reference pictures in its slices (7.4.7.1), and an I slice no lists.
-abbrev pub header_of : PlainSlice → SliceHeader
-header_of s = record {
+abbrev pub picture_header : PlainSlice → SliceHeader
+picture_header s = record {
   slice_type = I;
   pic_output_flag = s.header.pic_output_flag;
   pic_order_cnt_lsb = 0;
@@ -54,8 +31,8 @@ header_of s = record {
   short_term_ref_pic_set = record { negative_pics = []; positive_pics = [] };
   long_term_pics = [];
   num_pic_total_curr = 0;
-  list0 = record { num_ref_idx_active = 0; list_entry = None };
-  list1 = record { num_ref_idx_active = 0; list_entry = None };
+  list0 = record { num_ref_idx_active = 1; list_entry = None };
+  list1 = record { num_ref_idx_active = 1; list_entry = None };
 }
 
 -- the first slice of an IDR picture, of these bytes
@@ -64,12 +41,13 @@ slice_of h bytes s = record {
   nal_unit_type = h.nal_unit_type;
   temporal_id = h.nuh_temporal_id_plus1 - 1;
   bytes = bytes;
+  handled_as_bla = false;
   first_slice_segment_in_pic_flag = true;
   no_output_of_prior_pics_flag = s.header.no_output_of_prior_pics_flag;
   pic_parameter_set_id = s.header.pic_parameter_set_id;
   dependent_slice_segment_flag = false;
   segment_address = 0;
-  header = header_of s;
+  header = picture_header s;
   sets = sets_of s.sequence_set;
 }
 

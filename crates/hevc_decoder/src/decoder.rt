@@ -8,7 +8,7 @@ ghost use Rattle.hevc_walk.specs.Meanings.{SequenceSet};
 ghost use Rattle.hevc_walk_idr.specs.IdrWalk.{idr_part};
 ghost use Rattle.hevc_decoder.specs.Answers.{CountsErrors, KeepsFaultless};
 ghost use Rattle.hevc_decoder.specs.Does.{Runs, TakesUnit};
-ghost use Rattle.hevc_decoder.specs.Maps.{format_of};
+ghost use Rattle.hevc_backend.specs.Negotiation.{format_of};
 ghost use Rattle.hevc_decoder.specs.State.{standing, traces, open_picture, finish, output_stored, leave, begin, start, store, change_picture, close};
 ghost use Rattle.hevc_decoder.specs.StreamMeanings.{first_format, picture_meaning, slice_meaning, slice_of};
 

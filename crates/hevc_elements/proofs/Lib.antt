@@ -2,4 +2,4 @@ pub mod ElementLaws
 pub mod Loops
 pub mod Meaning
 pub mod LongBits
-pub mod AnswerLaws
+pub mod SetMeaning

@@ -1,2 +1,5 @@
 pub mod Reads
-pub mod Answers
+pub mod Naming
+pub mod Growing
+pub mod Sets
+pub mod Words

@@ -1,10 +1,10 @@
 -- What a map finds once a set is kept in it.
-use Rattle.std.proofs.Common.{◌≡◌, ℕ, Bool, true, false, refl, sym, ap, ◌∙◌, arith, Option, Some, None, if◌then◌else◌, ◌==◌}
+use Rattle.std.proofs.Common.{◌≡◌, ℕ, Bool, true, false, refl, ap, ◌∙◌, arith, Option, Some, None, if◌then◌else◌, ◌==◌}
 use Rattle.std.proofs.lemmas.Bool.Decides.{nat_tests}
 use Rattle.std.specs.Prelude.{option_map, cond, is_some}
 use Rattle.std.specs.Ordering.{nat_cmp}
 use Rattle.std.specs.BTreeMap.{BTreeMap, get, is_at, Updates}
-use Rattle.hevc_plain_tables.specs.KeptSets.{with_set, first_of}
+use Rattle.hevc_plain_tables.specs.KeptSets.{with_set, first_or}
 use mathlib.Core.Path.{fun_ext}
 
 same_key : (id k : ℕ) → is_at (nat_cmp id) k ≡ (k == id)
@@ -21,10 +21,10 @@ module _ {X Y : Type 0} (view : X → Y) (x : X) where
       ap (option_map view) (updates.0 k) ∙ by_test (is_at (nat_cmp id) k) (get nat_cmp old k) ∙ ap (λ (b : Bool). if b then Some (view x) else option_map view (get nat_cmp old k)) (same_key id k))
 
   -- the first set of all, and one that comes later
-  pub first_kept : (first : Option X) → is_some first ≡ false → Some (view x) ≡ first_of (option_map view first) (view x)
+  pub first_kept : (first : Option X) → is_some first ≡ false → Some (view x) ≡ first_or (option_map view first) (view x)
   first_kept None is = refl
   first_kept (Some f) is = absurd (cc is)
 
-  pub first_stays : (first : Option X) → is_some first ≡ true → option_map view first ≡ first_of (option_map view first) (view x)
+  pub first_stays : (first : Option X) → is_some first ≡ true → option_map view first ≡ first_or (option_map view first) (view x)
   first_stays None is = absurd (cc is)
   first_stays (Some f) is = refl

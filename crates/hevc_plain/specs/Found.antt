@@ -5,8 +5,8 @@ use Rattle.std.specs.BTreeMap.{get, BTreeMap}
 use Rattle.std.specs.Rc.{rc_value}
 use Rattle.std.specs.declared.rc.Rc.{Rc}
 use Rattle.std.specs.declared.option.Option.{Option}
-use Rattle.hevc_tables.specs.Sps.{PlainSps}
-use Rattle.hevc_tables.specs.Pps.{PlainPps}
+use Rattle.hevc_records.specs.Sps.{PlainSps}
+use Rattle.hevc_records.specs.Pps.{PlainPps}
 use Rattle.hevc_types_c.specs.declared.sps.Sps.{Sps}
 use Rattle.hevc_types_c.specs.Sps.{plain_sps}
 use Rattle.hevc_types_d.specs.declared.pps.Pps.{Pps}

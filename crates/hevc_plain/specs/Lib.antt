@@ -1,6 +1,6 @@
 pub mod Found
 pub mod PlainSlice
-pub mod Meanings
+pub mod TakenUnits
 pub mod Kept
 pub mod SequenceRecords
 pub mod PictureRecords

@@ -1,7 +1,7 @@
 //! A plain sequence parameter set from its elements.
 ghost use Rattle.std.specs.Prelude.{◌≡◌, ◌≤◌, ◌+◌, min};
 ghost use Rattle.hevc_types_c.specs.Sps.{plain_sps};
-ghost use Rattle.hevc_plain_tables.specs.PlainSequenceSet.{set_of, of_one_sub_layer as numbers_of_one_sub_layer};
+ghost use Rattle.hevc_plain_tables.specs.PlainSequenceSet.{sequence_set_with, of_one_sub_layer as numbers_of_one_sub_layer};
 ghost use Rattle.hevc_plain.specs.SequenceRecords.{plain_identity, plain_frame, plain_depths, plain_ordering, plain_blocks, plain_tools, plain_more_tools};
 
 use crate::sequence_records::{Blocks, Depths, Frame, Identity, MoreTools, Ordering, Tools};
@@ -26,7 +26,7 @@ pub(crate) struct SetElements {
 impl SetElements {
     /// The set of these elements, with what is derived from them (7.4.3.2.1).
     pub(crate) fn into_set(self, alloc: Global) -> Sps
-        ensures { plain_sps result ≡ set_of (plain_identity self.identity) (plain_frame self.frame) (plain_depths self.depths) (plain_ordering self.ordering) (plain_blocks self.blocks) (plain_tools self.tools) (plain_more_tools self.more_tools) }
+        ensures { plain_sps result ≡ sequence_set_with (plain_identity self.identity) (plain_frame self.frame) (plain_depths self.depths) (plain_ordering self.ordering) (plain_blocks self.blocks) (plain_tools self.tools) (plain_more_tools self.more_tools) }
     {
         let SetElements {
             identity,

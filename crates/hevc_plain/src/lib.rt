@@ -1,9 +1,8 @@
-//! Plain parameter sets and slice headers: those of streams of IDR pictures with no scaling lists, tiles, reference picture sets or
-//! extensions, and their readers.
+//! Goes with the decoder over whole streams. Plain parameter sets and slice headers: those of streams of IDR pictures with no scaling
+//! lists, tiles, reference picture sets or extensions, and their readers.
 #![tactic(auto)]
 
 mod assembly;
-mod conformance;
 mod parameter_sets;
 mod picture_assembly;
 mod picture_records;

@@ -9,9 +9,10 @@ ghost use Rattle.hevc_plain_tables.specs.PlainSequenceSet.{plain_sequence_set};
 ghost use Rattle.hevc_plain_tables.specs.PlainPictureSet.{plain_picture_set};
 ghost use Rattle.hevc_plain_tables.specs.PlainSliceHeader.{plain_slice_header};
 ghost use Rattle.hevc_plain_tables.specs.KeptSets.{nothing_kept, with_sequence_set, with_picture_set};
-ghost use Rattle.hevc_plain_tables.specs.UnitMeanings.{sequence_set, picture_set, slice, not_yet, meaning_read, is_idr_type, is_slice_type, is_end, other_meaning, typed_meaning, unit_meaning, kept_behind};
+ghost use Rattle.hevc_plain_tables.specs.UnitMeanings.{sequence_set, picture_set, slice, not_yet, meaning_read, other_meaning, typed_meaning, unit_meaning, kept_behind};
+ghost use Rattle.hevc_spec.specs.UnitTypes.{is_idr, is_slice, is_end};
 ghost use Rattle.hevc_plain.specs.Kept.{kept_sets};
-ghost use Rattle.hevc_plain.specs.Meanings.{plain_meaning};
+ghost use Rattle.hevc_plain.specs.TakenUnits.{plain_meaning};
 ghost use Rattle.hevc_plain.specs.Found.{shared_set, shared_picture_set};
 
 use crate::picture_set::read_picture_set;
@@ -58,7 +59,7 @@ impl ParameterSets {
     {
         let header = nalu.header();
         let temporal_id = header.temporal_id_plus1() - 1;
-        self.take_payload(header.nalu_type(), temporal_id, payload(nalu))
+        self.take_payload(header.nalu_type(), temporal_id, nalu.payload())
     }
 
     /// Takes the payload of a unit of this type and temporal id.
@@ -83,7 +84,7 @@ impl ParameterSets {
     }
 
     /// Reads a sequence parameter set, and keeps it where it is plain.
-    #[tactic(auto, using(crate::proofs::Meanings::not_read))]
+    #[tactic(auto, using(crate::proofs::UnitLaws::not_read))]
     fn take_sequence_set(&mut self, payload: &[u8]) -> Result<UnitMeaning, AllocError>
         requires { length payload.now < 2 ^ 60 }
         ensures meaning { (h : UnitHeader) → IfOk result (λ m. plain_meaning h m ≡ meaning_read sequence_set (not_yet 5 1) (read plain_sequence_set (payload_bits 0 payload.now))) }
@@ -114,7 +115,7 @@ impl ParameterSets {
     }
 
     /// Reads a picture parameter set, and keeps it where it is plain.
-    #[tactic(auto, using(crate::proofs::Meanings::not_read))]
+    #[tactic(auto, using(crate::proofs::UnitLaws::not_read_naming))]
     fn take_picture_set(
         &mut self,
         temporal_id: u8,
@@ -168,7 +169,7 @@ impl ParameterSets {
     }
 
     /// Reads the header of a slice of an IDR picture.
-    #[tactic(auto, using(crate::proofs::Meanings::not_read, crate::proofs::Meanings::at_whole_byte))]
+    #[tactic(auto, using(crate::proofs::UnitLaws::not_read_naming, crate::proofs::UnitLaws::at_whole_byte))]
     fn slice_meaning(&self, payload: &[u8]) -> Result<UnitMeaning, AllocError>
         requires { length payload.now < 2 ^ 60 }
         ensures meaning { (h : UnitHeader) → IfOk result (λ m. plain_meaning h m ≡ meaning_read (slice h) (not_yet 14 1) (read (plain_slice_header (kept_sets self.now).picture_sets (kept_sets self.now).sequence_sets) (payload_bits 0 payload.now))) }
@@ -190,15 +191,6 @@ impl ParameterSets {
     }
 }
 
-/// The bytes behind a unit's header.
-fn payload<'a>(nalu: &'a Nalu<'_, NaluHeader>) -> &'a [u8]
-    ensures value { result.now ≡ drop 2 (bytes_of nalu.now) }
-    ensures short { length result.now ≤ length nalu.now.stream }
-{
-    let bytes = nalu.as_ref();
-    &bytes[bytes.len().min(2)..]
-}
-
 fn is_sequence_set(nalu_type: NaluType) -> bool
     ensures { result ≡ (nalu_type_number nalu_type == 33) }
 {
@@ -218,14 +210,14 @@ fn is_video_set(nalu_type: NaluType) -> bool
 }
 
 fn is_idr(nalu_type: NaluType) -> bool
-    ensures { result ≡ is_idr_type (nalu_type_number nalu_type) }
+    ensures { result ≡ is_idr (nalu_type_number nalu_type) }
 {
     matches!(nalu_type, NaluType::IdrWRadl | NaluType::IdrNLp)
 }
 
 /// The types of slices and of ends (Table 7-1) that aren't decoded yet.
 fn is_awaited(nalu_type: NaluType) -> bool
-    ensures { result ≡ (is_slice_type (nalu_type_number nalu_type) || is_end (nalu_type_number nalu_type)) }
+    ensures { result ≡ (is_slice (nalu_type_number nalu_type) || is_end (nalu_type_number nalu_type)) }
 {
     let number = nalu_type as u8;
     number <= 9 || (16 <= number && number <= 21) || (number == 36 || number == 37)

@@ -1,7 +1,7 @@
 //! A plain picture parameter set from its elements.
 ghost use Rattle.std.specs.Prelude.{◌≡◌};
 ghost use Rattle.hevc_types_d.specs.Pps.{plain_pps};
-ghost use Rattle.hevc_plain_tables.specs.PlainPictureSet.{set_of};
+ghost use Rattle.hevc_plain_tables.specs.PlainPictureSet.{picture_set_with};
 ghost use Rattle.hevc_plain.specs.PictureRecords.{plain_ids, plain_presence, plain_quantiser, plain_prediction, plain_deblocking, plain_set_end};
 
 use crate::picture_records::{Deblocking, Ids, Prediction, Presence, Quantiser, SetEnd};
@@ -24,7 +24,7 @@ pub(crate) struct PictureElements {
 impl PictureElements {
     /// The set of these elements, in a unit of this temporal id.
     pub(crate) fn into_set(self, temporal_id: u8) -> Pps
-        ensures { plain_pps result ≡ set_of temporal_id (plain_ids self.ids) (plain_presence self.presence) (plain_quantiser self.quantiser) (plain_prediction self.prediction) self.loop_filter_across_slices_enabled_flag (plain_deblocking self.deblocking) (plain_set_end self.end) }
+        ensures { plain_pps result ≡ picture_set_with temporal_id (plain_ids self.ids) (plain_presence self.presence) (plain_quantiser self.quantiser) (plain_prediction self.prediction) self.loop_filter_across_slices_enabled_flag (plain_deblocking self.deblocking) (plain_set_end self.end) }
     {
         let PictureElements {
             ids,

@@ -1,14 +1,14 @@
 //! Plain picture parameter sets (7.3.2.3, table 11).
-ghost use Rattle.std.specs.Prelude.{◌≡◌, ◌+◌, ◌*◌, ◌≤◌, pos, neg_ℤ, Bool, List, IfOk, IfErr};
+ghost use Rattle.std.specs.Prelude.{◌≡◌, ◌+◌, ◌*◌, ◌≤◌, pos, neg_ℤ};
 ghost use Rattle.hevc_spec.specs.Payload.{bits};
-ghost use Rattle.hevc_spec.specs.Table.{read, gives, refuses, Fault};
-ghost use Rattle.hevc_spec.specs.Lines.{Spells, BreaksOff};
+ghost use Rattle.hevc_spec.specs.Table.{read};
 ghost use Rattle.hevc_spec.specs.Rows.{when};
-ghost use Rattle.hevc_elements.specs.Reads.{Reads, FailsAt};
-ghost use Rattle.hevc_tables.specs.Pps.{PlainPps};
+ghost use Rattle.hevc_elements.specs.Reads.{Reads};
+ghost use Rattle.hevc_elements.specs.Naming.{ReadsNaming, MeansNaming};
 ghost use Rattle.hevc_types_c.specs.Sps.{plain_sps};
 ghost use Rattle.hevc_types_d.specs.Pps.{plain_pps};
-ghost use Rattle.hevc_plain_tables.specs.PlainPictureSet.{qp_bd_offset_y, ids, presence, quantiser, prediction, filter_offsets, no_filter_offsets, deblocking, set_end, picture_set_of, plain_picture_set};
+ghost use Rattle.hevc_tables.specs.PpsTable.{qp_bd_offset_y};
+ghost use Rattle.hevc_plain_tables.specs.PlainPictureSet.{ids, presence, quantiser, prediction, filter_offsets, no_filter_offsets, deblocking, set_end, picture_set_of, plain_picture_set};
 ghost use Rattle.hevc_plain.specs.PictureRecords.{plain_ids, plain_presence, plain_quantiser, plain_prediction, plain_filter_offsets, plain_deblocking, plain_set_end};
 ghost use Rattle.hevc_plain.specs.Found.{found_set};
 
@@ -31,33 +31,26 @@ use std::rc::Rc;
 /// Errors: `MissingSps` where the sequence parameter set that it names isn't kept, `OutOfBits` where the payload ends within an
 /// element, and `OutOfRange` with the row of the first element that isn't allowed. A set that isn't plain is out of range at the
 /// row that says so. The reader then stands where that element begins, or behind the ids.
-#[tactic(auto, using(hevc_elements::proofs::Meaning::is_found, hevc_elements::proofs::Meaning::is_only, hevc_elements::proofs::Meaning::is_refused, hevc_elements::proofs::Meaning::is_broken))]
+#[tactic(auto, using(hevc_elements::proofs::Meaning::meanings_naming))]
 pub fn read_picture_set(
     r: &mut NaluReader<'_>,
     temporal_id: u8,
     sequence_sets: &BTreeMap<u8, Rc<Sps>>,
 ) -> Result<Pps, ParseError>
-    ensures read { Reads plain_pps result r.new (read (plain_picture_set temporal_id (found_set sequence_sets.now)) (bits r.old)) }
-    // What is read has lines that are allowed and that the payload spells, up to where the reader stands.
-    ensures found { IfOk result (λ x. Spells (plain_picture_set temporal_id (found_set sequence_sets.now)) (plain_pps x) (bits r.old) (bits r.new)) }
-    // What has such lines is read.
-    ensures only { (x : PlainPps) (rest : List Bool) → Spells (plain_picture_set temporal_id (found_set sequence_sets.now)) x (bits r.old) rest → Reads plain_pps result r.new (gives x rest) }
-    // A refusal is the first line that breaks, and the reader stands before it.
-    ensures refused { IfErr result (λ e. FailsAt e (plain_picture_set temporal_id (found_set sequence_sets.now)) (bits r.old) r.new) }
-    // Where a line breaks, that is the refusal.
-    ensures broken { (fault : Fault) (rest : List Bool) → BreaksOff (plain_picture_set temporal_id (found_set sequence_sets.now)) fault (bits r.old) rest → Reads plain_pps result r.new (refuses fault rest) }
+    ensures read { ReadsNaming plain_pps result r.new (read (plain_picture_set temporal_id (found_set sequence_sets.now)) (bits r.old)) }
+    ensures means { MeansNaming plain_pps (plain_picture_set temporal_id (found_set sequence_sets.now)) result r.old r.new }
 {
     read_rows(r, temporal_id, sequence_sets)
 }
 
 /// Rows 1 to 28 of table 11.
-#[tactic(auto, unfolding(hevc_plain_tables::specs::PlainPictureSet::plain_picture_set, hevc_plain_tables::specs::PlainPictureSet::named))]
+#[tactic(auto, unfolding(hevc_plain_tables::specs::PlainPictureSet::plain_picture_set, hevc_tables::specs::PpsTable::named))]
 fn read_rows(
     r: &mut NaluReader<'_>,
     temporal_id: u8,
     sequence_sets: &BTreeMap<u8, Rc<Sps>>,
 ) -> Result<Pps, ParseError>
-    ensures { Reads plain_pps result r.new (read (plain_picture_set temporal_id (found_set sequence_sets.now)) (bits r.old)) }
+    ensures { ReadsNaming plain_pps result r.new (read (plain_picture_set temporal_id (found_set sequence_sets.now)) (bits r.old)) }
 {
     let ids = read_ids(r)?;
     match sequence_sets.get(&ids.seq_parameter_set_id) {

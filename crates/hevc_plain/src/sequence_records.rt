@@ -1,6 +1,6 @@
 //! The groups of rows of table 5.
 ghost use Rattle.std.specs.Prelude.{◌≡◌, ◌≤◌, IsTrue, if◌then◌else◌};
-ghost use Rattle.hevc_tables.specs.SpsSizes.{leaves_some};
+ghost use Rattle.hevc_records.specs.SpsSizes.{leaves_some};
 
 use hevc_types_a::ProfileTierLevel;
 

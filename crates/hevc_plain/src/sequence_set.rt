@@ -1,25 +1,22 @@
 //! Plain sequence parameter sets (7.3.2.2, table 5).
-ghost use Rattle.std.specs.Prelude.{◌≡◌, ◌≤◌, min, Bool, List, IfOk, IfErr, IsTrue};
+ghost use Rattle.std.specs.Prelude.{◌≡◌, ◌≤◌, min, IfOk, IsTrue};
 ghost use Rattle.hevc_spec.specs.Payload.{bits};
-ghost use Rattle.hevc_spec.specs.Table.{read, gives, refuses, Fault};
-ghost use Rattle.hevc_spec.specs.Lines.{Spells, BreaksOff};
-ghost use Rattle.hevc_elements.specs.Reads.{Reads, FailsAt};
-ghost use Rattle.hevc_tables.specs.Sps.{PlainSps};
-ghost use Rattle.hevc_tables.specs.SpsSizes.{sub_width_c, sub_height_c, leaves_some};
+ghost use Rattle.hevc_spec.specs.Table.{read};
+ghost use Rattle.hevc_elements.specs.Reads.{Reads, Means};
+ghost use Rattle.hevc_records.specs.SpsSizes.{sub_width_c, sub_height_c, leaves_some};
 ghost use Rattle.hevc_types_a.specs.ProfileTierLevel.{plain_profile_tier_level};
 ghost use Rattle.hevc_types_c.specs.Sps.{plain_sps};
 ghost use Rattle.hevc_plain_tables.specs.PlainSequenceSet.{identity, plain_profile, samples, frame, window, cropping, depths, ordering, block_sizes, blocks, ctb_log2_size_y, max_tb_log2_size_y, tools, set_end, plain_sequence_set};
 ghost use Rattle.hevc_plain.specs.SequenceRecords.{plain_identity, plain_samples, plain_cropping, plain_frame, plain_depths, plain_ordering, plain_blocks, plain_tools, plain_more_tools};
 
 use crate::assembly::SetElements;
-use crate::conformance::has_range_extensions_flags;
 use crate::sequence_records::{
     Blocks, Cropping, Depths, Frame, Identity, MoreTools, Ordering, Samples, Tools,
 };
 use hevc_bits::NaluReader;
 use hevc_elements::ParseError;
 use hevc_elements::rows::{bits_u8, check, flag, flag_if, ue, ue_u8, ue_u16, zero, zero_if};
-use hevc_profile::read_profile_tier_level;
+use hevc_profile::{has_range_extensions, read_profile_tier_level};
 use hevc_spec::Row;
 use hevc_types_a::ProfileTierLevel;
 use hevc_types_c::Sps;
@@ -30,17 +27,10 @@ use std::alloc::Global;
 ///
 /// Errors: `OutOfBits` where the payload ends within an element, and `OutOfRange` with the row of the first element that isn't
 /// allowed. A set that isn't plain is out of range at the row that says so. The reader then stands where that element begins.
-#[tactic(auto, using(hevc_elements::proofs::Meaning::is_found, hevc_elements::proofs::Meaning::is_only, hevc_elements::proofs::Meaning::is_refused, hevc_elements::proofs::Meaning::is_broken))]
+#[tactic(auto, using(hevc_elements::proofs::Meaning::meanings))]
 pub fn read_sequence_set(alloc: Global, r: &mut NaluReader<'_>) -> Result<Sps, ParseError>
     ensures read { Reads plain_sps result r.new (read plain_sequence_set (bits r.old)) }
-    // What is read has lines that are allowed and that the payload spells, up to where the reader stands.
-    ensures found { IfOk result (λ x. Spells plain_sequence_set (plain_sps x) (bits r.old) (bits r.new)) }
-    // What has such lines is read.
-    ensures only { (x : PlainSps) (rest : List Bool) → Spells plain_sequence_set x (bits r.old) rest → Reads plain_sps result r.new (gives x rest) }
-    // A refusal is the first line that breaks, and the reader stands before it.
-    ensures refused { IfErr result (λ e. FailsAt e plain_sequence_set (bits r.old) r.new) }
-    // Where a line breaks, that is the refusal.
-    ensures broken { (fault : Fault) (rest : List Bool) → BreaksOff plain_sequence_set fault (bits r.old) rest → Reads plain_sps result r.new (refuses fault rest) }
+    ensures means { Means plain_sps plain_sequence_set result r.old r.new }
 {
     read_rows(alloc, r)
 }
@@ -93,7 +83,11 @@ fn read_plain_profile(r: &mut NaluReader<'_>) -> Result<ProfileTierLevel, ParseE
     ensures { Reads plain_profile_tier_level result r.new (read plain_profile (bits r.old)) }
 {
     let profile = read_profile_tier_level(r, 0)?;
-    check(r, Row(2, 6), !has_range_extensions_flags(&profile))?;
+    let has_flags = has_range_extensions(
+        profile.general_profile_idc,
+        &profile.general_profile_compatibility_flag,
+    );
+    check(r, Row(2, 6), !has_flags)?;
     Ok(profile)
 }
 
@@ -173,7 +167,7 @@ fn read_window(r: &mut NaluReader<'_>, samples: &Samples) -> Result<Cropping, Pa
 }
 
 /// Whether the conformance cropping window leaves some of the picture.
-#[tactic(auto, unfolding(hevc_tables::specs::SpsSizes::leaves_some))]
+#[tactic(auto, unfolding(hevc_records::specs::SpsSizes::leaves_some))]
 fn leaves_part(samples: &Samples, left: u32, right: u32, top: u32, bottom: u32) -> bool
     ensures { result ≡ leaves_some samples.now.chroma_array_type samples.now.pic_width_in_luma_samples samples.now.pic_height_in_luma_samples left right top bottom }
 {

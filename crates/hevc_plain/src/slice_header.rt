@@ -1,14 +1,14 @@
 //! Plain slice segment headers (7.3.6.1, table 14).
-ghost use Rattle.std.specs.Prelude.{◌≡◌, ◌≤◌, ◌+◌, ◌%◌, pos, neg_ℤ, ◌+ℤ◌, Bool, List, IfOk, IfErr};
+ghost use Rattle.std.specs.Prelude.{◌≡◌, ◌≤◌, ◌+◌, ◌%◌, pos, neg_ℤ, ◌+ℤ◌, IfOk};
 ghost use Rattle.hevc_spec.specs.Payload.{bits, bits_left, IsAhead};
-ghost use Rattle.hevc_spec.specs.Table.{read, gives, refuses, Fault};
-ghost use Rattle.hevc_spec.specs.Lines.{Spells, BreaksOff};
+ghost use Rattle.hevc_spec.specs.Table.{read};
 ghost use Rattle.hevc_spec.specs.Rows.{when};
-ghost use Rattle.hevc_elements.specs.Reads.{Reads, FailsAt};
+ghost use Rattle.hevc_elements.specs.Reads.{Reads};
+ghost use Rattle.hevc_elements.specs.Naming.{ReadsNaming, MeansNaming};
 ghost use Rattle.hevc_types_c.specs.Sps.{plain_sps};
 ghost use Rattle.hevc_types_d.specs.Pps.{plain_pps};
 ghost use Rattle.hevc_types_d.specs.SliceHeader.{plain_slice_header};
-ghost use Rattle.hevc_plain_tables.specs.PlainSliceHeader.{PlainSlice as SliceOfTable, start, kind, adaptive_offset, chroma_offset, chroma_offsets, no_chroma_offsets, is_chroma_offset as is_in_chroma_range, is_slice_qp, slice_quantiser, slice_filter_offsets, inherited_filter_offsets, slice_deblocking, loop_filter, header_with, header_elements, header_of, header_fields, plain_slice_header as slice_header_table};
+ghost use Rattle.hevc_plain_tables.specs.PlainSliceHeader.{start, kind, adaptive_offset, chroma_offset, chroma_offsets, no_chroma_offsets, is_chroma_offset as is_in_chroma_range, is_slice_qp, slice_quantiser, slice_filter_offsets, inherited_filter_offsets, slice_deblocking, loop_filter, header_with, header_elements, header_of, header_fields, plain_slice_header as slice_header_table};
 ghost use Rattle.hevc_plain.specs.SliceRecords.{plain_start, plain_kind, plain_adaptive_offset, plain_chroma_offsets, plain_slice_quantiser, plain_slice_filter_offsets, plain_slice_deblocking, plain_header_elements};
 ghost use Rattle.hevc_plain.specs.Found.{shared_set, found_set, found_picture_set};
 ghost use Rattle.hevc_plain.specs.PlainSlice.{plain_slice};
@@ -37,7 +37,7 @@ use std::rc::Rc;
 /// Errors: `MissingPps` and `MissingSps` where a set that it names isn't kept, `OutOfBits` where the payload ends within an
 /// element, and `OutOfRange` with the row of the first element that isn't allowed. A header that isn't plain is out of range at
 /// the row that says so. The reader then stands where that element begins, or behind the picture parameter set's id.
-#[tactic(auto, using(hevc_elements::proofs::Meaning::is_found, hevc_elements::proofs::Meaning::is_only, hevc_elements::proofs::Meaning::is_refused, hevc_elements::proofs::Meaning::is_broken))]
+#[tactic(auto, using(hevc_elements::proofs::Meaning::meanings_naming))]
 pub fn read_slice_header<'s>(
     alloc: Global,
     r: &mut NaluReader<'_>,
@@ -45,15 +45,8 @@ pub fn read_slice_header<'s>(
     picture_sets: &BTreeMap<u8, Rc<Pps>>,
 ) -> Result<PlainSlice<'s>, ParseError>
     requires { bits_left r.old % 8 ≡ 0 }
-    ensures read { Reads plain_slice result r.new (read (slice_header_table (found_picture_set picture_sets.now) (found_set sequence_sets.now)) (bits r.old)) }
-    // What is read has lines that are allowed and that the payload spells, up to where the reader stands.
-    ensures found { IfOk result (λ x. Spells (slice_header_table (found_picture_set picture_sets.now) (found_set sequence_sets.now)) (plain_slice x) (bits r.old) (bits r.new)) }
-    // What has such lines is read.
-    ensures only { (x : SliceOfTable) (rest : List Bool) → Spells (slice_header_table (found_picture_set picture_sets.now) (found_set sequence_sets.now)) x (bits r.old) rest → Reads plain_slice result r.new (gives x rest) }
-    // A refusal is the first line that breaks, and the reader stands before it.
-    ensures refused { IfErr result (λ e. FailsAt e (slice_header_table (found_picture_set picture_sets.now) (found_set sequence_sets.now)) (bits r.old) r.new) }
-    // Where a line breaks, that is the refusal.
-    ensures broken { (fault : Fault) (rest : List Bool) → BreaksOff (slice_header_table (found_picture_set picture_sets.now) (found_set sequence_sets.now)) fault (bits r.old) rest → Reads plain_slice result r.new (refuses fault rest) }
+    ensures read { ReadsNaming plain_slice result r.new (read (slice_header_table (found_picture_set picture_sets.now) (found_set sequence_sets.now)) (bits r.old)) }
+    ensures means { MeansNaming plain_slice (slice_header_table (found_picture_set picture_sets.now) (found_set sequence_sets.now)) result r.old r.new }
 {
     read_rows(alloc, r, sequence_sets, picture_sets)
 }
@@ -67,7 +60,7 @@ fn read_rows<'s>(
     picture_sets: &BTreeMap<u8, Rc<Pps>>,
 ) -> Result<PlainSlice<'s>, ParseError>
     requires { bits_left r.old % 8 ≡ 0 }
-    ensures { Reads plain_slice result r.new (read (slice_header_table (found_picture_set picture_sets.now) (found_set sequence_sets.now)) (bits r.old)) }
+    ensures { ReadsNaming plain_slice result r.new (read (slice_header_table (found_picture_set picture_sets.now) (found_set sequence_sets.now)) (bits r.old)) }
 {
     let slice = read_fields(alloc, r, sequence_sets, picture_sets)?;
     skip(r, Row(14, 53), 1)?;
@@ -77,14 +70,14 @@ fn read_rows<'s>(
 }
 
 /// Rows 1 to 47 of table 14.
-#[tactic(auto, unfolding(hevc_plain_tables::specs::PlainSliceHeader::header_fields, hevc_plain_tables::specs::PlainPictureSet::named))]
+#[tactic(auto, unfolding(hevc_plain_tables::specs::PlainSliceHeader::header_fields, hevc_tables::specs::PpsTable::named))]
 fn read_fields<'s>(
     alloc: Global,
     r: &mut NaluReader<'_>,
     sequence_sets: &'s BTreeMap<u8, Rc<Sps>>,
     picture_sets: &BTreeMap<u8, Rc<Pps>>,
 ) -> Result<PlainSlice<'s>, ParseError>
-    ensures read { Reads plain_slice result r.new (read (header_fields (found_picture_set picture_sets.now) (found_set sequence_sets.now)) (bits r.old)) }
+    ensures read { ReadsNaming plain_slice result r.new (read (header_fields (found_picture_set picture_sets.now) (found_set sequence_sets.now)) (bits r.old)) }
     ensures moves { IsAhead r.old r.new }
 {
     let start = read_start(r)?;

@@ -1,7 +1,7 @@
 -- The parameter sets that are kept (7.4.2.4.2): of each id the latest one.
 use Rattle.std.specs.Prelude.{ℕ, Option, Some, None, ◌==◌, if◌then◌else◌}
-use Rattle.hevc_tables.specs.Sps.{PlainSps}
-use Rattle.hevc_tables.specs.Pps.{PlainPps}
+use Rattle.hevc_records.specs.Sps.{PlainSps}
+use Rattle.hevc_records.specs.Pps.{PlainPps}
 
 -- The plain sets by their ids (7.4.2.4.2), and the first sequence set of all, whose format is negotiated first.
 pub record KeptSets : Type 0 where
@@ -18,14 +18,14 @@ abbrev pub with_set : {A : Type 0} → ℕ → A → (ℕ → Option A) → ℕ 
 with_set id set sets k = if k == id then Some set else sets k
 
 -- the first set of all, behind one more
-abbrev pub first_of : {A : Type 0} → Option A → A → Option A
-first_of None set = Some set
-first_of (Some first) set = Some first
+abbrev pub first_or : {A : Type 0} → Option A → A → Option A
+first_or None set = Some set
+first_or (Some first) set = Some first
 
 -- behind a sequence set (7.4.2.4.2); the picture sets stay as they were read
 abbrev pub with_sequence_set : PlainSps → KeptSets → KeptSets
 with_sequence_set set kept = record kept {
-  first_sequence_set = first_of kept.first_sequence_set set;
+  first_sequence_set = first_or kept.first_sequence_set set;
   sequence_sets = with_set set.seq_parameter_set_id set kept.sequence_sets;
 }
 

@@ -1,17 +1,12 @@
 -- Plain picture parameter sets (7.3.2.3, table 11): with no tiles, no synchronisation, no scaling lists of their own and no extension.
 -- What they don't have is a row whose only value is 0.
-use Rattle.std.specs.Prelude.{ℕ, ℤ, pos, neg_ℤ, ◌+◌, ◌-◌, ◌*◌, Bool, false, not, ◌&&◌, Option, Some, None}
-use Rattle.hevc_spec.specs.declared.Row.{Row}
-use Rattle.hevc_spec.specs.Table.{Table, done, missing, ◌>>=◌}
+use Rattle.std.specs.Prelude.{ℕ, ℤ, pos, neg_ℤ, ◌+◌, ◌-◌, Bool, false, not, ◌&&◌, Option}
+use Rattle.hevc_spec.specs.Table.{Table, done, ◌>>=◌}
 use Rattle.hevc_spec.specs.Rows.{row, flag_row, zero_row, bits_row, ue_row, se_row, when}
-use Rattle.hevc_tables.specs.DefaultScalingLists.{default_lists}
-use Rattle.hevc_tables.specs.Pps.{PlainPps, default_pps}
-use Rattle.hevc_tables.specs.Sps.{PlainSps}
-
--- the set that the element of a row names by its id, or that none of this id is kept (7.4.2.4.2)
-unfoldable pub named : {A : Type 0} → Row → ℕ → Option A → Table A
-named row id (Some set) = done set
-named row id None = missing row id
+use Rattle.hevc_records.specs.DefaultScalingLists.{default_lists}
+use Rattle.hevc_records.specs.Pps.{PlainPps, default_pps}
+use Rattle.hevc_records.specs.Sps.{PlainSps}
+use Rattle.hevc_tables.specs.PpsTable.{named, qp_bd_offset_y}
 
 -- rows 1 and 2 (7.4.3.3.1): the ids of the set, and of the sequence set that it names
 pub record Ids : Type 0 where
@@ -54,10 +49,6 @@ presence = do
     num_ref_idx_l0_default_active_minus1 = num_ref_idx_l0_default_active_minus1;
     num_ref_idx_l1_default_active_minus1 = num_ref_idx_l1_default_active_minus1;
   })
-
--- QpBdOffsetY (7-5)
-abbrev pub qp_bd_offset_y : PlainSps → ℕ
-qp_bd_offset_y s = 6 * s.bit_depth_luma_minus8
 
 -- rows 8 to 12 (7.4.3.3.1): the quantiser of luma, with the QpBdOffsetY that bounds it, and the offsets of chroma
 pub record Quantiser : Type 0 where
@@ -167,8 +158,8 @@ set_end s = do
 
 -- The set of these elements. Its QpBdOffsetY (7-5) is that of the sequence set that it is read with, and its temporal id that of its
 -- unit. Without lists of its own its scaling lists are the default ones (7.4.5). All else is as where nothing was read.
-abbrev pub set_of : ℕ → Ids → Presence → Quantiser → Prediction → Bool → Deblocking → SetEnd → PlainPps
-set_of temporal_id i p q r across d e = record default_pps {
+abbrev pub picture_set_with : ℕ → Ids → Presence → Quantiser → Prediction → Bool → Deblocking → SetEnd → PlainPps
+picture_set_with temporal_id i p q r across d e = record default_pps {
   pic_parameter_set_id = i.pic_parameter_set_id;
   seq_parameter_set_id = i.seq_parameter_set_id;
   dependent_slice_segments_enabled_flag = p.dependent_slice_segments_enabled_flag;
@@ -211,7 +202,7 @@ picture_set_of temporal_id i s = do
   across ← flag_row (row 11 20)
   d ← deblocking
   e ← set_end s
-  done (set_of temporal_id i p q r across d e)
+  done (picture_set_with temporal_id i p q r across d e)
 
 -- table 11 (7.3.2.3.1) of a plain set in a unit of this temporal id, with the sequence sets that are kept, by their ids; the bits
 -- behind row 28 aren't read

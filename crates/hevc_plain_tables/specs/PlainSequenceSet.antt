@@ -5,11 +5,11 @@ use Rattle.std.specs.Prelude.{ℕ, ◌+◌, ◌*◌, ◌^◌, min, Bool, true, f
 use Rattle.std.specs.Int.{div_ceil}
 use Rattle.hevc_spec.specs.Table.{Table, done, ◌>>=◌}
 use Rattle.hevc_spec.specs.Rows.{row, flag_row, zero_row, bits_row, ue_row, check_row, when}
-use Rattle.hevc_tables.specs.ProfileConformance.{Profiles, has_range_extensions_flags}
-use Rattle.hevc_tables.specs.ProfileTierLevel.{PlainProfileTierLevel}
-use Rattle.hevc_part_tables.specs.ProfileTierLevelTable.{profile_tier_level as profile_tier_level_table}
-use Rattle.hevc_tables.specs.Sps.{PlainSps, default_sps}
-use Rattle.hevc_tables.specs.SpsSizes.{leaves_some}
+use Rattle.hevc_records.specs.ProfileConformance.{has_range_extensions_flags}
+use Rattle.hevc_records.specs.ProfileTierLevel.{PlainProfileTierLevel}
+use Rattle.hevc_tables.specs.ProfileTierLevelTable.{profile_tier_level as profile_tier_level_table}
+use Rattle.hevc_records.specs.Sps.{PlainSps, default_sps}
+use Rattle.hevc_records.specs.SpsSizes.{leaves_some}
 
 -- rows 1 to 5 (7.4.3.2.1): the ids, and the profile
 pub record Identity : Type 0 where
@@ -18,15 +18,11 @@ pub record Identity : Type 0 where
   pub profile_tier_level : PlainProfileTierLevel
   pub seq_parameter_set_id : ℕ
 
--- what tells the profiles of a set (7.4.4)
-abbrev pub profiles_of : PlainProfileTierLevel → Profiles
-profiles_of p = record { general_profile_idc = p.general_profile_idc; general_profile_compatibility_flag = p.general_profile_compatibility_flag }
-
 -- row 4 (7.3.3), with no sub-layers below the highest one: a plain set has none of the flags of row 6 of table 2
 unfoldable pub plain_profile : Table PlainProfileTierLevel
 plain_profile = do
   p ← profile_tier_level_table 0
-  _ ← check_row (row 2 6) (not (has_range_extensions_flags (profiles_of p)))
+  _ ← check_row (row 2 6) (not (has_range_extensions_flags p.general_profile_idc p.general_profile_compatibility_flag))
   done p
 
 -- rows 1 to 5 (7.3.2.2.1)
@@ -236,8 +232,8 @@ abbrev pub of_one_sub_layer : ℕ → List ℕ
 of_one_sub_layer n = n ∷ replicate 6 0
 
 -- The set of these elements, with what is derived from them (7.4.3.2.1). All else is as where nothing was read.
-abbrev pub set_of : Identity → Frame → Depths → Ordering → Blocks → Tools → MoreTools → PlainSps
-set_of i f d o b t m = record default_sps {
+abbrev pub sequence_set_with : Identity → Frame → Depths → Ordering → Blocks → Tools → MoreTools → PlainSps
+sequence_set_with i f d o b t m = record default_sps {
   video_parameter_set_id = i.video_parameter_set_id;
   temporal_id_nesting_flag = i.temporal_id_nesting_flag;
   profile_tier_level = i.profile_tier_level;
@@ -290,4 +286,4 @@ plain_sequence_set = do
   b ← blocks
   t ← tools
   m ← set_end
-  done (set_of i f d o b t m)
+  done (sequence_set_with i f d o b t m)

@@ -3,10 +3,10 @@
 use Rattle.std.specs.Prelude.{ℕ, ℤ, pos, neg_ℤ, int_le, ◌+ℤ◌, ◌+◌, ◌-◌, ◌%◌, Bool, true, false, not, ◌&&◌, ◌||◌, ◌==◌, Option}
 use Rattle.hevc_spec.specs.Table.{Table, done, sized, ◌>>=◌}
 use Rattle.hevc_spec.specs.Rows.{row, flag_row, bits_row, ue_row, se_row, skip_row, check_row, when}
-use Rattle.hevc_plain_tables.specs.PlainPictureSet.{named}
-use Rattle.hevc_tables.specs.Pps.{PlainPps}
-use Rattle.hevc_tables.specs.SliceHeader.{PlainSliceSegmentHeader, default_slice_header, with_inferred}
-use Rattle.hevc_tables.specs.Sps.{PlainSps}
+use Rattle.hevc_tables.specs.PpsTable.{named}
+use Rattle.hevc_records.specs.Pps.{PlainPps}
+use Rattle.hevc_records.specs.SliceHeader.{PlainSliceSegmentHeader, default_slice_header, with_inferred}
+use Rattle.hevc_records.specs.Sps.{PlainSps}
 
 -- rows 2 and 3 (7.4.7.1)
 pub record Start : Type 0 where

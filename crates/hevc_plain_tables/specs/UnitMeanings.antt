@@ -1,10 +1,11 @@
 -- What a unit means where it stands, while only plain sets and plain slices of IDR pictures are read.
-use Rattle.std.specs.Prelude.{ℕ, Bool, List, is_none, Result, Ok, Err, ◌==◌, ◌||◌, ◌&&◌, ◌-◌, nat_le, if◌then◌else◌}
+use Rattle.std.specs.Prelude.{ℕ, Bool, List, is_none, Result, Ok, Err, ◌==◌, ◌||◌, ◌-◌, if◌then◌else◌}
+use Rattle.hevc_spec.specs.UnitTypes.{is_idr, is_slice, is_end}
 use Rattle.hevc_spec.specs.UnitHeader.{UnitHeader, HeaderFault, unit_header}
 use Rattle.hevc_spec.specs.Payload.{payload}
 use Rattle.hevc_spec.specs.Table.{Reading, gives, refuses, read}
-use Rattle.hevc_tables.specs.Sps.{PlainSps}
-use Rattle.hevc_tables.specs.Pps.{PlainPps}
+use Rattle.hevc_records.specs.Sps.{PlainSps}
+use Rattle.hevc_records.specs.Pps.{PlainPps}
 use Rattle.hevc_plain_tables.specs.PlainSequenceSet.{plain_sequence_set}
 use Rattle.hevc_plain_tables.specs.PlainPictureSet.{plain_picture_set}
 use Rattle.hevc_plain_tables.specs.PlainSliceHeader.{PlainSlice, plain_slice_header}
@@ -25,26 +26,14 @@ abbrev pub meaning_read : {A : Type 0} → (A → UnitMeaning) → UnitMeaning �
 meaning_read means refused (gives set rest) = means set
 meaning_read means refused (refuses fault rest) = refused
 
--- the types of IDR pictures (Table 7-1)
-abbrev pub is_idr_type : ℕ → Bool
-is_idr_type t = t == 19 || t == 20
-
--- the types of slices (Table 7-1)
-abbrev pub is_slice_type : ℕ → Bool
-is_slice_type t = nat_le t 9 || (nat_le 16 t && nat_le t 21)
-
--- the types of an end of sequence and of an end of bitstream (Table 7-1)
-abbrev pub is_end : ℕ → Bool
-is_end t = t == 36 || t == 37
-
 -- What a unit means that is no sequence or picture set (7.4.2.2): a video set isn't read yet; before the first sequence set no other
 -- unit asks for anything; behind it slices of IDR pictures are read, and other slices and ends aren't yet.
 abbrev pub other_meaning : KeptSets → UnitHeader → List Bool → UnitMeaning
 other_meaning kept h bits =
     if h.nal_unit_type == 32 then not_yet 0 32
     else if is_none kept.first_sequence_set then other
-    else if is_idr_type h.nal_unit_type then meaning_read (slice h) (not_yet 14 1) (read (plain_slice_header kept.picture_sets kept.sequence_sets) bits)
-    else if is_slice_type h.nal_unit_type || is_end h.nal_unit_type then not_yet 0 h.nal_unit_type
+    else if is_idr h.nal_unit_type then meaning_read (slice h) (not_yet 14 1) (read (plain_slice_header kept.picture_sets kept.sequence_sets) bits)
+    else if is_slice h.nal_unit_type || is_end h.nal_unit_type then not_yet 0 h.nal_unit_type
     else other
 
 -- what a unit with this header means (7.4.2.2), by the bits of its payload

@@ -1,3 +1,2 @@
 pub mod LevelNumbers
 pub mod ArrayPlaces
-pub mod TableNames

@@ -1,2 +1,2 @@
 pub mod Scopes
-pub mod Projections
+pub mod LayerProfile

@@ -1,5 +1,5 @@
 -- Whose profile is read, as in the tables.
-use Rattle.hevc_part_tables.specs.ProfileTierLevelTable as table
+use Rattle.hevc_tables.specs.ProfileTierLevelTable as table
 use Rattle.hevc_profile.specs.declared.scope.Scope.{Scope}
 use Rattle.hevc_profile.specs.declared.scope.Scope.TheVariants.{General, SubLayer}
 

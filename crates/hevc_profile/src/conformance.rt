@@ -1,52 +1,68 @@
 //! Which profiles a layer conforms to, and which elements it has by them (7.3.3).
 ghost use Rattle.std.specs.Prelude.{◌≡◌, ◌<◌};
-ghost use Rattle.hevc_tables.specs.ProfileConformance.{conforms_to as conforms_to_number, has_range_extensions_flags, has_inbld_flag};
-ghost use Rattle.hevc_part_tables.specs.ProfileTierLevelTable.{has_14bit_flag};
-ghost use Rattle.hevc_profile.specs.Projections.{plain_profiles};
+ghost use Rattle.hevc_records.specs.ProfileConformance.{conforms_to as conforms_to_number, has_range_extensions_flags, has_inbld_flag};
+ghost use Rattle.hevc_tables.specs.ProfileTierLevelTable as table;
+ghost use Rattle.hevc_profile.specs.LayerProfile.{plain_layer_profile};
 
-use crate::records::Profiles;
+use crate::layer_profile::LayerProfile;
 
-/// Whether a layer conforms to the profile of this number.
-pub(crate) fn conforms_to(profiles: &Profiles, number: u8) -> bool
+/// Whether a layer with this `profile_idc` and these compatibility flags conforms to the profile of a number: it is the
+/// `profile_idc`, or its compatibility flag is set.
+pub fn conforms_to(profile_idc: u8, compatibility_flags: &[bool; 32], number: u8) -> bool
     requires { number < 32 }
-    ensures { result ≡ conforms_to_number (plain_profiles profiles.now) number }
+    ensures { result ≡ conforms_to_number profile_idc compatibility_flags.now number }
 {
-    profiles.profile_idc == number || profiles.profile_compatibility_flag[usize::from(number)]
+    profile_idc == number || compatibility_flags[usize::from(number)]
 }
 
-/// Whether constraint flags of the range extensions' profile stand there.
-pub(crate) fn has_extensions(profiles: &Profiles) -> bool
-    ensures { result ≡ has_range_extensions_flags (plain_profiles profiles.now) }
+/// Whether constraint flags of the range extensions' profiles stand in a set of a layer with this `profile_idc` and these
+/// compatibility flags: it conforms to one of the profiles 4 to 11.
+pub fn has_range_extensions(profile_idc: u8, compatibility_flags: &[bool; 32]) -> bool
+    ensures { result ≡ has_range_extensions_flags profile_idc compatibility_flags.now }
 {
-    conforms_to(profiles, 4)
-        || conforms_to(profiles, 5)
-        || conforms_to(profiles, 6)
-        || conforms_to(profiles, 7)
-        || conforms_to(profiles, 8)
-        || conforms_to(profiles, 9)
-        || conforms_to(profiles, 10)
-        || conforms_to(profiles, 11)
+    conforms_to(profile_idc, compatibility_flags, 4)
+        || conforms_to(profile_idc, compatibility_flags, 5)
+        || conforms_to(profile_idc, compatibility_flags, 6)
+        || conforms_to(profile_idc, compatibility_flags, 7)
+        || conforms_to(profile_idc, compatibility_flags, 8)
+        || conforms_to(profile_idc, compatibility_flags, 9)
+        || conforms_to(profile_idc, compatibility_flags, 10)
+        || conforms_to(profile_idc, compatibility_flags, 11)
+}
+
+pub(crate) fn layer_conforms_to(layer: &LayerProfile, number: u8) -> bool
+    requires { number < 32 }
+    ensures { result ≡ table.layer_conforms_to (plain_layer_profile layer.now) number }
+{
+    conforms_to(layer.profile_idc, &layer.profile_compatibility_flag, number)
+}
+
+/// Whether constraint flags of the range extensions' profiles stand there.
+pub(crate) fn has_extensions(layer: &LayerProfile) -> bool
+    ensures { result ≡ has_range_extensions_flags layer.now.profile_idc layer.now.profile_compatibility_flag }
+{
+    has_range_extensions(layer.profile_idc, &layer.profile_compatibility_flag)
 }
 
 /// Whether `max_14bit_constraint_flag` stands among them.
-pub(crate) fn has_14bit(profiles: &Profiles) -> bool
-    ensures { result ≡ has_14bit_flag (plain_profiles profiles.now) }
+pub(crate) fn has_14bit(layer: &LayerProfile) -> bool
+    ensures { result ≡ table.has_14bit_flag (plain_layer_profile layer.now) }
 {
-    conforms_to(profiles, 5)
-        || conforms_to(profiles, 9)
-        || conforms_to(profiles, 10)
-        || conforms_to(profiles, 11)
+    layer_conforms_to(layer, 5)
+        || layer_conforms_to(layer, 9)
+        || layer_conforms_to(layer, 10)
+        || layer_conforms_to(layer, 11)
 }
 
 /// Whether `inbld_flag` stands there.
-pub(crate) fn has_inbld(profiles: &Profiles) -> bool
-    ensures { result ≡ has_inbld_flag (plain_profiles profiles.now) }
+pub(crate) fn has_inbld(layer: &LayerProfile) -> bool
+    ensures { result ≡ has_inbld_flag layer.now.profile_idc layer.now.profile_compatibility_flag }
 {
-    conforms_to(profiles, 1)
-        || conforms_to(profiles, 2)
-        || conforms_to(profiles, 3)
-        || conforms_to(profiles, 4)
-        || conforms_to(profiles, 5)
-        || conforms_to(profiles, 9)
-        || conforms_to(profiles, 11)
+    layer_conforms_to(layer, 1)
+        || layer_conforms_to(layer, 2)
+        || layer_conforms_to(layer, 3)
+        || layer_conforms_to(layer, 4)
+        || layer_conforms_to(layer, 5)
+        || layer_conforms_to(layer, 9)
+        || layer_conforms_to(layer, 11)
 }

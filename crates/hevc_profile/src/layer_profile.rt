@@ -1,101 +1,116 @@
-//! The profile of the whole stream, or of a sub-layer (7.3.3, rows 1 to 15 of table 2).
-ghost use Rattle.hevc_spec.specs.Payload.{bits, IsAhead};
-ghost use Rattle.hevc_spec.specs.Table.{read};
-ghost use Rattle.hevc_elements.specs.Reads.{Reads};
-ghost use Rattle.hevc_part_tables.specs.ProfileTierLevelTable.{compatibility_flags, profile_numbers as profile_numbers_table, source as source_table, inbld_flag as inbld_flag_table, layer_profile as layer_profile_table};
-ghost use Rattle.hevc_profile.specs.Scopes.{plain_scope};
-ghost use Rattle.hevc_profile.specs.Projections.{plain_profile_numbers, plain_source, plain_layer_profile};
+//! What is told of the profile of a layer (7.3.3, rows 1 to 15 of table 2).
+ghost use Rattle.std.specs.Prelude.{◌≡◌, ◌<◌};
+ghost use Rattle.hevc_tables.specs.ProfileTierLevelTable as table;
+ghost use Rattle.hevc_types_a.specs.ProfileTierLevel.{plain_profile_tier_level};
+ghost use Rattle.hevc_profile.specs.LayerProfile.{plain_layer_profile};
 
-use crate::conformance::has_inbld;
-use crate::constraints::read_constraints;
-use crate::records::{LayerProfile, ProfileNumbers, Profiles, Source};
-use crate::scope::{Scope, row_of};
-use hevc_bits::NaluReader;
-use hevc_elements::ParseError;
-use hevc_elements::rows::{bits_u8, flag, flag_if, skip};
+use hevc_types_a::ProfileTierLevel;
 
-/// Rows 1 to 15 of table 2.
-#[tactic(auto, unfolding(hevc_part_tables::specs::ProfileTierLevelTable::layer_profile))]
-pub(crate) fn read_layer_profile(
-    r: &mut NaluReader<'_>,
-    scope: Scope,
-) -> Result<LayerProfile, ParseError>
-    ensures read { Reads plain_layer_profile result r.new (read (layer_profile_table (plain_scope scope)) (bits r.old)) }
-    ensures moves { IsAhead r.old r.new }
-{
-    let numbers = read_numbers(r, scope)?;
-    let source = read_source(r, scope)?;
-    let constraints = read_constraints(r, scope, &numbers.profiles)?;
-    let inbld_flag = read_inbld_flag(r, scope, has_inbld(&numbers.profiles))?;
-    Ok(LayerProfile {
-        numbers,
-        source,
-        constraints,
-        inbld_flag,
-    })
+/// The profile of the whole stream, or of a sub-layer. Fields have the names of their syntax elements, without `general_` and
+/// `sub_layer_`.
+#[derive(Clone, Copy)]
+pub(crate) struct LayerProfile {
+    /// 0 to 3.
+    pub profile_space: u8,
+    pub tier_flag: bool,
+    /// 0 to 31.
+    pub profile_idc: u8,
+    pub profile_compatibility_flag: [bool; 32],
+    pub progressive_source_flag: bool,
+    pub interlaced_source_flag: bool,
+    pub non_packed_constraint_flag: bool,
+    pub frame_only_constraint_flag: bool,
+    pub max_12bit_constraint_flag: bool,
+    pub max_10bit_constraint_flag: bool,
+    pub max_8bit_constraint_flag: bool,
+    pub max_422chroma_constraint_flag: bool,
+    pub max_420chroma_constraint_flag: bool,
+    pub max_monochrome_constraint_flag: bool,
+    pub intra_constraint_flag: bool,
+    pub one_picture_only_constraint_flag: bool,
+    pub lower_bit_rate_constraint_flag: bool,
+    pub max_14bit_constraint_flag: bool,
+    pub inbld_flag: bool,
 }
 
-/// Rows 1 to 4 of table 2.
-#[tactic(auto, unfolding(hevc_part_tables::specs::ProfileTierLevelTable::profile_numbers))]
-fn read_numbers(r: &mut NaluReader<'_>, scope: Scope) -> Result<ProfileNumbers, ParseError>
-    ensures read { Reads plain_profile_numbers result r.new (read (profile_numbers_table (plain_scope scope)) (bits r.old)) }
-    ensures moves { IsAhead r.old r.new }
-{
-    let profile_space = bits_u8(r, row_of(scope, 1), 2, 0, 3)?;
-    let tier_flag = flag(r, row_of(scope, 2))?;
-    let profile_idc = bits_u8(r, row_of(scope, 3), 5, 0, 31)?;
-    let profile_compatibility_flag = read_compatibility_flags(r, scope)?;
-    Ok(ProfileNumbers {
-        profile_space,
-        tier_flag,
-        profiles: Profiles {
-            profile_idc,
-            profile_compatibility_flag,
-        },
-    })
-}
-
-/// Row 4 of table 2.
-#[tactic(auto, using(hevc_elements::proofs::Loops::loops), unfolding(hevc_part_tables::specs::ProfileTierLevelTable::compatibility_flags, hevc_part_tables::specs::ProfileTierLevelTable::next_compatibility_flag))]
-fn read_compatibility_flags(r: &mut NaluReader<'_>, scope: Scope) -> Result<[bool; 32], ParseError>
-    ensures read { Reads (λ flags. flags) result r.new (read (compatibility_flags (plain_scope scope)) (bits r.old)) }
-    ensures moves { IsAhead r.old r.new }
-{
-    let mut flags = [false; 32];
-    for i in 0..32usize {
-        flags[i] = flag(r, row_of(scope, 4))?;
+impl LayerProfile {
+    /// A layer of which nothing is told.
+    pub fn new() -> LayerProfile
+        ensures { plain_layer_profile result ≡ table.default_layer_profile }
+    {
+        LayerProfile {
+            profile_space: 0,
+            tier_flag: false,
+            profile_idc: 0,
+            profile_compatibility_flag: [false; 32],
+            progressive_source_flag: false,
+            interlaced_source_flag: false,
+            non_packed_constraint_flag: false,
+            frame_only_constraint_flag: false,
+            max_12bit_constraint_flag: false,
+            max_10bit_constraint_flag: false,
+            max_8bit_constraint_flag: false,
+            max_422chroma_constraint_flag: false,
+            max_420chroma_constraint_flag: false,
+            max_monochrome_constraint_flag: false,
+            intra_constraint_flag: false,
+            one_picture_only_constraint_flag: false,
+            lower_bit_rate_constraint_flag: false,
+            max_14bit_constraint_flag: false,
+            inbld_flag: false,
+        }
     }
-    Ok(flags)
 }
 
-/// Row 5 of table 2.
-#[tactic(auto, unfolding(hevc_part_tables::specs::ProfileTierLevelTable::source))]
-fn read_source(r: &mut NaluReader<'_>, scope: Scope) -> Result<Source, ParseError>
-    ensures read { Reads plain_source result r.new (read (source_table (plain_scope scope)) (bits r.old)) }
-    ensures moves { IsAhead r.old r.new }
+/// Puts the profile of the whole stream.
+#[tactic(auto, unfolding(hevc_tables::specs::ProfileTierLevelTable::with_general_profile))]
+pub(crate) fn put_general_profile(all: &mut ProfileTierLevel, layer: &LayerProfile)
+    ensures { plain_profile_tier_level all.new ≡ table.with_general_profile (plain_profile_tier_level all.old) (plain_layer_profile layer.now) }
 {
-    let row = row_of(scope, 5);
-    let progressive_source_flag = flag(r, row)?;
-    let interlaced_source_flag = flag(r, row)?;
-    let non_packed_constraint_flag = flag(r, row)?;
-    let frame_only_constraint_flag = flag(r, row)?;
-    Ok(Source {
-        progressive_source_flag,
-        interlaced_source_flag,
-        non_packed_constraint_flag,
-        frame_only_constraint_flag,
-    })
+    all.general_profile_space = layer.profile_space;
+    all.general_tier_flag = layer.tier_flag;
+    all.general_profile_idc = layer.profile_idc;
+    all.general_profile_compatibility_flag = layer.profile_compatibility_flag;
+    all.general_progressive_source_flag = layer.progressive_source_flag;
+    all.general_interlaced_source_flag = layer.interlaced_source_flag;
+    all.general_non_packed_constraint_flag = layer.non_packed_constraint_flag;
+    all.general_frame_only_constraint_flag = layer.frame_only_constraint_flag;
+    all.general_max_12bit_constraint_flag = layer.max_12bit_constraint_flag;
+    all.general_max_10bit_constraint_flag = layer.max_10bit_constraint_flag;
+    all.general_max_8bit_constraint_flag = layer.max_8bit_constraint_flag;
+    all.general_max_422chroma_constraint_flag = layer.max_422chroma_constraint_flag;
+    all.general_max_420chroma_constraint_flag = layer.max_420chroma_constraint_flag;
+    all.general_max_monochrome_constraint_flag = layer.max_monochrome_constraint_flag;
+    all.general_intra_constraint_flag = layer.intra_constraint_flag;
+    all.general_one_picture_only_constraint_flag = layer.one_picture_only_constraint_flag;
+    all.general_lower_bit_rate_constraint_flag = layer.lower_bit_rate_constraint_flag;
+    all.general_max_14bit_constraint_flag = layer.max_14bit_constraint_flag;
+    all.general_inbld_flag = layer.inbld_flag;
 }
 
-/// Rows 14 and 15 of table 2.
-#[tactic(auto, unfolding(hevc_part_tables::specs::ProfileTierLevelTable::inbld_flag, hevc_spec::specs::Rows::when))]
-fn read_inbld_flag(r: &mut NaluReader<'_>, scope: Scope, present: bool) -> Result<bool, ParseError>
-    ensures read { Reads (λ b. b) result r.new (read (inbld_flag_table (plain_scope scope) present) (bits r.old)) }
-    ensures moves { IsAhead r.old r.new }
+/// Puts the profile of a sub-layer at its index.
+#[tactic(auto, unfolding(hevc_tables::specs::ProfileTierLevelTable::with_sub_layer_profile))]
+pub(crate) fn put_sub_layer_profile(all: &mut ProfileTierLevel, i: usize, layer: &LayerProfile)
+    requires { i < 6 }
+    ensures { plain_profile_tier_level all.new ≡ table.with_sub_layer_profile (plain_profile_tier_level all.old) i (plain_layer_profile layer.now) }
 {
-    let inbld_flag = flag_if(r, present, row_of(scope, 14))?;
-    if !present {
-        skip(r, row_of(scope, 15), 1)?;
-    }
-    Ok(inbld_flag)
+    all.sub_layer_profile_space[i] = layer.profile_space;
+    all.sub_layer_tier_flag[i] = layer.tier_flag;
+    all.sub_layer_profile_idc[i] = layer.profile_idc;
+    all.sub_layer_profile_compatibility_flag[i] = layer.profile_compatibility_flag;
+    all.sub_layer_progressive_source_flag[i] = layer.progressive_source_flag;
+    all.sub_layer_interlaced_source_flag[i] = layer.interlaced_source_flag;
+    all.sub_layer_non_packed_constraint_flag[i] = layer.non_packed_constraint_flag;
+    all.sub_layer_frame_only_constraint_flag[i] = layer.frame_only_constraint_flag;
+    all.sub_layer_max_12bit_constraint_flag[i] = layer.max_12bit_constraint_flag;
+    all.sub_layer_max_10bit_constraint_flag[i] = layer.max_10bit_constraint_flag;
+    all.sub_layer_max_8bit_constraint_flag[i] = layer.max_8bit_constraint_flag;
+    all.sub_layer_max_422chroma_constraint_flag[i] = layer.max_422chroma_constraint_flag;
+    all.sub_layer_max_420chroma_constraint_flag[i] = layer.max_420chroma_constraint_flag;
+    all.sub_layer_max_monochrome_constraint_flag[i] = layer.max_monochrome_constraint_flag;
+    all.sub_layer_intra_constraint_flag[i] = layer.intra_constraint_flag;
+    all.sub_layer_one_picture_only_constraint_flag[i] = layer.one_picture_only_constraint_flag;
+    all.sub_layer_lower_bit_rate_constraint_flag[i] = layer.lower_bit_rate_constraint_flag;
+    all.sub_layer_max_14bit_constraint_flag[i] = layer.max_14bit_constraint_flag;
+    all.sub_layer_inbld_flag[i] = layer.inbld_flag;
 }

@@ -2,7 +2,7 @@
 ghost use Rattle.hevc_spec.specs.Payload.{bits, IsAhead};
 ghost use Rattle.hevc_spec.specs.Table.{read};
 ghost use Rattle.hevc_elements.specs.Reads.{Reads};
-ghost use Rattle.hevc_part_tables.specs.ProfileTierLevelTable.{level as level_table};
+ghost use Rattle.hevc_tables.specs.ProfileTierLevelTable.{level as level_table};
 ghost use Rattle.hevc_types_a.specs.Level.{level_number};
 
 use hevc_bits::NaluReader;
@@ -12,7 +12,7 @@ use hevc_spec::Row;
 use hevc_types_a::Level;
 
 /// The level whose number stands there, u(8). Other numbers are out of range.
-#[tactic(auto, using(crate::proofs::LevelNumbers::level_numbers), unfolding(hevc_part_tables::specs::ProfileTierLevelTable::level))]
+#[tactic(auto, using(crate::proofs::LevelNumbers::level_numbers), unfolding(hevc_tables::specs::ProfileTierLevelTable::level))]
 pub(crate) fn read_level(r: &mut NaluReader<'_>, row: Row) -> Result<Level, ParseError>
     ensures read { Reads level_number result r.new (read (level_table row) (bits r.old)) }
     ensures moves { IsAhead r.old r.new }

@@ -3,14 +3,14 @@
 
 mod conformance;
 mod constraints;
+mod layer;
 mod layer_profile;
 mod level;
-mod places;
 mod profile_tier_level;
-mod records;
 mod scope;
 mod sub_layers;
 
+pub use conformance::{conforms_to, has_range_extensions};
 pub use profile_tier_level::read_profile_tier_level;
 
 #[cfg(test)]

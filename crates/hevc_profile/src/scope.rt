@@ -1,6 +1,6 @@
 //! Whose profile is read.
 ghost use Rattle.std.specs.Prelude.{◌≡◌};
-ghost use Rattle.hevc_part_tables.specs.ProfileTierLevelTable.{row_of as row_of_scope};
+ghost use Rattle.hevc_tables.specs.ProfileTierLevelTable.{row_of as row_of_scope};
 ghost use Rattle.hevc_profile.specs.Scopes.{plain_scope};
 
 use hevc_spec::Row;

@@ -1,3 +1,2 @@
 pub mod Modulo
 pub mod Places
-pub mod TableNames

@@ -1,6 +1,6 @@
 //! The default scaling lists (7.4.5).
 ghost use Rattle.std.specs.Prelude.{◌≡◌};
-ghost use Rattle.hevc_tables.specs.DefaultScalingLists.{default_lists, flat_list, intra_list, inter_list};
+ghost use Rattle.hevc_records.specs.DefaultScalingLists.{default_lists, flat_list, intra_list, inter_list};
 ghost use Rattle.hevc_types_a.specs.ScalingLists.{plain_scaling_lists};
 
 use hevc_types_a::ScalingLists;

@@ -1,22 +1,12 @@
 //! What is read of matrices.
 ghost use Rattle.std.specs.Prelude.{pos, negsuc, ◌≤ℤ◌};
-ghost use Rattle.hevc_tables.specs.Bounds.{Within};
+ghost use Rattle.hevc_records.specs.Bounds.{Within};
 
 /// The entries of a matrix as they are read, and the number that the next difference is added to.
 #[derive(Clone, Copy)]
 pub(crate) struct Coefs<const N: usize> {
     pub next_coef: u8,
     pub entries: [u8; N],
-}
-
-/// A matrix of `N` entries.
-#[derive(Clone, Copy)]
-pub(crate) struct Matrix<const N: usize> {
-    /// The first entry less 8, of a matrix of 16x16 or 32x32: -7 to 247.
-    pub dc_coef_minus8: i16,
-    pub entries: [u8; N],
-    pub ghost least: { negsuc 6 ≤ℤ dc_coef_minus8 },
-    pub ghost most: { dc_coef_minus8 ≤ℤ pos 247 },
 }
 
 /// The matrices of a size, by matrixId.

@@ -1,11 +1,15 @@
-//! Readers of the parts that stand in parameter sets (7.3.3, 7.3.4, 7.3.7, Annex E).
+//! Readers of parameter sets (7.3.2), and of the parts that stand in them (7.3.3, 7.3.4, 7.3.7, Annex E).
 //!
-//! Each reads at a reader by its syntax table, takes no memory, and answers `OutOfBits` or `OutOfRange` alone besides its record.
+//! A reader of a set reads it out of its unit; those of video and sequence sets want memory for their lists. A reader of a part reads at a
+//! reader of payload bits, takes no memory, and answers `OutOfBits` or `OutOfRange` alone besides its record.
 #![tactic(auto)]
 
 pub use hevc_elements::ParseError;
+pub use hevc_picture_set::read_pps;
 pub use hevc_profile::read_profile_tier_level;
 pub use hevc_scaling::{default_scaling_lists, read_scaling_list_data};
+pub use hevc_sequence_set::read_sps;
 pub use hevc_short_term::read_short_term_set;
 pub use hevc_timing::read_hrd_parameters;
 pub use hevc_usability::read_vui_parameters;
+pub use hevc_video_set::read_vps;

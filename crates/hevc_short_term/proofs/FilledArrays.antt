@@ -1,9 +1,9 @@
 -- Arrays of a set that are filled from their begin, and their order.
 use Rattle.std.proofs.Common.{◌≡◌, ℕ, suc, ◌+◌, ◌-◌, ◌<◌, pos, List, ◌++◌, length, take, get_or, set, map, replicate, refl, arith}
 use Rattle.std.proofs.lemmas.List.{set_at, take_all, append_assoc, length-map, map_more, length-take-le}
-use Rattle.hevc_tables.specs.ShortTermRefPicSet.{Fall, Rise}
-use Rattle.hevc_part_tables.specs.declared.short_term_member.ShortTermMember.{ShortTermMember}
-use Rattle.hevc_part_tables.specs.ShortTermTable.{deltas, array_of}
+use Rattle.hevc_records.specs.ShortTermRefPicSet.{Fall, Rise}
+use Rattle.hevc_tables.specs.declared.short_term_member.ShortTermMember.{ShortTermMember}
+use Rattle.hevc_tables.specs.ShortTermTable.{deltas, array_of}
 use Rattle.hevc_short_term.specs.Sides.{LieBefore, LieAfter}
 use Rattle.hevc_short_term.proofs.OrderLaws.{fall_of, rise_of}
 

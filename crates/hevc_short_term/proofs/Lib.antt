@@ -4,4 +4,3 @@ pub mod LinedUp
 pub mod Listed
 pub mod FilledArrays
 pub mod Parts
-pub mod TableNames

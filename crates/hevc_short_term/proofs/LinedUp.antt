@@ -2,10 +2,10 @@
 use Rattle.std.proofs.Common.{◌≡◌, ℕ, ◌+◌, ◌<◌, ◌≤◌, ℤ, pos, ◌+ℤ◌, ◌-ℤ◌, ◌<ℤ◌, Bool, true, false, List, [], ◌∷◌, ◌++◌, length, take, drop, reverse, get_or, refl, sym, ◌∙◌, arith}
 use Rattle.std.specs.Prelude.{int_lt, if◌then◌else◌}
 use Rattle.std.proofs.lemmas.List.{drop_more, append_assoc, append-nil, map-append, length-take-le, length-append}
-use Rattle.hevc_tables.specs.ShortTermRefPicSet.{PlainShortTermRefPicSet, Fall, Rise}
-use Rattle.hevc_part_tables.specs.declared.member_flags.MemberFlags.{MemberFlags}
-use Rattle.hevc_part_tables.specs.declared.short_term_member.ShortTermMember.{ShortTermMember}
-use Rattle.hevc_part_tables.specs.ShortTermTable.{deltas, differences, shifted, shifted_one, insert_rising, rising, predicted_members}
+use Rattle.hevc_records.specs.ShortTermRefPicSet.{PlainShortTermRefPicSet, Fall, Rise}
+use Rattle.hevc_tables.specs.declared.member_flags.MemberFlags.{MemberFlags}
+use Rattle.hevc_tables.specs.declared.short_term_member.ShortTermMember.{ShortTermMember}
+use Rattle.hevc_tables.specs.ShortTermTable.{deltas, differences, shifted, shifted_one, insert_rising, rising, predicted_members}
 use Rattle.hevc_short_term.specs.Orders.{AllAbove, AllBelow, Rises, Falls}
 use Rattle.hevc_short_term.proofs.OrderLaws.{reverse-cons, map-reverse, AllAbove-weaken, AllBelow-weaken, AllAbove-append, AllBelow-reverse, Rises-append, Rises-reverse, falls_from, rises_from}
 

@@ -4,8 +4,8 @@ use Rattle.std.specs.List.{list_all}
 use Rattle.std.proofs.lemmas.List.{map-append, length-append}
 use Rattle.std.proofs.lemmas.Int.{ints}
 use Rattle.std.proofs.lemmas.Grind.{common_steps}
-use Rattle.hevc_part_tables.specs.declared.short_term_member.ShortTermMember.{ShortTermMember}
-use Rattle.hevc_part_tables.specs.ShortTermTable.{deltas, last_delta, is_i32}
+use Rattle.hevc_tables.specs.declared.short_term_member.ShortTermMember.{ShortTermMember}
+use Rattle.hevc_tables.specs.ShortTermTable.{deltas, last_delta, is_i32}
 use Rattle.hevc_short_term.specs.Orders.{AllAbove, AllBelow}
 use Rattle.hevc_short_term.specs.Sides.{LieBefore, LieAfter}
 use Rattle.hevc_short_term.proofs.OrderLaws.{AllAbove-weaken, AllBelow-weaken, AllAbove-append, AllBelow-append, Rises-append, Falls-append}

@@ -3,7 +3,7 @@ use Rattle.std.proofs.Common.{◌≡◌, ℕ, zero, suc, ◌<◌, ◌≤◌, ℤ
 use Rattle.std.proofs.Math.Numerals.{add-one}
 use Rattle.std.proofs.lemmas.List.{map-append}
 use Rattle.std.proofs.lemmas.Grind.{reverse_onto}
-use Rattle.hevc_tables.specs.ShortTermRefPicSet.{Fall, Rise}
+use Rattle.hevc_records.specs.ShortTermRefPicSet.{Fall, Rise}
 use Rattle.hevc_short_term.specs.Orders.{AllAbove, AllBelow, Rises, Falls}
 
 pub reverse-cons : {A : Type 0} (x : A) (xs : List A) → reverse (x ∷ xs) ≡ reverse xs ++ x ∷ []

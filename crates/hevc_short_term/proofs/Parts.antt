@@ -4,9 +4,9 @@ use Rattle.std.specs.Prelude.{int_lt}
 use Rattle.std.specs.List.{list_all}
 use Rattle.std.proofs.lemmas.Bool.Decides.{nat_tests}
 use Rattle.std.proofs.lemmas.List.{length-reverse, get_or-map}
-use Rattle.hevc_tables.specs.ShortTermRefPicSet.{PlainShortTermRefPicSet}
-use Rattle.hevc_part_tables.specs.declared.short_term_member.ShortTermMember.{ShortTermMember}
-use Rattle.hevc_part_tables.specs.ShortTermTable.{deltas, is_i32, members_before, members_after, has_room}
+use Rattle.hevc_records.specs.ShortTermRefPicSet.{PlainShortTermRefPicSet}
+use Rattle.hevc_tables.specs.declared.short_term_member.ShortTermMember.{ShortTermMember}
+use Rattle.hevc_tables.specs.ShortTermTable.{deltas, is_i32, members_before, members_after, has_room}
 use Rattle.hevc_types_a.specs.declared.short_term_ref_pic_set.ShortTermRefPicSet.{ShortTermRefPicSet}
 use Rattle.hevc_types_a.specs.ShortTermRefPicSet.{plain_short_term_ref_pic_set}
 use Rattle.hevc_short_term.specs.Orders.{AllAbove, AllBelow, Rises}

@@ -4,9 +4,9 @@ use Rattle.std.specs.Prelude.{if◌then◌else◌, ◌&&◌, not}
 use Rattle.std.specs.Ordering.{int_eq}
 use Rattle.std.proofs.lemmas.Int.{to_z-of_z}
 use Rattle.std.proofs.lemmas.List.{drop_more, drop_all, append_assoc, append-nil, reverse-append}
-use Rattle.hevc_part_tables.specs.declared.member_flags.MemberFlags.{MemberFlags}
-use Rattle.hevc_part_tables.specs.declared.short_term_member.ShortTermMember.{ShortTermMember}
-use Rattle.hevc_part_tables.specs.ShortTermTable.{shifted, shifted_one}
+use Rattle.hevc_tables.specs.declared.member_flags.MemberFlags.{MemberFlags}
+use Rattle.hevc_tables.specs.declared.short_term_member.ShortTermMember.{ShortTermMember}
+use Rattle.hevc_tables.specs.ShortTermTable.{shifted, shifted_one}
 
 shifted_none : (shift : ℤ) (flags : List MemberFlags) → shifted shift [] flags ≡ []
 unfolding shifted

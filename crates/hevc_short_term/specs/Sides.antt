@@ -1,8 +1,8 @@
 -- Members on one side of the current picture, nearest first (7.4.8).
 use Rattle.std.specs.Prelude.{pos, List, IsTrue}
 use Rattle.std.specs.List.{list_all}
-use Rattle.hevc_part_tables.specs.declared.short_term_member.ShortTermMember.{ShortTermMember}
-use Rattle.hevc_part_tables.specs.ShortTermTable.{deltas, is_i32}
+use Rattle.hevc_tables.specs.declared.short_term_member.ShortTermMember.{ShortTermMember}
+use Rattle.hevc_tables.specs.ShortTermTable.{deltas, is_i32}
 use Rattle.hevc_short_term.specs.Orders.{AllAbove, AllBelow, Rises, Falls}
 
 -- their differences fall below 0, and are of 32 bits

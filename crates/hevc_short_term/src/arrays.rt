@@ -1,9 +1,9 @@
 //! Members as the arrays of a set.
 ghost use Rattle.std.specs.Prelude.{◌≡◌, ◌≤◌, pos, false, IsTrue, length};
 ghost use Rattle.std.specs.List.{list_all};
-ghost use Rattle.hevc_part_tables.specs.ShortTermTable.{deltas, used, is_i32, array_of};
+ghost use Rattle.hevc_tables.specs.ShortTermTable.{deltas, used, is_i32, array_of};
 
-use hevc_part_tables::ShortTermMember;
+use hevc_tables::ShortTermMember;
 
 /// The differences of members, and zeros behind them.
 #[tactic(auto, using(crate::proofs::FilledArrays::arrays, crate::proofs::Parts::fit_at))]

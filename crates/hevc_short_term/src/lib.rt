@@ -8,7 +8,6 @@ mod member_flags;
 mod predicted_members;
 mod predicted_set;
 mod prediction;
-mod records;
 mod set_of_members;
 mod short_term_set;
 mod sides;

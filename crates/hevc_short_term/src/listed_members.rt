@@ -3,18 +3,18 @@ ghost use Rattle.std.specs.Prelude.{◌≡◌, ◌≤◌, ℤ, pos, negsuc, ◌+
 ghost use Rattle.hevc_spec.specs.Payload.{bits, IsAhead};
 ghost use Rattle.hevc_spec.specs.Table.{read};
 ghost use Rattle.hevc_elements.specs.Reads.{Reads};
-ghost use Rattle.hevc_part_tables.specs.ShortTermTable.{member_before, member_after, listed_before, listed_after, last_delta};
+ghost use Rattle.hevc_tables.specs.ShortTermTable.{member_before, member_after, listed_before, listed_after, last_delta};
 ghost use Rattle.hevc_short_term.specs.Sides.{LieBefore, LieAfter};
 
 use arrayvec::ArrayVec;
 use hevc_bits::NaluReader;
 use hevc_elements::ParseError;
 use hevc_elements::rows::{flag, ue};
-use hevc_part_tables::ShortTermMember;
 use hevc_spec::Row;
+use hevc_tables::ShortTermMember;
 
 /// Rows 9 and 10 of table 7, for so many members.
-#[tactic(auto, using(hevc_elements::proofs::Loops::loops, crate::proofs::Listed::listed), unfolding(hevc_part_tables::specs::ShortTermTable::listed_before, hevc_part_tables::specs::ShortTermTable::next_member_before))]
+#[tactic(auto, using(hevc_elements::proofs::Loops::loops, crate::proofs::Listed::listed), unfolding(hevc_tables::specs::ShortTermTable::listed_before, hevc_tables::specs::ShortTermTable::next_member_before))]
 pub(crate) fn read_listed_before(
     r: &mut NaluReader<'_>,
     count: u8,
@@ -34,7 +34,7 @@ pub(crate) fn read_listed_before(
 }
 
 /// Rows 9 and 10 of table 7, for the member behind these.
-#[tactic(auto, unfolding(hevc_part_tables::specs::ShortTermTable::member_before))]
+#[tactic(auto, unfolding(hevc_tables::specs::ShortTermTable::member_before))]
 fn read_member_before(
     r: &mut NaluReader<'_>,
     members: &[ShortTermMember],
@@ -55,7 +55,7 @@ fn read_member_before(
 }
 
 /// Rows 11 and 12 of table 7, for so many members.
-#[tactic(auto, using(hevc_elements::proofs::Loops::loops, crate::proofs::Listed::listed), unfolding(hevc_part_tables::specs::ShortTermTable::listed_after, hevc_part_tables::specs::ShortTermTable::next_member_after))]
+#[tactic(auto, using(hevc_elements::proofs::Loops::loops, crate::proofs::Listed::listed), unfolding(hevc_tables::specs::ShortTermTable::listed_after, hevc_tables::specs::ShortTermTable::next_member_after))]
 pub(crate) fn read_listed_after(
     r: &mut NaluReader<'_>,
     count: u8,
@@ -75,7 +75,7 @@ pub(crate) fn read_listed_after(
 }
 
 /// Rows 11 and 12 of table 7, for the member behind these.
-#[tactic(auto, unfolding(hevc_part_tables::specs::ShortTermTable::member_after))]
+#[tactic(auto, unfolding(hevc_tables::specs::ShortTermTable::member_after))]
 fn read_member_after(
     r: &mut NaluReader<'_>,
     members: &[ShortTermMember],

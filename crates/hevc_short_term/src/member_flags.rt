@@ -3,17 +3,17 @@ ghost use Rattle.std.specs.Prelude.{◌≡◌, ◌+◌, ◌≤◌, ◌<◌, IfOk
 ghost use Rattle.hevc_spec.specs.Payload.{bits, IsAhead};
 ghost use Rattle.hevc_spec.specs.Table.{read};
 ghost use Rattle.hevc_elements.specs.Reads.{Reads};
-ghost use Rattle.hevc_part_tables.specs.ShortTermTable.{member_flags as member_flags_table, all_member_flags};
+ghost use Rattle.hevc_tables.specs.ShortTermTable.{member_flags as member_flags_table, all_member_flags};
 
 use arrayvec::ArrayVec;
 use hevc_bits::NaluReader;
 use hevc_elements::ParseError;
 use hevc_elements::rows::{flag, flag_or};
-use hevc_part_tables::MemberFlags;
 use hevc_spec::Row;
+use hevc_tables::MemberFlags;
 
 /// Row 5 of table 7, for each member of a set of so many, and for the set's own picture.
-#[tactic(auto, using(hevc_elements::proofs::Loops::loops), unfolding(hevc_part_tables::specs::ShortTermTable::all_member_flags, hevc_part_tables::specs::ShortTermTable::next_member_flags))]
+#[tactic(auto, using(hevc_elements::proofs::Loops::loops), unfolding(hevc_tables::specs::ShortTermTable::all_member_flags, hevc_tables::specs::ShortTermTable::next_member_flags))]
 pub(crate) fn read_all_flags(
     r: &mut NaluReader<'_>,
     num_delta_pocs: u32,
@@ -31,7 +31,7 @@ pub(crate) fn read_all_flags(
 }
 
 /// Row 5 of table 7, for one member.
-#[tactic(auto, unfolding(hevc_part_tables::specs::ShortTermTable::member_flags))]
+#[tactic(auto, unfolding(hevc_tables::specs::ShortTermTable::member_flags))]
 fn read_flags(r: &mut NaluReader<'_>) -> Result<MemberFlags, ParseError>
     ensures read { Reads (λ f. f) result r.new (read member_flags_table (bits r.old)) }
     ensures moves { IsAhead r.old r.new }

@@ -1,11 +1,11 @@
 //! The members of a predicted set (7.4.8).
 ghost use Rattle.std.specs.Prelude.{◌≡◌, ◌+◌, ◌≤◌, ◌<◌, [], ◌++◌, length, reverse};
-ghost use Rattle.hevc_part_tables.specs.ShortTermTable.{deltas, shifted, shifted_one, predicted_members as members_by_table};
+ghost use Rattle.hevc_tables.specs.ShortTermTable.{deltas, shifted, shifted_one, predicted_members as members_by_table};
 ghost use Rattle.hevc_types_a.specs.ShortTermRefPicSet.{plain_short_term_ref_pic_set};
 ghost use Rattle.hevc_short_term.specs.Orders.{Rises};
 
 use arrayvec::ArrayVec;
-use hevc_part_tables::{MemberFlags, ShortTermMember};
+use hevc_tables::{MemberFlags, ShortTermMember};
 use hevc_types_a::ShortTermRefPicSet;
 
 /// The members of a set that is predicted from another, in rising order.
@@ -77,7 +77,7 @@ fn push_forwards(
 }
 
 /// Appends what one difference gives.
-#[tactic(auto, unfolding(hevc_part_tables::specs::ShortTermTable::shifted_one))]
+#[tactic(auto, unfolding(hevc_tables::specs::ShortTermTable::shifted_one))]
 fn push_shifted(
     members: &mut ArrayVec<ShortTermMember, 17>,
     difference: i32,

@@ -1,12 +1,8 @@
 //! Short-term reference picture sets (7.3.7, table 7).
-ghost use Rattle.std.specs.Prelude.{◌≡◌, ◌≤◌, Bool, List, IfOk, IfErr, length, map};
-ghost use Rattle.hevc_spec.specs.Payload.{bits, IsAhead};
-ghost use Rattle.hevc_spec.specs.Table.{read, gives, refuses, Fault};
-ghost use Rattle.hevc_spec.specs.Lines.{Spells, BreaksOff};
-ghost use Rattle.hevc_elements.specs.Reads.{Reads, FailsAt};
-ghost use Rattle.hevc_elements.specs.Answers.{IsOfElement};
-ghost use Rattle.hevc_tables.specs.ShortTermRefPicSet.{PlainShortTermRefPicSet};
-ghost use Rattle.hevc_part_tables.specs.ShortTermTable.{short_term_ref_pic_set};
+ghost use Rattle.std.specs.Prelude.{length, map};
+ghost use Rattle.std.specs.Prelude.{◌≤◌};
+ghost use Rattle.hevc_elements.specs.Words.{bits, IsAhead, read, Reads, Means};
+ghost use Rattle.hevc_tables.specs.ShortTermTable.{short_term_ref_pic_set};
 ghost use Rattle.hevc_types_a.specs.ShortTermRefPicSet.{plain_short_term_ref_pic_set};
 
 use crate::listed_set::read_listed_set;
@@ -29,7 +25,7 @@ use hevc_types_a::ShortTermRefPicSet;
 /// Errors: `OutOfBits` where the payload ends within an element, and `OutOfRange` with table and row of the first element that
 /// isn't allowed; row 6 where a predicted set has more than 16 members or a difference that isn't of 32 bits. The reader then
 /// stands where that element begins.
-#[tactic(auto, using(hevc_elements::proofs::Meaning::is_found, hevc_elements::proofs::Meaning::is_only, hevc_elements::proofs::Meaning::is_refused, hevc_elements::proofs::Meaning::is_broken, hevc_elements::proofs::AnswerLaws::is_answered, crate::proofs::TableNames::set_names))]
+#[tactic(auto, using(hevc_elements::proofs::Meaning::meanings))]
 pub fn read_short_term_set(
     r: &mut NaluReader<'_>,
     sets: &[ShortTermRefPicSet],
@@ -42,23 +38,14 @@ pub fn read_short_term_set(
     requires known { st_rps_idx ≤ length sets.now }
     requires room { buffering ≤ 16 }
     ensures read { Reads plain_short_term_ref_pic_set result r.new (read (short_term_ref_pic_set (map plain_short_term_ref_pic_set sets.now) count buffering st_rps_idx) (bits r.old)) }
-    // What is read has lines that are allowed and that the payload spells, up to where the reader stands.
-    ensures found { IfOk result (λ x. Spells (short_term_ref_pic_set (map plain_short_term_ref_pic_set sets.now) count buffering st_rps_idx) (plain_short_term_ref_pic_set x) (bits r.old) (bits r.new)) }
-    // What has such lines is read.
-    ensures only { (x : PlainShortTermRefPicSet) (rest : List Bool) → Spells (short_term_ref_pic_set (map plain_short_term_ref_pic_set sets.now) count buffering st_rps_idx) x (bits r.old) rest → Reads plain_short_term_ref_pic_set result r.new (gives x rest) }
-    // A refusal is the first line that breaks, and the reader stands before it.
-    ensures refused { IfErr result (λ e. FailsAt e (short_term_ref_pic_set (map plain_short_term_ref_pic_set sets.now) count buffering st_rps_idx) (bits r.old) r.new) }
-    // Where a line breaks, that is the refusal.
-    ensures broken { (fault : Fault) (rest : List Bool) → BreaksOff (short_term_ref_pic_set (map plain_short_term_ref_pic_set sets.now) count buffering st_rps_idx) fault (bits r.old) rest → Reads plain_short_term_ref_pic_set result r.new (refuses fault rest) }
-    // There are no other refusals than of an element.
-    ensures answers { IfErr result (λ e. IsOfElement e) }
+    ensures means { Means plain_short_term_ref_pic_set (short_term_ref_pic_set (map plain_short_term_ref_pic_set sets.now) count buffering st_rps_idx) result r.old r.new }
     ensures moves { IsAhead r.old r.new }
 {
     read_rows(r, sets, count, buffering, st_rps_idx)
 }
 
 /// Rows 1 to 12 of table 7.
-#[tactic(auto, unfolding(hevc_part_tables::specs::ShortTermTable::short_term_ref_pic_set, hevc_spec::specs::Rows::either))]
+#[tactic(auto, unfolding(hevc_tables::specs::ShortTermTable::short_term_ref_pic_set, hevc_spec::specs::Rows::either))]
 fn read_rows(
     r: &mut NaluReader<'_>,
     sets: &[ShortTermRefPicSet],
@@ -71,9 +58,12 @@ fn read_rows(
     ensures read { Reads plain_short_term_ref_pic_set result r.new (read (short_term_ref_pic_set (map plain_short_term_ref_pic_set sets.now) count buffering st_rps_idx) (bits r.old)) }
     ensures moves { IsAhead r.old r.new }
 {
-    if flag_if(r, st_rps_idx != 0, Row(7, 1))? {
-        read_predicted_set(r, sets, count, st_rps_idx)
+    let mut set = ShortTermRefPicSet::new();
+    set.inter_ref_pic_set_prediction_flag = flag_if(r, st_rps_idx != 0, Row(7, 1))?;
+    if set.inter_ref_pic_set_prediction_flag {
+        read_predicted_set(r, sets, count, st_rps_idx, &mut set)?;
     } else {
-        read_listed_set(r, buffering)
+        read_listed_set(r, buffering, &mut set)?;
     }
+    Ok(set)
 }

@@ -2,3 +2,4 @@ pub mod UnitLaws
 pub mod PlaceLaws
 pub mod Repeats
 pub mod BitSteps
+pub mod LowBits

@@ -1,10 +1,7 @@
 -- Loading a byte changes no payload bit.
-use Rattle.std.proofs.Common.{◌≡◌, ℕ, zero, suc, ◌+◌, ◌*◌, ◌<◌, Bool, true, false, cond, eqb, List, [], ◌∷◌, length, drop, Some, None, refl, ap, sym, ◌∙◌, subst, arith, Option, ◌-◌, ◌++◌, ◌≤◌}
-use Rattle.std.specs.Prelude.{option_and_then, ◌&&◌, ◌||◌, not, min}
-use Rattle.std.specs.List.{list_any}
-use Rattle.std.proofs.lemmas.Bool.{eqb-true}
-use Rattle.std.proofs.Math.ListN.{length-append}
-use Rattle.hevc_spec.specs.Payload.{Place, bits, payload_after, payload_bits, bits_of, low_bits, run_behind, loading, with_bits, no_bits, bits_left, next_place, place_behind, IsAhead, IsReached}
+use Rattle.std.proofs.Common.{◌≡◌, ℕ, zero, suc, ◌+◌, ◌*◌, ◌<◌, Bool, true, false, cond, eqb, List, [], ◌∷◌, length, drop, Some, None, refl, ap, sym, ◌∙◌, subst, arith, Option, ◌-◌, ◌≤◌}
+use Rattle.std.specs.Prelude.{option_map, option_and_then, ◌&&◌}
+use Rattle.hevc_spec.specs.Payload.{Place, bits, payload_after, payload_bits, low_bits, run_behind, loading, with_bits, no_bits, bits_left, next_place, place_behind, IsAhead, IsReached}
 
 pub low_bits_length : (n byte : ℕ) → length (low_bits n byte) ≡ n
 low_bits_length zero byte = refl
@@ -118,3 +115,52 @@ reached_then p q s a b =
     let g = b.fewer in
     let sum : length (bits p) - length (bits s) ≡ (length (bits p) - length (bits q)) + (length (bits q) - length (bits s)) = omega arith in
     record { place = rw sum (place_behind-add _ _ p q s a.place b.place); fewer = omega arith }
+
+-- ---- so many bits on
+
+-- what leads from a place to the next one
+record Nexts (p q : Place) : Type 0 where
+  pub bit : Bool
+  pub reads : bits p ≡ bit ∷ bits q
+  pub level : bits_left p + 8 * p.dropped ≡ bits_left q + 8 * q.dropped + 1
+
+one_off : (loaded : List Bool) (p q : Place) → p.loaded ≡ loaded → 0 < length loaded → q ≡ record p { loaded = drop 1 p.loaded } → Nexts p q
+unfolding bits bits_left
+one_off [] p q e some same = absurd (omega arith)
+one_off (b ∷ loaded) p q e some same = record { bit = b; reads = rw (same, e) refl; level = rw (same, e) (omega arith) }
+
+nexts : (p q : Place) → next_place p ≡ Some q → Nexts p q
+nexts p q e = by_loaded (with_bits p) refl e
+  where
+    by_loaded : (o : Option Place) → with_bits p ≡ o → option_map (λ (s : Place). record s { loaded = drop 1 s.loaded }) o ≡ Some q → Nexts p q
+    by_loaded None is h = absurd cc
+    by_loaded (Some s) is h =
+        let k = with_bits_keeps p s is in
+        let same : q ≡ record s { loaded = drop 1 s.loaded } = cc in
+        let n = one_off s.loaded s q refl k.2 same in
+        record { bit = n.bit; reads = sym k.0 ∙ n.reads; level = sym k.1 ∙ n.level }
+
+-- what leads from a place to the one so many bits on
+pub record Passed (n : ℕ) (p q : Place) : Type 0 where
+  pub enough : n ≤ length (bits p)
+  pub rest : bits q ≡ drop n (bits p)
+  pub ahead : IsAhead p q
+  pub reached : IsReached p q
+
+pub passed : (n : ℕ) (p q : Place) → place_behind n p ≡ Some q → Passed n p q
+passed zero p q e =
+    let same : p ≡ q = cc in
+    subst (λ (r : Place). Passed 0 p r) same (record { enough = omega arith; rest = refl; ahead = same_ahead p; reached = same_reached p })
+passed (suc n) p q e = by_next (λ s h. passed n s q h) (next_place p) refl e
+  where
+    by_next : ((s : Place) → place_behind n s ≡ Some q → Passed n s q) → (o : Option Place) → next_place p ≡ o → option_and_then (place_behind n) o ≡ Some q → Passed (suc n) p q
+    by_next on None is h = absurd cc
+    by_next on (Some s) is h =
+        let b = nexts p s is in
+        let rest = on s h in
+        record {
+          enough = omega (arith, rest.enough, ap length b.reads);
+          rest = rest.rest ∙ rw b.reads refl;
+          ahead = ahead_then p s q (bit_ahead p s b.bit b.reads b.level) rest.ahead;
+          reached = reached_then p s q (bit_reached p s b.bit b.reads is) rest.reached;
+        }

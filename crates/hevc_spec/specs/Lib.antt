@@ -5,3 +5,4 @@ pub mod Payload
 pub mod Table
 pub mod Rows
 pub mod Lines
+pub mod UnitTypes

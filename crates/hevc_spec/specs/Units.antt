@@ -1,6 +1,7 @@
 -- The units of a byte stream (Annex B).
 use Rattle.std.specs.Prelude.{ℕ, ◌+◌, Bool, true, false, List, [], ◌∷◌, length, drop, take, ◌==◌, ◌&&◌, ◌||◌, nat_le, if◌then◌else◌}
 use Rattle.hevc_spec.specs.UnitHeader.{nal_unit_type}
+use Rattle.hevc_spec.specs.UnitTypes.{is_end}
 
 -- A unit as it stands in a stream: the place of its first header byte, and its bytes.
 pub record NalUnit : Type 0 where
@@ -41,12 +42,9 @@ units_at kept place (byte ∷ bytes) =
 unfoldable pub units_from : (kept : List ℕ → List ℕ) → ℕ → List ℕ → List NalUnit
 units_from kept place stream = units_at kept place (drop place stream)
 
--- An end of sequence (36) or of bitstream (37) has its two header bytes alone (7.3.2.6, 7.3.2.7).
-abbrev pub is_end_type : ℕ → Bool
-is_end_type t = t == 36 || t == 37
-
+-- An end of sequence or of bitstream has its two header bytes alone (7.3.2.6, 7.3.2.7); any other unit has all of its bytes.
 abbrev pub kept_bytes : List ℕ → List ℕ
-kept_bytes bytes = if nat_le 2 (length bytes) && is_end_type (nal_unit_type bytes) then take 2 bytes else bytes
+kept_bytes bytes = if nat_le 2 (length bytes) && is_end (nal_unit_type bytes) then take 2 bytes else bytes
 
 -- the units of a stream, in order
 abbrev pub units : List ℕ → List NalUnit

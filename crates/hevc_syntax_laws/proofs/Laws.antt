@@ -5,7 +5,7 @@ use Rattle.std.proofs.lemmas.List.{append-nil}
 use Rattle.hevc_spec.specs.Bits.{Form, IsSpelled}
 use Rattle.hevc_spec.specs.Table.{Table, Reading, gives, refuses, read}
 use Rattle.hevc_laws.proofs.TableLaws.{spelled_from_read, read_from_spelled, breaks_from_refused, refused_from_breaks, one_spelling, lines_agree}
-use Rattle.hevc_syntax_laws.specs.Meanings.{SpellsOne, BreaksSomewhere, IsDecided, HasOneRecord, BreaksOnce, ExcludesBreaks, LinesAgree}
+use Rattle.hevc_syntax_laws.specs.OneMeaning.{SpellsOne, BreaksSomewhere, IsDecided, HasOneRecord, BreaksOnce, ExcludesBreaks, LinesAgree}
 
 pub no_longer_spelling : (form : Form) (v w : ℕ) (spelling more : List Bool) → IsSpelled form v spelling → IsSpelled form w (spelling ++ more) → (v ≡ w) × (more ≡ [])
 no_longer_spelling form v w spelling more p q =
@@ -45,3 +45,6 @@ module _ {A : Type 0} (t : Table A) where
   pub all_lines_agree : LinesAgree t
   unfolding LinesAgree
   all_lines_agree = lines_agree t
+
+-- what the laws of a table follow from
+pub ruleset one_meaning = (is_decided, has_one_record, breaks_once, excludes_breaks, all_lines_agree)

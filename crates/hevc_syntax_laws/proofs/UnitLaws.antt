@@ -7,14 +7,15 @@ use Rattle.hevc_spec.specs.Payload.{payload}
 use Rattle.hevc_spec.specs.Table.{Table, Reading, gives, refuses, read}
 use Rattle.hevc_spec.specs.Lines.{Spells}
 use Rattle.hevc_laws.proofs.TableLaws.{spelled_from_read, read_from_spelled}
-use Rattle.hevc_tables.specs.Sps.{PlainSps}
+use Rattle.hevc_records.specs.Sps.{PlainSps}
 use Rattle.hevc_plain_tables.specs.PlainSequenceSet.{plain_sequence_set}
-use Rattle.hevc_tables.specs.Pps.{PlainPps}
+use Rattle.hevc_records.specs.Pps.{PlainPps}
 use Rattle.hevc_plain_tables.specs.PlainPictureSet.{plain_picture_set}
 use Rattle.hevc_plain_tables.specs.PlainSliceHeader.{PlainSlice, plain_slice_header}
 use Rattle.hevc_plain_tables.specs.KeptSets.{KeptSets}
-use Rattle.hevc_plain_tables.specs.UnitMeanings.{UnitMeaning, sequence_set, picture_set, slice, not_yet, other, meaning_read, is_idr_type, is_slice_type, is_end, typed_meaning, unit_meaning}
-use Rattle.hevc_syntax_laws.specs.Meanings.{SpellsNone}
+use Rattle.hevc_plain_tables.specs.UnitMeanings.{UnitMeaning, sequence_set, picture_set, slice, not_yet, other, meaning_read, typed_meaning, unit_meaning}
+use Rattle.hevc_spec.specs.UnitTypes.{is_idr, is_slice, is_end}
+use Rattle.hevc_syntax_laws.specs.OneMeaning.{SpellsNone}
 use Rattle.hevc_syntax_laws.specs.NotRead.{IsNotRead, video_set, no_plain_sequence_set, no_plain_picture_set, no_plain_slice, other_slice_or_end}
 
 module _ {A : Type 0} (t : Table A) (means : A → UnitMeaning) (refused : UnitMeaning) (bits : List Bool) where
@@ -45,10 +46,10 @@ has_some : {X : Type 0} (o : Option X) → is_none o ≡ false → IsSome o
 has_some (Some x) e = refl
 has_some None e = absurd cc
 
-idr_isnt : (t n : ℕ) → is_idr_type t ≡ true → 30 ≤ n → (t == n) ≡ false
+idr_isnt : (t n : ℕ) → is_idr t ≡ true → 30 ≤ n → (t == n) ≡ false
 idr_isnt t n e big = grind (arith, nat_tests)
 
-awaited_isnt : (t n : ℕ) → (is_slice_type t || is_end t) ≡ true → 30 ≤ n → n ≤ 35 → (t == n) ≡ false
+awaited_isnt : (t n : ℕ) → (is_slice t || is_end t) ≡ true → 30 ≤ n → n ≤ 35 → (t == n) ≡ false
 awaited_isnt t n e big small = grind (arith, nat_tests)
 
 is_number : (t n : ℕ) → (t == n) ≡ true → t ≡ n
@@ -65,14 +66,14 @@ module _ (kept : KeptSets) (bytes : List ℕ) (h : UnitHeader) (header : unit_he
   of_picture_set : h.nal_unit_type ≡ 34 → unit_meaning kept bytes ≡ meaning_read picture_set (not_yet 11 1) (read (plain_picture_set (h.nuh_temporal_id_plus1 - 1) kept.sequence_sets) (payload bytes))
   of_picture_set e = typed ∙ rw e refl
 
-  of_slice : is_idr_type h.nal_unit_type ≡ true → IsSome kept.first_sequence_set
+  of_slice : is_idr h.nal_unit_type ≡ true → IsSome kept.first_sequence_set
       → unit_meaning kept bytes ≡ meaning_read (slice h) (not_yet 14 1) (read (plain_slice_header kept.picture_sets kept.sequence_sets) (payload bytes))
   of_slice e some = typed ∙ rw (idr_isnt h.nal_unit_type 33 e (grind arith), idr_isnt h.nal_unit_type 34 e (grind arith), idr_isnt h.nal_unit_type 32 e (grind arith), is_some kept.first_sequence_set some, e) refl
 
   of_video_set : h.nal_unit_type ≡ 32 → unit_meaning kept bytes ≡ not_yet 0 32
   of_video_set e = typed ∙ rw e refl
 
-  of_awaited : is_idr_type h.nal_unit_type ≡ false → (is_slice_type h.nal_unit_type || is_end h.nal_unit_type) ≡ true → IsSome kept.first_sequence_set → unit_meaning kept bytes ≡ not_yet 0 h.nal_unit_type
+  of_awaited : is_idr h.nal_unit_type ≡ false → (is_slice h.nal_unit_type || is_end h.nal_unit_type) ≡ true → IsSome kept.first_sequence_set → unit_meaning kept bytes ≡ not_yet 0 h.nal_unit_type
   of_awaited e awaited some = typed ∙ rw (awaited_isnt h.nal_unit_type 33 awaited (grind arith) (grind arith), awaited_isnt h.nal_unit_type 34 awaited (grind arith) (grind arith), awaited_isnt h.nal_unit_type 32 awaited (grind arith) (grind arith), is_some kept.first_sequence_set some, e, awaited) refl
 
   pub sequence_set_means : (set : PlainSps) (rest : List Bool) → h.nal_unit_type ≡ 33 → Spells plain_sequence_set set (payload bytes) rest → unit_meaning kept bytes ≡ sequence_set set
@@ -81,7 +82,7 @@ module _ (kept : KeptSets) (bytes : List ℕ) (h : UnitHeader) (header : unit_he
   pub picture_set_means : (set : PlainPps) (rest : List Bool) → h.nal_unit_type ≡ 34 → Spells (plain_picture_set (h.nuh_temporal_id_plus1 - 1) kept.sequence_sets) set (payload bytes) rest → unit_meaning kept bytes ≡ picture_set set
   picture_set_means set rest e s = of_picture_set e ∙ spelled_means (plain_picture_set (h.nuh_temporal_id_plus1 - 1) kept.sequence_sets) picture_set (not_yet 11 1) (payload bytes) set rest s
 
-  pub slice_means : (header : PlainSlice) (rest : List Bool) → is_idr_type h.nal_unit_type ≡ true → IsSome kept.first_sequence_set
+  pub slice_means : (header : PlainSlice) (rest : List Bool) → is_idr h.nal_unit_type ≡ true → IsSome kept.first_sequence_set
       → Spells (plain_slice_header kept.picture_sets kept.sequence_sets) header (payload bytes) rest → unit_meaning kept bytes ≡ slice h header
   slice_means header rest e some s = of_slice e some ∙ spelled_means (plain_slice_header kept.picture_sets kept.sequence_sets) (slice h) (not_yet 14 1) (payload bytes) header rest s
 
@@ -94,7 +95,7 @@ module _ (kept : KeptSets) (bytes : List ℕ) (h : UnitHeader) (header : unit_he
 
   module _ (table row : ℕ) where
     -- the cases of the definition in turn
-    by_tests : (a b c d e f : Bool) → (h.nal_unit_type == 33) ≡ a → (h.nal_unit_type == 34) ≡ b → (h.nal_unit_type == 32) ≡ c → is_none kept.first_sequence_set ≡ d → is_idr_type h.nal_unit_type ≡ e → (is_slice_type h.nal_unit_type || is_end h.nal_unit_type) ≡ f
+    by_tests : (a b c d e f : Bool) → (h.nal_unit_type == 33) ≡ a → (h.nal_unit_type == 34) ≡ b → (h.nal_unit_type == 32) ≡ c → is_none kept.first_sequence_set ≡ d → is_idr h.nal_unit_type ≡ e → (is_slice h.nal_unit_type || is_end h.nal_unit_type) ≡ f
         → (if a then meaning_read sequence_set (not_yet 5 1) (read plain_sequence_set (payload bytes))
         else if b then meaning_read picture_set (not_yet 11 1) (read (plain_picture_set (h.nuh_temporal_id_plus1 - 1) kept.sequence_sets) (payload bytes))
         else if c then not_yet 0 32 else if d then other

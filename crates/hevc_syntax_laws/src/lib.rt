@@ -2,23 +2,18 @@
 #![tactic(auto)]
 
 mod forms;
-mod part_tables;
 mod plain_tables;
-mod scaling_table;
-mod short_term_table;
+mod tables;
 mod unit_meanings;
 
 pub use forms::{one_spelling, spellings_begin_apart};
-pub use part_tables::{
-    hrd_parameters_lines_agree, one_hrd_parameters_meaning, one_profile_tier_level_meaning,
-    one_sub_layer_hrd_parameters_meaning, one_vui_parameters_meaning,
-    profile_tier_level_lines_agree, sub_layer_hrd_parameters_lines_agree,
-    vui_parameters_lines_agree,
-};
 pub use plain_tables::{
-    one_picture_set_meaning, one_sequence_set_meaning, one_slice_header_meaning,
-    picture_set_lines_agree, sequence_set_lines_agree, slice_header_lines_agree,
+    one_plain_picture_set_meaning, one_plain_sequence_set_meaning, one_plain_slice_header_meaning,
 };
-pub use scaling_table::{one_scaling_list_data_meaning, scaling_list_data_lines_agree};
-pub use short_term_table::{one_short_term_set_meaning, short_term_set_lines_agree};
+pub use tables::{
+    one_hrd_parameters_meaning, one_profile_tier_level_meaning, one_scaling_list_data_meaning,
+    one_sequence_set_meaning, one_short_term_set_meaning, one_sps_range_extension_meaning,
+    one_sps_scc_extension_meaning, one_sub_layer_hrd_parameters_meaning, one_video_set_meaning,
+    one_vui_parameters_meaning,
+};
 pub use unit_meanings::{picture_set_units, sequence_set_units, slice_units, units_not_read};

@@ -1,53 +1,26 @@
-//! What a payload means by the table of a plain sequence set, picture set or slice header.
+//! A payload means one thing by the table of a plain sequence set, picture set or slice header.
 ghost use Rattle.std.specs.Prelude.{ℕ, Option};
-ghost use Rattle.hevc_tables.specs.Sps.{PlainSps};
+ghost use Rattle.hevc_records.specs.Sps.{PlainSps};
 ghost use Rattle.hevc_plain_tables.specs.PlainSequenceSet.{plain_sequence_set};
-ghost use Rattle.hevc_tables.specs.Pps.{PlainPps};
+ghost use Rattle.hevc_records.specs.Pps.{PlainPps};
 ghost use Rattle.hevc_plain_tables.specs.PlainPictureSet.{plain_picture_set};
 ghost use Rattle.hevc_plain_tables.specs.PlainSliceHeader.{plain_slice_header};
-ghost use Rattle.hevc_syntax_laws.specs.Meanings.{IsDecided, HasOneRecord, BreaksOnce, ExcludesBreaks, LinesAgree};
+ghost use Rattle.hevc_syntax_laws.specs.OneMeaning.{HasOneMeaning};
 
-/// A payload spells one plain sequence set or breaks off at one line, and never both.
-#[tactic(auto, using(crate::proofs::Laws::is_decided, crate::proofs::Laws::has_one_record, crate::proofs::Laws::breaks_once, crate::proofs::Laws::excludes_breaks))]
-pub fn one_sequence_set_meaning()
-    ensures decided { IsDecided plain_sequence_set }
-    ensures one_record { HasOneRecord plain_sequence_set }
-    ensures one_break { BreaksOnce plain_sequence_set }
-    ensures not_both { ExcludesBreaks plain_sequence_set }
+/// A plain sequence parameter set (table 5).
+#[tactic(auto, using(crate::proofs::Laws::one_meaning))]
+pub fn one_plain_sequence_set_meaning()
+    ensures { HasOneMeaning plain_sequence_set }
 {}
 
-/// Two lists of lines of the table of plain sequence sets that the beginnings of one payload spell agree line by line.
-#[tactic(auto, using(crate::proofs::Laws::all_lines_agree))]
-pub fn sequence_set_lines_agree()
-    ensures { LinesAgree plain_sequence_set }
+/// A plain picture parameter set (table 11), with the sequence parameter sets that are kept.
+#[tactic(auto, using(crate::proofs::Laws::one_meaning))]
+pub fn one_plain_picture_set_meaning()
+    ensures { (temporal_id : ℕ) (sequence_sets : ℕ → Option PlainSps) → HasOneMeaning (plain_picture_set temporal_id sequence_sets) }
 {}
 
-/// With the sequence sets that are kept, a payload spells one plain picture set or breaks off at one line, and never both.
-#[tactic(auto, using(crate::proofs::Laws::is_decided, crate::proofs::Laws::has_one_record, crate::proofs::Laws::breaks_once, crate::proofs::Laws::excludes_breaks))]
-pub fn one_picture_set_meaning()
-    ensures decided { (temporal_id : ℕ) (sequence_sets : ℕ → Option PlainSps) → IsDecided (plain_picture_set temporal_id sequence_sets) }
-    ensures one_record { (temporal_id : ℕ) (sequence_sets : ℕ → Option PlainSps) → HasOneRecord (plain_picture_set temporal_id sequence_sets) }
-    ensures one_break { (temporal_id : ℕ) (sequence_sets : ℕ → Option PlainSps) → BreaksOnce (plain_picture_set temporal_id sequence_sets) }
-    ensures not_both { (temporal_id : ℕ) (sequence_sets : ℕ → Option PlainSps) → ExcludesBreaks (plain_picture_set temporal_id sequence_sets) }
-{}
-
-/// Two lists of lines of the table of plain picture sets that the beginnings of one payload spell agree line by line.
-#[tactic(auto, using(crate::proofs::Laws::all_lines_agree))]
-pub fn picture_set_lines_agree()
-    ensures { (temporal_id : ℕ) (sequence_sets : ℕ → Option PlainSps) → LinesAgree (plain_picture_set temporal_id sequence_sets) }
-{}
-
-/// With the sets that are kept, a payload spells one plain slice header or breaks off at one line, and never both.
-#[tactic(auto, using(crate::proofs::Laws::is_decided, crate::proofs::Laws::has_one_record, crate::proofs::Laws::breaks_once, crate::proofs::Laws::excludes_breaks))]
-pub fn one_slice_header_meaning()
-    ensures decided { (picture_sets : ℕ → Option PlainPps) (sequence_sets : ℕ → Option PlainSps) → IsDecided (plain_slice_header picture_sets sequence_sets) }
-    ensures one_record { (picture_sets : ℕ → Option PlainPps) (sequence_sets : ℕ → Option PlainSps) → HasOneRecord (plain_slice_header picture_sets sequence_sets) }
-    ensures one_break { (picture_sets : ℕ → Option PlainPps) (sequence_sets : ℕ → Option PlainSps) → BreaksOnce (plain_slice_header picture_sets sequence_sets) }
-    ensures not_both { (picture_sets : ℕ → Option PlainPps) (sequence_sets : ℕ → Option PlainSps) → ExcludesBreaks (plain_slice_header picture_sets sequence_sets) }
-{}
-
-/// Two lists of lines of the table of plain slice headers that the beginnings of one payload spell agree line by line.
-#[tactic(auto, using(crate::proofs::Laws::all_lines_agree))]
-pub fn slice_header_lines_agree()
-    ensures { (picture_sets : ℕ → Option PlainPps) (sequence_sets : ℕ → Option PlainSps) → LinesAgree (plain_slice_header picture_sets sequence_sets) }
+/// A plain slice header (table 14), with the sets that are kept.
+#[tactic(auto, using(crate::proofs::Laws::one_meaning))]
+pub fn one_plain_slice_header_meaning()
+    ensures { (picture_sets : ℕ → Option PlainPps) (sequence_sets : ℕ → Option PlainSps) → HasOneMeaning (plain_slice_header picture_sets sequence_sets) }
 {}

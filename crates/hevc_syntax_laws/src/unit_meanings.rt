@@ -3,13 +3,14 @@ ghost use Rattle.std.specs.Prelude.{◌≡◌, ◌-◌, ℕ, Bool, List, IsSome,
 ghost use Rattle.hevc_spec.specs.UnitHeader.{UnitHeader, unit_header};
 ghost use Rattle.hevc_spec.specs.Payload.{payload};
 ghost use Rattle.hevc_spec.specs.Lines.{Spells};
-ghost use Rattle.hevc_tables.specs.Sps.{PlainSps};
+ghost use Rattle.hevc_records.specs.Sps.{PlainSps};
 ghost use Rattle.hevc_plain_tables.specs.PlainSequenceSet.{plain_sequence_set};
-ghost use Rattle.hevc_tables.specs.Pps.{PlainPps};
+ghost use Rattle.hevc_records.specs.Pps.{PlainPps};
 ghost use Rattle.hevc_plain_tables.specs.PlainPictureSet.{plain_picture_set};
 ghost use Rattle.hevc_plain_tables.specs.PlainSliceHeader.{PlainSlice, plain_slice_header};
 ghost use Rattle.hevc_plain_tables.specs.KeptSets.{KeptSets};
-ghost use Rattle.hevc_plain_tables.specs.UnitMeanings.{sequence_set, picture_set, slice, not_yet, is_idr_type, unit_meaning};
+ghost use Rattle.hevc_plain_tables.specs.UnitMeanings.{sequence_set, picture_set, slice, not_yet, unit_meaning};
+ghost use Rattle.hevc_spec.specs.UnitTypes.{is_idr};
 ghost use Rattle.hevc_syntax_laws.specs.NotRead.{IsNotRead};
 
 /// A unit of type 33 means the plain sequence set that its payload spells.
@@ -25,7 +26,7 @@ pub fn picture_set_units()
 /// Behind a sequence set a unit of an IDR picture's type means the plain slice header that its payload spells with the sets that are
 /// kept.
 pub fn slice_units()
-    ensures { (kept : KeptSets) (bytes : List ℕ) (h : UnitHeader) (header : PlainSlice) (rest : List Bool) → unit_header bytes ≡ Ok h → is_idr_type h.nal_unit_type ≡ true → IsSome kept.first_sequence_set → Spells (plain_slice_header kept.picture_sets kept.sequence_sets) header (payload bytes) rest → unit_meaning kept bytes ≡ slice h header }
+    ensures { (kept : KeptSets) (bytes : List ℕ) (h : UnitHeader) (header : PlainSlice) (rest : List Bool) → unit_header bytes ≡ Ok h → is_idr h.nal_unit_type ≡ true → IsSome kept.first_sequence_set → Spells (plain_slice_header kept.picture_sets kept.sequence_sets) header (payload bytes) rest → unit_meaning kept bytes ≡ slice h header }
 {}
 
 /// A unit asks for something that isn't read yet exactly in the listed cases, each with its table and row.

@@ -1,10 +1,9 @@
 -- What is written of the calls and the outputs is the report on the stream.
-use Rattle.std.proofs.Common.{◌≡◌, ℕ, suc, ◌+◌, List, [], ◌∷◌, ◌++◌, map, length, Option, Some, None, Result, Ok, Err, refl, sym, ap, ap₂, subst, ◌∙◌, append_assoc, codes, decimal}
+use Rattle.std.proofs.Common.{◌≡◌, ℕ, suc, ◌+◌, List, [], ◌∷◌, ◌++◌, map, length, Option, Some, Result, Ok, Err, refl, sym, ap, ap₂, subst, ◌∙◌, append_assoc, codes, decimal}
 use Rattle.std.specs.List.{flat_map, range_with_len}
 use Rattle.hevc_backend.specs.declared.call.Call.{Call}
 use Rattle.hevc_backend.specs.declared.call.Call.TheVariants.{NewSequence, NewPicture, BeginPicture, DecodeSlice, SubmitPicture}
 use Rattle.hevc_backend.specs.Handles.{handles, AreCounted}
-use Rattle.hevc_backend.specs.Trait.{logged}
 use Rattle.hevc_walk.specs.Meanings.{Meaning}
 use Rattle.hevc_walk.specs.Results.{calls, outputs, verdict}
 use Rattle.hevc_decoder.specs.declared.decoded.Shown.{Shown}
@@ -16,7 +15,7 @@ use Rattle.hevc_decoder.specs.Headline.{Grew, Appended, IsNoMemory, AnswersError
 use Rattle.hevc_decoder.specs.Maps.{call_of, output_picture, answer_of}
 use Rattle.hevc_decoder.specs.StreamMeanings.{meanings}
 use Rattle.hevc_trace.specs.Lines.{log_line, shown_line, text_of}
-use Rattle.hevc_trace.specs.Report.{call_line, calls_text, slice_line, submission_line, output_line, last_line, ending_of, report_of}
+use Rattle.hevc_trace.specs.Report.{calls_text, slice_line, submission_line, output_line, last_line, report_of}
 use Rattle.hevc_trace.specs.Status.{WantsMemory}
 
 first_is : (a b : ℕ) (xs ys : List ℕ) → a ∷ xs ≡ b ∷ ys → a ≡ b

@@ -1,7 +1,4 @@
-pub mod Faults
 pub mod Lines
-pub mod Memory
 pub mod Prefix
 pub mod Report
-pub mod Standard
 pub mod Status

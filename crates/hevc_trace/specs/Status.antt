@@ -1,7 +1,6 @@
 -- The statuses of the program.
 use Rattle.std.specs.Prelude.{◌≡◌, ℕ, ◌⊎◌, Result, Ok, Err}
 use Rattle.hevc_decoder.specs.declared.decoded.Refused.{Refused}
-use Rattle.hevc_decoder.specs.declared.decode_error.DecodeError.{DecodeError}
 use Rattle.hevc_decoder.specs.Headline.{IsNoMemory}
 
 -- 0 where the stream was decoded, 1 where it was refused

@@ -5,26 +5,19 @@
 ghost use Rattle.std.specs.Prelude.{◌≡◌, ◌≤◌, All, IfOk, IfSome, length};
 ghost use Rattle.hevc_trace.specs.declared.WordsError.TheVariants.{NoMemory};
 
-mod fault_plan;
 mod input;
-mod memory;
 mod output;
 mod program;
 mod report;
-mod sink;
-mod source;
-mod standard;
 #[cfg(test)]
 mod tests;
-mod word;
 
+use hevc_io::{StdSink, StdSource, Word};
 use program::run;
-use standard::{StdSink, StdSource};
 use std::alloc::{AllocError, Global};
 use std::env::{Env, FillError};
 use std::io;
 use std::process::ExitCode;
-use word::Word;
 
 /// The status where there is no memory for the words.
 const NO_MEMORY: u8 = 5;

@@ -1,10 +1,10 @@
 //! A whole text written to a sink.
 ghost use Rattle.std.specs.Prelude.{◌≤◌, OnOk, OnErr, IsErrOf};
 ghost use Rattle.std.specs.Io.KnownBytes.{Appends};
-ghost use Rattle.hevc_trace.specs.Faults.{Rose};
+ghost use Rattle.hevc_faults.specs.Faults.{Rose};
 ghost use Rattle.hevc_trace.specs.Prefix.{AppendsPrefix};
 
-use crate::sink::{Sink, SinkError};
+use hevc_io::{Sink, SinkError};
 
 /// Writes a text in as many pieces as the sink takes.
 pub(crate) fn write_all<K: Sink>(sink: &mut K, text: &[u8]) -> Result<(), SinkError>

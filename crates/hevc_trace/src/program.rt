@@ -2,7 +2,7 @@
 ghost use Rattle.std.specs.Prelude.{◌≡◌, ◌≢◌, ◌≤◌, ◌<◌, ◌⊎◌, ◌↔◌, ℕ, List, [], length, IfOk, IfSome, IsErrOf, IsTrue, is_ok};
 ghost use Rattle.std.specs.String.{string_bytes};
 ghost use Rattle.std.specs.Io.KnownBytes.{Appends, IsAtEnd};
-ghost use Rattle.hevc_trace.specs.Faults.{Rose};
+ghost use Rattle.hevc_faults.specs.Faults.{Rose};
 ghost use Rattle.hevc_trace.specs.Prefix.{AppendsPrefix};
 ghost use Rattle.hevc_trace.specs.Report.{ending_of, report_of};
 ghost use Rattle.hevc_trace.specs.Status.{status_of, IsDone, WantsMemory};
@@ -10,11 +10,9 @@ ghost use Rattle.hevc_trace.specs.Status.{status_of, IsDone, WantsMemory};
 use crate::input::{INPUT_LIMIT, InputError, read_all};
 use crate::output::write_all;
 use crate::report::report_text;
-use crate::sink::{Sink, SinkError};
-use crate::source::Source;
-use crate::word::Word;
 use hevc_backend::Backend;
 use hevc_decoder::{DecodeError, Refused, decode_stream};
+use hevc_io::{Sink, SinkError, Source, Word};
 use std::alloc::{AllocError, Global};
 
 /// Why a run has no status 0 or 1.

@@ -1,4 +1,4 @@
-use Rattle.hevc_tables.specs.PpsRangeExtension.{PlainPpsRangeExtension}
+use Rattle.hevc_records.specs.PpsRangeExtension.{PlainPpsRangeExtension}
 use Rattle.hevc_types_a.specs.declared.pps_range_extension.PpsRangeExtension.{PpsRangeExtension}
 
 -- the values of its fields

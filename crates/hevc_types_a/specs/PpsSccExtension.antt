@@ -1,4 +1,4 @@
-use Rattle.hevc_tables.specs.PpsSccExtension.{PlainPpsSccExtension}
+use Rattle.hevc_records.specs.PpsSccExtension.{PlainPpsSccExtension}
 use Rattle.hevc_types_a.specs.declared.pps_scc_extension.PpsSccExtension.{PpsSccExtension}
 
 -- the values of its fields

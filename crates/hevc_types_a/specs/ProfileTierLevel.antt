@@ -1,5 +1,5 @@
 use Rattle.std.specs.Prelude.{map}
-use Rattle.hevc_tables.specs.ProfileTierLevel.{PlainProfileTierLevel}
+use Rattle.hevc_records.specs.ProfileTierLevel.{PlainProfileTierLevel}
 use Rattle.hevc_types_a.specs.declared.profile_tier_level.ProfileTierLevel.{ProfileTierLevel}
 use Rattle.hevc_types_a.specs.Level.{level_number}
 

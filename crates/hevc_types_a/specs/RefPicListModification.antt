@@ -1,4 +1,4 @@
-use Rattle.hevc_tables.specs.RefPicListModification.{PlainRefPicListModification}
+use Rattle.hevc_records.specs.RefPicListModification.{PlainRefPicListModification}
 use Rattle.hevc_types_a.specs.declared.ref_pic_list_modification.RefPicListModification.{RefPicListModification}
 
 -- the values of its fields

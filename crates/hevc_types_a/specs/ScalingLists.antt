@@ -1,4 +1,4 @@
-use Rattle.hevc_tables.specs.ScalingLists.{PlainScalingLists}
+use Rattle.hevc_records.specs.ScalingLists.{PlainScalingLists}
 use Rattle.hevc_types_a.specs.declared.scaling_lists.ScalingLists.{ScalingLists}
 
 -- the values of its fields

@@ -1,4 +1,4 @@
-use Rattle.hevc_tables.specs.ShortTermRefPicSet.{PlainShortTermRefPicSet}
+use Rattle.hevc_records.specs.ShortTermRefPicSet.{PlainShortTermRefPicSet}
 use Rattle.hevc_types_a.specs.declared.short_term_ref_pic_set.ShortTermRefPicSet.{ShortTermRefPicSet}
 
 -- the values of its fields

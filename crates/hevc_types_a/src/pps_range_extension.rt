@@ -25,7 +25,7 @@ pub struct PpsRangeExtension {
 }
 
 impl PpsRangeExtension {
-    ghost use Rattle.hevc_tables.specs.PpsRangeExtension.{default_pps_range_extension};
+    ghost use Rattle.hevc_records.specs.PpsRangeExtension.{default_pps_range_extension};
     ghost use Rattle.hevc_types_a.specs.PpsRangeExtension.{plain_pps_range_extension};
 
     /// All numbers 0, all flags not set.

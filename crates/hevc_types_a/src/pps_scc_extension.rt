@@ -31,7 +31,7 @@ pub struct PpsSccExtension {
 }
 
 impl PpsSccExtension {
-    ghost use Rattle.hevc_tables.specs.PpsSccExtension.{default_pps_scc_extension};
+    ghost use Rattle.hevc_records.specs.PpsSccExtension.{default_pps_scc_extension};
     ghost use Rattle.hevc_types_a.specs.PpsSccExtension.{plain_pps_scc_extension};
 
     /// All numbers 0, all flags not set.

@@ -95,10 +95,10 @@ pub struct ProfileTierLevel {
 }
 
 impl ProfileTierLevel {
-    ghost use Rattle.hevc_tables.specs.ProfileTierLevel.{default_profile_tier_level};
+    ghost use Rattle.hevc_records.specs.ProfileTierLevel.{default_profile_tier_level};
     ghost use Rattle.hevc_types_a.specs.ProfileTierLevel.{plain_profile_tier_level};
-    ghost use Rattle.hevc_tables.specs.Level.{max_luma_ps_of_level};
-    ghost use Rattle.hevc_tables.specs.Profile.{max_dpb_pic_buf_of_profile};
+    ghost use Rattle.hevc_records.specs.Level.{max_luma_ps_of_level};
+    ghost use Rattle.hevc_records.specs.Profile.{max_dpb_pic_buf_of_profile};
     ghost use Rattle.hevc_types_a.specs.Level.{level_number};
 
     /// All numbers 0, all flags not set, all levels `Level::L1`.

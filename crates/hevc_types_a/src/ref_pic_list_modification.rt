@@ -19,7 +19,7 @@ pub struct RefPicListModification {
 }
 
 impl RefPicListModification {
-    ghost use Rattle.hevc_tables.specs.RefPicListModification.{default_ref_pic_list_modification};
+    ghost use Rattle.hevc_records.specs.RefPicListModification.{default_ref_pic_list_modification};
     ghost use Rattle.hevc_types_a.specs.RefPicListModification.{plain_ref_pic_list_modification};
 
     /// No modification.

@@ -1,6 +1,6 @@
 //! Scaling lists.
 ghost use Rattle.std.specs.Prelude.{◌≡◌, pos, negsuc};
-ghost use Rattle.hevc_tables.specs.Bounds.{Within};
+ghost use Rattle.hevc_records.specs.Bounds.{Within};
 
 /// The scaling lists of a sequence or picture parameter set (H.265 7.3.4, 7.4.5).
 ///
@@ -25,12 +25,12 @@ pub struct ScalingLists {
 }
 
 impl ScalingLists {
-    ghost use Rattle.hevc_tables.specs.ScalingLists.{default_scaling_lists};
+    ghost use Rattle.hevc_records.specs.ScalingLists.{zero_scaling_lists};
     ghost use Rattle.hevc_types_a.specs.ScalingLists.{plain_scaling_lists};
 
     /// All entries 0.
     pub fn new() -> ScalingLists
-        ensures { plain_scaling_lists result ≡ default_scaling_lists }
+        ensures { plain_scaling_lists result ≡ zero_scaling_lists }
     {
         ScalingLists {
             scaling_list_dc_coef_minus8_16x16: [0; 6],

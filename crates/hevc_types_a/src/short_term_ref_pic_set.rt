@@ -1,6 +1,6 @@
 //! Short-term reference picture sets.
 ghost use Rattle.std.specs.Prelude.{◌≡◌, ◌+◌, ◌≤◌};
-ghost use Rattle.hevc_tables.specs.ShortTermRefPicSet.{Fall, Rise};
+ghost use Rattle.hevc_records.specs.ShortTermRefPicSet.{Fall, Rise};
 
 /// A candidate short-term reference picture set (H.265 7.3.7, 7.4.8).
 ///
@@ -36,7 +36,7 @@ pub struct ShortTermRefPicSet {
 }
 
 impl ShortTermRefPicSet {
-    ghost use Rattle.hevc_tables.specs.ShortTermRefPicSet.{default_short_term_ref_pic_set};
+    ghost use Rattle.hevc_records.specs.ShortTermRefPicSet.{default_short_term_ref_pic_set};
     ghost use Rattle.hevc_types_a.specs.ShortTermRefPicSet.{plain_short_term_ref_pic_set};
 
     /// The empty set.

@@ -1,5 +1,5 @@
 use Rattle.std.specs.Prelude.{map}
-use Rattle.hevc_tables.specs.HrdParams.{PlainHrdParams}
+use Rattle.hevc_records.specs.HrdParams.{PlainHrdParams}
 use Rattle.hevc_types_b.specs.declared.hrd_params.HrdParams.{HrdParams}
 use Rattle.hevc_types_b.specs.SublayerHrdParameters.{plain_sublayer_hrd_parameters}
 

@@ -1,4 +1,4 @@
-use Rattle.hevc_tables.specs.PredWeightTable.{PlainPredWeightTable}
+use Rattle.hevc_records.specs.PredWeightTable.{PlainPredWeightTable}
 use Rattle.hevc_types_b.specs.declared.pred_weight_table.PredWeightTable.{PredWeightTable}
 
 -- the values of its fields

@@ -1,4 +1,4 @@
-use Rattle.hevc_tables.specs.SublayerHrdParameters.{PlainSublayerHrdParameters}
+use Rattle.hevc_records.specs.SublayerHrdParameters.{PlainSublayerHrdParameters}
 use Rattle.hevc_types_b.specs.declared.sublayer_hrd_parameters.SublayerHrdParameters.{SublayerHrdParameters}
 
 -- the values of its fields

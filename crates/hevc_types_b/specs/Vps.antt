@@ -1,5 +1,5 @@
 use Rattle.std.specs.Prelude.{map}
-use Rattle.hevc_tables.specs.Vps.{PlainVps}
+use Rattle.hevc_records.specs.Vps.{PlainVps}
 use Rattle.hevc_types_b.specs.declared.vps.Vps.{Vps}
 use Rattle.hevc_types_b.specs.HrdParams.{plain_hrd_params}
 use Rattle.hevc_types_a.specs.ProfileTierLevel.{plain_profile_tier_level}

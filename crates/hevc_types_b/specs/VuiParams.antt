@@ -1,4 +1,4 @@
-use Rattle.hevc_tables.specs.VuiParams.{PlainVuiParams}
+use Rattle.hevc_records.specs.VuiParams.{PlainVuiParams}
 use Rattle.hevc_types_b.specs.declared.vui_params.VuiParams.{VuiParams}
 use Rattle.hevc_types_b.specs.HrdParams.{plain_hrd_params}
 

@@ -1,6 +1,6 @@
 //! Timing and sizes of the decoding buffers.
 ghost use Rattle.std.specs.Prelude.{◌≡◌};
-ghost use Rattle.hevc_tables.specs.Bounds.{AtMost};
+ghost use Rattle.hevc_records.specs.Bounds.{AtMost};
 
 use crate::sublayer_hrd_parameters::SublayerHrdParameters;
 
@@ -54,7 +54,7 @@ pub struct HrdParams {
 }
 
 impl HrdParams {
-    ghost use Rattle.hevc_tables.specs.HrdParams.{default_hrd_params};
+    ghost use Rattle.hevc_records.specs.HrdParams.{default_hrd_params};
     ghost use Rattle.hevc_types_b.specs.HrdParams.{plain_hrd_params};
 
     /// All flags not set; all numbers 0 but three lengths that are 23 where nothing says otherwise (E.3.2).

@@ -1,6 +1,6 @@
 //! Weights of predictions.
 ghost use Rattle.std.specs.Prelude.{◌≡◌, pos, negsuc, ◌≤◌, ◌≤ℤ◌, ◌+ℤ◌};
-ghost use Rattle.hevc_tables.specs.Bounds.{Within};
+ghost use Rattle.hevc_records.specs.Bounds.{Within};
 
 /// The weights and offsets of weighted prediction in a slice (H.265 7.3.6.3, 7.4.7.3).
 #[derive(Clone, Copy, PartialEq, Eq)]
@@ -42,7 +42,7 @@ pub struct PredWeightTable {
 }
 
 impl PredWeightTable {
-    ghost use Rattle.hevc_tables.specs.PredWeightTable.{default_pred_weight_table};
+    ghost use Rattle.hevc_records.specs.PredWeightTable.{default_pred_weight_table};
     ghost use Rattle.hevc_types_b.specs.PredWeightTable.{plain_pred_weight_table};
 
     /// All numbers 0, all flags not set.

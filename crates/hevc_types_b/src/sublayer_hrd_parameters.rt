@@ -19,7 +19,7 @@ pub struct SublayerHrdParameters {
 }
 
 impl SublayerHrdParameters {
-    ghost use Rattle.hevc_tables.specs.SublayerHrdParameters.{default_sublayer_hrd_parameters};
+    ghost use Rattle.hevc_records.specs.SublayerHrdParameters.{default_sublayer_hrd_parameters};
     ghost use Rattle.hevc_types_b.specs.SublayerHrdParameters.{plain_sublayer_hrd_parameters};
 
     /// All numbers 0, all flags not set.

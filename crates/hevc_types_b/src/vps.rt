@@ -60,7 +60,7 @@ pub struct Vps {
 }
 
 impl Vps {
-    ghost use Rattle.hevc_tables.specs.Vps.{default_vps};
+    ghost use Rattle.hevc_records.specs.Vps.{default_vps};
     ghost use Rattle.hevc_types_b.specs.Vps.{plain_vps};
 
     /// All numbers 0, all flags not set and all lists empty, but for `cprms_present_flag`, which is true alone: the

@@ -89,7 +89,7 @@ pub struct VuiParams {
 }
 
 impl VuiParams {
-    ghost use Rattle.hevc_tables.specs.VuiParams.{default_vui_params};
+    ghost use Rattle.hevc_records.specs.VuiParams.{default_vui_params};
     ghost use Rattle.hevc_types_b.specs.VuiParams.{plain_vui_params};
 
     /// What holds where nothing is said (E.3.1).

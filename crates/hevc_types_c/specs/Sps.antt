@@ -1,5 +1,5 @@
 use Rattle.std.specs.Prelude.{map}
-use Rattle.hevc_tables.specs.Sps.{PlainSps}
+use Rattle.hevc_records.specs.Sps.{PlainSps}
 use Rattle.hevc_types_c.specs.declared.sps.Sps.{Sps}
 use Rattle.hevc_types_a.specs.ProfileTierLevel.{plain_profile_tier_level}
 use Rattle.hevc_types_a.specs.ScalingLists.{plain_scaling_lists}

@@ -1,4 +1,4 @@
-use Rattle.hevc_tables.specs.SpsRangeExtension.{PlainSpsRangeExtension}
+use Rattle.hevc_records.specs.SpsRangeExtension.{PlainSpsRangeExtension}
 use Rattle.hevc_types_c.specs.declared.sps_range_extension.SpsRangeExtension.{SpsRangeExtension}
 
 -- the values of its fields

@@ -1,4 +1,4 @@
-use Rattle.hevc_tables.specs.SpsSccExtension.{PlainSpsSccExtension}
+use Rattle.hevc_records.specs.SpsSccExtension.{PlainSpsSccExtension}
 use Rattle.hevc_types_c.specs.declared.sps_scc_extension.SpsSccExtension.{SpsSccExtension}
 
 -- the values of its fields

@@ -1,8 +1,8 @@
 //! Sequence parameter sets.
 ghost use Rattle.std.specs.Prelude.{◌≡◌, ◌+◌, ◌*◌, ◌^◌, ◌≤◌, min, length, IsTrue, IfOk, if◌then◌else◌};
 ghost use Rattle.std.specs.Int.{div_ceil};
-ghost use Rattle.hevc_tables.specs.Bounds.{AtMost, AtMostEach};
-ghost use Rattle.hevc_tables.specs.SpsSizes.{leaves_some, wp_offset_half_range};
+ghost use Rattle.hevc_records.specs.Bounds.{AtMost, AtMostEach};
+ghost use Rattle.hevc_records.specs.SpsSizes.{leaves_some, wp_offset_half_range};
 
 use crate::sps_range_extension::SpsRangeExtension;
 use crate::sps_scc_extension::SpsSccExtension;
@@ -175,7 +175,7 @@ pub struct Sps {
 }
 
 impl Sps {
-    ghost use Rattle.hevc_tables.specs.Sps.{default_sps};
+    ghost use Rattle.hevc_records.specs.Sps.{default_sps};
     ghost use Rattle.hevc_types_c.specs.Sps.{plain_sps};
 
     /// A set of pictures of one luma sample. Its other elements are 0, not set or empty, and its parts those of their

@@ -25,7 +25,7 @@ pub struct SpsRangeExtension {
 }
 
 impl SpsRangeExtension {
-    ghost use Rattle.hevc_tables.specs.SpsRangeExtension.{default_sps_range_extension};
+    ghost use Rattle.hevc_records.specs.SpsRangeExtension.{default_sps_range_extension};
     ghost use Rattle.hevc_types_c.specs.SpsRangeExtension.{plain_sps_range_extension};
 
     /// All flags not set.

@@ -27,7 +27,7 @@ pub struct SpsSccExtension {
 }
 
 impl SpsSccExtension {
-    ghost use Rattle.hevc_tables.specs.SpsSccExtension.{default_sps_scc_extension};
+    ghost use Rattle.hevc_records.specs.SpsSccExtension.{default_sps_scc_extension};
     ghost use Rattle.hevc_types_c.specs.SpsSccExtension.{plain_sps_scc_extension};
 
     /// All numbers 0, all flags not set.

@@ -1,6 +1,6 @@
 //! What follows from a sequence parameter set: the size of the buffer, the cropping window, and the derived values.
 ghost use Rattle.std.specs.Prelude.{◌≡◌, ◌≤◌};
-ghost use Rattle.hevc_tables.specs.SpsSizes.{max_dpb_size_of, window_left, window_top, window_width, window_height, sub_width_c, sub_height_c};
+ghost use Rattle.hevc_records.specs.SpsSizes.{max_dpb_size_of, window_left, window_top, window_width, window_height, sub_width_c, sub_height_c};
 
 use crate::point::Point;
 use crate::rect::Rect;
@@ -46,35 +46,71 @@ impl Sps {
 
     /// The conformance cropping window in luma samples (7.4.3.2.1): `min` is its upper left corner, `max` its width and
     /// height. Where nothing is cropped on the left and at the top, `max` is its lower right corner too.
-    #[tactic(auto, unfolding(hevc_tables::specs::SpsSizes::leaves_some))]
     pub fn visible_rectangle(&self) -> Rect<u32>
         ensures left { result.min.x ≡ window_left (plain_sps self.now) }
         ensures top { result.min.y ≡ window_top (plain_sps self.now) }
         ensures width { result.max.x ≡ window_width (plain_sps self.now) }
         ensures height { result.max.y ≡ window_height (plain_sps self.now) }
     {
-        let width = self.pic_width_in_luma_samples as u32;
-        let height = self.pic_height_in_luma_samples as u32;
-        if !self.conformance_window_flag {
-            return Rect {
-                min: Point { x: 0, y: 0 },
-                max: Point {
-                    x: width,
-                    y: height,
-                },
-            };
-        }
-        let across = self.sub_width_c();
-        let down = self.sub_height_c();
         Rect {
             min: Point {
-                x: across * self.conf_win_left_offset,
-                y: down * self.conf_win_top_offset,
+                x: self.window_left(),
+                y: self.window_top(),
             },
             max: Point {
-                x: width - across * (self.conf_win_left_offset + self.conf_win_right_offset),
-                y: height - down * (self.conf_win_top_offset + self.conf_win_bottom_offset),
+                x: self.window_width(),
+                y: self.window_height(),
             },
+        }
+    }
+
+    /// Where the window begins, across.
+    #[tactic(auto, unfolding(hevc_records::specs::SpsSizes::leaves_some))]
+    fn window_left(&self) -> u32
+        ensures { result ≡ window_left (plain_sps self.now) }
+    {
+        if self.conformance_window_flag {
+            self.sub_width_c() * self.conf_win_left_offset
+        } else {
+            0
+        }
+    }
+
+    /// Where the window begins, down.
+    #[tactic(auto, unfolding(hevc_records::specs::SpsSizes::leaves_some))]
+    fn window_top(&self) -> u32
+        ensures { result ≡ window_top (plain_sps self.now) }
+    {
+        if self.conformance_window_flag {
+            self.sub_height_c() * self.conf_win_top_offset
+        } else {
+            0
+        }
+    }
+
+    /// The width of the window.
+    #[tactic(auto, unfolding(hevc_records::specs::SpsSizes::leaves_some))]
+    fn window_width(&self) -> u32
+        ensures { result ≡ window_width (plain_sps self.now) }
+    {
+        let width = u32::from(self.pic_width_in_luma_samples);
+        if self.conformance_window_flag {
+            width - self.sub_width_c() * (self.conf_win_left_offset + self.conf_win_right_offset)
+        } else {
+            width
+        }
+    }
+
+    /// The height of the window.
+    #[tactic(auto, unfolding(hevc_records::specs::SpsSizes::leaves_some))]
+    fn window_height(&self) -> u32
+        ensures { result ≡ window_height (plain_sps self.now) }
+    {
+        let height = u32::from(self.pic_height_in_luma_samples);
+        if self.conformance_window_flag {
+            height - self.sub_height_c() * (self.conf_win_top_offset + self.conf_win_bottom_offset)
+        } else {
+            height
         }
     }
 

@@ -6,7 +6,7 @@ use std::alloc::{AllocError, Global};
 use std::test::Fail;
 
 /// A set of 320 by 180 samples, coded as 320 by 184, of the Main profile at level 2.
-#[tactic(auto, unfolding(hevc_tables::specs::SpsSizes::leaves_some))]
+#[tactic(auto, unfolding(hevc_records::specs::SpsSizes::leaves_some))]
 fn small_set(alloc: Global) -> Sps {
     let mut set = Sps::new(alloc);
     set.chroma_format_idc = 1;

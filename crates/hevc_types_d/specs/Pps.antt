@@ -1,4 +1,4 @@
-use Rattle.hevc_tables.specs.Pps.{PlainPps}
+use Rattle.hevc_records.specs.Pps.{PlainPps}
 use Rattle.hevc_types_d.specs.declared.pps.Pps.{Pps}
 use Rattle.hevc_types_a.specs.ScalingLists.{plain_scaling_lists}
 use Rattle.hevc_types_a.specs.PpsRangeExtension.{plain_pps_range_extension}

@@ -1,4 +1,4 @@
-use Rattle.hevc_tables.specs.SliceHeader.{PlainSliceSegmentHeader}
+use Rattle.hevc_records.specs.SliceHeader.{PlainSliceSegmentHeader}
 use Rattle.hevc_types_d.specs.declared.slice_header.SliceHeader.{SliceHeader}
 use Rattle.hevc_types_a.specs.SliceType.{slice_type_number}
 use Rattle.hevc_types_a.specs.ShortTermRefPicSet.{plain_short_term_ref_pic_set}

@@ -116,7 +116,7 @@ pub struct Pps {
 }
 
 impl Pps {
-    ghost use Rattle.hevc_tables.specs.Pps.{default_pps};
+    ghost use Rattle.hevc_records.specs.Pps.{default_pps};
     ghost use Rattle.hevc_types_d.specs.Pps.{plain_pps};
 
     /// All numbers 0 and all flags not set, but for `uniform_spacing_flag` and `loop_filter_across_tiles_enabled_flag`.

@@ -1,6 +1,6 @@
 //! Slice segments.
 ghost use Rattle.std.specs.Prelude.{◌≡◌, ◌↔◌, false, IsErr, OnOk, OnErr};
-ghost use Rattle.hevc_tables.specs.SliceHeader.{completed_header};
+ghost use Rattle.hevc_records.specs.SliceHeader.{completed_header};
 ghost use Rattle.hevc_types_d.specs.SliceHeader.{plain_slice_header};
 
 use crate::slice_header::SliceHeader;

@@ -28,7 +28,7 @@ pub struct SliceHeader {
     pub type_: SliceType,
     /// Whether the picture is output.
     pub pic_output_flag: bool,
-    /// The colour plane of separate planes: 0 to 2.
+    /// The colour plane of separate planes: 0 to 2 by 7.4.7.1, which reserves 3; that is read too.
     pub colour_plane_id: u8,
     /// The order count of the picture, modulo MaxPicOrderCntLsb.
     pub pic_order_cnt_lsb: u16,
@@ -128,7 +128,7 @@ pub struct SliceHeader {
 }
 
 impl SliceHeader {
-    ghost use Rattle.hevc_tables.specs.SliceHeader.{completed_header, default_slice_header, with_inferred};
+    ghost use Rattle.hevc_records.specs.SliceHeader.{completed_header, default_slice_header, with_inferred};
     ghost use Rattle.hevc_types_d.specs.Pps.{plain_pps};
     ghost use Rattle.hevc_types_d.specs.SliceHeader.{plain_slice_header};
 

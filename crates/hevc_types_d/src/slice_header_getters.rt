@@ -55,7 +55,7 @@ impl SliceHeader {
         self.pic_output_flag
     }
 
-    /// The colour plane of separate planes.
+    /// The colour plane of separate planes: 0 to 2 by 7.4.7.1, which reserves 3; that is read too.
     pub fn colour_plane_id(&self) -> u8
         ensures { result ≡ self.now.colour_plane_id }
     {

@@ -1,5 +1,5 @@
 -- The decoded picture buffer, a list in the order in which pictures were stored, and bumping (C.5.2).
-use Rattle.std.specs.Prelude.{ℕ, ℤ, ◌+◌, ◌-◌, Bool, true, false, not, ◌&&◌, ◌||◌, List, [], ◌∷◌, ◌++◌, length, map, if◌then◌else◌, ◌==◌, nat_lt, nat_le, count_by, int_lt}
+use Rattle.std.specs.Prelude.{ℕ, ℤ, ◌+◌, ◌-◌, ◌^◌, min, Bool, true, false, not, ◌&&◌, ◌||◌, List, [], ◌∷◌, ◌++◌, length, map, if◌then◌else◌, ◌==◌, nat_lt, nat_le, count_by, int_lt}
 use Rattle.std.specs.List.{list_any}
 use Rattle.hevc_walk.specs.Meanings.{Limits}
 use Rattle.hevc_walk.specs.Pictures.{Head}
@@ -20,7 +20,7 @@ pub record Entry : Type 0 where
   pub order_count : ℤ
   pub mark : Mark
   pub needed_for_output : Bool
-  -- PicLatencyCount (C.5.2.3), raised at every store
+  -- PicLatencyCount (C.5.2.3), raised at every store as far as 2 ^ 31 - 1
   pub latency_count : ℕ
 
 abbrev pub Buffer : Type 0
@@ -91,8 +91,9 @@ needs_bumping limits es = needs_additional_bumping limits es || nat_le (limits.m
 abbrev pub entry_of : Head → Entry
 entry_of p = record { number = p.number; order_count = p.order_count; mark = ShortTerm; needed_for_output = p.pic_output_flag; latency_count = 0 }
 
+-- one picture more is stored behind it; where limits are bytes no rule sees that the count stops
 abbrev pub with_latency : Entry → Entry
-with_latency e = record e { latency_count = e.latency_count + 1 }
+with_latency e = record e { latency_count = min (e.latency_count + 1) (2 ^ 31 - 1) }
 
 -- the buffer with this picture stored
 unfoldable pub with_stored : Head → Buffer → Buffer

@@ -1,6 +1,6 @@
 -- Streams that keep what they declare.
 use Rattle.std.specs.Prelude.{◌≡◌, ℕ, ◌+◌, ◌≤◌, ◌<◌, false, List, [], ◌∷◌, length, None}
-use Rattle.hevc_walk.specs.UnitTypes.{is_idr}
+use Rattle.hevc_spec.specs.UnitTypes.{is_idr}
 use Rattle.hevc_walk.specs.Meanings.{Slice, Meaning}
 use Rattle.hevc_walk.specs.Pictures.{Picture, pictures}
 use Rattle.hevc_walk.specs.ReferenceSets.{short_term_set}

@@ -7,7 +7,8 @@ pub record KeptHeader : Type 0 where
   pub pic_parameter_set_id : ℕ
   pub header : SliceHeader
 
--- a dependent slice belongs to it: they name one picture set, and its short-term set is among those of the sequence set
+-- A dependent slice belongs to it: they name one picture set, and CurrRpsIdx is at most the number of
+-- the sequence set's short-term sets. It is that number where the header has a set of its own.
 abbrev pub completes : KeptHeader → Slice → Bool
 completes kept s = kept.pic_parameter_set_id == s.pic_parameter_set_id && nat_le kept.header.curr_rps_idx (length s.short_term_ref_pic_sets)
 

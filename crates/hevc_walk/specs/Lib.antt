@@ -1,4 +1,3 @@
-pub mod UnitTypes
 pub mod Meanings
 pub mod DependentSlices
 pub mod OrderCounts

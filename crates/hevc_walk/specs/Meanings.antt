@@ -1,7 +1,8 @@
 -- What a unit means for the pictures, with the facts of the sets that are kept at it.
 use Rattle.std.specs.Prelude.{ℕ, ℤ, Bool, List, Option, ◌==◌, ◌&&◌}
 
--- What is negotiated of a sequence set (7.4.3.2.1): a set of another format opens a negotiation.
+-- What is negotiated of a sequence set (7.4.3.2.1). The first sequence set opens a negotiation, and so
+-- does a picture of another format than the accepted one; a later sequence set by itself opens none.
 pub record Format : Type 0 where
   -- pic_width_in_luma_samples, pic_height_in_luma_samples
   pub coded_width : ℕ
@@ -16,8 +17,8 @@ pub record Format : Type 0 where
 abbrev pub same_format : Format → Format → Bool
 same_format a b = a.coded_width == b.coded_width && a.coded_height == b.coded_height && a.general_profile_idc == b.general_profile_idc && a.bit_depth_luma_minus8 == b.bit_depth_luma_minus8 && a.bit_depth_chroma_minus8 == b.bit_depth_chroma_minus8 && a.chroma_format_idc == b.chroma_format_idc && a.max_num_pics == b.max_num_pics
 
--- sps_max_num_reorder_pics, sps_max_latency_increase_plus1 and sps_max_dec_pic_buffering_minus1 of the highest sub-layer
--- (7.4.3.2.1)
+-- sps_max_num_reorder_pics, sps_max_latency_increase_plus1 and sps_max_dec_pic_buffering_minus1
+-- (7.4.3.2.1) of the highest sub-layer that is decoded, HighestTid (C.5.2.2)
 pub record Limits : Type 0 where
   pub max_num_reorder : ℕ
   pub max_latency_increase_plus1 : ℕ
@@ -77,6 +78,8 @@ pub record Slice : Type 0 where
   pub nal_unit_type : ℕ
   pub temporal_id : ℕ
   pub bytes : List ℕ
+  -- HandleCraAsBlaFlag (8.1.3): a CRA picture is handled as a BLA picture; says nothing of others
+  pub handled_as_bla : Bool
   pub first_slice_segment_in_pic_flag : Bool
   pub no_output_of_prior_pics_flag : Bool
   pub pic_parameter_set_id : ℕ

@@ -1,6 +1,6 @@
 -- The pictures of some units, latest first, each with its flags and its order count.
 use Rattle.std.specs.Prelude.{ℕ, ℤ, pos, ◌+◌, ◌-ℤ◌, Bool, true, false, not, ◌&&◌, ◌||◌, List, [], ◌∷◌, ◌++◌, if◌then◌else◌, ◌==◌, Option, Some, None}
-use Rattle.hevc_walk.specs.UnitTypes.{is_idr, is_bla, is_cra, is_irap, is_radl, is_rasl, is_slnr}
+use Rattle.hevc_spec.specs.UnitTypes.{is_idr, is_bla, is_cra, is_irap, is_radl, is_rasl, is_slnr}
 use Rattle.hevc_walk.specs.Meanings.{Slice, Format, Limits, Meaning, SequenceSet, CodedSlice, EndOfSequence, EndOfBitstream, Other, Refused}
 use Rattle.hevc_walk.specs.DependentSlices.{KeptHeader, whole_slice, kept_header}
 use Rattle.hevc_walk.specs.OrderCounts.{count_behind, is_i32}
@@ -15,9 +15,9 @@ pub record Context : Type 0 where
   -- NoRaslOutputFlag of the latest IRAP picture, false where there is none
   pub latest_irap_no_rasl : Bool
 
--- NoRaslOutputFlag (8.1.3), and it holds for every other picture that is first after an end of sequence, too
+-- NoRaslOutputFlag (8.1.3). It holds for every other picture that is first after an end of sequence, too.
 abbrev pub no_rasl_output : Context → Slice → Bool
-no_rasl_output c s = is_idr s.nal_unit_type || is_bla s.nal_unit_type || (is_cra s.nal_unit_type && c.first_in_bitstream) || c.first_after_end
+no_rasl_output c s = is_idr s.nal_unit_type || is_bla s.nal_unit_type || (is_cra s.nal_unit_type && (c.first_in_bitstream || s.handled_as_bla)) || c.first_after_end
 
 -- an IRAP picture with NoRaslOutputFlag: a coded video sequence begins
 abbrev pub begins_sequence : Context → Slice → Bool
@@ -66,8 +66,8 @@ head c s = record {
 }
 
 -- its order count and PicOrderCntMsb are 32-bit numbers (8.3.1)
-unfoldable pub in_range : Head → Bool
-in_range p = is_i32 p.order_count && is_i32 (p.order_count -ℤ pos p.pic_order_cnt_lsb)
+unfoldable pub order_count_in_range : Head → Bool
+order_count_in_range p = is_i32 p.order_count && is_i32 (p.order_count -ℤ pos p.pic_order_cnt_lsb)
 
 -- the pictures behind it may take their order counts from its own: it can be prevTid0Pic
 abbrev pub is_tid0 : Head → Bool

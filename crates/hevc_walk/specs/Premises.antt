@@ -1,12 +1,13 @@
 -- What every list of meanings that is read from a byte stream meets, and the laws may ask for.
-use Rattle.std.specs.Prelude.{◌≡◌, ℕ, ℤ, pos, ◌+◌, ◌^◌, ◌≤◌, ◌<◌, ◌<ℤ◌, true, false, Bool, List, [], ◌∷◌, length, All, IfSome}
+use Rattle.std.specs.Prelude.{◌≡◌, ℕ, ℤ, pos, ◌+◌, ◌^◌, ◌≤◌, ◌<◌, ◌<ℤ◌, true, false, List, [], ◌∷◌, length, All, IfSome}
 use Rattle.hevc_walk.specs.Meanings.{Format, Limits, ShortTermMember, LongTermMember, ShortTermRefPicSet, ListRule, Slice, Meaning, SequenceSet, CodedSlice, EndOfSequence, EndOfBitstream, Other, Refused}
 
 -- MaxDpbSize is at most 16 (A.4.2)
 pub record IsFormat (f : Format) : Type 0 where
   pub max_num_pics : f.max_num_pics ≤ 16
 
--- their bounds in 7.4.3.2.1, so that a latency count stops at 2 ^ 31 - 1 without being seen
+-- Each is a byte: the first and the last by 7.4.3.2.1, the latency number because none above 255 is
+-- read here.
 pub record IsLimits (limits : Limits) : Type 0 where
   pub max_num_reorder : limits.max_num_reorder < 2 ^ 8
   pub max_latency_increase_plus1 : limits.max_latency_increase_plus1 < 2 ^ 8
@@ -63,17 +64,13 @@ IsMeaning (SequenceSet format) = IsFormat format
 IsMeaning (CodedSlice s) = IsSlice s × (s.dependent_slice_segment_flag ≡ false → IsIndependent s)
 IsMeaning u = Unit {0}
 
-abbrev pub is_set : Meaning → Bool
-is_set (SequenceSet format) = true
-is_set u = false
-
--- no slice is read before the first sequence set
+-- before the first sequence set no unit means a slice or an end
 abbrev pub SetComesFirst : List Meaning → Type 0
 SetComesFirst [] = Unit {0}
 SetComesFirst (CodedSlice s ∷ us) = ⊥
 SetComesFirst (SequenceSet format ∷ us) = Unit {0}
-SetComesFirst (EndOfSequence ∷ us) = SetComesFirst us
-SetComesFirst (EndOfBitstream ∷ us) = SetComesFirst us
+SetComesFirst (EndOfSequence ∷ us) = ⊥
+SetComesFirst (EndOfBitstream ∷ us) = ⊥
 SetComesFirst (Other ∷ us) = SetComesFirst us
 SetComesFirst (Refused cause ∷ us) = SetComesFirst us
 

@@ -2,7 +2,7 @@
 use Rattle.std.specs.Prelude.{ℕ, ℤ, pos, ◌*◌, ◌+ℤ◌, ◌-ℤ◌, Bool, true, false, not, ◌&&◌, ◌||◌, ◌==◌, List, [], ◌∷◌, ◌++◌, map, filter, get_or, if◌then◌else◌, Option, Some, None}
 use Rattle.std.specs.Ordering.{int_eq}
 use Rattle.std.specs.Int.{int_rem_euclid}
-use Rattle.hevc_walk.specs.UnitTypes.{is_idr}
+use Rattle.hevc_spec.specs.UnitTypes.{is_idr}
 use Rattle.hevc_walk.specs.Meanings.{Slice, ShortTermMember, LongTermMember, ShortTermRefPicSet}
 use Rattle.hevc_walk.specs.Pictures.{Head}
 use Rattle.hevc_walk.specs.Buffer.{Buffer, Entry, Mark, Unused, ShortTerm, LongTerm, is_reference}

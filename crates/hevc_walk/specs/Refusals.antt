@@ -2,7 +2,7 @@
 use Rattle.std.specs.Prelude.{ℕ, ◌+◌, ◌||◌, List, [], ◌∷◌, if◌then◌else◌, Option, Some, None}
 use Rattle.hevc_walk.specs.Meanings.{Format, Slice, UnitCause, Meaning, CodedSlice, Refused, same_format}
 use Rattle.hevc_walk.specs.DependentSlices.{whole_slice}
-use Rattle.hevc_walk.specs.Pictures.{Head, Picture, Stream, context, head, in_range, with_unit, nothing_yet}
+use Rattle.hevc_walk.specs.Pictures.{Head, Picture, Stream, context, head, order_count_in_range, with_unit, nothing_yet}
 
 -- Why a stream is refused.
 pub data Cause : Type 0 where
@@ -22,7 +22,7 @@ pub record Refusal : Type 0 where
 
 -- the refusal of a slice that begins a picture (8.3.1)
 abbrev pub refusal_of_picture : Head → Option Cause
-refusal_of_picture p = if in_range p then None else Some PocOutOfRange
+refusal_of_picture p = if order_count_in_range p then None else Some PocOutOfRange
 
 -- the refusal of a later slice: the accepted format is that of its picture (7.4.2.4.2)
 abbrev pub refusal_of_later : Head → Slice → Option Cause

@@ -2,13 +2,13 @@
 use Rattle.std.specs.Prelude.{ℕ, ℤ, List, [], ◌∷◌, ◌++◌, length, filter, flat_map, nat_lt, nat_eq, if◌then◌else◌, Option, Some, None, Result, Ok, Err}
 use Rattle.hevc_walk.specs.Meanings.{Meaning}
 use Rattle.hevc_walk.specs.Pictures.{Stream, pictures}
-use Rattle.hevc_walk.specs.Walk.{Call, Event, Called, Output, at_unit, picture_events, store, latest_head, closing, is_full, full_store, first_of}
+use Rattle.hevc_walk.specs.Walk.{Call, Event, Called, Output, at_unit, picture_events, store, latest_head, closing, is_full, full_store, earlier_of}
 use Rattle.hevc_walk.specs.Refusals.{Refusal, DpbFull, stop, covered_stream}
 
 abbrev pub walk_events : Stream → List (ℕ × Event)
 walk_events v = picture_events v.first_set v.pictures
 
--- behind the last unit, the k-th, if nothing stops before
+-- behind the last unit, if nothing stops before; k is the number of units
 abbrev pub ending : Option Refusal → ℕ → Stream → List (ℕ × Event)
 ending None k v = at_unit k (closing (latest_head v.pictures) (store v.first_set v.pictures)).events
 ending (Some refusal) k v = []
@@ -74,7 +74,7 @@ full_at_end (Some refusal) k v = None
 
 -- the unit at which a picture is first to be stored into a full buffer
 abbrev pub full : List Meaning → Option ℕ
-full us = first_of (full_store (covered_stream us).first_set (covered_stream us).pictures) (full_at_end (stop us) (length us) (covered_stream us))
+full us = earlier_of (full_store (covered_stream us).first_set (covered_stream us).pictures) (full_at_end (stop us) (length us) (covered_stream us))
 
 abbrev pub full_or : Option ℕ → Result ℕ Refusal → Result ℕ Refusal
 full_or (Some k) later = Err (record { unit = k; cause = DpbFull })

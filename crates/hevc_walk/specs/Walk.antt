@@ -1,7 +1,7 @@
 -- The walk over the pictures, as the output order decoding process goes (C.5.2): calls, and pictures that are output.
 use Rattle.std.specs.Prelude.{ℕ, ℤ, Bool, false, not, ◌&&◌, List, [], ◌∷◌, ◌++◌, length, map, filter, if◌then◌else◌, Option, Some, None, nat_le}
 use Rattle.hevc_walk.specs.Meanings.{Format, Slice, same_format}
-use Rattle.hevc_walk.specs.Pictures.{Head, Picture, in_range}
+use Rattle.hevc_walk.specs.Pictures.{Head, Picture, order_count_in_range}
 use Rattle.hevc_walk.specs.Buffer.{Entry, Buffer, Bumped, bumping, draining, needs_additional_bumping, needs_bumping, is_needed, with_stored}
 use Rattle.hevc_walk.specs.ReferenceSets.{RefPicSet, reference_set, with_marks}
 use Rattle.hevc_walk.specs.ReferenceLists.{RefPicListEntry, ref_pic_list0, ref_pic_list1}
@@ -55,8 +55,6 @@ unfoldable pub finish : Option Head → Store → Part Store
 finish None s = nothing s
 finish (Some q) s = if q.skipped then nothing s else store_picture q s
 
--- The format of a picture differs from the accepted one: in every case what waits is output before it is negotiated, and
--- no NoOutputOfPriorPicsFlag is looked at.
 abbrev pub is_accepted : Format → Option Format → Bool
 is_accepted format None = false
 is_accepted format (Some accepted) = same_format accepted format
@@ -64,12 +62,14 @@ is_accepted format (Some accepted) = same_format accepted format
 abbrev pub open_sequence : Format → Store → Part Store
 open_sequence format s = call (NewSequence format) (record s { accepted = Some format })
 
+-- Where the format of a picture differs from the accepted one, what waits is output before it is
+-- negotiated, in every case: no NoOutputOfPriorPicsFlag is looked at.
 unfoldable pub change_format : Format → Store → Part Store
 change_format format s = if is_accepted format s.accepted then nothing s else output_by draining s >>= open_sequence format
 
 -- A picture whose order count isn't in range, or that is skipped (8.1.3), isn't decoded.
 abbrev pub is_decoded : Head → Bool
-is_decoded p = in_range p && not p.skipped
+is_decoded p = order_count_in_range p && not p.skipped
 
 -- the entries that stay as a picture is to be decoded, before any is bumped (C.5.2.2)
 abbrev pub needed_entries : Buffer → Buffer
@@ -156,11 +156,12 @@ abbrev pub is_full : Option Head → Store → Bool
 is_full None s = false
 is_full (Some q) s = not q.skipped && nat_le (accepted_size s.accepted) (length s.buffer)
 
-abbrev pub first_of : Option ℕ → Option ℕ → Option ℕ
-first_of (Some k) later = Some k
-first_of None later = later
+-- the earlier unit, if there is one, else the later one
+abbrev pub earlier_of : Option ℕ → Option ℕ → Option ℕ
+earlier_of (Some k) later = Some k
+earlier_of None later = later
 
 -- the unit of the first store into a full buffer
 abbrev pub full_store : Option (ℕ × Format) → List Picture → Option ℕ
 full_store set [] = None
-full_store set (p ∷ before) = first_of (full_store set before) (if is_full (latest_head before) (store set before) then Some p.unit else None)
+full_store set (p ∷ before) = earlier_of (full_store set before) (if is_full (latest_head before) (store set before) then Some p.unit else None)

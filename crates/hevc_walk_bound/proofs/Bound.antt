@@ -3,13 +3,13 @@ use Rattle.std.proofs.Common.{◌≡◌, ◌⊎◌, inl, inr, ⊎_elim, ℕ, ◌
 use Rattle.std.specs.Prelude.{nat_le}
 use Rattle.std.proofs.lemmas.List.{length-map}
 use Rattle.std.proofs.lemmas.Bool.Decides.{nat_tests}
-use Rattle.hevc_walk.specs.UnitTypes.{is_idr}
+use Rattle.hevc_spec.specs.UnitTypes.{is_idr}
 use Rattle.hevc_walk.specs.Meanings.{Format, Slice, Meaning, CodedSlice, Refused, SequenceSet, EndOfSequence, EndOfBitstream, Other, ShortTermMember, LongTermMember}
 use Rattle.hevc_walk.specs.DependentSlices.{whole_slice}
-use Rattle.hevc_walk.specs.Pictures.{Head, Picture, Stream, context, head, in_range, new_picture, with_unit, with_slice, with_whole, with_sequence_end, with_bitstream_end, nothing_yet, pictures, stream_from}
+use Rattle.hevc_walk.specs.Pictures.{Head, Picture, Stream, context, head, order_count_in_range, new_picture, with_unit, with_slice, with_whole, with_sequence_end, with_bitstream_end, nothing_yet, pictures, stream_from}
 use Rattle.hevc_walk.specs.Buffer.{Entry, Buffer, LongTerm, is_reference, in_output_order, has_number, left_of, after_output, shortest_front, due_outputs, bumping, draining, is_needed, with_stored, with_latency, entry_of, needs_bumping, needs_additional_bumping}
 use Rattle.hevc_walk.specs.ReferenceSets.{with_marks, reference_set, short_term_set, with_long_term, references_before, marked_if, all_members, long_term_if, long_term_entry, short_term_entry, unmarked, names, five_lists, is_curr_long_term, is_curr_short_term, no_references}
-use Rattle.hevc_walk.specs.Walk.{Part, ◌>>=◌, nothing, Store, output_by, finish, store_picture, change_format, open_sequence, is_accepted, begin_picture, is_decoded, make_room, needed_entries, start_decoding, store, latest_head, is_full, full_store, accepted_size, first_of}
+use Rattle.hevc_walk.specs.Walk.{Part, ◌>>=◌, nothing, Store, output_by, finish, store_picture, change_format, open_sequence, is_accepted, begin_picture, is_decoded, make_room, needed_entries, start_decoding, store, latest_head, is_full, full_store, accepted_size, earlier_of}
 use Rattle.hevc_walk.specs.Refusals.{Cause, PocOutOfRange, refusal, refusal_of_slice, refusal_of_whole, refusal_of_picture, refusal_of_later, stop, first_refusal, stop_from, covered_stream}
 use Rattle.hevc_walk.specs.Results.{verdict, full_or, stop_or, full, full_at_end}
 use Rattle.hevc_walk.specs.Fates.{one}
@@ -400,10 +400,10 @@ store-numbers n set (p ∷ before) =
 -- every count is in range
 abbrev pub AllInRange : List Picture → Type 0
 AllInRange [] = Unit {0}
-AllInRange (p ∷ before) = (in_range p.head ≡ true) × AllInRange before
+AllInRange (p ∷ before) = (order_count_in_range p.head ≡ true) × AllInRange before
 
-picture-none : (p : Head) → refusal_of_picture p ≡ None → in_range p ≡ true
-picture-none p h = by_test (in_range p) h
+picture-none : (p : Head) → refusal_of_picture p ≡ None → order_count_in_range p ≡ true
+picture-none p h = by_test (order_count_in_range p) h
   where
     by_test : (b : Bool) → cond b None (Some PocOutOfRange) ≡ None → b ≡ true
     by_test true h = refl
@@ -486,12 +486,12 @@ not_full set (p ∷ before) numbered in_ranges clean = by_test p.skipped refl
 none_full : (set : Option (ℕ × Format)) (ps : List Picture) → Numbered ps → AllInRange ps → AllClean ps → full_store set ps ≡ None
 none_full set [] numbered in_ranges clean = refl
 none_full set (p ∷ before) numbered in_ranges clean =
-    ap (λ (f : Option ℕ). first_of f (cond (is_full (latest_head before) (store set before)) (Some p.unit) None)) (none_full set before numbered.1 in_ranges.1 clean.1)
+    ap (λ (f : Option ℕ). earlier_of f (cond (is_full (latest_head before) (store set before)) (Some p.unit) None)) (none_full set before numbered.1 in_ranges.1 clean.1)
     ∙ ap (λ (b : Bool). cond b (Some p.unit) None) (not_full set before numbered.1 in_ranges.1 clean.1)
 
 pub never_full : (us : List Meaning) → IsClean us → full us ≡ None
 never_full us clean =
-    ap (λ (f : Option ℕ). first_of f (full_at_end (stop us) (length us) (covered_stream us))) (none_full (covered_stream us).first_set (covered_stream us).pictures numbered in_ranges all_clean)
+    ap (λ (f : Option ℕ). earlier_of f (full_at_end (stop us) (length us) (covered_stream us))) (none_full (covered_stream us).first_set (covered_stream us).pictures numbered in_ranges all_clean)
     ∙ ap (λ s. full_at_end s (length us) (covered_stream us)) clean.goes_on
     ∙ ap (λ (b : Bool). cond b (Some (length us)) None) (not_full (covered_stream us).first_set (covered_stream us).pictures numbered in_ranges all_clean)
   where

@@ -1,12 +1,15 @@
-//! In a clean stream the buffer has room for each picture.
+//! In a clean stream the buffer has room for each picture, and no rule sees that latency counts stop.
 #![tactic(auto)]
 
-ghost use Rattle.std.specs.Prelude.{◌≡◌, List, length, None, Ok};
-ghost use Rattle.hevc_walk.specs.Meanings.{Meaning};
-ghost use Rattle.hevc_walk.specs.Pictures.{stream, pictures};
+ghost use Rattle.std.specs.Prelude.{◌≡◌, Bool, List, length, map, None, Ok};
+ghost use Rattle.hevc_walk.specs.Meanings.{Limits, Meaning};
+ghost use Rattle.hevc_walk.specs.Pictures.{Head, stream, pictures};
+ghost use Rattle.hevc_walk.specs.Buffer.{Buffer, bumping, needs_additional_bumping, needs_bumping, with_stored};
 ghost use Rattle.hevc_walk.specs.Results.{full, verdict};
 ghost use Rattle.hevc_walk.specs.Clean.{IsClean};
+ghost use Rattle.hevc_walk.specs.Premises.{IsLimits};
 ghost use Rattle.hevc_walk_bound.specs.Stores.{StoresFew};
+ghost use Rattle.hevc_walk_bound.specs.Capped.{capped, capped_bumped, with_stored_uncapped};
 
 /// In a clean stream, as a picture is stored, the buffer holds at most as many as that picture's sets declare.
 pub fn few_are_stored()
@@ -17,4 +20,16 @@ pub fn few_are_stored()
 pub fn never_full()
     ensures full { (us : List Meaning) → IsClean us → full us ≡ None }
     ensures verdict { (us : List Meaning) → IsClean us → verdict us ≡ Ok (length (pictures us)) }
+{}
+
+/// A latency count stops at 2 ^ 31 - 1. Where limits are bytes no rule can tell it from one that goes on, so the same
+/// pictures are output, and the same are left.
+pub fn cap_is_unseen()
+    ensures stored { (p : Head) (es : Buffer) → with_stored p (map capped es) ≡ map capped (with_stored_uncapped p es) }
+    ensures additional { (limits : Limits) (es : Buffer) → IsLimits limits
+        → needs_additional_bumping limits (map capped es) ≡ needs_additional_bumping limits es }
+    ensures before_decoding { (limits : Limits) (es : Buffer) → IsLimits limits
+        → needs_bumping limits (map capped es) ≡ needs_bumping limits es }
+    ensures bumped { (rule : Buffer → Bool) (es : Buffer) → ((fs : Buffer) → rule (map capped fs) ≡ rule fs)
+        → bumping rule (map capped es) ≡ capped_bumped (bumping rule es) }
 {}

@@ -1,9 +1,9 @@
 -- A buffer of one picture: what is due, and what is left.
-use Rattle.std.proofs.Common.{◌≡◌, ℕ, zero, suc, ◌+◌, ◌-◌, ◌<◌, ◌≤◌, ℤ, pos, Bool, true, false, not, cond, ◌&&◌, ◌||◌, ◌==◌, List, [], ◌∷◌, ◌++◌, length, map, refl, sym, ap, ◌∙◌, arith, if◌then◌else◌}
-use Rattle.std.specs.Prelude.{nat_lt, nat_le, count_by}
+use Rattle.std.proofs.Common.{◌≡◌, ℕ, zero, suc, ◌+◌, ◌-◌, pos, Bool, true, false, not, ◌&&◌, ◌||◌, ◌==◌, [], ◌∷◌, refl, ap, ◌∙◌, arith, if◌then◌else◌}
+use Rattle.std.specs.Prelude.{nat_lt, nat_le}
 use Rattle.std.proofs.lemmas.Bool.Decides.{nat_tests}
 use Rattle.hevc_walk.specs.Meanings.{Limits}
-use Rattle.hevc_walk.specs.Buffer.{Mark, ShortTerm, Entry, Buffer, in_output_order, after_output, due_outputs, bumping, draining, needs_additional_bumping, with_stored, entry_of}
+use Rattle.hevc_walk.specs.Buffer.{ShortTerm, Entry, after_output, due_outputs, bumping, needs_additional_bumping}
 
 -- an IDR picture as it is stored
 abbrev pub entry : ℕ → Bool → Entry

@@ -1,10 +1,9 @@
 -- What the first slice of an IDR picture tells of it.
-use Rattle.std.proofs.Common.{◌≡◌, ◌⊎◌, inl, inr, ℕ, ℤ, pos, Bool, true, false, not, ◌&&◌, ◌||◌, ◌==◌, Option, Some, None, refl, sym, ap, ◌∙◌, subst, arith}
+use Rattle.std.proofs.Common.{◌≡◌, ℕ, pos, Bool, true, false, not, ◌&&◌, Option, refl, arith}
 use Rattle.std.proofs.lemmas.Bool.Decides.{nat_tests}
-use Rattle.hevc_walk.specs.UnitTypes.{is_idr, is_bla, is_cra, is_irap, is_rasl}
+use Rattle.hevc_spec.specs.UnitTypes.{is_idr, is_cra, is_irap, is_rasl}
 use Rattle.hevc_walk.specs.Meanings.{Format, Slice}
-use Rattle.hevc_walk.specs.Pictures.{Context, Head, head, in_range, no_rasl_output, begins_sequence}
-use Rattle.hevc_walk.specs.OrderCounts.{is_i32}
+use Rattle.hevc_walk.specs.Pictures.{Context, Head, head, order_count_in_range, begins_sequence}
 use Rattle.hevc_walk_idr.specs.IdrWalk.{IsIdrSlice}
 
 irap : (t : ℕ) → is_idr t ≡ true → is_irap t ≡ true
@@ -27,7 +26,7 @@ pub record IsIdrHead (c : Context) (s : Slice) (h : Head) : Type 0 where
   pub discards : h.no_output_of_prior_pics ≡ (not c.first_in_bitstream && s.no_output_of_prior_pics_flag)
   pub format : h.format ≡ s.format
   pub reorder : h.limits ≡ s.limits
-  pub in_range : in_range h ≡ true
+  pub in_range : order_count_in_range h ≡ true
 
 and_true : (b : Bool) → (b && true) ≡ b
 and_true true = refl
@@ -37,7 +36,7 @@ begins : (c : Context) (s : Slice) → is_idr s.nal_unit_type ≡ true → begin
 begins c s e = rw (irap s.nal_unit_type e, e) refl
 
 pub idr_head : (accepted : Option Format) (c : Context) (s : Slice) → IsIdrSlice accepted s → IsIdrHead c s (head c s)
-unfolding head in_range
+unfolding head order_count_in_range
 idr_head accepted c s is =
     let starts : begins_sequence c s ≡ true = begins c s is.idr in
     let rasl : is_rasl s.nal_unit_type ≡ false = not_rasl s.nal_unit_type is.idr in

@@ -1,14 +1,13 @@
 -- The parts of the walk where IDR pictures alone come.
-use Rattle.std.proofs.Common.{◌≡◌, ◌⊎◌, inl, inr, ℕ, zero, suc, ◌+◌, ◌-◌, ◌<◌, ◌≤◌, ℤ, pos, Bool, true, false, not, cond, ◌&&◌, ◌||◌, ◌==◌, List, [], ◌∷◌, ◌++◌, length, map, Option, Some, None, refl, sym, ap, ◌∙◌, subst, arith, if◌then◌else◌, append-nil, append_assoc}
-use Rattle.std.specs.Prelude.{nat_le}
+use Rattle.std.proofs.Common.{◌≡◌, ◌⊎◌, inl, inr, ℕ, ℤ, pos, Bool, true, false, not, ◌&&◌, ◌==◌, List, [], ◌∷◌, ◌++◌, map, Option, Some, None, refl, sym, ap, ◌∙◌, arith, if◌then◌else◌}
 use Rattle.std.proofs.lemmas.Bool.Decides.{nat_tests}
-use Rattle.hevc_walk.specs.Meanings.{Format, Slice, SliceType, I, same_format}
-use Rattle.hevc_walk.specs.Pictures.{Context, Head, head, in_range}
-use Rattle.hevc_walk.specs.Buffer.{Mark, Unused, ShortTerm, LongTerm, Entry, Buffer, in_output_order, bumping, draining, needs_additional_bumping, needs_bumping, with_stored, entry_of}
+use Rattle.hevc_walk.specs.Meanings.{Format, Slice, same_format}
+use Rattle.hevc_walk.specs.Pictures.{Context, Head, head, order_count_in_range}
+use Rattle.hevc_walk.specs.Buffer.{LongTerm, Entry, Buffer, in_output_order, bumping, draining, needs_additional_bumping, needs_bumping, with_stored, entry_of}
 use Rattle.hevc_walk.specs.ReferenceSets.{RefPicSet, no_references, reference_set, with_marks, marked_if, all_members, references_before, unmarked, long_term_if, long_term_entry, names}
-use Rattle.hevc_walk.specs.ReferenceLists.{ref_pic_list0, ref_pic_list1, list0_for, list1_for}
-use Rattle.hevc_walk.specs.Walk.{Event, Called, Output, SubmitPicture, NewPicture, BeginPicture, DecodeSlice, Part, ◌>>=◌, nothing, call, Store, output_of, output_by, store_picture, finish, change_format, make_room, start_decoding, begin_picture, is_decoded, is_full, accepted_size, slice_call, needed_entries}
-use Rattle.hevc_walk_idr.specs.IdrWalk.{OpenPicture as IdrPicture, StoredPicture, output_if, stored_output, is_due, finish_events, stored_of, stored_behind, leave_events, begin_events, IsIdrSlice}
+use Rattle.hevc_walk.specs.ReferenceLists.{ref_pic_list0, ref_pic_list1}
+use Rattle.hevc_walk.specs.Walk.{Event, Called, SubmitPicture, NewPicture, BeginPicture, DecodeSlice, Part, ◌>>=◌, nothing, Store, output_of, output_by, store_picture, finish, change_format, make_room, start_decoding, begin_picture, slice_call, needed_entries}
+use Rattle.hevc_walk_idr.specs.IdrWalk.{OpenPicture as IdrPicture, StoredPicture, output_if, is_due, finish_events, stored_of, leave_events, IsIdrSlice}
 use Rattle.hevc_walk_idr.proofs.Buffers.{entry, one_due, one_left}
 use Rattle.hevc_walk_idr.proofs.Heads.{IsIdrHead, idr_head}
 
@@ -144,7 +143,7 @@ room_drains h s e starts =
 abbrev started : Head → RefPicSet → Part Store → Part Store
 started h set room = room >>= start_decoding h set
 
-begin_shape : (h : Head) (first : Slice) (s : Store) → in_range h ≡ true → h.skipped ≡ false
+begin_shape : (h : Head) (first : Slice) (s : Store) → order_count_in_range h ≡ true → h.skipped ≡ false
     → begin_picture h first s ≡ started h (reference_set h first s.buffer) (make_room h (record s { buffer = with_marks h first s.buffer }))
 unfolding begin_picture
 begin_shape h first s ranged decoded =

@@ -1,19 +1,19 @@
 -- The walk over IDR pictures goes along with the walk over any pictures, unit by unit.
-use Rattle.std.proofs.Common.{◌≡◌, ◌⊎◌, inl, inr, ℕ, zero, suc, ◌+◌, ◌-◌, ◌<◌, ◌≤◌, ℤ, pos, Bool, true, false, not, cond, ◌&&◌, ◌||◌, ◌==◌, List, [], ◌∷◌, ◌++◌, length, map, Option, Some, None, Result, Ok, Err, refl, sym, ap, ◌∙◌, subst, arith, if◌then◌else◌, append-nil, append_assoc}
+use Rattle.std.proofs.Common.{◌≡◌, ℕ, ◌+◌, ◌<◌, pos, Bool, true, false, not, ◌&&◌, List, [], ◌∷◌, ◌++◌, length, map, Option, Some, None, Result, Ok, refl, sym, ap, ◌∙◌, subst, arith, if◌then◌else◌, append_assoc}
 use Rattle.std.specs.Prelude.{nat_le, is_some}
 use Rattle.std.proofs.lemmas.Bool.Decides.{nat_tests}
 use Rattle.hevc_walk.specs.Meanings.{Format, Limits, Slice, Meaning, SequenceSet, CodedSlice, EndOfSequence, EndOfBitstream, Other, Refused}
-use Rattle.hevc_walk.specs.DependentSlices.{KeptHeader, with_kept, whole_slice, kept_header}
-use Rattle.hevc_walk.specs.Pictures.{Context, Head, head, in_range}
+use Rattle.hevc_walk.specs.DependentSlices.{KeptHeader, with_kept}
+use Rattle.hevc_walk.specs.Pictures.{Head, head, order_count_in_range}
 use Rattle.hevc_walk.specs.ReferenceSets.{RefPicSet, no_references, reference_set}
-use Rattle.hevc_walk.specs.Buffer.{Buffer, in_output_order, draining}
-use Rattle.hevc_walk.specs.Walk.{Call, Event, Called, Output, SubmitPicture, NewSequence, NewPicture, BeginPicture, DecodeSlice, Part, ◌>>=◌, nothing, call, Store, output_of, output_by, finish, change_format, begin_picture, is_decoded, closing, open_sequence, is_full, accepted_size, slice_call, at_unit}
-use Rattle.hevc_walk.specs.Refusals.{Cause, UnitRefused, DpbFull, PocOutOfRange, Refusal, refusal_of_picture}
-use Rattle.hevc_walk_units.specs.Units.{Current, NoPicture, SkippedPicture, OpenPicture, Standing, at_first, on_store, open_head, finish_current, tid0_behind, context_behind, open_picture, current_of, decode_current, decode_slice, begin_by, begin_slice, first_slice, later_slice, begins_picture, slice_part, whole_part, unit_part, refusal_at, refusal_of_slice, refusal_of_whole, refusal_of_first, refusal_of_later, is_full_at, fills_by, is_full_now, closing_part, events_from, verdict_from, full_or_cause, refused_at as refused_at_unit}
-use Rattle.hevc_walk_idr.specs.IdrWalk.{OpenPicture as IdrPicture, StoredPicture, IdrStanding, idr_first, output_if, stored_output, is_due, finish_events, stored_of, stored_behind, leave_events, begin_events, open_of, idr_slice_part, idr_sequence_part, idr_part, idr_refusal, idr_closing, idr_events_from, refused_at, idr_verdict_from, IsIdrSlice, IsIdrMeaning, accepted_behind, AreIdrMeanings}
+use Rattle.hevc_walk.specs.Buffer.{Buffer, in_output_order}
+use Rattle.hevc_walk.specs.Walk.{Call, Event, Called, NewPicture, BeginPicture, DecodeSlice, Part, ◌>>=◌, nothing, call, Store, output_of, finish, change_format, begin_picture, is_decoded, is_full, accepted_size, slice_call, at_unit}
+use Rattle.hevc_walk.specs.Refusals.{Cause, PocOutOfRange, Refusal}
+use Rattle.hevc_walk_units.specs.Units.{Current, NoPicture, SkippedPicture, OpenPicture, Standing, at_first, open_head, finish_current, context_behind, open_picture, decode_slice, begin_by, begin_slice, first_slice, later_slice, begins_picture, whole_part, unit_part, refusal_at, refusal_of_whole, refusal_of_first, refusal_of_later, is_full_at, fills_by, is_full_now, closing_part, events_from, verdict_from, full_or_cause, refused_at as refused_at_unit}
+use Rattle.hevc_walk_idr.specs.IdrWalk.{OpenPicture as IdrPicture, StoredPicture, IdrStanding, idr_first, output_if, stored_output, finish_events, stored_of, stored_behind, leave_events, begin_events, open_of, idr_slice_part, idr_part, idr_refusal, idr_closing, idr_events_from, refused_at, idr_verdict_from, IsIdrSlice, IsIdrMeaning, accepted_behind, AreIdrMeanings}
 use Rattle.hevc_walk_idr.proofs.Buffers.{entry}
 use Rattle.hevc_walk_idr.proofs.Heads.{IsIdrHead, idr_head}
-use Rattle.hevc_walk_idr.proofs.Parts.{IsOpen, buffer_of, finishes, finishes_none, keeps_format, begun, begins, intra_call, same_format-self}
+use Rattle.hevc_walk_idr.proofs.Parts.{IsOpen, buffer_of, finishes, finishes_none, keeps_format, begun, begins, intra_call}
 
 -- the same picture is open
 abbrev pub SameCurrent : Option IdrPicture → Current → Type 0
@@ -305,7 +305,7 @@ goes_slice slice i s is sim =
     let part : unit_part (CodedSlice slice) s ≡ first_slice slice (keeping k s) =
     ap (λ (b : Bool). whole_by b slice s) is.independent ∙ ap (λ (b : Bool). slice_by b slice (keeping k s)) first in
     let taken : Takes slice i (first_slice slice (keeping k s)) = takes slice i (keeping k s) is (kept_simulates i s k sim) in
-    let ranged : in_range (head (finish_current s).next.next slice) ≡ true = (idr_head i.accepted (finish_current s).next.next slice is).in_range in
+    let ranged : order_count_in_range (head (finish_current s).next.next slice) ≡ true = (idr_head i.accepted (finish_current s).next.next slice is).in_range in
     record {
       events = ap (λ (q : Part Standing). q.events) part ∙ taken.events;
       next = subst (λ (q : Part Standing). Simulates (idr_slice_part slice i).next q.next) (sym part) taken.next;

@@ -1,8 +1,8 @@
 -- The walk over IDR pictures of one slice each. Each of them empties the decoded picture buffer before it is decoded (C.5.2.2), so
 -- that one picture at most is stored.
-use Rattle.std.specs.Prelude.{◌≡◌, ℕ, ℤ, pos, ◌+◌, ◌<◌, Bool, true, false, not, ◌&&◌, ◌==◌, List, [], ◌∷◌, ◌++◌, if◌then◌else◌, Option, Some, None, is_some, Result, Ok, Err}
-use Rattle.hevc_walk.specs.UnitTypes.{is_idr}
-use Rattle.hevc_walk.specs.Meanings.{Format, Slice, SliceType, I, Meaning, SequenceSet, CodedSlice, EndOfSequence, EndOfBitstream, Other, Refused, same_format}
+use Rattle.std.specs.Prelude.{◌≡◌, ℕ, pos, ◌+◌, ◌<◌, Bool, true, false, not, ◌&&◌, ◌==◌, List, [], ◌∷◌, ◌++◌, if◌then◌else◌, Option, Some, None, is_some, Result, Ok, Err}
+use Rattle.hevc_spec.specs.UnitTypes.{is_idr}
+use Rattle.hevc_walk.specs.Meanings.{Format, Slice, I, Meaning, SequenceSet, CodedSlice, EndOfSequence, EndOfBitstream, Other, Refused}
 use Rattle.hevc_walk.specs.ReferenceSets.{no_references}
 use Rattle.hevc_walk.specs.Walk.{Event, Called, Output, NewSequence, NewPicture, BeginPicture, DecodeSlice, SubmitPicture, Part, nothing, at_unit}
 use Rattle.hevc_walk.specs.Refusals.{Cause, UnitRefused, Refusal}

@@ -7,7 +7,7 @@ use Rattle.std.specs.Prelude.{nat_lt}
 use Rattle.hevc_walk.specs.Meanings.{Meaning, SequenceSet, CodedSlice, EndOfSequence, EndOfBitstream, Other, Refused, Slice}
 use Rattle.hevc_walk.specs.DependentSlices.{whole_slice, kept_header}
 use Rattle.hevc_walk.specs.Pictures.{Head, Stream, with_unit, nothing_yet}
-use Rattle.hevc_walk.specs.Walk.{Event, Called, SubmitPicture, Part, Store, nothing, finish, store_picture, accepted_size, is_full, first_of, at_unit}
+use Rattle.hevc_walk.specs.Walk.{Event, Called, SubmitPicture, Part, Store, nothing, finish, store_picture, accepted_size, is_full, earlier_of, at_unit}
 use Rattle.hevc_walk.specs.Refusals.{Cause, UnitRefused, NoIndependentSlice, ChangedMidPicture, PocOutOfRange, DpbFull, Refusal, refusal, first_refusal, stop_from, stop, covered_at, covered_from, covered_stream}
 use Rattle.hevc_walk.specs.Results.{events, calls, calls_in, call_at, calls_below, full_at_end, full}
 use Rattle.hevc_walk_units.specs.Units as units
@@ -20,31 +20,31 @@ use Rattle.hevc_walk_joined.proofs.Cuts.{AllBelow, AllFrom, AllBelow-append, All
 -- the unit of the first store into a full buffer, from the unit k on
 abbrev pub full_from : Standing → ℕ → List Meaning → Option ℕ
 full_from s k [] = cond (is_full_now s) (Some k) None
-full_from s k (u ∷ us) = first_of (cond (is_full_at u s) (Some k) None) (cond (is_some (refusal_at u s)) None (full_from (unit_part u s).next (k + 1) us))
+full_from s k (u ∷ us) = earlier_of (cond (is_full_at u s) (Some k) None) (cond (is_some (refusal_at u s)) None (full_from (unit_part u s).next (k + 1) us))
 
 FullJoin : Stream → Option ℕ → Option Refusal → ℕ → Stream → Type 0
-FullJoin v rest stopped n last = first_of (full_by v) rest ≡ first_of (full_by last) (full_at_end stopped n last)
+FullJoin v rest stopped n last = earlier_of (full_by v) rest ≡ earlier_of (full_by last) (full_at_end stopped n last)
 
-first-assoc : (a b c : Option ℕ) → first_of a (first_of b c) ≡ first_of (first_of a b) c
+first-assoc : (a b c : Option ℕ) → earlier_of a (earlier_of b c) ≡ earlier_of (earlier_of a b) c
 first-assoc None b c = refl
 first-assoc (Some k) b c = refl
 
-first-none : (b : Option ℕ) → first_of b None ≡ b
+first-none : (b : Option ℕ) → earlier_of b None ≡ b
 first-none None = refl
 first-none (Some k) = refl
 
-idle-step : (k : ℕ) (f : Option ℕ) (b : Bool) (later : Option ℕ) → b ≡ false → first_of f (first_of (cond b (Some k) None) None) ≡ first_of f None
+idle-step : (k : ℕ) (f : Option ℕ) (b : Bool) (later : Option ℕ) → b ≡ false → earlier_of f (earlier_of (cond b (Some k) None) None) ≡ earlier_of f None
 idle-step k f true later h = absurd (cc h)
 idle-step k f false later h = refl
 
 full-step : (k n : ℕ) (v w last : Stream) (part : Part Standing) (fills : Bool) (later : Option Refusal) (from : Standing → Option ℕ) (r : Option Cause) → Outcome k v part fills w r
     → FullJoin w (from (standing w)) later n last
-    → FullJoin v (first_of (cond fills (Some k) None) (cond (is_some r) None (from part.next))) (first_refusal k r later) n (covered_at r v w last)
+    → FullJoin v (earlier_of (cond fills (Some k) None) (cond (is_some r) None (from part.next))) (first_refusal k r later) n (covered_at r v w last)
 unfolding FullJoin
 full-step k n v w last part fills later from None takes h =
-    first-assoc (full_by v) (cond fills (Some k) None) (from part.next) ∙ ap (λ (f : Option ℕ). first_of f (from part.next)) (sym takes.full) ∙ ap (λ (x : Standing). first_of (full_by w) (from x)) takes.next ∙ h
+    first-assoc (full_by v) (cond fills (Some k) None) (from part.next) ∙ ap (λ (f : Option ℕ). earlier_of f (from part.next)) (sym takes.full) ∙ ap (λ (x : Standing). earlier_of (full_by w) (from x)) takes.next ∙ h
 full-step k n v w last part fills later from (Some PocOutOfRange) takes h =
-    first-assoc (full_by v) (cond fills (Some k) None) None ∙ ap (λ (f : Option ℕ). first_of f None) (sym takes.full)
+    first-assoc (full_by v) (cond fills (Some k) None) None ∙ ap (λ (f : Option ℕ). earlier_of f None) (sym takes.full)
 full-step k n v w last part fills later from (Some (UnitRefused cause)) idles h = idle-step k (full_by v) fills None idles.full
 full-step k n v w last part fills later from (Some NoIndependentSlice) idles h = idle-step k (full_by v) fills None idles.full
 full-step k n v w last part fills later from (Some (ChangedMidPicture a b)) idles h = idle-step k (full_by v) fills None idles.full
@@ -53,15 +53,15 @@ full-step k n v w last part fills later from (Some DpbFull) idles h = idle-step 
 full-join : (k : ℕ) (v : Stream) (us : List Meaning) → FullJoin v (full_from (standing v) k us) (stop_from k v us) (k + length us) (covered_from k v us)
 unfolding FullJoin
 full-join k v [] =
-    ap (λ (b : Bool). first_of (full_by v) (cond b (Some k) None)) (full-now v)
-    ∙ ap (λ (n : ℕ). first_of (full_by v) (full_at_end None n v)) (sym (add-zero k))
+    ap (λ (b : Bool). earlier_of (full_by v) (cond b (Some k) None)) (full-now v)
+    ∙ ap (λ (n : ℕ). earlier_of (full_by v) (full_at_end None n v)) (sym (add-zero k))
 full-join k v (u ∷ us) =
     let w = with_unit k u v in
     let here = unit_part u (standing v) in
-    let h : FullJoin v (first_of (cond (is_full_at u (standing v)) (Some k) None) (cond (is_some (refusal v u)) None (full_from here.next (k + 1) us))) (stop_from k v (u ∷ us)) (k + length (u ∷ us)) (covered_from k v (u ∷ us)) =
+    let h : FullJoin v (earlier_of (cond (is_full_at u (standing v)) (Some k) None) (cond (is_some (refusal v u)) None (full_from here.next (k + 1) us))) (stop_from k v (u ∷ us)) (k + length (u ∷ us)) (covered_from k v (u ∷ us)) =
     full-step k (k + length (u ∷ us)) v w (covered_from (k + 1) w us) here (is_full_at u (standing v)) (stop_from (k + 1) w us) (λ s. full_from s (k + 1) us) (refusal v u) (outcome k v u)
     (subst (λ (n : ℕ). FullJoin w (full_from (standing w) (k + 1) us) (stop_from (k + 1) w us) n (covered_from (k + 1) w us)) (next-place k u us) (full-join (k + 1) w us)) in
-    ap (λ (r : Option Cause). first_of (full_by v) (first_of (cond (is_full_at u (standing v)) (Some k) None) (cond (is_some r) None (full_from here.next (k + 1) us)))) (refusal-same v u) ∙ h
+    ap (λ (r : Option Cause). earlier_of (full_by v) (earlier_of (cond (is_full_at u (standing v)) (Some k) None) (cond (is_some r) None (full_from here.next (k + 1) us)))) (refusal-same v u) ∙ h
 
 pub full-same : (us : List Meaning) → full_from units.at_first 0 us ≡ full us
 unfolding FullJoin
@@ -149,7 +149,7 @@ full_from-from j k s [] h = by_full (is_full_now s) h
     by_full false h = absurd (cc h)
 full_from-from j k s (u ∷ us) h = by_full (is_full_at u s) (is_some (refusal_at u s)) (full_from-from j (k + 1) (unit_part u s).next us) h
   where
-    by_full : (b r : Bool) → (full_from (unit_part u s).next (k + 1) us ≡ Some j → k + 1 ≤ j) → first_of (cond b (Some k) None) (cond r None (full_from (unit_part u s).next (k + 1) us)) ≡ Some j → k ≤ j
+    by_full : (b r : Bool) → (full_from (unit_part u s).next (k + 1) us ≡ Some j → k + 1 ≤ j) → earlier_of (cond b (Some k) None) (cond r None (full_from (unit_part u s).next (k + 1) us)) ≡ Some j → k ≤ j
     by_full true r further h = let e = same_unit j k h in omega (arith, e)
     by_full false true further h = absurd (cc h)
     by_full false false further h = let e = further h in omega (arith, e)
@@ -170,7 +170,7 @@ submits_from j k s (u ∷ us) h = by_full (is_full_at u s) refl (is_some (refusa
     rest-from false = events_from-from k (k + 1) (unit_part u s).next us (omega arith)
 
     by_full : (b : Bool) → is_full_at u s ≡ b → (r : Bool) → (full_from (unit_part u s).next (k + 1) us ≡ Some j → SubmitsAt j (events_from (unit_part u s).next (k + 1) us))
-        → first_of (cond b (Some k) None) (cond r None (full_from (unit_part u s).next (k + 1) us)) ≡ Some j → SubmitsAt j (at_unit k (unit_part u s).events ++ rest r)
+        → earlier_of (cond b (Some k) None) (cond r None (full_from (unit_part u s).next (k + 1) us)) ≡ Some j → SubmitsAt j (at_unit k (unit_part u s).events ++ rest r)
     by_full true is r further h = subst (λ (n : ℕ). SubmitsAt n (at_unit k (unit_part u s).events ++ rest r)) (same_unit j k h) (at-submits k (unit_part u s).events (rest r) (unit-submits u s is) (rest-from r))
     by_full false is true further h = absurd (cc h)
     by_full false is false further h = behind-submits j k (unit_part u s).events (events_from (unit_part u s).next (k + 1) us) (let e = full_from-from j (k + 1) (unit_part u s).next us h in omega (arith, e)) (further h)

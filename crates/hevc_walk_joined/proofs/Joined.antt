@@ -3,9 +3,9 @@ use Rattle.std.proofs.Common.{◌≡◌, ℕ, ◌+◌, Bool, true, false, not, c
 use Rattle.std.proofs.lemmas.List.{map-append}
 use Rattle.hevc_walk.specs.Meanings.{Format, Slice, Meaning, CodedSlice, Refused, SequenceSet, EndOfSequence, EndOfBitstream, Other, same_format}
 use Rattle.hevc_walk.specs.DependentSlices.{KeptHeader, whole_slice, kept_header}
-use Rattle.hevc_walk.specs.Pictures.{Head, Picture, Stream, Context, context, head, in_range, new_picture, with_unit, with_slice, with_whole, with_set, with_sequence_end, with_bitstream_end, nothing_yet, stream_from, pictures}
+use Rattle.hevc_walk.specs.Pictures.{Head, Picture, Stream, Context, context, head, order_count_in_range, new_picture, with_unit, with_slice, with_whole, with_set, with_sequence_end, with_bitstream_end, nothing_yet, stream_from, pictures}
 use Rattle.hevc_walk.specs.ReferenceSets.{RefPicSet, reference_set}
-use Rattle.hevc_walk.specs.Walk.{slice_call, Event, Called, Part, ◌>>=◌, nothing, call, Store, finish, store_picture, change_format, begin_picture, picture_part, store, latest_head, reference_set_of, picture_events, decode_slice, decode_slices, at_unit, is_decoded, is_full, accepted_size, first_of, closing, output_by}
+use Rattle.hevc_walk.specs.Walk.{slice_call, Event, Called, Part, ◌>>=◌, nothing, call, Store, finish, store_picture, change_format, begin_picture, picture_part, store, latest_head, reference_set_of, picture_events, decode_slice, decode_slices, at_unit, is_decoded, is_full, accepted_size, earlier_of, closing, output_by}
 use Rattle.hevc_walk.specs.Refusals.{Cause, UnitRefused, NoIndependentSlice, ChangedMidPicture, PocOutOfRange, DpbFull, Refusal, refusal_of_picture, refusal_of_later, refusal_of_whole, refusal_of_slice, refusal, first_refusal, stop_from, stop, covered_at, covered_from, covered_stream}
 use Rattle.hevc_walk.specs.Results.{walk_events, ending, events, full_at_end, full_or, stop_or, verdict}
 use Rattle.hevc_walk_fates.proofs.Accepted.{accepted_is}
@@ -96,14 +96,14 @@ decode-events k p set slice s = by_skipped p.skipped refl
     by_decoded false = refl
 
     by_skipped : (b : Bool) → p.skipped ≡ b → at_unit k (decode_current (cond b SkippedPicture (OpenPicture p set)) slice s).events ≡ decode_slices p set ((k, slice) ∷ [])
-    by_skipped true is = sym (ap (λ (c : Bool). wanted (in_range p && not c)) is ∙ none (in_range p))
+    by_skipped true is = sym (ap (λ (c : Bool). wanted (order_count_in_range p && not c)) is ∙ none (order_count_in_range p))
     by_skipped false is = by_decoded (is_decoded p)
 
 decode-slices-append : (p : Head) (set : RefPicSet) (xs ys : List (ℕ × Slice)) → decode_slices p set (xs ++ ys) ≡ decode_slices p set xs ++ decode_slices p set ys
 decode-slices-append p set [] ys = refl
 decode-slices-append p set (x ∷ xs) ys = ap (λ l. decode_slice p set x ++ l) (decode-slices-append p set xs ys) ∙ sym (append_assoc (decode_slice p set x) (decode_slices p set xs) (decode_slices p set ys))
 
-or-none : (f : Option ℕ) → f ≡ first_of f None
+or-none : (f : Option ℕ) → f ≡ earlier_of f None
 or-none None = refl
 or-none (Some k) = refl
 
@@ -209,7 +209,7 @@ later-outcome k set old kept p before slice = by_refusal _ (later-same set p bef
 
 -- one that begins a picture is walked over whether its count is in range or not
 counted-outcome : (k : ℕ) (v w : Stream) (part : Part Standing) (fills : Bool) (p : Head) → Takes k v part fills w → Outcome k v part fills w (refusal_of_picture p)
-counted-outcome k v w part fills p takes = by_test (in_range p)
+counted-outcome k v w part fills p takes = by_test (order_count_in_range p)
   where
     by_test : (b : Bool) → Outcome k v part fills w (cond b None (Some PocOutOfRange))
     by_test true = takes
@@ -348,19 +348,19 @@ same_number [] = refl
 same_number (p ∷ before) = refl
 
 VerdictJoin : Stream → Result ℕ Refusal → Option Refusal → ℕ → Stream → ℕ → Type 0
-VerdictJoin v rest stopped n last count = full_or (full_by v) rest ≡ full_or (first_of (full_by last) (full_at_end stopped n last)) (stop_or stopped (Ok count))
+VerdictJoin v rest stopped n last count = full_or (full_by v) rest ≡ full_or (earlier_of (full_by last) (full_at_end stopped n last)) (stop_or stopped (Ok count))
 
-pub fills-step : (k : ℕ) (f : Option ℕ) (b : Bool) (later : Result ℕ Refusal) → full_or f (refused_at k (full_or_cause b None) later) ≡ full_or (first_of f (cond b (Some k) None)) later
+pub fills-step : (k : ℕ) (f : Option ℕ) (b : Bool) (later : Result ℕ Refusal) → full_or f (refused_at k (full_or_cause b None) later) ≡ full_or (earlier_of f (cond b (Some k) None)) later
 fills-step k None true later = refl
 fills-step k None false later = refl
 fills-step k (Some j) b later = refl
 
-poc-step : (k : ℕ) (f : Option ℕ) (b : Bool) (later : Result ℕ Refusal) → full_or f (refused_at k (full_or_cause b (Some PocOutOfRange)) later) ≡ full_or (first_of (first_of f (cond b (Some k) None)) None) (Err (record { unit = k; cause = PocOutOfRange }))
+poc-step : (k : ℕ) (f : Option ℕ) (b : Bool) (later : Result ℕ Refusal) → full_or f (refused_at k (full_or_cause b (Some PocOutOfRange)) later) ≡ full_or (earlier_of (earlier_of f (cond b (Some k) None)) None) (Err (record { unit = k; cause = PocOutOfRange }))
 poc-step k None true later = refl
 poc-step k None false later = refl
 poc-step k (Some j) b later = refl
 
-idle-step : (k : ℕ) (f : Option ℕ) (b : Bool) (cause : Cause) (later : Result ℕ Refusal) → b ≡ false → full_or f (refused_at k (full_or_cause b (Some cause)) later) ≡ full_or (first_of f None) (Err (record { unit = k; cause = cause }))
+idle-step : (k : ℕ) (f : Option ℕ) (b : Bool) (cause : Cause) (later : Result ℕ Refusal) → b ≡ false → full_or f (refused_at k (full_or_cause b (Some cause)) later) ≡ full_or (earlier_of f None) (Err (record { unit = k; cause = cause }))
 idle-step k f true cause later h = absurd (cc h)
 idle-step k None false cause later h = refl
 idle-step k (Some j) false cause later h = refl
@@ -372,7 +372,7 @@ unfolding VerdictJoin
 verdict-step k n count v w last part fills later from None takes h =
     fills-step k (full_by v) fills (from part.next) ∙ ap (λ (f : Option ℕ). full_or f (from part.next)) (sym takes.full) ∙ ap (λ (x : Standing). full_or (full_by w) (from x)) takes.next ∙ h
 verdict-step k n count v w last part fills later from (Some PocOutOfRange) takes h =
-    poc-step k (full_by v) fills (from part.next) ∙ ap (λ (f : Option ℕ). full_or (first_of f None) (Err (record { unit = k; cause = PocOutOfRange }))) (sym takes.full)
+    poc-step k (full_by v) fills (from part.next) ∙ ap (λ (f : Option ℕ). full_or (earlier_of f None) (Err (record { unit = k; cause = PocOutOfRange }))) (sym takes.full)
 verdict-step k n count v w last part fills later from (Some (UnitRefused cause)) idles h = idle-step k (full_by v) fills (UnitRefused cause) (from part.next) idles.full
 verdict-step k n count v w last part fills later from (Some NoIndependentSlice) idles h = idle-step k (full_by v) fills NoIndependentSlice (from part.next) idles.full
 verdict-step k n count v w last part fills later from (Some (ChangedMidPicture a b)) idles h = idle-step k (full_by v) fills (ChangedMidPicture a b) (from part.next) idles.full
@@ -385,9 +385,9 @@ verdict-join : (k : ℕ) (v : Stream) (us : List Meaning) → Numbered v.picture
 unfolding VerdictJoin
 verdict-join k v [] numbered =
     fills-step k (full_by v) (units.is_full_now (standing v)) (Ok (next_context v.pictures).number)
-    ∙ ap (λ (b : Bool). full_or (first_of (full_by v) (cond b (Some k) None)) (Ok (next_context v.pictures).number)) (full-now v)
-    ∙ ap (λ (n : ℕ). full_or (first_of (full_by v) (cond (is_full (latest_head v.pictures) (store v.first_set v.pictures)) (Some n) None)) (Ok (next_context v.pictures).number)) (sym (add-zero k))
-    ∙ ap (λ (n : ℕ). full_or (first_of (full_by v) (cond (is_full (latest_head v.pictures) (store v.first_set v.pictures)) (Some (k + 0)) None)) (Ok n)) (same_number v.pictures ∙ numbered-length v.pictures numbered)
+    ∙ ap (λ (b : Bool). full_or (earlier_of (full_by v) (cond b (Some k) None)) (Ok (next_context v.pictures).number)) (full-now v)
+    ∙ ap (λ (n : ℕ). full_or (earlier_of (full_by v) (cond (is_full (latest_head v.pictures) (store v.first_set v.pictures)) (Some n) None)) (Ok (next_context v.pictures).number)) (sym (add-zero k))
+    ∙ ap (λ (n : ℕ). full_or (earlier_of (full_by v) (cond (is_full (latest_head v.pictures) (store v.first_set v.pictures)) (Some (k + 0)) None)) (Ok n)) (same_number v.pictures ∙ numbered-length v.pictures numbered)
 verdict-join k v (u ∷ us) numbered =
     let w = with_unit k u v in
     let here = unit_part u (standing v) in

@@ -2,7 +2,7 @@
 use Rattle.std.specs.Prelude.{◌≡◌, ℕ, Bool, List, [], ◌∷◌, ◌++◌, cond, Option, Some, None}
 use Rattle.hevc_walk.specs.Meanings.{Format}
 use Rattle.hevc_walk.specs.Pictures.{Picture, Stream, Context, context}
-use Rattle.hevc_walk.specs.Walk.{Part, store, reference_set_of, full_store, first_of, at_unit}
+use Rattle.hevc_walk.specs.Walk.{Part, store, reference_set_of, full_store, earlier_of, at_unit}
 use Rattle.hevc_walk.specs.Results.{walk_events}
 use Rattle.hevc_walk_units.specs.Units.{Current, NoPicture, current_of, Standing}
 
@@ -25,4 +25,4 @@ full_by v = full_store v.first_set v.pictures
 pub record Takes (k : ℕ) (v : Stream) (part : Part Standing) (fills : Bool) (w : Stream) : Type 0 where
   pub events : walk_events w ≡ walk_events v ++ at_unit k part.events
   pub next : part.next ≡ standing w
-  pub full : full_by w ≡ first_of (full_by v) (cond fills (Some k) None)
+  pub full : full_by w ≡ earlier_of (full_by v) (cond fills (Some k) None)

@@ -98,6 +98,17 @@ broken_link = SequenceSet plain_format ∷ Other ∷ idr sets ∷ p4 ∷ CodedSl
 abbrev pub open_gop : List Meaning
 open_gop = SequenceSet plain_format ∷ Other ∷ idr sets ∷ cra ∷ rasl6 ∷ []
 
+abbrev pub handled : ℕ → ℕ → Meaning
+handled nal_unit_type lsb = CodedSlice (record (intra nal_unit_type sets lsb) { handled_as_bla = true })
+
+-- the same with the CRA picture handled as a BLA picture
+abbrev pub handled_cra : List Meaning
+handled_cra = SequenceSet plain_format ∷ Other ∷ idr sets ∷ handled 21 8 ∷ rasl6 ∷ []
+
+-- the same with the flag at the RASL picture, where it isn't looked at
+abbrev pub handled_rasl : List Meaning
+handled_rasl = SequenceSet plain_format ∷ Other ∷ idr sets ∷ cra ∷ handled 9 6 ∷ []
+
 -- a dependent slice behind the P slice
 abbrev pub dependent_p : List Meaning
 dependent_p = SequenceSet plain_format ∷ Other ∷ idr sets ∷ p4 ∷ CodedSlice (record (later_slice 1 (2 ∷ 1 ∷ []) sets (plain_header I 9 [] [] 0)) { dependent_slice_segment_flag = true; segment_address = 3 }) ∷ []

@@ -58,6 +58,7 @@ first_slice nal_unit_type bytes sets header = record {
   nal_unit_type = nal_unit_type;
   temporal_id = 0;
   bytes = bytes;
+  handled_as_bla = false;
   first_slice_segment_in_pic_flag = true;
   no_output_of_prior_pics_flag = false;
   pic_parameter_set_id = 0;

@@ -9,7 +9,7 @@ ghost use Rattle.hevc_walk.specs.Refusals.{UnitRefused, NoIndependentSlice, PocO
 ghost use Rattle.hevc_walk.specs.Results.{calls, verdict};
 ghost use Rattle.hevc_walk.specs.Fates.{Skipped, Hidden, Discarded, Displayed};
 ghost use Rattle.hevc_walk_rows.specs.Streams.{plain_format, deep_format, shown, slice_lists, new_pictures, idr_bytes, p4_bytes};
-ghost use Rattle.hevc_walk_rows.specs.Corners.{long_terms, screen, latent, roomless, unneeded, without_prior, with_prior, rasl_first, tid0, broken_link, open_gop, dependent_p, other_set, fewer_sets, far_count, refused_slice, set_of_sps, reference_sets, fates};
+ghost use Rattle.hevc_walk_rows.specs.Corners.{long_terms, screen, latent, roomless, unneeded, without_prior, with_prior, rasl_first, tid0, broken_link, open_gop, handled_cra, handled_rasl, dependent_p, other_set, fewer_sets, far_count, refused_slice, set_of_sps, reference_sets, fates};
 
 /// Long-term pictures are found before short-term ones, by their low bits or by their whole order count, and what no list
 /// names isn't used for reference any more.
@@ -67,6 +67,14 @@ pub fn random_access()
     ensures broken_link { shown broken_link ≡ (0, pos 0, 4) ∷ (1, pos 4, 4) ∷ (2, pos 8, 6) ∷ [] }
     ensures skipped { fates broken_link ≡ Skipped ∷ Displayed ∷ Displayed ∷ Displayed ∷ [] }
     ensures open_gop { new_pictures open_gop ≡ (0, 19, pos 0, true) ∷ (1, 21, pos 8, true) ∷ (2, 9, pos 6, true) ∷ [] }
+{}
+
+/// A CRA picture within a sequence that is handled as a BLA picture discards what waits, and its RASL pictures are skipped;
+/// at other pictures the flag says nothing.
+pub fn handled_as_bla()
+    ensures pictures { new_pictures handled_cra ≡ (0, 19, pos 0, true) ∷ (1, 21, pos 8, true) ∷ [] }
+    ensures fates { fates handled_cra ≡ Skipped ∷ Displayed ∷ Discarded ∷ [] }
+    ensures cra_alone { new_pictures handled_rasl ≡ (0, 19, pos 0, true) ∷ (1, 21, pos 8, true) ∷ (2, 9, pos 6, true) ∷ [] }
 {}
 
 /// What a dependent slice takes from the independent one before it, and when it is refused.

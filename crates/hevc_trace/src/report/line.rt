@@ -1,7 +1,7 @@
 //! One line of the report.
 ghost use Rattle.std.specs.Prelude.{◌≡◌, ◌++◌, OnOk};
 ghost use Rattle.std.specs.String.{string_bytes};
-ghost use Rattle.hevc_decoder.specs.Maps.{format_of};
+ghost use Rattle.hevc_backend.specs.Negotiation.{format_of};
 ghost use Rattle.hevc_trace.specs.Lines.{log_line, shown_line};
 ghost use Rattle.hevc_trace.specs.Report.{sequence_line};
 

@@ -2,7 +2,7 @@ use Rattle.std.proofs.Common.{◌≡◌, ◌-◌}
 use Rattle.hevc_spec.specs.Payload.{bits, IsAhead}
 use Rattle.hevc_spec.specs.Table.{read}
 use Rattle.hevc_spec.specs.Rows.{repeat}
-use Rattle.hevc_part_tables.specs.ScalingListTable.{next_entry, coefs}
+use Rattle.hevc_tables.specs.ScalingListTable.{next_entry, coefs}
 use Rattle.hevc_scaling.specs.Projections.{plain_coefs}
 use Rattle.hevc_scaling.proofs.coded.read_coefs.Given as goal
 

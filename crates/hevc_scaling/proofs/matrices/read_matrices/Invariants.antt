@@ -2,7 +2,7 @@ use Rattle.std.proofs.Common.{◌≡◌, ◌-◌}
 use Rattle.hevc_spec.specs.Payload.{bits, IsAhead}
 use Rattle.hevc_spec.specs.Table.{read}
 use Rattle.hevc_spec.specs.Rows.{repeat}
-use Rattle.hevc_part_tables.specs.ScalingListTable.{next_matrix, matrices}
+use Rattle.hevc_tables.specs.ScalingListTable.{next_matrix, matrices}
 use Rattle.hevc_scaling.specs.Projections.{plain_size, plain_matrices}
 use Rattle.hevc_scaling.proofs.matrices.read_matrices.Given as goal
 

@@ -2,7 +2,7 @@ use Rattle.std.proofs.Common.{◌≡◌, ◌-◌, length}
 use Rattle.hevc_spec.specs.Payload.{bits, IsAhead}
 use Rattle.hevc_spec.specs.Table.{read}
 use Rattle.hevc_spec.specs.Rows.{repeat}
-use Rattle.hevc_part_tables.specs.ShortTermTable.{next_member_before, listed_before}
+use Rattle.hevc_tables.specs.ShortTermTable.{next_member_before, listed_before}
 use Rattle.hevc_short_term.proofs.Listed.{DownTo}
 use Rattle.hevc_short_term.proofs.listed_members.read_listed_before.Given as goal
 

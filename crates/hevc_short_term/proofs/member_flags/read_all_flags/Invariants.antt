@@ -2,7 +2,7 @@ use Rattle.std.proofs.Common.{◌≡◌, ◌+◌, ◌-◌, length}
 use Rattle.hevc_spec.specs.Payload.{bits, IsAhead}
 use Rattle.hevc_spec.specs.Table.{read}
 use Rattle.hevc_spec.specs.Rows.{repeat}
-use Rattle.hevc_part_tables.specs.ShortTermTable.{next_member_flags, all_member_flags}
+use Rattle.hevc_tables.specs.ShortTermTable.{next_member_flags, all_member_flags}
 use Rattle.hevc_short_term.proofs.member_flags.read_all_flags.Given as goal
 
 abbrev pub invariant-loop-j : goal.invariant-loop-j

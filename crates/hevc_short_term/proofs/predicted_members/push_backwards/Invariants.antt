@@ -1,5 +1,5 @@
 use Rattle.std.proofs.Common.{◌≡◌, ◌+◌, ◌≤◌, ◌++◌, drop, length, reverse}
-use Rattle.hevc_part_tables.specs.ShortTermTable.{shifted}
+use Rattle.hevc_tables.specs.ShortTermTable.{shifted}
 use Rattle.hevc_short_term.proofs.predicted_members.push_backwards.Given as goal
 
 abbrev pub invariant-loop-i : goal.invariant-loop-i

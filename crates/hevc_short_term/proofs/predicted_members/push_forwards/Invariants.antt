@@ -1,5 +1,5 @@
 use Rattle.std.proofs.Common.{◌≡◌, ◌+◌, ◌≤◌, ◌++◌, drop, length}
-use Rattle.hevc_part_tables.specs.ShortTermTable.{shifted}
+use Rattle.hevc_tables.specs.ShortTermTable.{shifted}
 use Rattle.hevc_short_term.proofs.predicted_members.push_forwards.Given as goal
 
 abbrev pub invariant-loop-i : goal.invariant-loop-i

@@ -1,7 +1,5 @@
-use Rattle.std.proofs.Common.{sym, subst}
-use Rattle.hevc_spec.specs.Payload.{Place, IsReached}
-use Rattle.hevc_spec.proofs.PlaceLaws.{reached_then}
+use Rattle.hevc_spec.proofs.BitSteps.{ue_at-bound}
 use Rattle.hevc_bits.proofs.reader.NaluReader.read_exp_golomb.Goals as goal
 
-pub returns-clause-place : goal.returns-clause-place
-returns-clause-place c = subst (λ (p : Place). IsReached p c.read_behind.new.self) c.fork-ahead.ensures (reached_then _ _ _ c.pass_zeros.ensures.place c.read_behind.ensures.place)
+pub returns-in-Some-clause-bound : goal.returns-in-Some-clause-bound
+returns-in-Some-clause-bound c = ue_at-bound _ c.in-Some.value _ c.in-Some.ensures.0

@@ -1,11 +1,11 @@
-use Rattle.std.proofs.Common.{◌≡◌, ◌≤◌, length, drop}
+use Rattle.std.proofs.Common.{◌≡◌, ◌≤◌, ◌*◌, length, drop}
 use Rattle.hevc_spec.specs.Payload.{bits, IsAhead, IsReached}
 use Rattle.hevc_bits.proofs.reader.NaluReader.skip_bits.Given as goal
 
 abbrev pub invariant-loop : goal.invariant-loop
 invariant-loop l = record {
-  enough : l.counter ≤ length (bits l.self);
+  enough : 31 * l.counter ≤ length (bits l.self);
   ahead : IsAhead l.self l.ahead;
   reached : IsReached l.self l.ahead;
-  same : bits l.ahead ≡ drop l.counter (bits l.self);
+  same : bits l.ahead ≡ drop (31 * l.counter) (bits l.self);
 }

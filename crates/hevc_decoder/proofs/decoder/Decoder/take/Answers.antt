@@ -11,10 +11,11 @@ use Rattle.hevc_decoder.proofs.Doing.{takes_as, takes_runs, takes_exit, asks_not
 use Rattle.hevc_decoder.proofs.Slices.{nothing_asked}
 use Rattle.hevc_walk.specs.Meanings as walk
 use Rattle.hevc_plain.specs.Kept.{kept_sets}
-use Rattle.hevc_plain.specs.Meanings.{plain_meaning}
+use Rattle.hevc_plain.specs.TakenUnits.{plain_meaning}
 use Rattle.hevc_decoder.specs.declared.decode_error.DecodeError.TheVariants as errors
-use Rattle.hevc_decoder.specs.Maps.{format_of}
-use Rattle.hevc_decoder.specs.StreamMeanings.{format_of_set, first_format, picture_meaning, slice_meaning}
+use Rattle.hevc_backend.specs.Negotiation.{format_of}
+use Rattle.hevc_decoder.specs.StreamMeanings.{first_format, picture_meaning, slice_meaning}
+use Rattle.hevc_stream.specs.Sequences.{format_of_set}
 
 pub returns-in_err-set-clause-part : goal.returns-in_err-set-clause-part
 returns-in_err-set-clause-part g c = takes_exit _ _ _ _ _ _ _ errors.NoMemory c.from_residual.ensures.1 (stops_at_once ⊥ _ _ _ refl refl refl (λ f. absurd f))

@@ -1,7 +1,7 @@
 use Rattle.std.proofs.Common.{◌≡◌, ap, subst, ℕ, Option, Some}
 use Rattle.std.specs.Ordering.{nat_cmp}
 use Rattle.std.specs.BTreeMap.{Updates}
-use Rattle.hevc_tables.specs.Pps.{PlainPps}
+use Rattle.hevc_records.specs.Pps.{PlainPps}
 use Rattle.hevc_types_d.specs.declared.pps.Pps.{Pps}
 use Rattle.hevc_plain.specs.Found.{shared_picture_set}
 use Rattle.hevc_plain.specs.Kept.{kept_sets}

@@ -1,4 +1,4 @@
-use Rattle.hevc_plain.proofs.Meanings.{at_whole_byte}
+use Rattle.hevc_plain.proofs.UnitLaws.{at_whole_byte}
 use Rattle.hevc_plain.proofs.parameter_sets.ParameterSets.slice_meaning.Goals as goal
 
 pub read_slice_header-requires : goal.read_slice_header-requires

@@ -2,7 +2,7 @@ use Rattle.std.proofs.Common.{◌≡◌, sym, ap, ◌∙◌, ℕ, ◌==◌}
 use Rattle.std.proofs.lemmas.Result.{IfOk-weaker}
 use Rattle.hevc_spec.specs.Payload.{payload_bits}
 use Rattle.hevc_plain.specs.Kept.{kept_sets}
-use Rattle.hevc_plain.proofs.Meanings.{means_other}
+use Rattle.hevc_plain.proofs.UnitLaws.{means_other}
 use Rattle.hevc_plain.proofs.parameter_sets.ParameterSets.take_payload.Goals as goal
 
 pub returns-else-is_picture_set-clause-meaning : goal.returns-else-is_picture_set-clause-meaning

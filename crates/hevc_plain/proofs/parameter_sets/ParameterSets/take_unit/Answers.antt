@@ -5,8 +5,8 @@ use Rattle.hevc_bits.specs.NaluType.{nalu_type_number}
 use Rattle.hevc_bits.specs.ParsedHeader.{parsed_header}
 use Rattle.hevc_plain_tables.specs.UnitMeanings.{unit_meaning}
 use Rattle.hevc_plain.specs.Kept.{kept_sets}
-use Rattle.hevc_plain.specs.Meanings.{plain_meaning}
-use Rattle.hevc_plain.proofs.Meanings.{means_unit, keeps}
+use Rattle.hevc_plain.specs.TakenUnits.{plain_meaning}
+use Rattle.hevc_plain.proofs.UnitLaws.{means_unit, keeps}
 use Rattle.hevc_plain.proofs.parameter_sets.ParameterSets.take_unit.Goals as goal
 
 pub returns-clause-meaning : goal.returns-clause-meaning

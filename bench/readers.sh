@@ -1,0 +1,30 @@
+#!/usr/bin/env bash
+# The time of the reader of payload bits beside that of another revision, which reads bit by bit by default. Nothing of it is in the gate.
+# Copies hevc_bits and the crates below it of both revisions to a folder of their own, puts the same program over each, proves and builds both, and
+# runs them in turn over the same bytes: bench/readers.sh [BYTES] [REVISION]
+set -eu
+top=$(cd "$(dirname "$0")/.." && pwd)
+bytes=${1:-16000000}
+other=${2:-ab433a0}
+folder=$(mktemp -d)
+trap 'rm -rf "$folder"' EXIT
+python3 "$top/bench/headers.py" "$folder/bytes" "$bytes"
+
+build() {
+    mkdir -p "$folder/$1/crates/reader_bench/src"
+    cp "$top/bench/reader_bench.rt.txt" "$folder/$1/crates/reader_bench/src/main.rt"
+    printf '%s\n' 'hevc_spec:' 'hevc_laws: hevc_spec' 'hevc_bits: hevc_spec hevc_laws thiserror' 'reader_bench: hevc_bits' >"$folder/$1/crates.txt"
+    (cd "$folder/$1/crates/reader_bench" && rt run </dev/null >/dev/null)
+}
+
+mkdir "$folder/other" "$folder/this"
+git -C "$top" archive "$other" crates/hevc_spec crates/hevc_laws crates/hevc_bits | tar x -C "$folder/other"
+(cd "$top" && tar c --exclude=out crates/hevc_spec crates/hevc_laws crates/hevc_bits) | tar x -C "$folder/this"
+build other
+build this
+for turn in 1 2 3; do
+    for name in other this; do
+        "$folder/$name/crates/reader_bench/out/reader_bench" <"$folder/bytes" >"$folder/$name.$turn"
+    done
+done
+python3 "$top/bench/readers.py" "$folder/other" "$folder/this"

@@ -1,0 +1,144 @@
+-- One output more, as bumping goes on.
+use Rattle.std.proofs.Common.{◌≡◌, ⊎_elim, ℕ, suc, ◌+◌, ◌≤◌, Bool, true, false, cond, List, [], ◌∷◌, ◌++◌, length, map, take, refl, sym, ap, ◌∙◌, subst, arith}
+use Rattle.std.specs.Prelude.{Some, None, Contains}
+use Rattle.std.specs.Option.{option_map}
+use Rattle.std.proofs.lemmas.List.{append_assoc, map-append, append-nil}
+use Rattle.hevc_walk.specs.Buffer.{Entry, Buffer, in_output_order, after_output, placed, bumping, Bumped}
+use Rattle.hevc_walk_bumps.specs.Steps as steps
+use Rattle.hevc_walk_bumps.specs.Steps.{after_one}
+use Rattle.hevc_walk_bumps.proofs.Bumps.{one_more, over, order_after_one}
+use Rattle.hevc_dpb.specs.declared.entry.DpbEntry.{DpbEntry}
+use Rattle.hevc_dpb.specs.declared.dpb.Dpb.{Dpb}
+use Rattle.hevc_dpb.specs.Numbers.{Absent, Distinct}
+use Rattle.hevc_dpb.specs.Entries.{IsPartOf, numbers, ticket, tickets}
+use Rattle.hevc_dpb.specs.Output.{first_in}
+use Rattle.hevc_dpb.specs.Plain.{plain_entry, plain_entries, plain_output, HaveLatency}
+use Rattle.hevc_dpb.specs.Sublists.{IsSublist}
+use Rattle.hevc_dpb.specs.Views.{stored_entries, max_num_pics_of, room_of, buffer_of}
+use Rattle.hevc_dpb.proofs.Sublists.{sublist_part}
+use Rattle.hevc_dpb.proofs.Members.{contains_first, contains_later, contains_cases}
+use Rattle.hevc_bumping.specs.Bumps.{Bumps}
+
+plain_absent : {T : Type 0} (n : ℕ) (es : List (DpbEntry T)) → Absent n (numbers es) → steps.Absent n (plain_entries es)
+plain_absent n [] h = tt
+plain_absent n (e ∷ es) h = (h.0, plain_absent n es h.1)
+
+pub plain_distinct : {T : Type 0} (es : List (DpbEntry T)) → Distinct (numbers es) → steps.Distinct (plain_entries es)
+plain_distinct [] d = tt
+plain_distinct (e ∷ es) d = (plain_absent e.number es d.0, plain_distinct es d.1)
+
+-- what one output does
+pub record Step (rule : Buffer → Bool) (es left : Buffer) (x : Entry) : Type 0 where
+  pub given : map plain_output (bumping rule es).outputs ≡ x ∷ map plain_output (bumping rule left).outputs
+  pub left_is : (bumping rule es).left ≡ (bumping rule left).left
+  pub fewer : length (in_output_order left) + 1 ≡ length (in_output_order es)
+
+step_by : (rule : Buffer → Bool) (es : Buffer) (x : Entry) → steps.Distinct es → rule es ≡ true → (os : List Entry) → in_output_order es ≡ os → Some x ≡ option_map plain_output (first_in os) → Step rule es (after_one es) x
+step_by rule es x distinct holds [] order is = absurd (cc is)
+step_by rule es x distinct holds (e ∷ rest) order is =
+    let first : x ≡ plain_output e = cc is in
+    let more = one_more rule es e rest distinct order holds in
+    record {
+      given = ap (λ (b : Bumped). map plain_output b.outputs) more ∙ ap (λ (y : Entry). y ∷ map plain_output (bumping rule (after_one es)).outputs) (sym first);
+      left_is = ap (λ (b : Bumped). b.left) more;
+      fewer = (let a = ap length (order_after_one es e rest distinct order) in let b = ap length order in omega (arith, a, b));
+    }
+
+pub step : (rule : Buffer → Bool) (es left : Buffer) (x : Entry) → steps.Distinct es → rule es ≡ true → Some x ≡ option_map plain_output (first_in (in_output_order es)) → left ≡ after_one es → Step rule es left x
+step rule es left x distinct holds is same = subst (λ (b : Buffer). Step rule es b x) (sym same) (step_by rule es x distinct holds (in_output_order es) refl is)
+
+-- nothing waits
+none_in : (os : List Entry) → None ≡ option_map plain_output (first_in os) → os ≡ []
+none_in [] is = refl
+none_in (e ∷ os) is = absurd (cc is)
+
+pub none_waits : (es : Buffer) → None ≡ option_map plain_output (first_in (in_output_order es)) → in_output_order es ≡ []
+none_waits es is = none_in (in_output_order es) is
+
+all_stay : (es : Buffer) → after_output [] es ≡ es
+all_stay [] = refl
+all_stay (e ∷ es) = ap (λ (l : Buffer). e ∷ l) (all_stay es)
+
+pub stays_whole : (es : Buffer) → in_output_order es ≡ [] → after_one es ≡ es
+stays_whole es is = ap (λ (l : List Entry). after_output (take 1 l) es) is ∙ all_stay es
+
+-- at most as many wait as are stored
+placed_length : (e : Entry) (fs : Buffer) → length (placed e fs) ≡ suc (length fs)
+placed_length e [] = refl
+placed_length e (f ∷ fs) = by_test _ (placed_length e fs)
+  where
+    by_test : (b : Bool) → length (placed e fs) ≡ suc (length fs) → length (cond b (f ∷ placed e fs) (e ∷ f ∷ fs)) ≡ suc (length (f ∷ fs))
+    by_test true is = ap suc is
+    by_test false is = refl
+
+wait_by : (b : Bool) (e : Entry) (fs es : Buffer) → length fs ≤ length es → length (cond b (placed e fs) fs) ≤ length (e ∷ es)
+wait_by true e fs es h = let l = placed_length e fs in omega (arith, l)
+wait_by false e fs es h = omega arith
+
+pub few_wait : (es : Buffer) → length (in_output_order es) ≤ length es
+few_wait [] = omega arith
+few_wait (e ∷ es) = wait_by e.needed_for_output e (in_output_order es) es (few_wait es)
+
+-- as far as bumping has come
+pub record Progress {T : Type 0} (rule : Buffer → Bool) (old now : Dpb T) (before items : List (DpbEntry T)) : Type 0 where
+  pub out : List (DpbEntry T)
+  pub appended : items ≡ before ++ out
+  pub given : map plain_entry out ++ map plain_output (bumping rule (buffer_of now)).outputs ≡ map plain_output (bumping rule (buffer_of old)).outputs
+  pub left : (bumping rule (buffer_of now)).left ≡ (bumping rule (buffer_of old)).left
+  pub out_handles : IsPartOf (tickets out) (tickets (stored_entries old))
+  pub handles : IsPartOf (tickets (stored_entries now)) (tickets (stored_entries old))
+  pub size : max_num_pics_of now ≡ max_num_pics_of old
+  pub room : room_of now ≡ room_of old
+  pub latency : HaveLatency (stored_entries now)
+
+module _ {T : Type 0} (rule : Buffer → Bool) where
+  pub begun : (dpb : Dpb T) (items : List (DpbEntry T)) → HaveLatency (stored_entries dpb) → Progress rule dpb dpb items items
+  begun dpb items h = record { out = []; appended = sym (append-nil items); given = refl; left = refl; out_handles = λ x k. absurd (let l = k.1 in omega arith); handles = λ x k. k; size = refl; room = refl; latency = h }
+
+  pub ended : (old now : Dpb T) (before items : List (DpbEntry T)) → Progress rule old now before items → bumping rule (buffer_of now) ≡ steps.nothing_output (buffer_of now) → Bumps (bumping rule (buffer_of old)) old now before items
+  ended old now before items p over = record {
+    out = p.out;
+    appended = p.appended;
+    given = sym (append-nil (map plain_entry p.out)) ∙ ap (λ (b : Bumped). map plain_entry p.out ++ map plain_output b.outputs) (sym over) ∙ p.given;
+    left = sym (ap (λ (b : Bumped). b.left) over) ∙ p.left;
+    out_handles = p.out_handles;
+    handles = p.handles;
+    size = p.size;
+    room = p.room;
+    latency = p.latency;
+  }
+
+  one_among : (out : List (DpbEntry T)) (e : DpbEntry T) (ts : List (ℕ × T)) → IsPartOf (tickets out) ts → Contains ts (ticket e) → IsPartOf (tickets (out ++ e ∷ [])) ts
+  one_among [] e ts h here = λ x k. ⊎_elim (λ is. subst (Contains ts) is here) (λ none. absurd (let l = none.1 in omega arith)) (contains_cases (ticket e) x [] k)
+  one_among (f ∷ out) e ts h here = λ x k. ⊎_elim (λ is. h x (subst (Contains (tickets (f ∷ out))) is (contains_first (ticket f) (tickets out)))) (λ rest. one_among out e ts (λ y m. h y (contains_later (ticket f) y (tickets out) m)) here x rest) (contains_cases (ticket f) x (tickets (out ++ e ∷ [])) k)
+
+  pub onward : (old mid now : Dpb T) (before items more : List (DpbEntry T)) (e : DpbEntry T) → Progress rule old mid before items → Step rule (buffer_of mid) (buffer_of now) (plain_entry e) → more ≡ items ++ e ∷ []
+      → Contains (tickets (stored_entries mid)) (ticket e) → IsSublist (tickets (stored_entries now)) (tickets (stored_entries mid)) → max_num_pics_of now ≡ max_num_pics_of mid → room_of now ≡ room_of mid → HaveLatency (stored_entries now)
+      → Progress rule old now before more
+  onward old mid now before items more e p s is here sublist size room latency = record {
+    out = p.out ++ e ∷ [];
+    appended = is ∙ ap (λ l. l ++ e ∷ []) p.appended ∙ append_assoc before p.out (e ∷ []);
+    given = ap (λ (l : List Entry). l ++ map plain_output (bumping rule (buffer_of now)).outputs) (map-append plain_entry p.out (e ∷ [])) ∙ append_assoc (map plain_entry p.out) (plain_entry e ∷ []) (map plain_output (bumping rule (buffer_of now)).outputs)
+        ∙ ap (λ (l : List Entry). map plain_entry p.out ++ l) (sym s.given) ∙ p.given;
+    left = sym s.left_is ∙ p.left;
+    out_handles = one_among p.out e (tickets (stored_entries old)) p.out_handles (p.handles (ticket e) here);
+    handles = λ x k. p.handles x (sublist_part sublist x k);
+    size = size ∙ p.size;
+    room = room ∙ p.room;
+    latency = latency;
+  }
+
+  -- nothing was output
+  pub unchanged : (old mid now : Dpb T) (before items : List (DpbEntry T)) → Progress rule old mid before items → buffer_of now ≡ buffer_of mid → IsSublist (tickets (stored_entries now)) (tickets (stored_entries mid))
+      → max_num_pics_of now ≡ max_num_pics_of mid → room_of now ≡ room_of mid → HaveLatency (stored_entries now) → Progress rule old now before items
+  unchanged old mid now before items p same sublist size room latency = record {
+    out = p.out;
+    appended = p.appended;
+    given = ap (λ (b : Buffer). map plain_entry p.out ++ map plain_output (bumping rule b).outputs) same ∙ p.given;
+    left = ap (λ (b : Buffer). (bumping rule b).left) same ∙ p.left;
+    out_handles = p.out_handles;
+    handles = λ x k. p.handles x (sublist_part sublist x k);
+    size = size ∙ p.size;
+    room = room ∙ p.room;
+    latency = latency;
+  }

@@ -1,0 +1,10 @@
+pub mod Members
+pub mod EntryLaws
+pub mod Sublists
+pub mod OrderLaws
+pub mod OutputLaws
+pub mod PlainLaws
+pub mod PositionLaws
+pub mod LendingLaws
+pub mod MarkLaws
+pub mod LatencyLaws

@@ -1,0 +1,10 @@
+pub mod Numbers
+pub mod Entries
+pub mod Output
+pub mod Bumping
+pub mod Sublists
+pub mod Plain
+pub mod Views
+pub mod Lending
+pub mod Sought
+pub mod Pictures

@@ -1,0 +1,2 @@
+//! Counts of faults, as backends, sources and sinks keep them: definitions alone.
+#![tactic(auto)]

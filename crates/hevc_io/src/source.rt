@@ -1,0 +1,28 @@
+//! Where bytes come from.
+ghost use Rattle.std.specs.Prelude.{ℕ, List};
+ghost use Rattle.std.specs.declared.option.Option.{Option};
+ghost use Rattle.std.specs.Io.{ReadsAtMost};
+ghost use Rattle.std.specs.Io.KnownBytes.{ReadConsumes};
+ghost use Rattle.hevc_faults.specs.Faults.{HasCause};
+
+/// A read failed. A source that answers so has counted a fault.
+#[derive(Clone, Copy, Debug, PartialEq, Eq)]
+pub struct Failed;
+
+/// Something that hands over bytes.
+pub trait Source {
+    /// The bytes that are left, where the source tells them.
+    ghost left: { Self → Option (List ℕ) };
+
+    /// How many reads failed so far. It never falls, and stands still at 2^64 - 1.
+    ghost faults: { Self → ℕ };
+
+    /// Hands over the next bytes at the front of `buf`, at most as many as it holds, and answers how
+    /// many. For a buffer that isn't empty, 0 is the end. A refusal leaves the bytes that are left.
+    ///
+    /// `Failed` comes only where the count of faults rose, or stands at its last value.
+    fn read(&mut self, buf: &mut [u8]) -> Result<usize, Failed>
+        ensures bound { ReadsAtMost result buf.new }
+        ensures bytes { ReadConsumes (left self.old) (left self.new) result buf.new }
+        ensures cause { HasCause (faults self.old) (faults self.new) result };
+}

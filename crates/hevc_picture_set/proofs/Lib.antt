@@ -1,0 +1,4 @@
+pub mod Blocks
+pub mod EvenSizes
+pub mod Names
+pub mod ToldSizes

@@ -1,0 +1,88 @@
+//! The extensions of a set (7.3.2.3.1, rows 28 to 35 of table 11).
+ghost use Rattle.hevc_elements.specs.Words.{Fills};
+ghost use Rattle.hevc_tables.specs.PpsTable as table;
+ghost use Rattle.hevc_types_c.specs.Sps.{plain_sps};
+ghost use Rattle.hevc_types_d.specs.Pps.{plain_pps};
+ghost use Rattle.hevc_picture_set.specs.Tiling.{KeepsTiles};
+
+use crate::range_extension::read_pps_range_extension;
+use crate::scc_extension::read_pps_scc_extension;
+use hevc_bits::NaluReader;
+use hevc_elements::ParseError;
+use hevc_elements::rows::{flag, skip, zero};
+use hevc_spec::Row;
+use hevc_types_c::Sps;
+use hevc_types_d::Pps;
+
+/// The last flag of row 28, and rows 29 to 35 of table 11.
+#[tactic(auto, unfolding(hevc_tables::specs::PpsTable::extensions, hevc_spec::specs::Rows::when))]
+pub(crate) fn read_extensions(
+    r: &mut NaluReader<'_>,
+    sps: &Sps,
+    pps: &mut Pps,
+) -> Result<(), ParseError>
+    ensures fills { Fills plain_pps (table.extensions (plain_sps sps.now)) result pps.old pps.new r.old r.new }
+    ensures same { KeepsTiles pps.old pps.new }
+{
+    let present = flag(r, Row(11, 28))?;
+    pps.extension_present_flag = present;
+    if present {
+        read_extension_data(r, sps, pps)
+    } else {
+        Ok(())
+    }
+}
+
+/// Rows 29 to 35 of table 11.
+#[tactic(auto, unfolding(hevc_tables::specs::PpsTable::extension_data, hevc_spec::specs::Rows::when))]
+fn read_extension_data(r: &mut NaluReader<'_>, sps: &Sps, pps: &mut Pps) -> Result<(), ParseError>
+    ensures fills { Fills plain_pps (table.extension_data (plain_sps sps.now)) result pps.old pps.new r.old r.new }
+    ensures same { KeepsTiles pps.old pps.new }
+{
+    read_extension_flags(r, pps)?;
+    if pps.range_extension_flag {
+        read_range_extension(r, sps, pps)?;
+    }
+    if pps.scc_extension_flag {
+        read_scc_extension(r, sps, pps)?;
+    }
+    Ok(())
+}
+
+/// Rows 29 to 33 of table 11.
+#[tactic(auto, unfolding(hevc_tables::specs::PpsTable::extension_flags))]
+fn read_extension_flags(r: &mut NaluReader<'_>, pps: &mut Pps) -> Result<(), ParseError>
+    ensures fills { Fills plain_pps table.extension_flags result pps.old pps.new r.old r.new }
+    ensures same { KeepsTiles pps.old pps.new }
+{
+    let range = flag(r, Row(11, 29))?;
+    zero(r, Row(11, 30))?;
+    zero(r, Row(11, 31))?;
+    let screen_content = flag(r, Row(11, 32))?;
+    skip(r, Row(11, 33), 4)?;
+    pps.range_extension_flag = range;
+    pps.scc_extension_flag = screen_content;
+    Ok(())
+}
+
+/// Row 34 of table 11.
+#[tactic(auto, unfolding(hevc_tables::specs::PpsTable::range_extension))]
+fn read_range_extension(r: &mut NaluReader<'_>, sps: &Sps, pps: &mut Pps) -> Result<(), ParseError>
+    ensures fills { Fills plain_pps (table.range_extension (plain_sps sps.now)) result pps.old pps.new r.old r.new }
+    ensures same { KeepsTiles pps.old pps.new }
+{
+    let range_extension = read_pps_range_extension(r, sps, pps.transform_skip_enabled_flag)?;
+    pps.range_extension = range_extension;
+    Ok(())
+}
+
+/// Row 35 of table 11.
+#[tactic(auto, unfolding(hevc_tables::specs::PpsTable::scc_extension))]
+fn read_scc_extension(r: &mut NaluReader<'_>, sps: &Sps, pps: &mut Pps) -> Result<(), ParseError>
+    ensures fills { Fills plain_pps (table.scc_extension (plain_sps sps.now)) result pps.old pps.new r.old r.new }
+    ensures same { KeepsTiles pps.old pps.new }
+{
+    let scc_extension = read_pps_scc_extension(r, sps)?;
+    pps.scc_extension = scc_extension;
+    Ok(())
+}

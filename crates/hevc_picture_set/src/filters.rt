@@ -1,0 +1,105 @@
+//! Filters, scaling lists, and what slice headers may have (7.3.2.3.1, rows 20 to 28 of table 11).
+ghost use Rattle.hevc_spec.specs.Rows.{when};
+ghost use Rattle.hevc_elements.specs.Words.{bits, IsAhead, read, Reads, Fills};
+ghost use Rattle.hevc_records.specs.DefaultScalingLists.{default_lists};
+ghost use Rattle.hevc_tables.specs.PpsTable as table;
+ghost use Rattle.hevc_tables.specs.ScalingListTable.{scaling_list_data};
+ghost use Rattle.hevc_types_a.specs.ScalingLists.{plain_scaling_lists};
+ghost use Rattle.hevc_types_c.specs.Sps.{plain_sps};
+ghost use Rattle.hevc_types_d.specs.Pps.{plain_pps};
+ghost use Rattle.hevc_picture_set.specs.Tiling.{KeepsTiles};
+
+use hevc_bits::NaluReader;
+use hevc_elements::ParseError;
+use hevc_elements::rows::{flag, se_i8, ue_u8};
+use hevc_scaling::{default_scaling_lists, read_scaling_list_data};
+use hevc_spec::Row;
+use hevc_types_a::ScalingLists;
+use hevc_types_c::Sps;
+use hevc_types_d::Pps;
+
+/// Rows 20 to 23 of table 11.
+#[tactic(auto, unfolding(hevc_tables::specs::PpsTable::filters, hevc_spec::specs::Rows::when))]
+pub(crate) fn read_filters(r: &mut NaluReader<'_>, pps: &mut Pps) -> Result<(), ParseError>
+    ensures fills { Fills plain_pps table.filters result pps.old pps.new r.old r.new }
+    ensures same { KeepsTiles pps.old pps.new }
+{
+    pps.loop_filter_across_slices_enabled_flag = flag(r, Row(11, 20))?;
+    let control = flag(r, Row(11, 20))?;
+    pps.deblocking_filter_control_present_flag = control;
+    if control {
+        read_deblocking(r, pps)
+    } else {
+        Ok(())
+    }
+}
+
+/// Rows 21 to 23 of table 11.
+#[tactic(auto, unfolding(hevc_tables::specs::PpsTable::deblocking, hevc_spec::specs::Rows::when))]
+fn read_deblocking(r: &mut NaluReader<'_>, pps: &mut Pps) -> Result<(), ParseError>
+    ensures fills { Fills plain_pps table.deblocking result pps.old pps.new r.old r.new }
+    ensures same { KeepsTiles pps.old pps.new }
+{
+    pps.deblocking_filter_override_enabled_flag = flag(r, Row(11, 21))?;
+    let disabled = flag(r, Row(11, 21))?;
+    pps.deblocking_filter_disabled_flag = disabled;
+    if disabled {
+        Ok(())
+    } else {
+        read_filter_offsets(r, pps)
+    }
+}
+
+/// Rows 22 and 23 of table 11.
+#[tactic(auto, unfolding(hevc_tables::specs::PpsTable::filter_offsets))]
+fn read_filter_offsets(r: &mut NaluReader<'_>, pps: &mut Pps) -> Result<(), ParseError>
+    ensures fills { Fills plain_pps table.filter_offsets result pps.old pps.new r.old r.new }
+    ensures same { KeepsTiles pps.old pps.new }
+{
+    pps.beta_offset_div2 = se_i8(r, Row(11, 22), -6, 6)?;
+    pps.tc_offset_div2 = se_i8(r, Row(11, 23), -6, 6)?;
+    Ok(())
+}
+
+/// Rows 24 and 25 of table 11.
+#[tactic(auto, unfolding(hevc_tables::specs::PpsTable::scaling))]
+pub(crate) fn read_scaling(r: &mut NaluReader<'_>, pps: &mut Pps) -> Result<(), ParseError>
+    ensures fills { Fills plain_pps table.scaling result pps.old pps.new r.old r.new }
+    ensures same { KeepsTiles pps.old pps.new }
+{
+    let present = flag(r, Row(11, 24))?;
+    let scaling_list = read_scaling_lists(r, present)?;
+    pps.scaling_list_data_present_flag = present;
+    pps.scaling_list = scaling_list;
+    Ok(())
+}
+
+/// Row 25 of table 11, where it is present.
+#[tactic(auto, unfolding(hevc_spec::specs::Rows::when))]
+fn read_scaling_lists(r: &mut NaluReader<'_>, present: bool) -> Result<ScalingLists, ParseError>
+    ensures read { Reads plain_scaling_lists result r.new (read (when present default_lists scaling_list_data) (bits r.old)) }
+    ensures moves { IsAhead r.old r.new }
+{
+    if present {
+        read_scaling_list_data(r)
+    } else {
+        Ok(default_scaling_lists())
+    }
+}
+
+/// Rows 26 to 28 of table 11, but for the last flag.
+#[tactic(auto, unfolding(hevc_tables::specs::PpsTable::merging))]
+pub(crate) fn read_merging(
+    r: &mut NaluReader<'_>,
+    sps: &Sps,
+    pps: &mut Pps,
+) -> Result<(), ParseError>
+    ensures fills { Fills plain_pps (table.merging (plain_sps sps.now)) result pps.old pps.new r.old r.new }
+    ensures same { KeepsTiles pps.old pps.new }
+{
+    pps.lists_modification_present_flag = flag(r, Row(11, 26))?;
+    let most = sps.ctb_log2_size_y.saturating_sub(2) as u8;
+    pps.log2_parallel_merge_level_minus2 = ue_u8(r, Row(11, 27), 0, most)?;
+    pps.slice_segment_header_extension_present_flag = flag(r, Row(11, 28))?;
+    Ok(())
+}

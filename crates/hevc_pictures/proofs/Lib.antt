@@ -1,0 +1,3 @@
+pub mod NewPictureLaws
+pub mod Powers
+pub mod RecordEquality

@@ -1,0 +1,4 @@
+pub mod Marks
+pub mod Limits
+pub mod OrderCounts
+pub mod NewPicture

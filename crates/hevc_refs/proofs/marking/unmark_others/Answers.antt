@@ -1,0 +1,20 @@
+use Rattle.std.proofs.Common.{◌<◌, length, ◌∙◌, arith}
+use Rattle.std.proofs.lemmas.List.{length-map}
+use Rattle.hevc_walk.specs.ReferenceSets.{marked_if, all_members}
+use Rattle.hevc_pictures.specs.Marks.{mark_of}
+use Rattle.hevc_dpb.specs.Plain.{plain_entry}
+use Rattle.hevc_dpb.specs.Views.{stored_entries, buffer_of}
+use Rattle.hevc_refs.specs.Sets.{plain_set}
+use Rattle.hevc_refs.proofs.MarkingLaws.{marked_more, entry_at, keeps_more, same_length}
+use Rattle.hevc_refs.proofs.marking.unmark_others.Goals as goal
+
+pub loop-position-preserved : goal.loop-position-preserved
+loop-position-preserved g c =
+    let mid = c.loop-position.dpb in
+    let i = c.loop-position.position in
+    let within : i < length (buffer_of c.args.dpb.now) = (let l = length-map (stored_entries c.args.dpb.now) plain_entry in omega (arith, l)) in
+    record {
+      marked = marked_more (marked_if (all_members (plain_set c.args.set.now))) (buffer_of c.args.dpb.now) (buffer_of mid) _ i (plain_entry c.index-entries-position.result) (mark_of c.kept_mark-mark.result) within c.loop-position.invariant.marked (entry_at (stored_entries mid) c.entries.result.now i c.index-entries-position.result (omega (arith, c.loop-position.invariant.same_length)) c.index-entries-position.is c.entries.ensures.entries) c.set_reference_at.ensures.buffer c.kept_mark-mark.ensures;
+      same_length = same_length _ _ c.set_reference_at.ensures.others ∙ c.loop-position.invariant.same_length;
+      kept = keeps_more _ _ _ c.loop-position.invariant.kept (record { entries = c.set_reference_at.ensures.others; handles = c.set_reference_at.ensures.handles; size = c.set_reference_at.ensures.size; room = c.set_reference_at.ensures.room; latency = c.set_reference_at.ensures.latency; same_order = c.set_reference_at.ensures.same_order });
+    }

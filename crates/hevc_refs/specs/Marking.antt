@@ -1,0 +1,32 @@
+-- Deriving a reference picture set, and the marks that it leaves (8.3.2).
+use Rattle.std.specs.Prelude.{◌≡◌, ℤ, pos, Bool, not, map, if◌then◌else◌}
+use Rattle.hevc_stream.specs.Headers.{short_term_set_of, long_term_members}
+use Rattle.hevc_types_a.specs.declared.short_term_ref_pic_set.ShortTermRefPicSet.{ShortTermRefPicSet}
+use Rattle.hevc_types_a.specs.ShortTermRefPicSet.{plain_short_term_ref_pic_set}
+use Rattle.hevc_types_d.specs.declared.slice_header.SliceHeader.{SliceHeader}
+use Rattle.hevc_types_d.specs.SliceHeader.{plain_slice_header}
+use Rattle.hevc_walk.specs.Meanings as walk
+use Rattle.hevc_walk.specs.ReferenceSets.{short_term_set}
+use Rattle.hevc_dpb.specs.declared.dpb.Dpb.{Dpb}
+use Rattle.hevc_dpb.specs.Entries.{tickets, unmarked}
+use Rattle.hevc_dpb.specs.Plain.{HaveLatency}
+use Rattle.hevc_dpb.specs.Views.{stored_entries, max_num_pics_of, room_of, is_stale}
+
+-- the first slice of the walk has these long-term members, this short-term set, and this MaxPicOrderCntLsb
+pub record HasMembers (first : walk.Slice) (header : SliceHeader) (set : ShortTermRefPicSet) (max_lsb : ℤ) : Type 0 where
+  pub long_term : first.long_term_pics ≡ long_term_members (plain_slice_header header)
+  pub short_term : short_term_set first ≡ short_term_set_of (plain_short_term_ref_pic_set set)
+  pub max_pic_order_cnt_lsb : max_lsb ≡ pos first.max_pic_order_cnt_lsb
+
+-- nothing of a buffer but its marks has changed
+pub record KeepsAllButMarks {T : Type 0} (old new : Dpb T) : Type 0 where
+  pub entries : map unmarked (stored_entries new) ≡ map unmarked (stored_entries old)
+  pub handles : tickets (stored_entries new) ≡ tickets (stored_entries old)
+  pub size : max_num_pics_of new ≡ max_num_pics_of old
+  pub room : room_of new ≡ room_of old
+  pub latency : HaveLatency (stored_entries old) → HaveLatency (stored_entries new)
+  pub same_order : is_stale new ≡ is_stale old
+
+-- members that the picture itself uses, or those that it doesn't
+abbrev pub is_wanted : Bool → walk.ShortTermMember → Bool
+is_wanted wanted m = if wanted then m.used_by_curr_pic else not m.used_by_curr_pic

@@ -1,0 +1,2 @@
+pub mod Predictions
+pub mod Projections

@@ -1,0 +1,39 @@
+//! The sizes of blocks (7.3.2.2.1, rows 20 to 24 of table 5).
+ghost use Rattle.hevc_elements.specs.Words.{Fills};
+ghost use Rattle.hevc_tables.specs.SpsTable as table;
+ghost use Rattle.hevc_types_c.specs.Sps.{plain_sps};
+
+use hevc_bits::NaluReader;
+use hevc_elements::ParseError;
+use hevc_elements::rows::{check, ue_u8};
+use hevc_spec::Row;
+use hevc_types_c::Sps;
+
+/// Rows 20 to 24 of table 5.
+#[tactic(auto, unfolding(hevc_tables::specs::SpsTable::blocks, hevc_tables::specs::SpsTable::with_block_sizes, hevc_tables::specs::SpsTable::with_picture_size))]
+pub(crate) fn read_blocks(r: &mut NaluReader<'_>, sps: &mut Sps) -> Result<(), ParseError>
+    ensures { Fills plain_sps table.blocks result sps.old sps.new r.old r.new }
+{
+    let min_cb_minus3 = ue_u8(r, Row(5, 20), 0, 3)?;
+    let diff_cb = ue_u8(r, Row(5, 21), 0, 6)?;
+    let min_tb_minus2 = ue_u8(r, Row(5, 22), 0, 3)?;
+    let diff_tb = ue_u8(r, Row(5, 23), 0, 3)?;
+    let min_cb = u32::from(min_cb_minus3) + 3;
+    let ctb = min_cb + u32::from(diff_cb);
+    let max_tb = u32::from(min_tb_minus2) + 2 + u32::from(diff_tb);
+    check(r, Row(5, 24), max_tb <= ctb.min(5))?;
+    let across = u32::from(sps.pic_width_in_luma_samples).div_ceil(1 << ctb);
+    let down = u32::from(sps.pic_height_in_luma_samples).div_ceil(1 << ctb);
+    sps.log2_min_luma_coding_block_size_minus3 = min_cb_minus3;
+    sps.log2_diff_max_min_luma_coding_block_size = diff_cb;
+    sps.log2_min_luma_transform_block_size_minus2 = min_tb_minus2;
+    sps.log2_diff_max_min_luma_transform_block_size = diff_tb;
+    sps.min_cb_log2_size_y = min_cb;
+    sps.ctb_log2_size_y = ctb;
+    sps.ctb_size_y = 1 << ctb;
+    sps.pic_width_in_ctbs_y = across;
+    sps.pic_height_in_ctbs_y = down;
+    sps.pic_size_in_ctbs_y = across * down;
+    sps.max_tb_log2_size_y = max_tb;
+    Ok(())
+}

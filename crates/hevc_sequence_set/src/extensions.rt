@@ -1,0 +1,86 @@
+//! The extensions of a set (7.3.2.2.1, rows 43 to 50 of table 5).
+ghost use Rattle.hevc_elements.specs.Words.{Fills};
+ghost use Rattle.hevc_tables.specs.SpsTable as table;
+ghost use Rattle.hevc_types_c.specs.Sps.{plain_sps};
+
+use crate::frame::half_range;
+use crate::range_extension::read_sps_range_extension;
+use crate::sample_format::SampleFormat;
+use crate::scc_extension::read_sps_scc_extension;
+use hevc_bits::NaluReader;
+use hevc_elements::ParseError;
+use hevc_elements::rows::{flag, skip, zero};
+use hevc_spec::Row;
+use hevc_types_c::Sps;
+
+/// Rows 43 to 50 of table 5.
+#[tactic(auto, unfolding(hevc_tables::specs::SpsTable::extensions, hevc_spec::specs::Rows::when))]
+pub(crate) fn read_extensions(r: &mut NaluReader<'_>, sps: &mut Sps) -> Result<(), ParseError>
+    ensures { Fills plain_sps table.extensions result sps.old sps.new r.old r.new }
+{
+    let present = flag(r, Row(5, 43))?;
+    sps.extension_present_flag = present;
+    if present {
+        read_extension_data(r, sps)
+    } else {
+        Ok(())
+    }
+}
+
+/// Rows 44 to 50 of table 5.
+#[tactic(auto, unfolding(hevc_tables::specs::SpsTable::extension_data, hevc_spec::specs::Rows::when))]
+fn read_extension_data(r: &mut NaluReader<'_>, sps: &mut Sps) -> Result<(), ParseError>
+    ensures { Fills plain_sps table.extension_data result sps.old sps.new r.old r.new }
+{
+    read_extension_flags(r, sps)?;
+    if sps.range_extension_flag {
+        read_range_extension(r, sps)?;
+    }
+    if sps.scc_extension_flag {
+        read_scc_extension(r, sps)?;
+    }
+    Ok(())
+}
+
+/// Rows 44 to 48 of table 5.
+#[tactic(auto, unfolding(hevc_tables::specs::SpsTable::extension_flags))]
+fn read_extension_flags(r: &mut NaluReader<'_>, sps: &mut Sps) -> Result<(), ParseError>
+    ensures { Fills plain_sps table.extension_flags result sps.old sps.new r.old r.new }
+{
+    let range = flag(r, Row(5, 44))?;
+    zero(r, Row(5, 45))?;
+    zero(r, Row(5, 46))?;
+    let screen_content = flag(r, Row(5, 47))?;
+    skip(r, Row(5, 48), 4)?;
+    sps.range_extension_flag = range;
+    sps.scc_extension_flag = screen_content;
+    Ok(())
+}
+
+/// Row 49 of table 5.
+#[tactic(auto, unfolding(hevc_tables::specs::SpsTable::range_extension, hevc_tables::specs::SpsTable::with_half_ranges))]
+fn read_range_extension(r: &mut NaluReader<'_>, sps: &mut Sps) -> Result<(), ParseError>
+    ensures { Fills plain_sps table.range_extension result sps.old sps.new r.old r.new }
+{
+    let range_extension = read_sps_range_extension(r)?;
+    let precise = range_extension.high_precision_offsets_enabled_flag;
+    sps.range_extension = range_extension;
+    sps.wp_offset_half_range_y = half_range(precise, sps.bit_depth_luma_minus8);
+    sps.wp_offset_half_range_c = half_range(precise, sps.bit_depth_chroma_minus8);
+    Ok(())
+}
+
+/// Row 50 of table 5.
+#[tactic(auto, unfolding(hevc_tables::specs::SpsTable::scc_extension))]
+fn read_scc_extension(r: &mut NaluReader<'_>, sps: &mut Sps) -> Result<(), ParseError>
+    ensures { Fills plain_sps table.scc_extension result sps.old sps.new r.old r.new }
+{
+    let format = SampleFormat {
+        chroma_format_idc: sps.chroma_format_idc,
+        bit_depth_luma_minus8: sps.bit_depth_luma_minus8,
+        bit_depth_chroma_minus8: sps.bit_depth_chroma_minus8,
+    };
+    let scc_extension = read_sps_scc_extension(r, format)?;
+    sps.scc_extension = scc_extension;
+    Ok(())
+}

@@ -1,0 +1,125 @@
+//! The size and the depth of pictures (7.3.2.2.1, rows 6 to 15 of table 5).
+ghost use Rattle.std.specs.Prelude.{◌≡◌, ◌≤◌, ◌<◌};
+ghost use Rattle.hevc_elements.specs.Words.{Fills};
+ghost use Rattle.hevc_records.specs.SpsSizes.{leaves_some, sub_width_c, sub_height_c, wp_offset_half_range};
+ghost use Rattle.hevc_tables.specs.SpsTable as table;
+ghost use Rattle.hevc_types_c.specs.Sps.{plain_sps};
+
+use hevc_bits::NaluReader;
+use hevc_elements::ParseError;
+use hevc_elements::rows::{check, flag, flag_if, ue, ue_u8, ue_u16};
+use hevc_spec::Row;
+use hevc_types_c::Sps;
+
+/// Rows 6 to 9 of table 5.
+#[tactic(auto, unfolding(hevc_tables::specs::SpsTable::samples, hevc_tables::specs::SpsTable::with_picture_size))]
+pub(crate) fn read_samples(r: &mut NaluReader<'_>, sps: &mut Sps) -> Result<(), ParseError>
+    ensures { Fills plain_sps table.samples result sps.old sps.new r.old r.new }
+{
+    let chroma_format_idc = ue_u8(r, Row(5, 6), 0, 3)?;
+    let separate = flag_if(r, chroma_format_idc == 3, Row(5, 7))?;
+    let width = ue_u16(r, Row(5, 8), 1, 16_888)?;
+    let height = ue_u16(r, Row(5, 9), 1, 16_888)?;
+    let across = u32::from(width).div_ceil(sps.ctb_size_y);
+    let down = u32::from(height).div_ceil(sps.ctb_size_y);
+    sps.chroma_format_idc = chroma_format_idc;
+    sps.separate_colour_plane_flag = separate;
+    sps.pic_width_in_luma_samples = width;
+    sps.pic_height_in_luma_samples = height;
+    sps.conformance_window_flag = false;
+    sps.chroma_array_type = if separate { 0 } else { chroma_format_idc };
+    sps.pic_width_in_ctbs_y = across;
+    sps.pic_height_in_ctbs_y = down;
+    sps.pic_size_in_ctbs_y = across * down;
+    sps.pic_size_in_samples_y = u32::from(width) * u32::from(height);
+    Ok(())
+}
+
+/// Rows 10 to 12 of table 5.
+#[tactic(auto, unfolding(hevc_tables::specs::SpsTable::cropping, hevc_spec::specs::Rows::when))]
+pub(crate) fn read_cropping(r: &mut NaluReader<'_>, sps: &mut Sps) -> Result<(), ParseError>
+    ensures { Fills plain_sps table.cropping result sps.old sps.new r.old r.new }
+{
+    if flag(r, Row(5, 10))? {
+        read_window(r, sps)?;
+    }
+    Ok(())
+}
+
+/// Rows 11 and 12 of table 5.
+#[tactic(auto, unfolding(hevc_tables::specs::SpsTable::window))]
+fn read_window(r: &mut NaluReader<'_>, sps: &mut Sps) -> Result<(), ParseError>
+    ensures { Fills plain_sps table.window result sps.old sps.new r.old r.new }
+{
+    let left = ue(r, Row(5, 11), 0, 2_147_483_647)?;
+    let right = ue(r, Row(5, 11), 0, 2_147_483_647)?;
+    let top = ue(r, Row(5, 11), 0, 2_147_483_647)?;
+    let bottom = ue(r, Row(5, 11), 0, 2_147_483_647)?;
+    check(r, Row(5, 12), leaves_part(sps, left, right, top, bottom))?;
+    sps.conformance_window_flag = true;
+    sps.conf_win_left_offset = left;
+    sps.conf_win_right_offset = right;
+    sps.conf_win_top_offset = top;
+    sps.conf_win_bottom_offset = bottom;
+    Ok(())
+}
+
+/// Whether the conformance cropping window leaves some of the picture.
+#[tactic(auto, unfolding(hevc_records::specs::SpsSizes::leaves_some))]
+fn leaves_part(sps: &Sps, left: u32, right: u32, top: u32, bottom: u32) -> bool
+    ensures { result ≡ leaves_some sps.now.chroma_array_type sps.now.pic_width_in_luma_samples sps.now.pic_height_in_luma_samples left right top bottom }
+{
+    let width = u64::from(sps.pic_width_in_luma_samples);
+    let height = u64::from(sps.pic_height_in_luma_samples);
+    sub_width(sps.chroma_array_type) * (u64::from(left) + u64::from(right)) < width
+        && sub_height(sps.chroma_array_type) * (u64::from(top) + u64::from(bottom)) < height
+}
+
+/// SubWidthC (Table 6-1), 1 where the planes are coded apart.
+fn sub_width(chroma_array_type: u8) -> u64
+    ensures value { result ≡ sub_width_c chroma_array_type }
+    ensures small { result ≤ 2 }
+{
+    if chroma_array_type == 1 || chroma_array_type == 2 {
+        2
+    } else {
+        1
+    }
+}
+
+/// SubHeightC (Table 6-1), 1 where the planes are coded apart.
+fn sub_height(chroma_array_type: u8) -> u64
+    ensures value { result ≡ sub_height_c chroma_array_type }
+    ensures small { result ≤ 2 }
+{
+    if chroma_array_type == 1 { 2 } else { 1 }
+}
+
+/// Rows 13 to 15 of table 5.
+#[tactic(auto, unfolding(hevc_tables::specs::SpsTable::depths, hevc_tables::specs::SpsTable::with_half_ranges))]
+pub(crate) fn read_depths(r: &mut NaluReader<'_>, sps: &mut Sps) -> Result<(), ParseError>
+    ensures { Fills plain_sps table.depths result sps.old sps.new r.old r.new }
+{
+    let luma = ue_u8(r, Row(5, 13), 0, 6)?;
+    let chroma = ue_u8(r, Row(5, 14), 0, 6)?;
+    let order_count_bits = ue_u8(r, Row(5, 15), 0, 12)?;
+    let precise = sps.range_extension.high_precision_offsets_enabled_flag;
+    sps.bit_depth_luma_minus8 = luma;
+    sps.bit_depth_chroma_minus8 = chroma;
+    sps.log2_max_pic_order_cnt_lsb_minus4 = order_count_bits;
+    sps.wp_offset_half_range_y = half_range(precise, luma);
+    sps.wp_offset_half_range_c = half_range(precise, chroma);
+    Ok(())
+}
+
+/// Half the range of offsets in weighted prediction, of samples of this bit depth less 8.
+pub(crate) fn half_range(precise: bool, depth_minus8: u8) -> u32
+    requires { depth_minus8 < 7 }
+    ensures { result ≡ wp_offset_half_range precise depth_minus8 }
+{
+    if precise {
+        1u32 << (u32::from(depth_minus8) + 7)
+    } else {
+        128
+    }
+}

@@ -1,0 +1,63 @@
+//! The short-term reference picture sets (7.3.2.2.1, rows 35 and 36 of table 5).
+ghost use Rattle.std.specs.Prelude.{length, map, IfOk};
+ghost use Rattle.std.specs.Prelude.{◌≡◌, ◌≤◌, ◌<◌};
+ghost use Rattle.hevc_elements.specs.Words.{bits, IsAhead, read, ReadsGrowing, FillsGrowing};
+ghost use Rattle.hevc_tables.specs.SpsTable as table;
+ghost use Rattle.hevc_types_a.specs.ShortTermRefPicSet.{plain_short_term_ref_pic_set};
+ghost use Rattle.hevc_types_c.specs.Sps.{plain_sps};
+
+use hevc_bits::NaluReader;
+use hevc_elements::ParseError;
+use hevc_elements::rows::ue_u8;
+use hevc_short_term::read_short_term_set;
+use hevc_spec::Row;
+use hevc_types_a::{Items, ShortTermRefPicSet};
+use hevc_types_c::Sps;
+use std::alloc::Global;
+
+/// Rows 35 and 36 of table 5.
+#[tactic(auto, unfolding(hevc_tables::specs::SpsTable::short_term))]
+pub(crate) fn read_short_term(
+    alloc: Global,
+    r: &mut NaluReader<'_>,
+    sps: &mut Sps,
+) -> Result<(), ParseError>
+    ensures { FillsGrowing plain_sps table.short_term result sps.old sps.new r.old r.new }
+{
+    let count = ue_u8(r, Row(5, 35), 0, 64)?;
+    let sets = read_sets(alloc, r, count, highest_buffering(sps))?;
+    sps.num_short_term_ref_pic_sets = count;
+    sps.short_term_ref_pic_set = sets;
+    Ok(())
+}
+
+/// Row 36 of table 5, for so many sets.
+#[tactic(auto, using(hevc_elements::proofs::Loops::growing_loops, crate::proofs::Places::appended), unfolding(hevc_tables::specs::SpsTable::short_term_sets, hevc_tables::specs::SpsTable::short_term_set))]
+fn read_sets(
+    alloc: Global,
+    r: &mut NaluReader<'_>,
+    count: u8,
+    buffering: u8,
+) -> Result<Items<ShortTermRefPicSet>, ParseError>
+    requires few { count ≤ 64 }
+    requires room { buffering ≤ 16 }
+    ensures read { ReadsGrowing (λ sets. map plain_short_term_ref_pic_set sets) result r.new (read (table.short_term_sets count buffering) (bits r.old)) }
+    ensures moves { IsAhead r.old r.new }
+    ensures all { IfOk result (λ sets. length sets ≡ count) }
+{
+    let mut sets = Items::new(alloc);
+    for i in 0..count {
+        let set = read_short_term_set(r, sets.as_slice(), count, buffering, i)?;
+        sets.push(set)?;
+    }
+    Ok(sets)
+}
+
+/// sps_max_dec_pic_buffering_minus1 of the highest sub-layer.
+#[tactic(auto, using(crate::proofs::Places::bounds))]
+fn highest_buffering(sps: &Sps) -> u8
+    ensures value { result ≡ table.highest_buffering (plain_sps sps.now) }
+    ensures small { result ≤ 16 }
+{
+    sps.max_dec_pic_buffering_minus1[usize::from(sps.max_sub_layers_minus1)]
+}

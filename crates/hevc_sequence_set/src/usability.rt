@@ -1,0 +1,39 @@
+//! More tools, and usability information (7.3.2.2.1, rows 41 and 42 of table 5).
+ghost use Rattle.hevc_elements.specs.Words.{Fills};
+ghost use Rattle.hevc_tables.specs.SpsTable as table;
+ghost use Rattle.hevc_types_c.specs.Sps.{plain_sps};
+
+use hevc_bits::NaluReader;
+use hevc_elements::ParseError;
+use hevc_elements::rows::flag;
+use hevc_spec::Row;
+use hevc_types_c::Sps;
+use hevc_usability::read_vui_parameters;
+
+/// Rows 41 and 42 of table 5.
+#[tactic(auto, unfolding(hevc_tables::specs::SpsTable::usability, hevc_spec::specs::Rows::when))]
+pub(crate) fn read_usability(r: &mut NaluReader<'_>, sps: &mut Sps) -> Result<(), ParseError>
+    ensures { Fills plain_sps table.usability result sps.old sps.new r.old r.new }
+{
+    let temporal = flag(r, Row(5, 41))?;
+    let strong = flag(r, Row(5, 41))?;
+    let present = flag(r, Row(5, 41))?;
+    sps.temporal_mvp_enabled_flag = temporal;
+    sps.strong_intra_smoothing_enabled_flag = strong;
+    sps.vui_parameters_present_flag = present;
+    if present {
+        read_information(r, sps)
+    } else {
+        Ok(())
+    }
+}
+
+/// Row 42 of table 5.
+#[tactic(auto, unfolding(hevc_tables::specs::SpsTable::usability_information))]
+fn read_information(r: &mut NaluReader<'_>, sps: &mut Sps) -> Result<(), ParseError>
+    ensures { Fills plain_sps table.usability_information result sps.old sps.new r.old r.new }
+{
+    let vui_parameters = read_vui_parameters(r, sps.max_sub_layers_minus1)?;
+    sps.vui_parameters = vui_parameters;
+    Ok(())
+}

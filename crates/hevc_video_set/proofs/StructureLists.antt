@@ -1,0 +1,7 @@
+-- Structures behind one another.
+use Rattle.std.proofs.Common.{◌-◌, length, map}
+use Rattle.std.proofs.lemmas.List.{map-append, length-map}
+
+pub ruleset pushes = (map-append)
+
+pub ruleset lasts = (length-map)

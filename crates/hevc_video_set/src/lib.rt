@@ -1,0 +1,12 @@
+//! Video parameter sets, and their reader.
+#![tactic(auto)]
+
+mod identity;
+mod orderings;
+mod structures;
+mod video_set;
+
+pub use video_set::read_vps;
+
+#[cfg(test)]
+mod tests;
