@@ -12,9 +12,9 @@ use hevc_bits::{Nalu, NaluHeader, NaluType};
 
 /// What decodes the samples of pictures.
 ///
-/// Each call that succeeds stands in the log, and no other does. `Failed` comes only where the count
-/// of faults rose, or stands at its last value, and leaves the log; `NoMemory` leaves both. A backend
-/// that is faultless never answers `Failed`, now or later.
+/// Each call that succeeds stands in the log, and no other does. `Failed` has a cause: a fault was
+/// counted, or no more can be; the log stays. `NoMemory` leaves the log and the count. A backend that
+/// is faultless never answers `Failed`, now or later.
 pub trait StatelessH265DecoderBackend {
     /// What stands for a decoded picture.
     type Handle: Copy;

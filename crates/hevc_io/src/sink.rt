@@ -25,8 +25,7 @@ pub trait Sink {
     /// Takes bytes from the front of a piece, at least one where the piece isn't empty, and answers
     /// how many. A refusal takes none.
     ///
-    /// `Failed` comes only where the count of faults rose, or stands at its last value; `NoMemory`
-    /// leaves that count.
+    /// `Failed` has a cause: a fault was counted, or no more can be. `NoMemory` leaves the count.
     fn write(&mut self, bytes: &[u8]) -> Result<usize, SinkError>
         ensures bound { WritesAtMost result bytes.now }
         ensures some { TakesSome result bytes.now }

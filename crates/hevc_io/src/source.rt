@@ -17,10 +17,10 @@ pub trait Source {
     /// How many reads failed so far. It never falls, and stands still at 2^64 - 1.
     ghost faults: { Self → ℕ };
 
-    /// Hands over the next bytes at the front of `buf`, at most as many as it holds, and answers how
-    /// many. For a buffer that isn't empty, 0 is the end. A refusal leaves the bytes that are left.
+    /// Puts the next bytes at the front of `buf`, and answers their number, which is at most the length
+    /// of `buf`; 0 says that none are left, unless `buf` is empty. A refusal takes no byte.
     ///
-    /// `Failed` comes only where the count of faults rose, or stands at its last value.
+    /// `Failed` has a cause: a fault was counted, or no more can be.
     fn read(&mut self, buf: &mut [u8]) -> Result<usize, Failed>
         ensures bound { ReadsAtMost result buf.new }
         ensures bytes { ReadConsumes (left self.old) (left self.new) result buf.new }

@@ -38,7 +38,7 @@ struct Report {
 /// | status | where |
 /// |---|---|
 /// | 0 | all was read and written, and the stream was decoded |
-/// | 1 | all was read and written, and the stream was refused; the report's last line names the cause |
+/// | 1 | all was read and written, and the stream was refused, with the cause in the last line of the report |
 /// | 2 | the words are no command; nothing is read or written |
 /// | 3 | the source failed; nothing is written |
 /// | 4 | the sink failed |

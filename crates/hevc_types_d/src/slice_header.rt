@@ -116,7 +116,7 @@ pub struct SliceHeader {
     pub num_pic_total_curr: u32,
     /// The bits of the header: the 16 of the unit's header, and the payload bits of this one.
     pub header_bit_size: u32,
-    /// The number of emulation prevention bytes in the unit before the byte with the header's last bit.
+    /// How many emulation prevention bytes of the unit stand in front of the byte in which the header ends.
     pub n_emulation_prevention_bytes: u32,
     /// The payload bits of the header's own short-term set.
     pub st_rps_bits: u32,

@@ -370,7 +370,7 @@ impl SliceHeader {
         self.header_bit_size
     }
 
-    /// The number of emulation prevention bytes in the unit before the byte with the header's last bit.
+    /// How many emulation prevention bytes of the unit stand in front of the byte in which the header ends.
     pub fn n_emulation_prevention_bytes(&self) -> u32
         ensures { result ≡ self.now.n_emulation_prevention_bytes }
     {

@@ -11,7 +11,7 @@ ghost use Rattle.hevc_walk.specs.Premises.{IsLimits};
 ghost use Rattle.hevc_walk_bound.specs.Stores.{StoresFew};
 ghost use Rattle.hevc_walk_bound.specs.Capped.{capped, capped_bumped, with_stored_uncapped};
 
-/// In a clean stream, as a picture is stored, the buffer holds at most as many as that picture's sets declare.
+/// Whenever a clean stream stores a picture, no more are in the buffer than the sets of that picture declare.
 pub fn few_are_stored()
     ensures { (us : List Meaning) → IsClean us → StoresFew (stream us).first_set (pictures us) }
 {}
