@@ -12,7 +12,7 @@ CRATES = TOP / "crates"
 
 MAP_HEAD = """# Map
 
-Each crate is a folder of `crates/`: `src/` has the code, `specs/` the definitions that contracts cite, `proofs/` the lemmas and answers that the checker needed, `must-fail/` edits that it has to refuse. `crates.txt` says which crate uses which. What stands beside a module is the first sentence of its file; clauses are those of H.265 (ITU-T Rec. H.265). Which clause carries what is promised, [README.md](../README.md) and [PROMISES.md](PROMISES.md) say. `docs/pages.py` makes this page.
+Each crate is a folder of `crates/`: `src/` has the code, `specs/` the definitions that contracts cite, `proofs/` the lemmas and answers that the checker needed, `must-fail/` edits that it has to refuse. `crates.txt` says which crate uses which. What stands beside a module is the first sentence of its file; clauses are those of H.265 (ITU-T Rec. H.265). Which clause carries what is promised, [PROMISES.md](PROMISES.md) says. `docs/pages.py` makes this page.
 """
 
 
