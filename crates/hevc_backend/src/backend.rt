@@ -70,7 +70,8 @@ pub trait StatelessH265DecoderBackend {
         address: u32,
         nalu: &Nalu<'_, NaluHeader>,
     ) -> Result<(), BackendError>
-        ensures log { Logs (log self.old) (log self.new) result (λ _. DecodeSlice number address (bytes_of nalu.now)) }
+        ensures log { Logs (log self.old) (log self.new) result
+            (λ _. DecodeSlice number address (bytes_of nalu.now)) }
         ensures cause { CountsFaults (faults self.old) (faults self.new) result }
         ensures faultless { StaysFaultless (is_faultless self.old) (is_faultless self.new) result };
 
@@ -80,7 +81,8 @@ pub trait StatelessH265DecoderBackend {
         number: u64,
         picture: Self::Picture,
     ) -> Result<Self::Handle, BackendError>
-        ensures log { Logs (log self.old) (log self.new) result (λ handle. SubmitPicture number handle) }
+        ensures log { Logs (log self.old) (log self.new) result
+            (λ handle. SubmitPicture number handle) }
         ensures cause { CountsFaults (faults self.old) (faults self.new) result }
         ensures faultless { StaysFaultless (is_faultless self.old) (is_faultless self.new) result };
 }

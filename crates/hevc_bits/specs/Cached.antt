@@ -3,7 +3,12 @@ use Rattle.std.specs.Prelude.{◌≡◌, ℕ, zero, suc, ◌+◌, ◌-◌, ◌*�
 use Rattle.std.specs.Int.{bit_at}
 use Rattle.hevc_spec.specs.Payload.{Place, bits, low_bits, loading, place_behind, IsAhead, IsReached}
 use Rattle.hevc_spec.specs.Bits.{found, bits_after, ue_at}
+use Rattle.hevc_bits.specs.declared.load.Loaded.{Loaded}
 use Rattle.hevc_bits.specs.declared.word.Word.{Word}
+
+-- the place behind a payload byte, none of whose bits is read
+abbrev pub loaded_place : Loaded → Place
+loaded_place l = record { loaded = low_bits 8 l.byte; zero_run = l.zeros; behind = l.behind.now; dropped = l.dropped }
 
 -- the place with the next payload byte loaded
 unfoldable pub byte_on : Place → Place

@@ -44,7 +44,8 @@ pub trait Header: Sized {
         // A header depends on its first `len` bytes alone.
         ensures front { IfOk result (λ h. IsReadFromFront parsed bytes.now h (header_len h)) }
         // The bytes that are kept are those up to `len` of an end unit, and all of another.
-        ensures kept_bytes { IfOk result (λ h. kept bytes.now ≡ own_bytes (ends h) (header_len h) bytes.now) }
+        ensures kept_bytes { IfOk result
+            (λ h. kept bytes.now ≡ own_bytes (ends h) (header_len h) bytes.now) }
         ensures kept_answer { parsed (kept bytes.now) ≡ result };
 
     /// Whether the unit is its header alone.

@@ -1,7 +1,8 @@
 //! The next payload byte.
 
 ghost use Rattle.std.specs.Prelude.{◌≡◌, ℕ, ◌+◌, ◌≤◌, ◌<◌, ◌^◌, length, Some, None, IfSome, MatchOption};
-ghost use Rattle.hevc_spec.specs.Payload.{loading, low_bits, run_behind};
+ghost use Rattle.hevc_spec.specs.Payload.{loading, run_behind};
+ghost use Rattle.hevc_bits.specs.Cached.{loaded_place};
 
 /// A payload byte and what stands behind it.
 #[derive(Drop)]
@@ -26,7 +27,8 @@ fn zeros_behind(zeros: u8, byte: u8) -> u8
 pub fn next_byte(zeros: u8, dropped: usize, bytes: &[u8]) -> Option<Loaded<'_>>
     requires few { zeros ≤ 2 }
     requires short { dropped + length bytes.now < 2 ^ 60 }
-    ensures loads { MatchOption result (loading zeros dropped bytes.now ≡ None) (λ l. loading zeros dropped bytes.now ≡ Some (record { loaded = low_bits 8 l.byte; zero_run = l.zeros; behind = l.behind.now; dropped = l.dropped })) }
+    ensures loads { MatchOption result (loading zeros dropped bytes.now ≡ None)
+        (λ l. loading zeros dropped bytes.now ≡ Some (loaded_place l)) }
     ensures small { IfSome result (λ l. l.zeros ≤ 2) }
     ensures short { IfSome result (λ l. l.dropped + length l.behind.now < 2 ^ 60) }
 {

@@ -23,7 +23,8 @@ fn first_cut(stream: &[u8], from: usize) -> Option<Cut<'_>>
     ensures none { IfNone result ((kept : List ℕ → List ℕ) → units_from kept from stream.now ≡ []) }
     ensures first { IfSome result (λ c. IsFirstCut from stream.now c.offset c.bytes.now) }
     ensures behind { IfSome result (λ c. from + 3 ≤ c.offset) }
-    ensures front { IfSome result (λ c. c.bytes.now ≡ take (length c.bytes.now) (drop c.offset stream.now)) }
+    ensures front { IfSome result
+        (λ c. c.bytes.now ≡ take (length c.bytes.now) (drop c.offset stream.now)) }
     ensures within { IfSome result (λ c. c.offset + length c.bytes.now ≤ length stream.now) }
 {
     let start = find_start_code(stream, from)?;
@@ -62,12 +63,19 @@ impl<'a, U: Header> Nalu<'a, U> {
     pub fn next(stream: &'a [u8], position: &mut usize) -> Result<Nalu<'a, U>, UnitError>
         requires { position.old ≤ length stream.now }
         // The unit is the first one, and the others are those behind it.
-        ensures first { IfOk result (λ n. units_from U.kept position.old stream.now ≡ unit_of n ∷ units_from U.kept (n.offset + n.size) stream.now) }
+        ensures first { IfOk result
+            (λ n. units_from U.kept position.old stream.now
+            ≡ unit_of n ∷ units_from U.kept (n.offset + n.size) stream.now) }
         ensures same_stream { IfOk result (λ n. n.stream ≡ stream.now) }
         ensures header { IfOk result (λ n. U.parsed (bytes_of n) ≡ Ok n.header) }
-        ensures none { IsErrOf result UnitError.NoNal ↔ (units_from U.kept position.old stream.now ≡ []) }
+        ensures none { IsErrOf result UnitError.NoNal
+            ↔ (units_from U.kept position.old stream.now ≡ []) }
         // Any other refusal is the one of the first unit's bytes.
-        ensures refused { IfErr result (λ e. e ≢ UnitError.NoNal → (u : NalUnit) × (others : List NalUnit) × (units_from U.kept position.old stream.now ≡ u ∷ others) × (U.parsed u.bytes ≡ Err e)) }
+        ensures refused { IfErr result
+            (λ e. e ≢ UnitError.NoNal
+            → (u : NalUnit) × (others : List NalUnit)
+            × (units_from U.kept position.old stream.now ≡ u ∷ others)
+            × (U.parsed u.bytes ≡ Err e)) }
         // It stands behind the position and within the stream, so a search from its end goes on.
         ensures ahead { IfOk result (λ n. position.old + 3 ≤ n.offset) }
         ensures inside { IfOk result (λ n. n.offset + n.size ≤ length stream.now) }

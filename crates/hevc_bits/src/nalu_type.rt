@@ -110,7 +110,8 @@ impl NaluType {
 
     /// The type of this number, and `None` exactly above 47.
     pub fn n(value: u32) -> Option<NaluType>
-        ensures named { (variant : NaluType) → (result ≡ Some variant) ↔ (nalu_type_number variant ≡ value) }
+        ensures named { (variant : NaluType)
+            → (result ≡ Some variant) ↔ (nalu_type_number variant ≡ value) }
         ensures none { (result ≡ None) ↔ (48 ≤ value) }
     {
         match value {

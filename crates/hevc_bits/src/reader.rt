@@ -80,12 +80,15 @@ impl<'a> NaluReader<'a> {
     /// bits, else `OutOfBits` where fewer are left.
     #[tactic(auto, using(crate::proofs::Steps::front_found, crate::proofs::Steps::front_bound), unfolding(hevc_spec::specs::Bits::bits_at))]
     pub fn read_bits(&mut self, num_bits: usize) -> Result<u32, BitError>
-        ensures too_many { 31 < num_bits → (result ≡ Err BitError.OutOfRange) × (self.new ≡ self.old) }
-        ensures read { num_bits ≤ 31 → Finds (λ n. n) result self.old self.new (bits_at num_bits (bits self.old)) }
+        ensures too_many { 31 < num_bits
+            → (result ≡ Err BitError.OutOfRange) × (self.new ≡ self.old) }
+        ensures read { num_bits ≤ 31
+            → Finds (λ n. n) result self.old self.new (bits_at num_bits (bits self.old)) }
         ensures moves { IsAhead self.old self.new }
         ensures place { IsReached self.old self.new }
         // The bits that are read are the payload's next ones, in order.
-        ensures in_order { IfOk result (λ n. IsAtFront (u num_bits) n (bits self.old) (bits self.new)) }
+        ensures in_order { IfOk result
+            (λ n. IsAtFront (u num_bits) n (bits self.old) (bits self.new)) }
         ensures bound { IfOk result (λ n. n < 2 ^ num_bits) }
     {
         if num_bits > 31 {
@@ -96,11 +99,14 @@ impl<'a> NaluReader<'a> {
 
     /// Passes the next `num_bits` bits over. `OutOfBits` where fewer are left.
     pub fn skip_bits(&mut self, num_bits: usize) -> Result<(), BitError>
-        ensures read { Finds (λ _. number (take num_bits (bits self.old))) result self.old self.new (bits_at num_bits (bits self.old)) }
+        ensures read { Finds (λ _. number (take num_bits (bits self.old))) result self.old self.new
+            (bits_at num_bits (bits self.old)) }
         ensures moves { IsAhead self.old self.new }
         ensures place { IsReached self.old self.new }
         // The bits that are passed over are the payload's next ones.
-        ensures in_order { IfOk result (λ _. (passed : List Bool) × (bits self.old ≡ passed ++ bits self.new) × (length passed ≡ num_bits)) }
+        ensures in_order { IfOk result
+            (λ _. (passed : List Bool) × (bits self.old ≡ passed ++ bits self.new)
+            × (length passed ≡ num_bits)) }
     {
         if num_bits <= 31 {
             self.read_bits(num_bits)?;
@@ -124,16 +130,19 @@ impl<'a> NaluReader<'a> {
         ensures bound { IfOk result (λ n. n ≤ 2147483647) }
         // The number that is read is the one whose spelling stands there, and such a number is read.
         ensures spelled { IfOk result (λ n. IsAtFront ue n (bits self.old) (bits self.new)) }
-        ensures only { (n : ℕ) (rest : List Bool) → IsAtFront ue n (bits self.old) rest → n ≤ 2147483647 → (result ≡ Ok n) × (bits self.new ≡ rest) }
+        ensures only { (n : ℕ) (rest : List Bool) → IsAtFront ue n (bits self.old) rest
+            → n ≤ 2147483647 → (result ≡ Ok n) × (bits self.new ≡ rest) }
         // No spelling is a prefix of another, and none has two values.
-        ensures prefix_free { (n m : ℕ) (spelling more : List Bool) → IsSpelled ue n spelling → IsSpelled ue m (spelling ++ more) → (n ≡ m) × (more ≡ []) }
+        ensures prefix_free { (n m : ℕ) (spelling more : List Bool) → IsSpelled ue n spelling
+            → IsSpelled ue m (spelling ++ more) → (n ≡ m) × (more ≡ []) }
     {
         self.read_exp_golomb()
     }
 
     /// The same, `OutOfRange` above `max` too.
     pub fn read_ue_max(&mut self, max: u32) -> Result<u32, BitError>
-        ensures read { Finds (λ n. n) result self.old self.new (within (in_range 0 max) (ue_at (bits self.old))) }
+        ensures read { Finds (λ n. n) result self.old self.new
+            (within (in_range 0 max) (ue_at (bits self.old))) }
         ensures moves { IsAhead self.old self.new }
         ensures place { IsReached self.old self.new }
         ensures bound { IfOk result (λ n. n ≤ max) }
@@ -143,7 +152,8 @@ impl<'a> NaluReader<'a> {
 
     /// The same, `OutOfRange` below `min` and above `max` too.
     pub fn read_ue_bounded(&mut self, min: u32, max: u32) -> Result<u32, BitError>
-        ensures read { Finds (λ n. n) result self.old self.new (within (in_range min max) (ue_at (bits self.old))) }
+        ensures read { Finds (λ n. n) result self.old self.new
+            (within (in_range min max) (ue_at (bits self.old))) }
         ensures moves { IsAhead self.old self.new }
         ensures place { IsReached self.old self.new }
         ensures bounds { IfOk result (λ n. (min ≤ n) × (n ≤ max)) }
@@ -168,7 +178,8 @@ impl<'a> NaluReader<'a> {
 
     /// The same, `OutOfRange` below `min` and above `max` too.
     pub fn read_se_bounded(&mut self, min: i32, max: i32) -> Result<i32, BitError>
-        ensures read { FindsSigned result self.old self.new (within (in_signed_range min max) (ue_at (bits self.old))) }
+        ensures read { FindsSigned result self.old self.new
+            (within (in_signed_range min max) (ue_at (bits self.old))) }
         ensures moves { IsAhead self.old self.new }
         ensures place { IsReached self.old self.new }
         ensures bounds { IfOk result (λ n. (min ≤ℤ n) × (n ≤ℤ max)) }
@@ -210,7 +221,8 @@ impl<'a> NaluReader<'a> {
     fn read_behind(&mut self, front: u32, num_bits: usize) -> Result<u32, BitError>
         requires front { front ≤ 1 }
         requires fits { num_bits ≤ 31 }
-        ensures read { Finds (λ n. n) result self.old self.new (bits_after front num_bits (bits self.old)) }
+        ensures read { Finds (λ n. n) result self.old self.new
+            (bits_after front num_bits (bits self.old)) }
         ensures moves { IsAhead self.old self.new }
         ensures place { IsReached self.old self.new }
     {

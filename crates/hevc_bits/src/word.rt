@@ -1,9 +1,9 @@
 //! The payload bits of a byte slice, as many as a word holds at once.
 
 ghost use Rattle.std.specs.Prelude.{◌≡◌, ◌≢◌, ◌∷◌, ℕ, ◌+◌, ◌-◌, ◌*◌, ◌/◌, ◌≤◌, ◌<◌, ◌^◌, ◌%◌, length, true, false, Some, None, MatchOption, IfSome};
-ghost use Rattle.hevc_spec.specs.Payload.{first_place, loading, low_bits, bits, PassesBytes};
+ghost use Rattle.hevc_spec.specs.Payload.{first_place, loading, bits, PassesBytes};
 ghost use Rattle.hevc_spec.specs.Bits.{found, ue_at};
-ghost use Rattle.hevc_bits.specs.Cached.{place_of, marked, IsFilled, Fills, Takes, TakesGolomb};
+ghost use Rattle.hevc_bits.specs.Cached.{loaded_place, place_of, marked, IsFilled, Fills, Takes, TakesGolomb};
 ghost use Rattle.hevc_bits.specs.Reading.{LoadsByte};
 
 use crate::load::{Loaded, next_byte};
@@ -68,7 +68,8 @@ impl<'a> Word<'a> {
         requires few { self.old.left < 32 }
         ensures filled { IsFilled self.new }
         ensures same { place_of self.new ≡ place_of self.old }
-        ensures full { self.new.left < 32 → loading self.new.zeros self.new.dropped self.new.rest.now ≡ None }
+        ensures full { self.new.left < 32
+            → loading self.new.zeros self.new.dropped self.new.rest.now ≡ None }
     {
         if !self.fill_plain() {
             self.fill_each();
@@ -103,7 +104,8 @@ impl<'a> Word<'a> {
         requires { IsFilled self.old }
         ensures filled { IsFilled self.new }
         ensures same { place_of self.new ≡ place_of self.old }
-        ensures full { self.new.left < 32 → loading self.new.zeros self.new.dropped self.new.rest.now ≡ None }
+        ensures full { self.new.left < 32
+            → loading self.new.zeros self.new.dropped self.new.rest.now ≡ None }
     {
         while self.left < 32 {
             let Some(next) = next_byte(self.zeros, self.dropped, self.rest) else {
@@ -138,7 +140,8 @@ impl<'a> Word<'a> {
     fn push(&mut self, next: Loaded<'a>)
         requires filled { IsFilled self.old }
         requires fits { self.old.left < 56 }
-        requires loads { loading self.old.zeros self.old.dropped self.old.rest.now ≡ Some (record { loaded = low_bits 8 next.byte; zero_run = next.zeros; behind = next.behind.now; dropped = next.dropped }) }
+        requires loads { loading self.old.zeros self.old.dropped self.old.rest.now
+            ≡ Some (loaded_place next) }
         requires small { next.zeros ≤ 2 }
         requires short { next.dropped + length next.behind.now < 2 ^ 60 }
         ensures filled { IsFilled self.new }
@@ -187,8 +190,10 @@ impl<'a> Word<'a> {
     fn zeros(&self) -> usize
         requires { IsFilled self.now }
         ensures within { result ≤ self.now.left }
-        ensures least { result < self.now.left → 2 ^ (self.now.left - 1 - result) ≤ self.now.cache % 2 ^ self.now.left }
-        ensures most { result < self.now.left → self.now.cache % 2 ^ self.now.left < 2 ^ (self.now.left - result) }
+        ensures least { result < self.now.left
+            → 2 ^ (self.now.left - 1 - result) ≤ self.now.cache % 2 ^ self.now.left }
+        ensures most { result < self.now.left
+            → self.now.cache % 2 ^ self.now.left < 2 ^ (self.now.left - result) }
     {
         let unread = self.cache % (1 << self.left);
         self.left + unread.leading_zeros() as usize - 64

@@ -15,7 +15,9 @@ use hevc_dpb::{Dpb, DpbEntry, Limits};
 pub fn bump_additionally<T: Copy>(dpb: &mut Dpb<T>, limits: &Limits, out: &mut Vec<DpbEntry<T>>)
     requires latency { HaveLatency (stored_entries dpb.old) }
     requires room { vec_len out.old + 16 ≤ vec_capacity out.old }
-    ensures { Bumps (bumping (needs_additional_bumping (limits_of limits.now)) (buffer_of dpb.old)) dpb.old dpb.new out.old.items out.new.items }
+    ensures { Bumps
+        (bumping (needs_additional_bumping (limits_of limits.now))
+        (buffer_of dpb.old)) dpb.old dpb.new out.old.items out.new.items }
 {
     while dpb.needs_additional_bumping(limits) {
         match dpb.bump(false) {
@@ -29,7 +31,9 @@ pub fn bump_additionally<T: Copy>(dpb: &mut Dpb<T>, limits: &Limits, out: &mut V
 pub fn bump_for_room<T: Copy>(dpb: &mut Dpb<T>, limits: &Limits, out: &mut Vec<DpbEntry<T>>)
     requires latency { HaveLatency (stored_entries dpb.old) }
     requires room { vec_len out.old + 16 ≤ vec_capacity out.old }
-    ensures { Bumps (bumping (needs_bumping (limits_of limits.now)) (buffer_of dpb.old)) dpb.old dpb.new out.old.items out.new.items }
+    ensures { Bumps
+        (bumping (needs_bumping (limits_of limits.now))
+        (buffer_of dpb.old)) dpb.old dpb.new out.old.items out.new.items }
 {
     while dpb.needs_bumping(limits) {
         match dpb.bump(false) {

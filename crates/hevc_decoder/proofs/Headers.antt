@@ -12,7 +12,8 @@ use Rattle.hevc_walk.specs.Walk.{at_unit}
 use Rattle.hevc_walk_idr.specs.IdrWalk.{IdrStanding, idr_part, idr_refusal}
 use Rattle.hevc_decoder.specs.Answers.{CountsError, IsBackend}
 use Rattle.hevc_decoder.specs.Errors.{unit_error}
-use Rattle.hevc_decoder.specs.StreamMeanings.{header_cause, first_format, picture_meaning, meanings_from}
+use Rattle.hevc_stream.specs.Contents.{header_cause}
+use Rattle.hevc_decoder.specs.StreamMeanings.{first_format, picture_meaning, meanings_from}
 use Rattle.hevc_decoder.specs.Does.{Traces, RefusesBy, Refuses}
 use Rattle.hevc_decoder.proofs.Doing.{does_nothing}
 

@@ -23,8 +23,9 @@ use Rattle.hevc_walk.specs.Refusals.{Cause, Refusal}
 use Rattle.hevc_walk_idr.specs.IdrWalk.{IdrStanding, idr_part, idr_refusal, idr_verdict_from, refused_at, IsIdrMeaning, accepted_behind, AreIdrMeanings}
 use Rattle.hevc_decoder.specs.Answers.{IsAnswer, AnswersOnly}
 use Rattle.hevc_decoder.specs.Maps.{cause_error, error_of, answer_of}
-use Rattle.hevc_decoder.specs.StreamMeanings.{header_cause, first_format, picture_meaning, slice_of, meanings_from}
-use Rattle.hevc_stream.specs.Sequences.{format_of_set}
+use Rattle.hevc_stream.specs.Contents.{header_cause}
+use Rattle.hevc_decoder.specs.StreamMeanings.{first_format, picture_meaning, slice_of, meanings_from}
+use Rattle.hevc_views.specs.Sequences.{format_of_set}
 use Rattle.hevc_decoder.proofs.Slices.{same_format-equal}
 
 -- the buffer has room for a picture

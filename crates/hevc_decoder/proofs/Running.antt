@@ -16,7 +16,7 @@ use Rattle.hevc_decoder.specs.declared.decode_error.DecodeError.{DecodeError}
 use Rattle.hevc_decoder.specs.declared.decode_error.DecodeError.TheVariants as errors
 use Rattle.hevc_decoder.specs.Maps.{error_of, answer_of}
 use Rattle.hevc_decoder.specs.StreamMeanings.{first_format, picture_meaning, slice_of}
-use Rattle.hevc_stream.specs.Sequences.{format_of_set}
+use Rattle.hevc_views.specs.Sequences.{format_of_set}
 use Rattle.hevc_decoder.specs.Does.{Traces, Does, CallIsNext, Stops, Took, Refuses, StopsAtEnd, EndsWhole, StepsOn}
 use Rattle.hevc_decoder.specs.Runs.{CallFollows, UpTo, Ended, Reached}
 use Rattle.hevc_decoder.proofs.Doing.{does_nothing, does_then}

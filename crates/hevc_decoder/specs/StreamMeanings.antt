@@ -1,21 +1,23 @@
--- What the units of a stream mean for the pictures, behind the parameter sets that are kept there, while only plain sets and plain
--- slices of IDR pictures are read.
+-- Goes with the decoder over plain sets, for `Stream` of hevc_stream: what the units of a stream mean for the pictures, behind the
+-- parameter sets that are kept there, while only plain sets and plain slices of IDR pictures are read.
 use Rattle.std.specs.Prelude.{ℕ, ◌+◌, ◌-◌, ◌^◌, true, false, List, [], ◌∷◌, option_map, Option, None, if◌then◌else◌}
 use Rattle.hevc_spec.specs.Units.{NalUnit, units}
-use Rattle.hevc_spec.specs.UnitHeader.{UnitHeader, HeaderFault, truncated, unspecified_type, temporal_id_zero}
+use Rattle.hevc_spec.specs.UnitHeader.{UnitHeader}
 use Rattle.hevc_records.specs.Sps.{PlainSps}
-use Rattle.hevc_stream.specs.Sequences.{format_of_set, limits_of_set}
+use Rattle.hevc_stream.specs.Options.{default_options}
+use Rattle.hevc_views.specs.Sequences.{format_of_set, limits_of_set}
+use Rattle.hevc_stream.specs.Contents.{header_cause}
 use Rattle.hevc_plain_tables.specs.PlainSliceHeader.{PlainSlice}
 use Rattle.hevc_plain_tables.specs.KeptSets.{KeptSets, nothing_kept}
 use Rattle.hevc_plain_tables.specs.UnitMeanings as unit
-use Rattle.hevc_walk.specs.Meanings.{Format, SliceHeader, I, NamedSets, Slice, UnitCause, TruncatedNalu, InvalidNaluType, OutOfRange, NotYet, Meaning, SequenceSet, CodedSlice, Other, Refused}
+use Rattle.hevc_walk.specs.Meanings.{Format, SliceHeader, I, NamedSets, Slice, NotYet, Meaning, SequenceSet, CodedSlice, Other, Refused}
 use Rattle.hevc_walk.specs.Walk.{is_accepted}
 
 -- The sequence set has no short-term reference picture sets.
 abbrev pub sets_of : PlainSps → NamedSets
 sets_of s = record {
   format = format_of_set s;
-  limits = limits_of_set s;
+  limits = limits_of_set default_options.highest_tid s;
   max_pic_order_cnt_lsb = 2 ^ (s.log2_max_pic_order_cnt_lsb_minus4 + 4);
   short_term_ref_pic_sets = [];
   pps_curr_pic_ref_enabled_flag = false;
@@ -54,12 +56,6 @@ slice_of h bytes s = record {
 -- A change of format isn't built yet: 5, 0 stands for a slice that would begin one.
 abbrev pub slice_meaning : Option Format → Slice → Meaning
 slice_meaning accepted s = if is_accepted s.format accepted then CodedSlice s else Refused (NotYet 5 0)
-
--- the fault of a unit's header; nuh_temporal_id_plus1 is row 1 of table 0
-abbrev pub header_cause : HeaderFault → UnitCause
-header_cause truncated = TruncatedNalu
-header_cause (unspecified_type number) = InvalidNaluType number
-header_cause temporal_id_zero = OutOfRange 0 1
 
 -- the format of the first sequence set, which is the one that is accepted
 abbrev pub first_format : KeptSets → Option Format

@@ -39,12 +39,22 @@ impl<B: StatelessH265DecoderBackend> Decoder<B> {
     ) -> Result<(), DecodeError>
         requires room { self.old.state.begun + 1 < 2 ^ 64 }
         requires short { length nalu.now.stream < 2 ^ 60 }
-        requires accepted { (standing self.old.state).accepted ≡ first_format (kept_sets self.old.sets) }
-        ensures cause { CountsErrors (B.faults self.old.backend) (B.faults self.new.backend) result }
-        ensures faultless { KeepsFaultless (B.is_faultless self.old.backend) (B.is_faultless self.new.backend) result }
-        ensures part { TakesUnit result unit (traces (B.log self.old.backend) shown.old.items self.old.state) (traces (B.log self.new.backend) shown.new.items self.new.state)
-            (picture_meaning (first_format (kept_sets self.old.sets)) (bytes_of nalu.now) (unit_meaning (kept_sets self.old.sets) (bytes_of nalu.now))) (standing self.old.state) (standing self.new.state) }
-        ensures kept { OnOk result (kept_sets self.new.sets ≡ kept_behind (kept_sets self.old.sets) (unit_meaning (kept_sets self.old.sets) (bytes_of nalu.now))) }
+        requires accepted { (standing self.old.state).accepted
+            ≡ first_format (kept_sets self.old.sets) }
+        ensures cause { CountsErrors (B.faults self.old.backend)
+            (B.faults self.new.backend) result }
+        ensures faultless { KeepsFaultless (B.is_faultless self.old.backend)
+            (B.is_faultless self.new.backend) result }
+        ensures part { TakesUnit result unit
+            (traces (B.log self.old.backend) shown.old.items self.old.state)
+            (traces (B.log self.new.backend) shown.new.items self.new.state)
+            (picture_meaning (first_format (kept_sets self.old.sets)) (bytes_of nalu.now)
+            (unit_meaning (kept_sets self.old.sets) (bytes_of nalu.now))) (standing self.old.state)
+            (standing self.new.state) }
+        ensures kept { OnOk result
+            (kept_sets self.new.sets
+            ≡ kept_behind (kept_sets self.old.sets)
+            (unit_meaning (kept_sets self.old.sets) (bytes_of nalu.now))) }
     {
         match self.sets.take_unit(nalu)? {
             UnitMeaning::SequenceSet(set) => self.take_sequence_set(negotiation_info(&set)),
@@ -60,10 +70,15 @@ impl<B: StatelessH265DecoderBackend> Decoder<B> {
     /// The backend is told of the format of the first sequence parameter set.
     #[tactic(auto, using(crate::proofs::Doing::part_rules))]
     fn take_sequence_set(&mut self, info: NegotiationInfo) -> Result<(), DecodeError>
-        ensures cause { CountsErrors (B.faults self.old.backend) (B.faults self.new.backend) result }
-        ensures faultless { KeepsFaultless (B.is_faultless self.old.backend) (B.is_faultless self.new.backend) result }
-        ensures part { (shown : List (Shown B.Handle)) (k : ℕ) → Runs result k (traces (B.log self.old.backend) shown self.old.state) (traces (B.log self.new.backend) shown self.new.state)
-            (idr_part (SequenceSet (format_of info)) (standing self.old.state)) (standing self.new.state) }
+        ensures cause { CountsErrors (B.faults self.old.backend)
+            (B.faults self.new.backend) result }
+        ensures faultless { KeepsFaultless (B.is_faultless self.old.backend)
+            (B.is_faultless self.new.backend) result }
+        ensures part { (shown : List (Shown B.Handle)) (k : ℕ)
+            → Runs result k (traces (B.log self.old.backend) shown self.old.state)
+            (traces (B.log self.new.backend) shown self.new.state)
+            (idr_part (SequenceSet (format_of info)) (standing self.old.state))
+            (standing self.new.state) }
         ensures sets { self.new.sets ≡ self.old.sets }
     {
         if self.state.accepted.is_none() {
@@ -83,10 +98,16 @@ impl<B: StatelessH265DecoderBackend> Decoder<B> {
         shown: &mut Vec<Shown<B::Handle>>,
     ) -> Result<(), DecodeError>
         requires room { self.old.state.begun + 1 < 2 ^ 64 }
-        ensures cause { CountsErrors (B.faults self.old.backend) (B.faults self.new.backend) result }
-        ensures faultless { KeepsFaultless (B.is_faultless self.old.backend) (B.is_faultless self.new.backend) result }
-        ensures part { TakesUnit result unit (traces (B.log self.old.backend) shown.old.items self.old.state) (traces (B.log self.new.backend) shown.new.items self.new.state)
-            (slice_meaning (standing self.old.state).accepted (slice_of nalu.now.header (bytes_of nalu.now) (slice_with header.now sequence_set.now))) (standing self.old.state) (standing self.new.state) }
+        ensures cause { CountsErrors (B.faults self.old.backend)
+            (B.faults self.new.backend) result }
+        ensures faultless { KeepsFaultless (B.is_faultless self.old.backend)
+            (B.is_faultless self.new.backend) result }
+        ensures part { TakesUnit result unit
+            (traces (B.log self.old.backend) shown.old.items self.old.state)
+            (traces (B.log self.new.backend) shown.new.items self.new.state)
+            (slice_meaning (standing self.old.state).accepted
+            (slice_of nalu.now.header (bytes_of nalu.now) (slice_with header.now sequence_set.now)))
+            (standing self.old.state) (standing self.new.state) }
         ensures sets { self.new.sets ≡ self.old.sets }
     {
         if !is_accepted(&negotiation_info(sequence_set), self.state.accepted) {
@@ -105,10 +126,16 @@ impl<B: StatelessH265DecoderBackend> Decoder<B> {
         shown: &mut Vec<Shown<B::Handle>>,
     ) -> Result<(), DecodeError>
         requires room { self.old.state.begun + 1 < 2 ^ 64 }
-        ensures cause { CountsErrors (B.faults self.old.backend) (B.faults self.new.backend) result }
-        ensures faultless { KeepsFaultless (B.is_faultless self.old.backend) (B.is_faultless self.new.backend) result }
-        ensures part { Runs result unit (traces (B.log self.old.backend) shown.old.items self.old.state) (traces (B.log self.new.backend) shown.new.items self.new.state)
-            (change_picture (slice_of nalu.now.header (bytes_of nalu.now) (slice_with header.now sequence_set.now)) (standing self.old.state)) (standing self.new.state) }
+        ensures cause { CountsErrors (B.faults self.old.backend)
+            (B.faults self.new.backend) result }
+        ensures faultless { KeepsFaultless (B.is_faultless self.old.backend)
+            (B.is_faultless self.new.backend) result }
+        ensures part { Runs result unit
+            (traces (B.log self.old.backend) shown.old.items self.old.state)
+            (traces (B.log self.new.backend) shown.new.items self.new.state)
+            (change_picture
+            (slice_of nalu.now.header (bytes_of nalu.now) (slice_with header.now sequence_set.now))
+            (standing self.old.state)) (standing self.new.state) }
         ensures sets { self.new.sets ≡ self.old.sets }
     {
         self.finish(unit, shown)?;
@@ -125,10 +152,16 @@ impl<B: StatelessH265DecoderBackend> Decoder<B> {
         shown: &mut Vec<Shown<B::Handle>>,
     ) -> Result<(), DecodeError>
         requires room { self.old.state.begun + 1 < 2 ^ 64 }
-        ensures cause { CountsErrors (B.faults self.old.backend) (B.faults self.new.backend) result }
-        ensures faultless { KeepsFaultless (B.is_faultless self.old.backend) (B.is_faultless self.new.backend) result }
-        ensures part { Runs result unit (traces (B.log self.old.backend) shown.old.items self.old.state) (traces (B.log self.new.backend) shown.new.items self.new.state)
-            (start (slice_of nalu.now.header (bytes_of nalu.now) (slice_with header.now sequence_set.now)) (standing self.old.state)) (standing self.new.state) }
+        ensures cause { CountsErrors (B.faults self.old.backend)
+            (B.faults self.new.backend) result }
+        ensures faultless { KeepsFaultless (B.is_faultless self.old.backend)
+            (B.is_faultless self.new.backend) result }
+        ensures part { Runs result unit
+            (traces (B.log self.old.backend) shown.old.items self.old.state)
+            (traces (B.log self.new.backend) shown.new.items self.new.state)
+            (start (slice_of nalu.now.header (bytes_of nalu.now)
+            (slice_with header.now sequence_set.now)) (standing self.old.state))
+            (standing self.new.state) }
         ensures sets { self.new.sets ≡ self.old.sets }
     {
         self.empty_buffer(header.no_output_of_prior_pics_flag, unit, shown)?;
@@ -138,9 +171,13 @@ impl<B: StatelessH265DecoderBackend> Decoder<B> {
     /// The picture whose slices came is over: it is stored (C.5.2.3), and output at once where no picture
     /// may wait.
     fn finish(&mut self, unit: u64, shown: &mut Vec<Shown<B::Handle>>) -> Result<(), DecodeError>
-        ensures cause { CountsErrors (B.faults self.old.backend) (B.faults self.new.backend) result }
-        ensures faultless { KeepsFaultless (B.is_faultless self.old.backend) (B.is_faultless self.new.backend) result }
-        ensures part { Runs result unit (traces (B.log self.old.backend) shown.old.items self.old.state) (traces (B.log self.new.backend) shown.new.items self.new.state)
+        ensures cause { CountsErrors (B.faults self.old.backend)
+            (B.faults self.new.backend) result }
+        ensures faultless { KeepsFaultless (B.is_faultless self.old.backend)
+            (B.is_faultless self.new.backend) result }
+        ensures part { Runs result unit
+            (traces (B.log self.old.backend) shown.old.items self.old.state)
+            (traces (B.log self.new.backend) shown.new.items self.new.state)
             (finish (standing self.old.state)) (standing self.new.state) }
         ensures sets { self.new.sets ≡ self.old.sets }
     {
@@ -158,9 +195,13 @@ impl<B: StatelessH265DecoderBackend> Decoder<B> {
         unit: u64,
         shown: &mut Vec<Shown<B::Handle>>,
     ) -> Result<(), DecodeError>
-        ensures cause { CountsErrors (B.faults self.old.backend) (B.faults self.new.backend) result }
-        ensures faultless { KeepsFaultless (B.is_faultless self.old.backend) (B.is_faultless self.new.backend) result }
-        ensures part { Runs result unit (traces (B.log self.old.backend) shown.old.items self.old.state) (traces (B.log self.new.backend) shown.new.items self.new.state)
+        ensures cause { CountsErrors (B.faults self.old.backend)
+            (B.faults self.new.backend) result }
+        ensures faultless { KeepsFaultless (B.is_faultless self.old.backend)
+            (B.is_faultless self.new.backend) result }
+        ensures part { Runs result unit
+            (traces (B.log self.old.backend) shown.old.items self.old.state)
+            (traces (B.log self.new.backend) shown.new.items self.new.state)
             (store (open_picture over) (standing self.old.state)) (standing self.new.state) }
         ensures sets { self.new.sets ≡ self.old.sets }
     {
@@ -184,9 +225,13 @@ impl<B: StatelessH265DecoderBackend> Decoder<B> {
         unit: u64,
         shown: &mut Vec<Shown<B::Handle>>,
     ) -> Result<(), DecodeError>
-        ensures cause { CountsErrors (B.faults self.old.backend) (B.faults self.new.backend) result }
-        ensures faultless { KeepsFaultless (B.is_faultless self.old.backend) (B.is_faultless self.new.backend) result }
-        ensures part { Runs result unit (traces (B.log self.old.backend) shown.old.items self.old.state) (traces (B.log self.new.backend) shown.new.items self.new.state)
+        ensures cause { CountsErrors (B.faults self.old.backend)
+            (B.faults self.new.backend) result }
+        ensures faultless { KeepsFaultless (B.is_faultless self.old.backend)
+            (B.is_faultless self.new.backend) result }
+        ensures part { Runs result unit
+            (traces (B.log self.old.backend) shown.old.items self.old.state)
+            (traces (B.log self.new.backend) shown.new.items self.new.state)
             (output_stored (standing self.old.state)) (standing self.new.state) }
         ensures sets { self.new.sets ≡ self.old.sets }
     {
@@ -212,9 +257,13 @@ impl<B: StatelessH265DecoderBackend> Decoder<B> {
         unit: u64,
         shown: &mut Vec<Shown<B::Handle>>,
     ) -> Result<(), DecodeError>
-        ensures cause { CountsErrors (B.faults self.old.backend) (B.faults self.new.backend) result }
-        ensures faultless { KeepsFaultless (B.is_faultless self.old.backend) (B.is_faultless self.new.backend) result }
-        ensures part { Runs result unit (traces (B.log self.old.backend) shown.old.items self.old.state) (traces (B.log self.new.backend) shown.new.items self.new.state)
+        ensures cause { CountsErrors (B.faults self.old.backend)
+            (B.faults self.new.backend) result }
+        ensures faultless { KeepsFaultless (B.is_faultless self.old.backend)
+            (B.is_faultless self.new.backend) result }
+        ensures part { Runs result unit
+            (traces (B.log self.old.backend) shown.old.items self.old.state)
+            (traces (B.log self.new.backend) shown.new.items self.new.state)
             (leave no_output_of_prior_pics (standing self.old.state)) (standing self.new.state) }
         ensures sets { self.new.sets ≡ self.old.sets }
     {
@@ -235,10 +284,16 @@ impl<B: StatelessH265DecoderBackend> Decoder<B> {
         nalu: &Nalu<'_, NaluHeader>,
     ) -> Result<(), DecodeError>
         requires { self.old.state.begun + 1 < 2 ^ 64 }
-        ensures cause { CountsErrors (B.faults self.old.backend) (B.faults self.new.backend) result }
-        ensures faultless { KeepsFaultless (B.is_faultless self.old.backend) (B.is_faultless self.new.backend) result }
-        ensures part { (shown : List (Shown B.Handle)) (k : ℕ) → Runs result k (traces (B.log self.old.backend) shown self.old.state) (traces (B.log self.new.backend) shown self.new.state)
-            (begin (slice_of nalu.now.header (bytes_of nalu.now) (slice_with header.now sequence_set.now)) (standing self.old.state)) (standing self.new.state) }
+        ensures cause { CountsErrors (B.faults self.old.backend)
+            (B.faults self.new.backend) result }
+        ensures faultless { KeepsFaultless (B.is_faultless self.old.backend)
+            (B.is_faultless self.new.backend) result }
+        ensures part { (shown : List (Shown B.Handle)) (k : ℕ)
+            → Runs result k (traces (B.log self.old.backend) shown self.old.state)
+            (traces (B.log self.new.backend) shown self.new.state)
+            (begin (slice_of nalu.now.header (bytes_of nalu.now)
+            (slice_with header.now sequence_set.now)) (standing self.old.state))
+            (standing self.new.state) }
         ensures sets { self.new.sets ≡ self.old.sets }
     {
         let number = self.state.begun;
@@ -269,9 +324,13 @@ impl<B: StatelessH265DecoderBackend> Decoder<B> {
         unit: u64,
         shown: &mut Vec<Shown<B::Handle>>,
     ) -> Result<(), DecodeError>
-        ensures cause { CountsErrors (B.faults self.old.backend) (B.faults self.new.backend) result }
-        ensures faultless { KeepsFaultless (B.is_faultless self.old.backend) (B.is_faultless self.new.backend) result }
-        ensures part { Runs result unit (traces (B.log self.old.backend) shown.old.items self.old.state) (traces (B.log self.new.backend) shown.new.items self.new.state)
+        ensures cause { CountsErrors (B.faults self.old.backend)
+            (B.faults self.new.backend) result }
+        ensures faultless { KeepsFaultless (B.is_faultless self.old.backend)
+            (B.is_faultless self.new.backend) result }
+        ensures part { Runs result unit
+            (traces (B.log self.old.backend) shown.old.items self.old.state)
+            (traces (B.log self.new.backend) shown.new.items self.new.state)
             (close (standing self.old.state)) (standing self.new.state) }
         ensures sets { self.new.sets ≡ self.old.sets }
     {

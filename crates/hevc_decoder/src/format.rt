@@ -3,7 +3,8 @@ ghost use Rattle.std.specs.Prelude.{◌≡◌, option_map};
 ghost use Rattle.hevc_types_c.specs.Sps.{plain_sps};
 ghost use Rattle.hevc_walk.specs.Walk.{is_accepted};
 ghost use Rattle.hevc_backend.specs.Negotiation.{format_of};
-ghost use Rattle.hevc_stream.specs.Sequences.{format_of_set, limits_of_set};
+ghost use Rattle.hevc_stream.specs.Options.{default_options};
+ghost use Rattle.hevc_views.specs.Sequences.{format_of_set, limits_of_set};
 
 use hevc_backend::NegotiationInfo;
 use hevc_types_c::Sps;
@@ -17,7 +18,8 @@ pub(crate) fn negotiation_info(set: &Sps) -> NegotiationInfo
 
 /// How many pictures may wait while one that is decoded later is output: `sps_max_num_reorder_pics` of the highest sub-layer.
 pub(crate) fn max_num_reorder(set: &Sps) -> u8
-    ensures { result ≡ (limits_of_set (plain_sps set.now)).max_num_reorder }
+    ensures { result
+        ≡ (limits_of_set default_options.highest_tid (plain_sps set.now)).max_num_reorder }
 {
     set.max_num_reorder_pics[usize::from(set.max_sub_layers_minus1)]
 }

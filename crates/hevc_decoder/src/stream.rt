@@ -32,33 +32,43 @@ pub fn decode_stream<B: StatelessH265DecoderBackend>(
     requires { length stream.now < 2 ^ 60 }
 
     // The backend gets the calls that the units ask for, in order, and no other.
-    ensures calls { Grew (B.log backend) (B.log result.backend) (λ l. IsFront (map call_of l) (all_asked (calls (meanings stream.now)))) }
+    ensures calls { Grew (B.log backend) (B.log result.backend)
+        (λ l. IsFront (map call_of l) (all_asked (calls (meanings stream.now)))) }
     // The pictures that are to be output come out in order, each with its order count and at its unit, and no others.
-    ensures outputs { Appended shown.old.items shown.new.items (λ o. IsFront (map output_picture o) (outputs (meanings stream.now))) }
+    ensures outputs { Appended shown.old.items shown.new.items
+        (λ o. IsFront (map output_picture o) (outputs (meanings stream.now))) }
     // Any answer but a failed backend and want of memory is the verdict on the units.
     ensures answer { AnswersVerdict result.result (verdict (meanings stream.now)) }
     // The verdicts are those of units whose header is refused, or that ask for what isn't built yet.
     ensures answers_only { AnswersOnly result.result }
     // On a verdict all calls are made; on the two others, at unit k, all of units before k and none of units behind it.
-    ensures whole_calls { Grew (B.log backend) (B.log result.backend) (λ l. EndsCalls result.result (map call_of l) (calls (meanings stream.now))) }
-    ensures whole_outputs { Appended shown.old.items shown.new.items (λ o. EndsOutputs result.result (map output_picture o) (outputs (meanings stream.now))) }
+    ensures whole_calls { Grew (B.log backend) (B.log result.backend)
+        (λ l. EndsCalls result.result (map call_of l) (calls (meanings stream.now))) }
+    ensures whole_outputs { Appended shown.old.items shown.new.items
+        (λ o. EndsOutputs result.result (map output_picture o) (outputs (meanings stream.now))) }
     ensures unit { IfErr result.result (λ refused. refused.unit ≤ length (units stream.now)) }
 
     // Each picture comes out with the handle of its one submission.
-    ensures handles { Grew (B.log backend) (B.log result.backend) (λ l. Appended shown.old.items shown.new.items (λ o. AllSubmitted l o)) }
+    ensures handles { Grew (B.log backend) (B.log result.backend)
+        (λ l. Appended shown.old.items shown.new.items (λ o. AllSubmitted l o)) }
     ensures submitted_once { Grew (B.log backend) (B.log result.backend) (λ l. SubmittedOnce l) }
 
     // No picture comes out twice; where the stream is decoded whole, those whose fate is to be displayed come out.
     ensures once { Appended shown.old.items shown.new.items (λ o. ComeOutOnce o) }
-    ensures fates { OnOk result.result (Appended shown.old.items shown.new.items (λ o. AreDisplayed (meanings stream.now) o)) }
+    ensures fates { OnOk result.result
+        (Appended shown.old.items shown.new.items (λ o. AreDisplayed (meanings stream.now) o)) }
 
     // The backend is blamed only where it failed, and one that never fails still doesn't.
-    ensures cause { CountsErrors (B.faults backend) (B.faults result.backend) (without_unit result.result) }
-    ensures faultless { KeepsFaultless (B.is_faultless backend) (B.is_faultless result.backend) (without_unit result.result) }
+    ensures cause { CountsErrors (B.faults backend) (B.faults result.backend)
+        (without_unit result.result) }
+    ensures faultless { KeepsFaultless (B.is_faultless backend) (B.is_faultless result.backend)
+        (without_unit result.result) }
 
     // Where nothing is refused, such a backend and memory are all it takes; so in every clean stream.
-    ensures complete { (n : ℕ) → verdict (meanings stream.now) ≡ Ok n → B.is_faultless backend → IsOkOrNoMemory result.result }
-    ensures clean { IsClean (meanings stream.now) → B.is_faultless backend → IsOkOrNoMemory result.result }
+    ensures complete { (n : ℕ) → verdict (meanings stream.now) ≡ Ok n → B.is_faultless backend
+        → IsOkOrNoMemory result.result }
+    ensures clean { IsClean (meanings stream.now) → B.is_faultless backend
+        → IsOkOrNoMemory result.result }
 {
     let mut decoder = Decoder {
         backend,

@@ -26,9 +26,13 @@ impl<B: StatelessH265DecoderBackend> Decoder<B> {
         requires first { standing self.old.state ≡ idr_first }
         requires nothing { kept_sets self.old.sets ≡ nothing_kept }
         requires short { length stream.now < 2 ^ 60 }
-        ensures cause { CountsErrors (B.faults self.old.backend) (B.faults self.new.backend) (without_unit result) }
-        ensures faultless { KeepsFaultless (B.is_faultless self.old.backend) (B.is_faultless self.new.backend) (without_unit result) }
-        ensures ended { Ended result (meanings stream.now) (traces (B.log self.old.backend) shown.old.items self.old.state) (traces (B.log self.new.backend) shown.new.items self.new.state) }
+        ensures cause { CountsErrors (B.faults self.old.backend) (B.faults self.new.backend)
+            (without_unit result) }
+        ensures faultless { KeepsFaultless (B.is_faultless self.old.backend)
+            (B.is_faultless self.new.backend) (without_unit result) }
+        ensures ended { Ended result (meanings stream.now)
+            (traces (B.log self.old.backend) shown.old.items self.old.state)
+            (traces (B.log self.new.backend) shown.new.items self.new.state) }
         ensures unit { IfErr result (λ refused. refused.unit ≤ length (units stream.now)) }
     {
         let mut position = 0;
@@ -53,17 +57,29 @@ impl<B: StatelessH265DecoderBackend> Decoder<B> {
         requires room { self.old.state.begun + 1 < 2 ^ 64 }
         requires short { length stream.now < 2 ^ 60 }
         requires within { position.old ≤ length stream.now }
-        requires accepted { (standing self.old.state).accepted ≡ first_format (kept_sets self.old.sets) }
-        ensures cause { CountsErrors (B.faults self.old.backend) (B.faults self.new.backend) result }
-        ensures faultless { KeepsFaultless (B.is_faultless self.old.backend) (B.is_faultless self.new.backend) result }
+        requires accepted { (standing self.old.state).accepted
+            ≡ first_format (kept_sets self.old.sets) }
+        ensures cause { CountsErrors (B.faults self.old.backend)
+            (B.faults self.new.backend) result }
+        ensures faultless { KeepsFaultless (B.is_faultless self.old.backend)
+            (B.is_faultless self.new.backend) result }
         ensures moves { IfOk result (λ more. IsTrue more → position.old < position.new) }
         ensures inside { position.new ≤ length stream.now }
-        ensures units { IfOk result (λ more. IsTrue more →
-            length (units_from kept_bytes position.old stream.now) ≡ 1 + length (units_from kept_bytes position.new stream.now)) }
-        ensures accepted { IfOk result (λ more. IsTrue more → (standing self.new.state).accepted ≡ first_format (kept_sets self.new.sets)) }
-        ensures begun { IfOk result (λ more. IsTrue more → self.new.state.begun ≤ self.old.state.begun + 1) }
-        ensures step { StepsOn result unit (traces (B.log self.old.backend) shown.old.items self.old.state) (traces (B.log self.new.backend) shown.new.items self.new.state)
-            (meanings_from (kept_sets self.old.sets) (units_from kept_bytes position.old stream.now)) (meanings_from (kept_sets self.new.sets) (units_from kept_bytes position.new stream.now))
+        ensures units { IfOk result (λ more. IsTrue more
+            → length (units_from kept_bytes position.old stream.now)
+            ≡ 1 + length (units_from kept_bytes position.new stream.now)) }
+        ensures accepted { IfOk result
+            (λ more. IsTrue more
+            → (standing self.new.state).accepted ≡ first_format (kept_sets self.new.sets)) }
+        ensures begun { IfOk result
+            (λ more. IsTrue more → self.new.state.begun ≤ self.old.state.begun + 1) }
+        ensures step { StepsOn result unit
+            (traces (B.log self.old.backend) shown.old.items self.old.state)
+            (traces (B.log self.new.backend) shown.new.items self.new.state)
+            (meanings_from (kept_sets self.old.sets)
+            (units_from kept_bytes position.old stream.now))
+            (meanings_from (kept_sets self.new.sets)
+            (units_from kept_bytes position.new stream.now))
             (standing self.old.state) (standing self.new.state) }
     {
         let nalu = match Nalu::next(stream, position) {

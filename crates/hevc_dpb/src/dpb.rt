@@ -139,7 +139,8 @@ impl<T: Copy> Dpb<T> {
     /// stale.
     pub fn waiting_positions(&self) -> Option<&[u8]>
         ensures stale { IsSome result ↔ (is_stale self.now ≡ false) }
-        ensures positions { IfSome result (λ positions. positions.now ≡ output_positions (stored_entries self.now)) }
+        ensures positions { IfSome result
+            (λ positions. positions.now ≡ output_positions (stored_entries self.now)) }
     {
         if self.stale {
             return None;
@@ -174,7 +175,8 @@ impl<T: Copy> Dpb<T> {
     pub fn picture_mut(&mut self, position: usize) -> &mut PictureData
         requires { position < length (stored_entries self.old) }
         ensures* writes_back { sem 𝓛 (LendsPicture T.row self.entry position result) }
-        ensures value { (d : DpbEntry T) → result.now ≡ (slice_index_or (stored_entries self.old) position d).picture }
+        ensures value { (d : DpbEntry T)
+            → result.now ≡ (slice_index_or (stored_entries self.old) position d).picture }
     {
         self.stale = true;
         &mut self.entries[position].picture
@@ -184,14 +186,18 @@ impl<T: Copy> Dpb<T> {
     pub fn set_reference_at(&mut self, position: usize, reference: Reference)
         requires { position < length (stored_entries self.old) }
         ensures entries { (d : DpbEntry T) → stored_entries self.new
-            ≡ slice_set (stored_entries self.old) position (with_mark reference (slice_index_or (stored_entries self.old) position d)) }
-        ensures others { map unmarked (stored_entries self.new) ≡ map unmarked (stored_entries self.old) }
+            ≡ slice_set (stored_entries self.old) position
+            (with_mark reference (slice_index_or (stored_entries self.old) position d)) }
+        ensures others { map unmarked (stored_entries self.new)
+            ≡ map unmarked (stored_entries self.old) }
         ensures buffer { (d : walk.Entry) → buffer_of self.new
-            ≡ slice_set (buffer_of self.old) position (record (slice_index_or (buffer_of self.old) position d) { mark = mark_of reference }) }
+            ≡ slice_set (buffer_of self.old) position
+            (record (slice_index_or (buffer_of self.old) position d) { mark = mark_of reference }) }
         ensures size { max_num_pics_of self.new ≡ max_num_pics_of self.old }
         ensures room { room_of self.new ≡ room_of self.old }
         ensures handles { tickets (stored_entries self.new) ≡ tickets (stored_entries self.old) }
-        ensures latency { HaveLatency (stored_entries self.old) → HaveLatency (stored_entries self.new) }
+        ensures latency { HaveLatency (stored_entries self.old)
+            → HaveLatency (stored_entries self.new) }
         ensures same_order { is_stale self.new ≡ is_stale self.old }
     {
         mark_at(&mut self.entries, position, reference);
@@ -201,11 +207,13 @@ impl<T: Copy> Dpb<T> {
     pub fn mark_all_as_unused_for_ref(&mut self)
         ensures entries { stored_entries self.new ≡ map unmarked (stored_entries self.old) }
         ensures buffer { buffer_of self.new ≡ map walk_sets.unmarked (buffer_of self.old) }
-        ensures others { map unmarked (stored_entries self.new) ≡ map unmarked (stored_entries self.old) }
+        ensures others { map unmarked (stored_entries self.new)
+            ≡ map unmarked (stored_entries self.old) }
         ensures size { max_num_pics_of self.new ≡ max_num_pics_of self.old }
         ensures room { room_of self.new ≡ room_of self.old }
         ensures handles { tickets (stored_entries self.new) ≡ tickets (stored_entries self.old) }
-        ensures latency { HaveLatency (stored_entries self.old) → HaveLatency (stored_entries self.new) }
+        ensures latency { HaveLatency (stored_entries self.old)
+            → HaveLatency (stored_entries self.new) }
         ensures same_order { is_stale self.new ≡ is_stale self.old }
     {
         unmark_all(&mut self.entries);
@@ -217,9 +225,12 @@ impl<T: Copy> Dpb<T> {
         ensures buffer { buffer_of self.new ≡ needed_entries (buffer_of self.old) }
         ensures size { max_num_pics_of self.new ≡ max_num_pics_of self.old }
         ensures room { room_of self.new ≡ room_of self.old }
-        ensures handles { IsSublist (tickets (stored_entries self.new)) (tickets (stored_entries self.old)) }
-        ensures references { reference_numbers (stored_entries self.new) ≡ reference_numbers (stored_entries self.old) }
-        ensures latency { HaveLatency (stored_entries self.old) → HaveLatency (stored_entries self.new) }
+        ensures handles { IsSublist (tickets (stored_entries self.new))
+            (tickets (stored_entries self.old)) }
+        ensures references { reference_numbers (stored_entries self.new)
+            ≡ reference_numbers (stored_entries self.old) }
+        ensures latency { HaveLatency (stored_entries self.old)
+            → HaveLatency (stored_entries self.new) }
         ensures fresh { is_stale self.new ≡ false }
     {
         self.stale = true;
@@ -248,18 +259,27 @@ impl<T: Copy> Dpb<T> {
     /// Of the pictures that wait for output, the first one in order is output (C.5.2.4). It leaves unless it is used for
     /// reference; where the buffer is flushed, it leaves in any case.
     pub fn bump(&mut self, flush: bool) -> Option<DpbEntry<T>>
-        ensures output { result ≡ option_map as_output (first_in (in_output_order (stored_entries self.old))) }
+        ensures output { result
+            ≡ option_map as_output (first_in (in_output_order (stored_entries self.old))) }
         ensures left { stored_entries self.new
-            ≡ behind_output flush (first_in (in_output_order (stored_entries self.old))) (stored_entries self.old) }
+            ≡ behind_output flush (first_in (in_output_order (stored_entries self.old)))
+            (stored_entries self.old) }
         ensures buffer { flush ≡ false → buffer_of self.new
-            ≡ walk.after_output (take 1 (walk.in_output_order (buffer_of self.old))) (buffer_of self.old) }
-        ensures first { option_map plain_entry result ≡ option_map plain_output (first_in (walk.in_output_order (buffer_of self.old))) }
-        ensures given { IfSome result (λ e. Contains (tickets (stored_entries self.old)) (ticket e)) }
+            ≡ walk.after_output (take 1 (walk.in_output_order (buffer_of self.old)))
+            (buffer_of self.old) }
+        ensures first { option_map plain_entry result
+            ≡ option_map plain_output (first_in (walk.in_output_order (buffer_of self.old))) }
+        ensures given { IfSome result
+            (λ e. Contains (tickets (stored_entries self.old)) (ticket e)) }
         ensures size { max_num_pics_of self.new ≡ max_num_pics_of self.old }
         ensures room { room_of self.new ≡ room_of self.old }
-        ensures handles { IsSublist (tickets (stored_entries self.new)) (tickets (stored_entries self.old)) }
-        ensures references { flush ≡ false → reference_numbers (stored_entries self.new) ≡ reference_numbers (stored_entries self.old) }
-        ensures latency { HaveLatency (stored_entries self.old) → HaveLatency (stored_entries self.new) }
+        ensures handles { IsSublist (tickets (stored_entries self.new))
+            (tickets (stored_entries self.old)) }
+        ensures references { flush ≡ false
+            → reference_numbers (stored_entries self.new)
+            ≡ reference_numbers (stored_entries self.old) }
+        ensures latency { HaveLatency (stored_entries self.old)
+            → HaveLatency (stored_entries self.new) }
         ensures fresh { is_stale self.new ≡ false }
     {
         self.order_if_stale();
@@ -273,16 +293,21 @@ impl<T: Copy> Dpb<T> {
     ///
     /// Errors: no memory; both are then as they were.
     pub fn drain(&mut self, out: &mut Vec<DpbEntry<T>>) -> Result<(), AllocError>
-        ensures given { OnOk result (out.new.items ≡ out.old.items ++ in_output_order (stored_entries self.old)) }
-        ensures left { OnOk result (stored_entries self.new ≡ filter waits_not (stored_entries self.old)) }
-        ensures drained { map plain_entry (in_output_order (stored_entries self.old)) ≡ (walk.draining (buffer_of self.old)).outputs }
+        ensures given { OnOk result
+            (out.new.items ≡ out.old.items ++ in_output_order (stored_entries self.old)) }
+        ensures left { OnOk result
+            (stored_entries self.new ≡ filter waits_not (stored_entries self.old)) }
+        ensures drained { map plain_entry (in_output_order (stored_entries self.old))
+            ≡ (walk.draining (buffer_of self.old)).outputs }
         ensures out_stays { OnErr result (out.new.items ≡ out.old.items) }
         ensures stays { OnErr result (self.new ≡ self.old) }
         ensures full { OnErr result (vec_capacity out.old < vec_len out.old + 16) }
         ensures size { max_num_pics_of self.new ≡ max_num_pics_of self.old }
         ensures room { room_of self.new ≡ room_of self.old }
-        ensures handles { IsSublist (tickets (stored_entries self.new)) (tickets (stored_entries self.old)) }
-        ensures latency { HaveLatency (stored_entries self.old) → HaveLatency (stored_entries self.new) }
+        ensures handles { IsSublist (tickets (stored_entries self.new))
+            (tickets (stored_entries self.old)) }
+        ensures latency { HaveLatency (stored_entries self.old)
+            → HaveLatency (stored_entries self.new) }
         ensures fresh { OnOk result (is_stale self.new ≡ false) }
     {
         out.reserve(16)?;
@@ -305,17 +330,23 @@ impl<T: Copy> Dpb<T> {
     ) -> Result<(), DpbFull>
         requires other { Absent number (numbers (stored_entries self.old)) }
         requires room { max_num_pics_of self.old ≤ room_of self.old }
-        ensures full { IsErr result ↔ (max_num_pics_of self.old ≤ length (stored_entries self.old)) }
+        ensures full { IsErr result
+            ↔ (max_num_pics_of self.old ≤ length (stored_entries self.old)) }
         ensures stored { OnOk result (stored_entries self.new
-            ≡ map with_latency (stored_entries self.old) ++ stored_entry number picture handle ∷ []) }
-        ensures buffer { (p : Head) → IsStoredAs p number picture → HaveLatency (stored_entries self.old)
+            ≡ map with_latency (stored_entries self.old)
+            ++ stored_entry number picture handle ∷ []) }
+        ensures buffer { (p : Head) → IsStoredAs p number picture
+            → HaveLatency (stored_entries self.old)
             → OnOk result (buffer_of self.new ≡ walk.with_stored p (buffer_of self.old)) }
         ensures stays { OnErr result (self.new ≡ self.old) }
         ensures size { max_num_pics_of self.new ≡ max_num_pics_of self.old }
         ensures fits { OnOk result (length (stored_entries self.new) ≤ max_num_pics_of self.new) }
         ensures room { room_of self.new ≡ room_of self.old }
-        ensures handles { OnOk result (tickets (stored_entries self.new) ≡ tickets (stored_entries self.old) ++ (number, handle) ∷ []) }
-        ensures latency { HaveLatency (stored_entries self.old) → HaveLatency (stored_entries self.new) }
+        ensures handles { OnOk result
+            (tickets (stored_entries self.new)
+            ≡ tickets (stored_entries self.old) ++ (number, handle) ∷ []) }
+        ensures latency { HaveLatency (stored_entries self.old)
+            → HaveLatency (stored_entries self.new) }
         ensures fresh { OnOk result (is_stale self.new ≡ false) }
     {
         if self.entries.len() >= self.max_num_pics {

@@ -72,7 +72,9 @@ impl<T: Copy> Dpb<T> {
 
     /// The number of the first stored reference picture of this order count.
     pub fn find_ref_by_poc(&self, poc: i32) -> Option<u64>
-        ensures { result ≡ first_number (λ e. is_reference e.mark && int_eq e.order_count poc) (buffer_of self.now) }
+        ensures { result
+            ≡ first_number (λ e. is_reference e.mark && int_eq e.order_count poc)
+            (buffer_of self.now) }
     {
         self.find(Sought::Count(poc as i128))
     }
@@ -81,14 +83,18 @@ impl<T: Copy> Dpb<T> {
     pub fn find_ref_by_poc_masked(&self, poc: i32, mask: i32) -> Option<u64>
         requires { IsMaxPicOrderCntLsb (mask +ℤ pos 1) }
         ensures { (modulus : ℕ) → mask +ℤ pos 1 ≡ pos modulus
-            → result ≡ first_number (λ e. is_reference e.mark && is_congruent modulus e.order_count poc) (buffer_of self.now) }
+            → result ≡ first_number
+            (λ e. is_reference e.mark && is_congruent modulus e.order_count poc)
+            (buffer_of self.now) }
     {
         self.find(Sought::CountModulo(poc, mask + 1))
     }
 
     /// The number of the first stored short-term reference picture of this order count.
     pub fn find_short_term_ref_by_poc(&self, poc: i32) -> Option<u64>
-        ensures { result ≡ first_number (λ e. is_short_term e.mark && int_eq e.order_count poc) (buffer_of self.now) }
+        ensures { result
+            ≡ first_number (λ e. is_short_term e.mark && int_eq e.order_count poc)
+            (buffer_of self.now) }
     {
         self.find(Sought::ShortTermCount(poc as i128))
     }

@@ -40,7 +40,8 @@ pub(crate) fn output_first<T: Copy>(
     requires distinct { Distinct (numbers entries.old.items) }
     requires ordered { waiting.now.items ≡ output_positions entries.old.items }
     ensures output { result ≡ option_map as_output (first_in (in_output_order entries.old.items)) }
-    ensures left { entries.new.items ≡ behind_output flush (first_in (in_output_order entries.old.items)) entries.old.items }
+    ensures left { entries.new.items
+        ≡ behind_output flush (first_in (in_output_order entries.old.items)) entries.old.items }
     ensures given { IfSome result (λ e. Contains (tickets entries.old.items) (ticket e)) }
     ensures capacity { vec_capacity entries.new ≡ vec_capacity entries.old }
 {
@@ -52,7 +53,9 @@ pub(crate) fn output_first<T: Copy>(
 fn first_position<T: Copy>(entries: &Vec<DpbEntry<T>>, waiting: &ArrayVec<u8, 16>) -> Option<usize>
     requires distinct { Distinct (numbers entries.now.items) }
     requires ordered { waiting.now.items ≡ output_positions entries.now.items }
-    ensures { MatchOption result (first_in (in_output_order entries.now.items) ≡ None) (λ p. (p < length entries.now.items) × (slice_get entries.now.items p ≡ first_in (in_output_order entries.now.items))) }
+    ensures { MatchOption result (first_in (in_output_order entries.now.items) ≡ None)
+        (λ p. (p < length entries.now.items)
+        × (slice_get entries.now.items p ≡ first_in (in_output_order entries.now.items))) }
 {
     if waiting.is_empty() {
         return None;
@@ -63,8 +66,10 @@ fn first_position<T: Copy>(entries: &Vec<DpbEntry<T>>, waiting: &ArrayVec<u8, 16
 /// The entry at a place is output, and leaves unless it is referred to; where the buffer is flushed, it leaves in any case.
 fn take_output<T: Copy>(entries: &mut Vec<DpbEntry<T>>, place: usize, flush: bool) -> DpbEntry<T>
     requires { place < vec_len entries.old }
-    ensures output { (d : DpbEntry T) → result ≡ as_output (slice_index_or entries.old.items place d) }
-    ensures left { entries.new.items ≡ (if stays flush result then slice_set entries.old.items place result else remove entries.old.items place) }
+    ensures output { (d : DpbEntry T)
+        → result ≡ as_output (slice_index_or entries.old.items place d) }
+    ensures left { entries.new.items ≡ (if stays flush result
+        then slice_set entries.old.items place result else remove entries.old.items place) }
     ensures capacity { vec_capacity entries.new ≡ vec_capacity entries.old }
 {
     let output = entries[place].as_output();
@@ -94,7 +99,8 @@ pub(crate) fn append_in_order<T: Copy>(
 fn append_positions<T: Copy>(entries: &Vec<DpbEntry<T>>, places: &[u8], out: &mut Vec<DpbEntry<T>>)
     requires within { All (λ p. p < vec_len entries.now) places.now }
     requires room { vec_len out.old + length places.now ≤ vec_capacity out.old }
-    ensures { (fs : List (DpbEntry T)) → AreAt entries.now.items places.now fs → out.new.items ≡ out.old.items ++ fs }
+    ensures { (fs : List (DpbEntry T)) → AreAt entries.now.items places.now fs
+        → out.new.items ≡ out.old.items ++ fs }
 {
     for place in places {
         out.push_reserved(entries[*place as usize]);

@@ -1,5 +1,5 @@
 -- From what a reader of a whole set answered to what the lines of its payload say, in both directions.
-use Rattle.std.proofs.Common.{◌≡◌, Bool, List, Result, Ok, Err, subst}
+use Rattle.std.proofs.Common.{Bool, List, Result, Ok, Err, subst}
 use Rattle.std.specs.Prelude.{IfOk, IfErr}
 use Rattle.hevc_spec.specs.Payload.{Place, bits}
 use Rattle.hevc_spec.specs.Table.{Table, Fault, Reading, read, gives, refuses, out_of_bits, out_of_range, not_kept}

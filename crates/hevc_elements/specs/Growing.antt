@@ -1,6 +1,6 @@
 -- What reading by a table answered whose record has lists of any length, and where it left the reader. Memory may be wanted for the
 -- lists at any place: that answer is free.
-use Rattle.std.specs.Prelude.{◌≡◌, List, Bool, Result, Ok, Err}
+use Rattle.std.specs.Prelude.{◌≡◌, Result, Ok, Err}
 use Rattle.hevc_spec.specs.Payload.{Place, bits, IsAhead}
 use Rattle.hevc_spec.specs.Table.{Table, Reading, read, gives}
 use Rattle.hevc_elements.specs.declared.parse_error.ParseError.{ParseError}

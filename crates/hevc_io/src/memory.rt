@@ -112,11 +112,15 @@ impl Sink for MemorySink {
     fn write(&mut self, bytes: &[u8]) -> Result<usize, SinkError>
         ensures bound { WritesAtMost result bytes.now }
         ensures some { TakesSome result bytes.now }
-        ensures bytes { WriteAppends (Some self.old.written) (Some self.new.written) result bytes.now }
+        ensures bytes { WriteAppends (Some self.old.written)
+            (Some self.new.written) result bytes.now }
         ensures later { self.old.plan.faults ≤ self.new.plan.faults }
-        ensures failed { IsErrOf result SinkError.Failed → Rose self.old.plan.faults self.new.plan.faults }
-        ensures no_memory { IsErrOf result SinkError.NoMemory → self.new.plan.faults ≡ self.old.plan.faults }
-        ensures planned { IsErrOf result SinkError.Failed ↔ Contains self.old.plan.failing (self.old.plan.calls + 1) }
+        ensures failed { IsErrOf result SinkError.Failed
+            → Rose self.old.plan.faults self.new.plan.faults }
+        ensures no_memory { IsErrOf result SinkError.NoMemory
+            → self.new.plan.faults ≡ self.old.plan.faults }
+        ensures planned { IsErrOf result SinkError.Failed ↔ Contains self.old.plan.failing
+            (self.old.plan.calls + 1) }
         ensures counted { CountsCall self.old.plan self.new.plan }
         ensures ok { OnOk result (self.new.plan.faults ≡ self.old.plan.faults) }
     {

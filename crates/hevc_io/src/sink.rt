@@ -31,6 +31,7 @@ pub trait Sink {
         ensures some { TakesSome result bytes.now }
         ensures bytes { WriteAppends (written self.old) (written self.new) result bytes.now }
         ensures later { faults self.old ≤ faults self.new }
-        ensures failed { IsErrOf result SinkError.Failed → Rose (faults self.old) (faults self.new) }
+        ensures failed { IsErrOf result SinkError.Failed
+            → Rose (faults self.old) (faults self.new) }
         ensures no_memory { IsErrOf result SinkError.NoMemory → faults self.new ≡ faults self.old };
 }

@@ -21,7 +21,8 @@ pub(crate) fn read_extensions(
     sps: &Sps,
     pps: &mut Pps,
 ) -> Result<(), ParseError>
-    ensures fills { Fills plain_pps (table.extensions (plain_sps sps.now)) result pps.old pps.new r.old r.new }
+    ensures fills { Fills plain_pps
+        (table.extensions (plain_sps sps.now)) result pps.old pps.new r.old r.new }
     ensures same { KeepsTiles pps.old pps.new }
 {
     let present = flag(r, Row(11, 28))?;
@@ -36,7 +37,8 @@ pub(crate) fn read_extensions(
 /// Rows 29 to 35 of table 11.
 #[tactic(auto, unfolding(hevc_tables::specs::PpsTable::extension_data, hevc_spec::specs::Rows::when))]
 fn read_extension_data(r: &mut NaluReader<'_>, sps: &Sps, pps: &mut Pps) -> Result<(), ParseError>
-    ensures fills { Fills plain_pps (table.extension_data (plain_sps sps.now)) result pps.old pps.new r.old r.new }
+    ensures fills { Fills plain_pps
+        (table.extension_data (plain_sps sps.now)) result pps.old pps.new r.old r.new }
     ensures same { KeepsTiles pps.old pps.new }
 {
     read_extension_flags(r, pps)?;
@@ -68,7 +70,8 @@ fn read_extension_flags(r: &mut NaluReader<'_>, pps: &mut Pps) -> Result<(), Par
 /// Row 34 of table 11.
 #[tactic(auto, unfolding(hevc_tables::specs::PpsTable::range_extension))]
 fn read_range_extension(r: &mut NaluReader<'_>, sps: &Sps, pps: &mut Pps) -> Result<(), ParseError>
-    ensures fills { Fills plain_pps (table.range_extension (plain_sps sps.now)) result pps.old pps.new r.old r.new }
+    ensures fills { Fills plain_pps
+        (table.range_extension (plain_sps sps.now)) result pps.old pps.new r.old r.new }
     ensures same { KeepsTiles pps.old pps.new }
 {
     let range_extension = read_pps_range_extension(r, sps, pps.transform_skip_enabled_flag)?;
@@ -79,7 +82,8 @@ fn read_range_extension(r: &mut NaluReader<'_>, sps: &Sps, pps: &mut Pps) -> Res
 /// Row 35 of table 11.
 #[tactic(auto, unfolding(hevc_tables::specs::PpsTable::scc_extension))]
 fn read_scc_extension(r: &mut NaluReader<'_>, sps: &Sps, pps: &mut Pps) -> Result<(), ParseError>
-    ensures fills { Fills plain_pps (table.scc_extension (plain_sps sps.now)) result pps.old pps.new r.old r.new }
+    ensures fills { Fills plain_pps
+        (table.scc_extension (plain_sps sps.now)) result pps.old pps.new r.old r.new }
     ensures same { KeepsTiles pps.old pps.new }
 {
     let scc_extension = read_pps_scc_extension(r, sps)?;

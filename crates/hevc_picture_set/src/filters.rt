@@ -77,7 +77,8 @@ pub(crate) fn read_scaling(r: &mut NaluReader<'_>, pps: &mut Pps) -> Result<(), 
 /// Row 25 of table 11, where it is present.
 #[tactic(auto, unfolding(hevc_spec::specs::Rows::when))]
 fn read_scaling_lists(r: &mut NaluReader<'_>, present: bool) -> Result<ScalingLists, ParseError>
-    ensures read { Reads plain_scaling_lists result r.new (read (when present default_lists scaling_list_data) (bits r.old)) }
+    ensures read { Reads plain_scaling_lists result r.new
+        (read (when present default_lists scaling_list_data) (bits r.old)) }
     ensures moves { IsAhead r.old r.new }
 {
     if present {
@@ -94,7 +95,8 @@ pub(crate) fn read_merging(
     sps: &Sps,
     pps: &mut Pps,
 ) -> Result<(), ParseError>
-    ensures fills { Fills plain_pps (table.merging (plain_sps sps.now)) result pps.old pps.new r.old r.new }
+    ensures fills { Fills plain_pps
+        (table.merging (plain_sps sps.now)) result pps.old pps.new r.old r.new }
     ensures same { KeepsTiles pps.old pps.new }
 {
     pps.lists_modification_present_flag = flag(r, Row(11, 26))?;

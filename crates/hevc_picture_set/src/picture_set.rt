@@ -40,9 +40,16 @@ pub fn read_pps(
     spses: &BTreeMap<u8, Sps>,
 ) -> Result<Pps, ParseError>
     requires { length nalu.now.stream < 2 ^ 60 }
-    ensures wrong_type { IsErrOf result ParseError.WrongNaluType ↔ ¬ (nalu.now.header.nal_unit_type ≡ 34) }
-    ensures read { nalu.now.header.nal_unit_type ≡ 34 → ReadsSet plain_pps result (read (table.picture_parameter_set (nalu.now.header.nuh_temporal_id_plus1 - 1) (kept_sets spses.now)) (payload (bytes_of nalu.now))) }
-    ensures means { nalu.now.header.nal_unit_type ≡ 34 → MeansSet plain_pps (table.picture_parameter_set (nalu.now.header.nuh_temporal_id_plus1 - 1) (kept_sets spses.now)) result (payload (bytes_of nalu.now)) }
+    ensures wrong_type { IsErrOf result ParseError.WrongNaluType
+        ↔ ¬ (nalu.now.header.nal_unit_type ≡ 34) }
+    ensures read { nalu.now.header.nal_unit_type ≡ 34
+        → ReadsSet plain_pps result
+        (read (table.picture_parameter_set (nalu.now.header.nuh_temporal_id_plus1 - 1)
+        (kept_sets spses.now)) (payload (bytes_of nalu.now))) }
+    ensures means { nalu.now.header.nal_unit_type ≡ 34
+        → MeansSet plain_pps
+        (table.picture_parameter_set (nalu.now.header.nuh_temporal_id_plus1 - 1)
+        (kept_sets spses.now)) result (payload (bytes_of nalu.now)) }
     ensures names { IfErr result NamesNoOtherSet }
     // With tiles, the columns and the rows take all blocks of the picture.
     ensures tiles { IfOk result (λ pps. CoverKept spses.now (plain_pps pps)) }
@@ -69,7 +76,9 @@ fn read_payload(
     spses: &BTreeMap<u8, Sps>,
 ) -> Result<Pps, ParseError>
     requires { length payload.now < 2 ^ 60 }
-    ensures read { ReadsSet plain_pps result (read (table.picture_parameter_set temporal_id (kept_sets spses.now)) (payload_bits 0 payload.now)) }
+    ensures read { ReadsSet plain_pps result
+        (read (table.picture_parameter_set temporal_id (kept_sets spses.now))
+        (payload_bits 0 payload.now)) }
     ensures names { IfErr result NamesNoOtherSet }
     ensures tiles { IfOk result (λ pps. CoverKept spses.now (plain_pps pps)) }
 {
@@ -83,7 +92,8 @@ fn read_rows(
     r: &mut NaluReader<'_>,
     spses: &BTreeMap<u8, Sps>,
 ) -> Result<Pps, ParseError>
-    ensures read { ReadsNaming plain_pps result r.new (read (table.picture_parameter_set temporal_id (kept_sets spses.now)) (bits r.old)) }
+    ensures read { ReadsNaming plain_pps result r.new
+        (read (table.picture_parameter_set temporal_id (kept_sets spses.now)) (bits r.old)) }
     ensures names { IfErr result NamesNoOtherSet }
     ensures tiles { IfOk result (λ pps. CoverKept spses.now (plain_pps pps)) }
 {
@@ -114,7 +124,8 @@ fn read_ids(r: &mut NaluReader<'_>, pps: &mut Pps) -> Result<(), ParseError>
 /// Rows 3 to 35 of table 11.
 #[tactic(auto, unfolding(hevc_tables::specs::PpsTable::picture_set_of))]
 fn read_behind_ids(r: &mut NaluReader<'_>, sps: &Sps, pps: &mut Pps) -> Result<(), ParseError>
-    ensures fills { Fills plain_pps (table.picture_set_of (plain_sps sps.now)) result pps.old pps.new r.old r.new }
+    ensures fills { Fills plain_pps
+        (table.picture_set_of (plain_sps sps.now)) result pps.old pps.new r.old r.new }
     ensures same_sps { pps.new.seq_parameter_set_id ≡ pps.old.seq_parameter_set_id }
     ensures tiles { OnOk result (TilesCover (plain_sps sps.now) (plain_pps pps.new)) }
 {
@@ -128,7 +139,8 @@ fn read_behind_ids(r: &mut NaluReader<'_>, sps: &Sps, pps: &mut Pps) -> Result<(
 /// Rows 3 to 19 of table 11.
 #[tactic(auto, unfolding(hevc_tables::specs::PpsTable::coding, hevc_spec::specs::Rows::when))]
 fn read_coding(r: &mut NaluReader<'_>, sps: &Sps, pps: &mut Pps) -> Result<(), ParseError>
-    ensures fills { Fills plain_pps (table.coding (plain_sps sps.now)) result pps.old pps.new r.old r.new }
+    ensures fills { Fills plain_pps
+        (table.coding (plain_sps sps.now)) result pps.old pps.new r.old r.new }
     ensures same_sps { pps.new.seq_parameter_set_id ≡ pps.old.seq_parameter_set_id }
     ensures tiles { OnOk result (TilesCover (plain_sps sps.now) (plain_pps pps.new)) }
 {

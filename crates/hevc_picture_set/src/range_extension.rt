@@ -19,7 +19,8 @@ pub(crate) fn read_pps_range_extension(
     sps: &Sps,
     transform_skip: bool,
 ) -> Result<PpsRangeExtension, ParseError>
-    ensures read { Reads plain_pps_range_extension result r.new (read (table.pps_range_extension (plain_sps sps.now) transform_skip) (bits r.old)) }
+    ensures read { Reads plain_pps_range_extension result r.new
+        (read (table.pps_range_extension (plain_sps sps.now) transform_skip) (bits r.old)) }
     ensures moves { IsAhead r.old r.new }
 {
     let most_size = sps.max_tb_log2_size_y - 2;
@@ -62,7 +63,8 @@ fn read_offset_pairs(
     x: &mut PpsRangeExtension,
 ) -> Result<(), ParseError>
     requires { count ≤ 6 }
-    ensures { Fills plain_pps_range_extension (table.offset_pairs count) result x.old x.new r.old r.new }
+    ensures { Fills plain_pps_range_extension
+        (table.offset_pairs count) result x.old x.new r.old r.new }
 {
     for i in 0..count {
         read_offset_pair(r, i, x)?;

@@ -21,7 +21,9 @@ pub(crate) fn read_pps_scc_extension(
     r: &mut NaluReader<'_>,
     sps: &Sps,
 ) -> Result<PpsSccExtension, ParseError>
-    ensures read { Reads plain_pps_scc_extension result r.new (read (table.pps_scc_extension (sample_format (plain_sps sps.now)) (most_predictors (plain_sps sps.now))) (bits r.old)) }
+    ensures read { Reads plain_pps_scc_extension result r.new
+        (read (table.pps_scc_extension (sample_format (plain_sps sps.now))
+        (most_predictors (plain_sps sps.now))) (bits r.old)) }
     ensures moves { IsAhead r.old r.new }
 {
     let mut x = PpsSccExtension::new();
@@ -64,7 +66,9 @@ fn read_palettes(
     sps: &Sps,
     x: &mut PpsSccExtension,
 ) -> Result<(), ParseError>
-    ensures { Fills plain_pps_scc_extension (table.palettes (sample_format (plain_sps sps.now)) (most_predictors (plain_sps sps.now))) result x.old x.new r.old r.new }
+    ensures { Fills plain_pps_scc_extension
+        (table.palettes (sample_format (plain_sps sps.now))
+        (most_predictors (plain_sps sps.now))) result x.old x.new r.old r.new }
 {
     let count = ue_u8(r, Row(13, 7), 0, max_palette_predictors(sps))?;
     x.num_palette_predictor_initializers = count;
@@ -83,7 +87,8 @@ fn read_initializers(
     x: &mut PpsSccExtension,
 ) -> Result<(), ParseError>
     requires { x.old.num_palette_predictor_initializers ≤ 128 }
-    ensures { Fills plain_pps_scc_extension (table.initializers (sample_format (plain_sps sps.now))) result x.old x.new r.old r.new }
+    ensures { Fills plain_pps_scc_extension
+        (table.initializers (sample_format (plain_sps sps.now))) result x.old x.new r.old r.new }
 {
     let luma = sps.bit_depth_luma_minus8;
     let chroma = sps.bit_depth_chroma_minus8;
@@ -102,7 +107,8 @@ fn read_predictors(
     x: &mut PpsSccExtension,
 ) -> Result<(), ParseError>
     requires { x.old.num_palette_predictor_initializers ≤ 128 }
-    ensures { Fills plain_pps_scc_extension (table.predictors (sample_format (plain_sps sps.now))) result x.old x.new r.old r.new }
+    ensures { Fills plain_pps_scc_extension
+        (table.predictors (sample_format (plain_sps sps.now))) result x.old x.new r.old r.new }
 {
     let num_components = if x.monochrome_palette_flag { 1 } else { 3 };
     let count = usize::from(x.num_palette_predictor_initializers);
@@ -123,7 +129,9 @@ fn read_component(
 ) -> Result<(), ParseError>
     requires many { count ≤ 128 }
     requires there { component < 3 }
-    ensures { Fills plain_pps_scc_extension (table.component_predictors (sample_format (plain_sps sps.now)) count component) result x.old x.new r.old r.new }
+    ensures { Fills plain_pps_scc_extension
+        (table.component_predictors
+        (sample_format (plain_sps sps.now)) count component) result x.old x.new r.old r.new }
 {
     for i in 0..count {
         read_predictor(r, sps, component, i, x)?;
@@ -142,7 +150,9 @@ fn read_predictor(
 ) -> Result<(), ParseError>
     requires component { component < 3 }
     requires there { i < 128 }
-    ensures { Fills plain_pps_scc_extension (table.predictor (sample_format (plain_sps sps.now)) component i) result x.old x.new r.old r.new }
+    ensures { Fills plain_pps_scc_extension
+        (table.predictor
+        (sample_format (plain_sps sps.now)) component i) result x.old x.new r.old r.new }
 {
     let depth = bit_depth(sps, component);
     let predictor = bits_u32(r, Row(13, 11), depth, 0, (1u32 << depth) - 1)?;

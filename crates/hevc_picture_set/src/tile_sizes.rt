@@ -54,7 +54,8 @@ pub(crate) fn read_told_sizes<const N: usize>(
 ) -> Result<[u32; N], ParseError>
     requires length { (1 ≤ length) × (length ≤ 16888) }
     requires places { (last < N) × (N ≤ 22) }
-    ensures read { Reads (λ sizes. sizes) result r.new (read (table.told_sizes row N length last) (bits r.old)) }
+    ensures read { Reads (λ sizes. sizes) result r.new
+        (read (table.told_sizes row N length last) (bits r.old)) }
     ensures moves { IsAhead r.old r.new }
     ensures all { IfOk result (λ sizes. blocks_of (last + 1) sizes ≡ length) }
 {
@@ -74,7 +75,8 @@ fn read_told_parts<const N: usize>(
 ) -> Result<Parts<N>, ParseError>
     requires length { (1 ≤ length) × (length ≤ 16888) }
     requires places { (last < N) × (N ≤ 22) }
-    ensures read { Reads plain_parts result r.new (read (table.told_parts row N length last) (bits r.old)) }
+    ensures read { Reads plain_parts result r.new
+        (read (table.told_parts row N length last) (bits r.old)) }
     ensures moves { IsAhead r.old r.new }
     ensures parts { IfOk result (λ parts. AreParts length last (plain_parts parts)) }
 {
@@ -98,9 +100,12 @@ fn read_told_size<const N: usize>(
 ) -> Result<(), ParseError>
     requires some { (1 ≤ parts.old.left) × (parts.old.left ≤ 16888) }
     requires there { i < N }
-    ensures fills { Fills plain_parts (table.told_size row i) result parts.old parts.new r.old r.new }
+    ensures fills { Fills plain_parts
+        (table.told_size row i) result parts.old parts.new r.old r.new }
     ensures leaves { OnOk result ((1 ≤ parts.new.left) × (parts.new.left ≤ parts.old.left)) }
-    ensures same { OnOk result (blocks_of (i + 1) parts.new.sizes + parts.new.left ≡ blocks_of i parts.old.sizes + parts.old.left) }
+    ensures same { OnOk result
+        (blocks_of (i + 1) parts.new.sizes + parts.new.left
+        ≡ blocks_of i parts.old.sizes + parts.old.left) }
 {
     let least = if parts.left == 1 { 1 } else { 0 };
     let size = ue(r, row, least, parts.left.saturating_sub(2))?;

@@ -17,7 +17,8 @@ use hevc_types_d::Pps;
 /// Rows 14 to 19 of table 11, of a set with tiles.
 #[tactic(auto, unfolding(hevc_tables::specs::PpsTable::tiles, hevc_spec::specs::Rows::either))]
 pub(crate) fn read_tiles(r: &mut NaluReader<'_>, sps: &Sps, pps: &mut Pps) -> Result<(), ParseError>
-    ensures fills { Fills plain_pps (table.tiles (plain_sps sps.now)) result pps.old pps.new r.old r.new }
+    ensures fills { Fills plain_pps
+        (table.tiles (plain_sps sps.now)) result pps.old pps.new r.old r.new }
     ensures same_sps { pps.new.seq_parameter_set_id ≡ pps.old.seq_parameter_set_id }
     ensures all { OnOk result (AddUp (plain_sps sps.now) (plain_pps pps.new)) }
 {
@@ -34,7 +35,8 @@ pub(crate) fn read_tiles(r: &mut NaluReader<'_>, sps: &Sps, pps: &mut Pps) -> Re
 /// Rows 14 to 16 of table 11.
 #[tactic(auto, unfolding(hevc_tables::specs::PpsTable::tile_counts))]
 fn read_tile_counts(r: &mut NaluReader<'_>, sps: &Sps, pps: &mut Pps) -> Result<(), ParseError>
-    ensures fills { Fills plain_pps (table.tile_counts (plain_sps sps.now)) result pps.old pps.new r.old r.new }
+    ensures fills { Fills plain_pps
+        (table.tile_counts (plain_sps sps.now)) result pps.old pps.new r.old r.new }
     ensures same_sps { pps.new.seq_parameter_set_id ≡ pps.old.seq_parameter_set_id }
     ensures counts { OnOk result (HaveBlocks (plain_sps sps.now) (plain_pps pps.new)) }
 {
@@ -71,7 +73,8 @@ fn height_in_blocks(sps: &Sps) -> u32
 #[tactic(auto, unfolding(hevc_tables::specs::PpsTable::with_even_tiles))]
 fn set_even_tiles(sps: &Sps, pps: &mut Pps)
     requires { HaveBlocks (plain_sps sps.now) (plain_pps pps.old) }
-    ensures set { plain_pps pps.new ≡ table.with_even_tiles (plain_sps sps.now) (plain_pps pps.old) }
+    ensures set { plain_pps pps.new
+        ≡ table.with_even_tiles (plain_sps sps.now) (plain_pps pps.old) }
     ensures same_sps { pps.new.seq_parameter_set_id ≡ pps.old.seq_parameter_set_id }
     ensures all { AddUp (plain_sps sps.now) (plain_pps pps.new) }
 {
@@ -84,7 +87,8 @@ fn set_even_tiles(sps: &Sps, pps: &mut Pps)
 /// Rows 17 and 18 of table 11.
 #[tactic(auto, unfolding(hevc_tables::specs::PpsTable::told_tiles))]
 fn read_told_tiles(r: &mut NaluReader<'_>, sps: &Sps, pps: &mut Pps) -> Result<(), ParseError>
-    ensures fills { Fills plain_pps (table.told_tiles (plain_sps sps.now)) result pps.old pps.new r.old r.new }
+    ensures fills { Fills plain_pps
+        (table.told_tiles (plain_sps sps.now)) result pps.old pps.new r.old r.new }
     ensures same_sps { pps.new.seq_parameter_set_id ≡ pps.old.seq_parameter_set_id }
     ensures all { OnOk result (AddUp (plain_sps sps.now) (plain_pps pps.new)) }
 {

@@ -36,7 +36,8 @@ pub(crate) fn read_quantiser(
     sps: &Sps,
     pps: &mut Pps,
 ) -> Result<(), ParseError>
-    ensures fills { Fills plain_pps (table.quantiser (plain_sps sps.now)) result pps.old pps.new r.old r.new }
+    ensures fills { Fills plain_pps
+        (table.quantiser (plain_sps sps.now)) result pps.old pps.new r.old r.new }
     ensures same_sps { pps.new.seq_parameter_set_id ≡ pps.old.seq_parameter_set_id }
 {
     let offset = qp_bd_offset(sps);

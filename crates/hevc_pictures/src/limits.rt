@@ -16,11 +16,12 @@ pub struct Limits {
 }
 
 impl Limits {
-    ghost use Rattle.hevc_pictures.specs.Limits.{limits_of, declared_limits};
+    ghost use Rattle.hevc_views.specs.Sequences.{limits_of_set};
+    ghost use Rattle.hevc_pictures.specs.Limits.{limits_of};
 
     /// Those of a sequence set for the sub-layers up to `highest_tid`, or for all where it has fewer.
     pub fn of(sps: &Sps, highest_tid: u8) -> Limits
-        ensures { limits_of result ≡ declared_limits highest_tid (plain_sps sps.now) }
+        ensures { limits_of result ≡ limits_of_set highest_tid (plain_sps sps.now) }
     {
         let top = highest_tid.min(sps.max_sub_layers_minus1) as usize;
         Limits {

@@ -17,7 +17,8 @@ fn no_rasl_output(
     handled_as_bla: bool,
 ) -> bool
     ensures { result ≡ (is_idr (nalu_type_number nalu_type) || is_bla (nalu_type_number nalu_type)
-        || (is_cra (nalu_type_number nalu_type) && (first_in_bitstream || handled_as_bla)) || first_after_eos) }
+        || (is_cra (nalu_type_number nalu_type) && (first_in_bitstream || handled_as_bla))
+        || first_after_eos) }
 {
     nalu_type.is_idr()
         || nalu_type.is_bla()
@@ -34,7 +35,8 @@ fn begins_sequence(nalu_type: NaluType, no_rasl_output_flag: bool) -> bool
 
 /// PicOutputFlag (8.1.3), where a RASL picture goes by its own NoRaslOutputFlag.
 fn is_output(nalu_type: NaluType, no_rasl_output_flag: bool, pic_output_flag: bool) -> bool
-    ensures { result ≡ (pic_output_flag && not (is_rasl (nalu_type_number nalu_type) && no_rasl_output_flag)) }
+    ensures { result
+        ≡ (pic_output_flag && not (is_rasl (nalu_type_number nalu_type) && no_rasl_output_flag)) }
 {
     pic_output_flag && !(nalu_type.is_rasl() && no_rasl_output_flag)
 }
@@ -81,11 +83,13 @@ impl PictureData {
     ) -> Result<PictureData, PocOutOfRange>
         requires { IsMaxPicOrderCntLsb max_pic_order_cnt_lsb }
         ensures told { (c : Context) (s : walk.Slice)
-            → IsContext c first_picture_in_bitstream first_picture_after_eos (option_copied prev_tid0_pic.entry)
+            → IsContext c first_picture_in_bitstream first_picture_after_eos
+            (option_copied prev_tid0_pic.entry)
             → IsFirstSlice s slice.now max_pic_order_cnt_lsb handle_cra_as_bla
             → IfOk result (IsNewPicture c s slice.now.header.st_rps_bits) }
         ensures refused { (c : Context) (s : walk.Slice)
-            → IsContext c first_picture_in_bitstream first_picture_after_eos (option_copied prev_tid0_pic.entry)
+            → IsContext c first_picture_in_bitstream first_picture_after_eos
+            (option_copied prev_tid0_pic.entry)
             → IsFirstSlice s slice.now max_pic_order_cnt_lsb handle_cra_as_bla
             → IsErr result ↔ (order_count_in_range (head c s) ≡ false) }
     {

@@ -28,11 +28,14 @@ pub(crate) fn order_count(
     requires modulus { IsMaxPicOrderCntLsb modulus }
     requires lsb { pos 0 ≤ℤ lsb }
     ensures val { (m n : ℕ) → modulus ≡ pos m → lsb ≡ pos n
-        → IfOk result (λ o. o.val ≡ count_by begins_sequence m (option_copied prev_tid0_pic.entry) n) }
+        → IfOk result
+        (λ o. o.val ≡ count_by begins_sequence m (option_copied prev_tid0_pic.entry) n) }
     ensures msb { IfOk result (λ o. o.msb ≡ o.val -ℤ lsb) }
     ensures refused { (m n : ℕ) → modulus ≡ pos m → lsb ≡ pos n
-        → IsErr result ↔ ((is_i32 (count_by begins_sequence m (option_copied prev_tid0_pic.entry) n)
-        && is_i32 (count_by begins_sequence m (option_copied prev_tid0_pic.entry) n -ℤ pos n)) ≡ false) }
+        → IsErr result
+        ↔ ((is_i32 (count_by begins_sequence m (option_copied prev_tid0_pic.entry) n)
+        && is_i32 (count_by begins_sequence m (option_copied prev_tid0_pic.entry) n -ℤ pos n))
+        ≡ false) }
 {
     let count = if begins_sequence {
         lsb as i64
@@ -48,7 +51,8 @@ pub(crate) fn order_count(
 fn count_behind(prev_tid0_pic: Option<&PictureData>, lsb: i32, modulus: i32) -> i64
     requires { IsMaxPicOrderCntLsb modulus }
     ensures value { (m n : ℕ) → modulus ≡ pos m → lsb ≡ pos n
-        → result ≡ count_behind m (option_map (λ p. p.pic_order_cnt_val) (option_copied prev_tid0_pic.entry)) n }
+        → result ≡ count_behind m
+        (option_map (λ p. p.pic_order_cnt_val) (option_copied prev_tid0_pic.entry)) n }
     ensures above { (pos 0 -ℤ pos 4294967296) <ℤ result }
     ensures below { result <ℤ pos 4294967296 }
 {
@@ -61,7 +65,8 @@ fn count_behind(prev_tid0_pic: Option<&PictureData>, lsb: i32, modulus: i32) -> 
 /// The order count that is nearest to that of an earlier picture.
 fn nearest_behind(prev: &PictureData, lsb: i32, modulus: i32) -> i64
     requires { IsMaxPicOrderCntLsb modulus }
-    ensures value { (m n : ℕ) → modulus ≡ pos m → lsb ≡ pos n → result ≡ nearest m prev.now.pic_order_cnt_val n }
+    ensures value { (m n : ℕ) → modulus ≡ pos m → lsb ≡ pos n
+        → result ≡ nearest m prev.now.pic_order_cnt_val n }
     ensures above { (pos 0 -ℤ pos 4294967296) <ℤ result }
     ensures below { result <ℤ pos 4294967296 }
 {

@@ -4,7 +4,8 @@ use Rattle.std.proofs.lemmas.Bool.Decides.{nat_tests}
 use Rattle.std.specs.Prelude.{option_map, cond, is_some}
 use Rattle.std.specs.Ordering.{nat_cmp}
 use Rattle.std.specs.BTreeMap.{BTreeMap, get, is_at, Updates}
-use Rattle.hevc_plain_tables.specs.KeptSets.{with_set, first_or}
+use Rattle.hevc_stream.specs.Kept.{with_set}
+use Rattle.hevc_plain_tables.specs.KeptSets.{first_or}
 use mathlib.Core.Path.{fun_ext}
 
 same_key : (id k : ℕ) → is_at (nat_cmp id) k ≡ (k == id)

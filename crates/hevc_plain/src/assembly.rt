@@ -26,7 +26,10 @@ pub(crate) struct SetElements {
 impl SetElements {
     /// The set of these elements, with what is derived from them (7.4.3.2.1).
     pub(crate) fn into_set(self, alloc: Global) -> Sps
-        ensures { plain_sps result ≡ sequence_set_with (plain_identity self.identity) (plain_frame self.frame) (plain_depths self.depths) (plain_ordering self.ordering) (plain_blocks self.blocks) (plain_tools self.tools) (plain_more_tools self.more_tools) }
+        ensures { plain_sps result
+            ≡ sequence_set_with (plain_identity self.identity) (plain_frame self.frame)
+            (plain_depths self.depths) (plain_ordering self.ordering) (plain_blocks self.blocks)
+            (plain_tools self.tools) (plain_more_tools self.more_tools) }
     {
         let SetElements {
             identity,

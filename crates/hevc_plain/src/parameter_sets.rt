@@ -53,8 +53,13 @@ impl ParameterSets {
     /// Errors: no memory; what is kept then stays.
     pub fn take_unit(&mut self, nalu: &Nalu<'_, NaluHeader>) -> Result<UnitMeaning, AllocError>
         requires { length nalu.now.stream < 2 ^ 60 }
-        ensures meaning { IfOk result (λ m. plain_meaning nalu.now.header m ≡ unit_meaning (kept_sets self.old) (bytes_of nalu.now)) }
-        ensures kept { IfOk result (λ _. kept_sets self.new ≡ kept_behind (kept_sets self.old) (unit_meaning (kept_sets self.old) (bytes_of nalu.now))) }
+        ensures meaning { IfOk result
+            (λ m. plain_meaning nalu.now.header m
+            ≡ unit_meaning (kept_sets self.old) (bytes_of nalu.now)) }
+        ensures kept { IfOk result
+            (λ _. kept_sets self.new
+            ≡ kept_behind (kept_sets self.old)
+            (unit_meaning (kept_sets self.old) (bytes_of nalu.now))) }
         ensures stays { OnErr result (kept_sets self.new ≡ kept_sets self.old) }
     {
         let header = nalu.header();
@@ -70,8 +75,14 @@ impl ParameterSets {
         payload: &[u8],
     ) -> Result<UnitMeaning, AllocError>
         requires { length payload.now < 2 ^ 60 }
-        ensures meaning { (h : UnitHeader) → h.nal_unit_type ≡ nalu_type_number nalu_type → h.nuh_temporal_id_plus1 - 1 ≡ temporal_id → IfOk result (λ m. plain_meaning h m ≡ typed_meaning (kept_sets self.old) h (payload_bits 0 payload.now)) }
-        ensures kept { (h : UnitHeader) → IfOk result (λ m. kept_sets self.new ≡ kept_behind (kept_sets self.old) (plain_meaning h m)) }
+        ensures meaning { (h : UnitHeader) → h.nal_unit_type ≡ nalu_type_number nalu_type
+            → h.nuh_temporal_id_plus1 - 1 ≡ temporal_id
+            → IfOk result
+            (λ m. plain_meaning h m
+            ≡ typed_meaning (kept_sets self.old) h (payload_bits 0 payload.now)) }
+        ensures kept { (h : UnitHeader)
+            → IfOk result
+            (λ m. kept_sets self.new ≡ kept_behind (kept_sets self.old) (plain_meaning h m)) }
         ensures stays { OnErr result (kept_sets self.new ≡ kept_sets self.old) }
     {
         if is_sequence_set(nalu_type) {
@@ -87,8 +98,14 @@ impl ParameterSets {
     #[tactic(auto, using(crate::proofs::UnitLaws::not_read))]
     fn take_sequence_set(&mut self, payload: &[u8]) -> Result<UnitMeaning, AllocError>
         requires { length payload.now < 2 ^ 60 }
-        ensures meaning { (h : UnitHeader) → IfOk result (λ m. plain_meaning h m ≡ meaning_read sequence_set (not_yet 5 1) (read plain_sequence_set (payload_bits 0 payload.now))) }
-        ensures kept { (h : UnitHeader) → IfOk result (λ m. kept_sets self.new ≡ kept_behind (kept_sets self.old) (plain_meaning h m)) }
+        ensures meaning { (h : UnitHeader)
+            → IfOk result
+            (λ m. plain_meaning h m
+            ≡ meaning_read sequence_set (not_yet 5 1)
+            (read plain_sequence_set (payload_bits 0 payload.now))) }
+        ensures kept { (h : UnitHeader)
+            → IfOk result
+            (λ m. kept_sets self.new ≡ kept_behind (kept_sets self.old) (plain_meaning h m)) }
         ensures stays { OnErr result (kept_sets self.new ≡ kept_sets self.old) }
     {
         match read_sequence_set(self.alloc, &mut NaluReader::new(payload)) {
@@ -103,7 +120,8 @@ impl ParameterSets {
     }
 
     fn keep_sequence_set(&mut self, set: Rc<Sps>) -> Result<(), AllocError>
-        ensures kept { OnOk result (kept_sets self.new ≡ with_sequence_set (shared_set set) (kept_sets self.old)) }
+        ensures kept { OnOk result
+            (kept_sets self.new ≡ with_sequence_set (shared_set set) (kept_sets self.old)) }
         ensures stays { OnErr result (kept_sets self.new ≡ kept_sets self.old) }
     {
         let first = set.clone()?;
@@ -122,8 +140,15 @@ impl ParameterSets {
         payload: &[u8],
     ) -> Result<UnitMeaning, AllocError>
         requires { length payload.now < 2 ^ 60 }
-        ensures meaning { (h : UnitHeader) → IfOk result (λ m. plain_meaning h m ≡ meaning_read picture_set (not_yet 11 1) (read (plain_picture_set temporal_id (kept_sets self.old).sequence_sets) (payload_bits 0 payload.now))) }
-        ensures kept { (h : UnitHeader) → IfOk result (λ m. kept_sets self.new ≡ kept_behind (kept_sets self.old) (plain_meaning h m)) }
+        ensures meaning { (h : UnitHeader)
+            → IfOk result
+            (λ m. plain_meaning h m
+            ≡ meaning_read picture_set (not_yet 11 1)
+            (read (plain_picture_set temporal_id (kept_sets self.old).sequence_sets)
+            (payload_bits 0 payload.now))) }
+        ensures kept { (h : UnitHeader)
+            → IfOk result
+            (λ m. kept_sets self.new ≡ kept_behind (kept_sets self.old) (plain_meaning h m)) }
         ensures stays { OnErr result (kept_sets self.new ≡ kept_sets self.old) }
     {
         let mut reader = NaluReader::new(payload);
@@ -139,7 +164,8 @@ impl ParameterSets {
     }
 
     fn keep_picture_set(&mut self, set: Rc<Pps>) -> Result<(), AllocError>
-        ensures kept { OnOk result (kept_sets self.new ≡ with_picture_set (shared_picture_set set) (kept_sets self.old)) }
+        ensures kept { OnOk result
+            (kept_sets self.new ≡ with_picture_set (shared_picture_set set) (kept_sets self.old)) }
         ensures stays { OnErr result (kept_sets self.new ≡ kept_sets self.old) }
     {
         self.picture_sets.insert(set.pic_parameter_set_id, set)?;
@@ -149,8 +175,13 @@ impl ParameterSets {
     /// What a unit means that is no sequence or picture parameter set.
     fn meaning_of(&self, nalu_type: NaluType, payload: &[u8]) -> Result<UnitMeaning, AllocError>
         requires { length payload.now < 2 ^ 60 }
-        ensures meaning { (h : UnitHeader) → h.nal_unit_type ≡ nalu_type_number nalu_type → IfOk result (λ m. plain_meaning h m ≡ other_meaning (kept_sets self.now) h (payload_bits 0 payload.now)) }
-        ensures keeps { (h : UnitHeader) → IfOk result (λ m. kept_sets self.now ≡ kept_behind (kept_sets self.now) (plain_meaning h m)) }
+        ensures meaning { (h : UnitHeader) → h.nal_unit_type ≡ nalu_type_number nalu_type
+            → IfOk result
+            (λ m. plain_meaning h m
+            ≡ other_meaning (kept_sets self.now) h (payload_bits 0 payload.now)) }
+        ensures keeps { (h : UnitHeader)
+            → IfOk result
+            (λ m. kept_sets self.now ≡ kept_behind (kept_sets self.now) (plain_meaning h m)) }
     {
         if is_video_set(nalu_type) {
             Ok(UnitMeaning::NotYet { table: 0, row: 32 })
@@ -172,8 +203,15 @@ impl ParameterSets {
     #[tactic(auto, using(crate::proofs::UnitLaws::not_read_naming, crate::proofs::UnitLaws::at_whole_byte))]
     fn slice_meaning(&self, payload: &[u8]) -> Result<UnitMeaning, AllocError>
         requires { length payload.now < 2 ^ 60 }
-        ensures meaning { (h : UnitHeader) → IfOk result (λ m. plain_meaning h m ≡ meaning_read (slice h) (not_yet 14 1) (read (plain_slice_header (kept_sets self.now).picture_sets (kept_sets self.now).sequence_sets) (payload_bits 0 payload.now))) }
-        ensures keeps { (h : UnitHeader) → IfOk result (λ m. kept_sets self.now ≡ kept_behind (kept_sets self.now) (plain_meaning h m)) }
+        ensures meaning { (h : UnitHeader)
+            → IfOk result
+            (λ m. plain_meaning h m
+            ≡ meaning_read (slice h) (not_yet 14 1)
+            (read (plain_slice_header (kept_sets self.now).picture_sets
+            (kept_sets self.now).sequence_sets) (payload_bits 0 payload.now))) }
+        ensures keeps { (h : UnitHeader)
+            → IfOk result
+            (λ m. kept_sets self.now ≡ kept_behind (kept_sets self.now) (plain_meaning h m)) }
     {
         let mut reader = NaluReader::new(payload);
         match read_slice_header(
@@ -217,7 +255,8 @@ fn is_idr(nalu_type: NaluType) -> bool
 
 /// The types of slices and of ends (Table 7-1) that aren't decoded yet.
 fn is_awaited(nalu_type: NaluType) -> bool
-    ensures { result ≡ (is_slice (nalu_type_number nalu_type) || is_end (nalu_type_number nalu_type)) }
+    ensures { result
+        ≡ (is_slice (nalu_type_number nalu_type) || is_end (nalu_type_number nalu_type)) }
 {
     let number = nalu_type as u8;
     number <= 9 || (16 <= number && number <= 21) || (number == 36 || number == 37)

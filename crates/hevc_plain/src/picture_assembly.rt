@@ -24,7 +24,11 @@ pub(crate) struct PictureElements {
 impl PictureElements {
     /// The set of these elements, in a unit of this temporal id.
     pub(crate) fn into_set(self, temporal_id: u8) -> Pps
-        ensures { plain_pps result ≡ picture_set_with temporal_id (plain_ids self.ids) (plain_presence self.presence) (plain_quantiser self.quantiser) (plain_prediction self.prediction) self.loop_filter_across_slices_enabled_flag (plain_deblocking self.deblocking) (plain_set_end self.end) }
+        ensures { plain_pps result
+            ≡ picture_set_with temporal_id (plain_ids self.ids) (plain_presence self.presence)
+            (plain_quantiser self.quantiser)
+            (plain_prediction self.prediction) self.loop_filter_across_slices_enabled_flag
+            (plain_deblocking self.deblocking) (plain_set_end self.end) }
     {
         let PictureElements {
             ids,

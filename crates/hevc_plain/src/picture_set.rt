@@ -37,8 +37,10 @@ pub fn read_picture_set(
     temporal_id: u8,
     sequence_sets: &BTreeMap<u8, Rc<Sps>>,
 ) -> Result<Pps, ParseError>
-    ensures read { ReadsNaming plain_pps result r.new (read (plain_picture_set temporal_id (found_set sequence_sets.now)) (bits r.old)) }
-    ensures means { MeansNaming plain_pps (plain_picture_set temporal_id (found_set sequence_sets.now)) result r.old r.new }
+    ensures read { ReadsNaming plain_pps result r.new
+        (read (plain_picture_set temporal_id (found_set sequence_sets.now)) (bits r.old)) }
+    ensures means { MeansNaming plain_pps
+        (plain_picture_set temporal_id (found_set sequence_sets.now)) result r.old r.new }
 {
     read_rows(r, temporal_id, sequence_sets)
 }
@@ -50,7 +52,8 @@ fn read_rows(
     temporal_id: u8,
     sequence_sets: &BTreeMap<u8, Rc<Sps>>,
 ) -> Result<Pps, ParseError>
-    ensures { ReadsNaming plain_pps result r.new (read (plain_picture_set temporal_id (found_set sequence_sets.now)) (bits r.old)) }
+    ensures { ReadsNaming plain_pps result r.new
+        (read (plain_picture_set temporal_id (found_set sequence_sets.now)) (bits r.old)) }
 {
     let ids = read_ids(r)?;
     match sequence_sets.get(&ids.seq_parameter_set_id) {
@@ -80,7 +83,9 @@ fn read_behind_ids(
     ids: Ids,
     sequence_set: &Sps,
 ) -> Result<Pps, ParseError>
-    ensures { Reads plain_pps result r.new (read (picture_set_of temporal_id (plain_ids ids) (plain_sps sequence_set.now)) (bits r.old)) }
+    ensures { Reads plain_pps result r.new
+        (read (picture_set_of temporal_id (plain_ids ids) (plain_sps sequence_set.now))
+        (bits r.old)) }
 {
     let presence = read_presence(r)?;
     let quantiser = read_quantiser(r, sequence_set)?;
@@ -126,7 +131,8 @@ fn read_presence(r: &mut NaluReader<'_>) -> Result<Presence, ParseError>
 /// Rows 8 to 12 of table 11.
 #[tactic(auto, unfolding(hevc_plain_tables::specs::PlainPictureSet::quantiser))]
 fn read_quantiser(r: &mut NaluReader<'_>, sequence_set: &Sps) -> Result<Quantiser, ParseError>
-    ensures { Reads plain_quantiser result r.new (read (quantiser (plain_sps sequence_set.now)) (bits r.old)) }
+    ensures { Reads plain_quantiser result r.new
+        (read (quantiser (plain_sps sequence_set.now)) (bits r.old)) }
 {
     let qp_bd_offset_y = qp_bd_offset(sequence_set);
     let init_qp_minus26 = se_i8(r, Row(11, 8), least_init_qp(qp_bd_offset_y), 25)?;
@@ -207,7 +213,8 @@ fn read_filter_offsets_if(
     r: &mut NaluReader<'_>,
     present: bool,
 ) -> Result<FilterOffsets, ParseError>
-    ensures { Reads plain_filter_offsets result r.new (read (when present no_filter_offsets filter_offsets) (bits r.old)) }
+    ensures { Reads plain_filter_offsets result r.new
+        (read (when present no_filter_offsets filter_offsets) (bits r.old)) }
 {
     if present {
         read_filter_offsets(r)
@@ -235,7 +242,8 @@ fn read_filter_offsets(r: &mut NaluReader<'_>) -> Result<FilterOffsets, ParseErr
 /// Rows 24 to 28 of table 11.
 #[tactic(auto, unfolding(hevc_plain_tables::specs::PlainPictureSet::set_end))]
 fn read_end(r: &mut NaluReader<'_>, sequence_set: &Sps) -> Result<SetEnd, ParseError>
-    ensures { Reads plain_set_end result r.new (read (set_end (plain_sps sequence_set.now)) (bits r.old)) }
+    ensures { Reads plain_set_end result r.new
+        (read (set_end (plain_sps sequence_set.now)) (bits r.old)) }
 {
     zero(r, Row(11, 24))?;
     let lists_modification_present_flag = flag(r, Row(11, 26))?;

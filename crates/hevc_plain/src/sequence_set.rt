@@ -126,8 +126,12 @@ fn read_samples(r: &mut NaluReader<'_>) -> Result<Samples, ParseError>
 /// Rows 10 to 12 of table 5.
 #[tactic(auto, unfolding(hevc_plain_tables::specs::PlainSequenceSet::cropping, hevc_spec::specs::Rows::when))]
 fn read_cropping(r: &mut NaluReader<'_>, samples: &Samples) -> Result<Cropping, ParseError>
-    ensures read { Reads plain_cropping result r.new (read (cropping (plain_samples samples.now)) (bits r.old)) }
-    ensures window { IfOk result (λ c. IsTrue c.conformance_window_flag → IsTrue (leaves_some samples.now.chroma_array_type samples.now.pic_width_in_luma_samples samples.now.pic_height_in_luma_samples c.conf_win_left_offset c.conf_win_right_offset c.conf_win_top_offset c.conf_win_bottom_offset)) }
+    ensures read { Reads plain_cropping result r.new
+        (read (cropping (plain_samples samples.now)) (bits r.old)) }
+    ensures window { IfOk result (λ c. IsTrue c.conformance_window_flag → IsTrue
+        (leaves_some samples.now.chroma_array_type samples.now.pic_width_in_luma_samples
+        samples.now.pic_height_in_luma_samples c.conf_win_left_offset c.conf_win_right_offset
+        c.conf_win_top_offset c.conf_win_bottom_offset)) }
 {
     if flag(r, Row(5, 10))? {
         read_window(r, samples)
@@ -145,8 +149,12 @@ fn read_cropping(r: &mut NaluReader<'_>, samples: &Samples) -> Result<Cropping, 
 /// Rows 11 and 12 of table 5.
 #[tactic(auto, unfolding(hevc_plain_tables::specs::PlainSequenceSet::window))]
 fn read_window(r: &mut NaluReader<'_>, samples: &Samples) -> Result<Cropping, ParseError>
-    ensures read { Reads plain_cropping result r.new (read (window (plain_samples samples.now)) (bits r.old)) }
-    ensures window { IfOk result (λ c. IsTrue (leaves_some samples.now.chroma_array_type samples.now.pic_width_in_luma_samples samples.now.pic_height_in_luma_samples c.conf_win_left_offset c.conf_win_right_offset c.conf_win_top_offset c.conf_win_bottom_offset)) }
+    ensures read { Reads plain_cropping result r.new
+        (read (window (plain_samples samples.now)) (bits r.old)) }
+    ensures window { IfOk result (λ c. IsTrue
+        (leaves_some samples.now.chroma_array_type samples.now.pic_width_in_luma_samples
+        samples.now.pic_height_in_luma_samples c.conf_win_left_offset c.conf_win_right_offset
+        c.conf_win_top_offset c.conf_win_bottom_offset)) }
 {
     let left = ue(r, Row(5, 11), 0, 2_147_483_647)?;
     let right = ue(r, Row(5, 11), 0, 2_147_483_647)?;
@@ -169,7 +177,8 @@ fn read_window(r: &mut NaluReader<'_>, samples: &Samples) -> Result<Cropping, Pa
 /// Whether the conformance cropping window leaves some of the picture.
 #[tactic(auto, unfolding(hevc_records::specs::SpsSizes::leaves_some))]
 fn leaves_part(samples: &Samples, left: u32, right: u32, top: u32, bottom: u32) -> bool
-    ensures { result ≡ leaves_some samples.now.chroma_array_type samples.now.pic_width_in_luma_samples samples.now.pic_height_in_luma_samples left right top bottom }
+    ensures { result ≡ leaves_some samples.now.chroma_array_type
+        samples.now.pic_width_in_luma_samples samples.now.pic_height_in_luma_samples left right top bottom }
 {
     let width = u64::from(samples.pic_width_in_luma_samples);
     let height = u64::from(samples.pic_height_in_luma_samples);
@@ -233,7 +242,8 @@ fn read_ordering(r: &mut NaluReader<'_>) -> Result<Ordering, ParseError>
 #[tactic(auto, unfolding(hevc_plain_tables::specs::PlainSequenceSet::blocks))]
 fn read_blocks(r: &mut NaluReader<'_>) -> Result<Blocks, ParseError>
     ensures read { Reads plain_blocks result r.new (read blocks (bits r.old)) }
-    ensures small { IfOk result (λ b. max_tb_log2_size_y (plain_blocks b) ≤ min (ctb_log2_size_y (plain_blocks b)) 5) }
+    ensures small { IfOk result
+        (λ b. max_tb_log2_size_y (plain_blocks b) ≤ min (ctb_log2_size_y (plain_blocks b)) 5) }
 {
     let blocks = read_block_sizes(r)?;
     let ctb_log2_size_y = blocks.log2_min_luma_coding_block_size_minus3

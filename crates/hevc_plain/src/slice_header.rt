@@ -8,7 +8,8 @@ ghost use Rattle.hevc_elements.specs.Naming.{ReadsNaming, MeansNaming};
 ghost use Rattle.hevc_types_c.specs.Sps.{plain_sps};
 ghost use Rattle.hevc_types_d.specs.Pps.{plain_pps};
 ghost use Rattle.hevc_types_d.specs.SliceHeader.{plain_slice_header};
-ghost use Rattle.hevc_plain_tables.specs.PlainSliceHeader.{start, kind, adaptive_offset, chroma_offset, chroma_offsets, no_chroma_offsets, is_chroma_offset as is_in_chroma_range, is_slice_qp, slice_quantiser, slice_filter_offsets, inherited_filter_offsets, slice_deblocking, loop_filter, header_with, header_elements, header_of, header_fields, plain_slice_header as slice_header_table};
+ghost use Rattle.hevc_tables.specs.SliceHeaderTable.{chroma_offset, is_chroma_offset as is_in_chroma_range, is_slice_qp};
+ghost use Rattle.hevc_plain_tables.specs.PlainSliceHeader.{start, kind, adaptive_offset, chroma_offsets, no_chroma_offsets, slice_quantiser, slice_filter_offsets, inherited_filter_offsets, slice_deblocking, loop_filter, header_with, header_elements, header_of, header_fields, plain_slice_header as slice_header_table};
 ghost use Rattle.hevc_plain.specs.SliceRecords.{plain_start, plain_kind, plain_adaptive_offset, plain_chroma_offsets, plain_slice_quantiser, plain_slice_filter_offsets, plain_slice_deblocking, plain_header_elements};
 ghost use Rattle.hevc_plain.specs.Found.{shared_set, found_set, found_picture_set};
 ghost use Rattle.hevc_plain.specs.PlainSlice.{plain_slice};
@@ -45,14 +46,18 @@ pub fn read_slice_header<'s>(
     picture_sets: &BTreeMap<u8, Rc<Pps>>,
 ) -> Result<PlainSlice<'s>, ParseError>
     requires { bits_left r.old % 8 ≡ 0 }
-    ensures read { ReadsNaming plain_slice result r.new (read (slice_header_table (found_picture_set picture_sets.now) (found_set sequence_sets.now)) (bits r.old)) }
-    ensures means { MeansNaming plain_slice (slice_header_table (found_picture_set picture_sets.now) (found_set sequence_sets.now)) result r.old r.new }
+    ensures read { ReadsNaming plain_slice result r.new
+        (read (slice_header_table (found_picture_set picture_sets.now)
+        (found_set sequence_sets.now)) (bits r.old)) }
+    ensures means { MeansNaming plain_slice
+        (slice_header_table (found_picture_set picture_sets.now)
+        (found_set sequence_sets.now)) result r.old r.new }
 {
     read_rows(alloc, r, sequence_sets, picture_sets)
 }
 
 /// Rows 1 to 53 of table 14.
-#[tactic(auto, unfolding(hevc_plain_tables::specs::PlainSliceHeader::plain_slice_header, hevc_plain_tables::specs::PlainSliceHeader::aligned))]
+#[tactic(auto, unfolding(hevc_plain_tables::specs::PlainSliceHeader::plain_slice_header, hevc_tables::specs::SliceHeaderTable::aligned))]
 fn read_rows<'s>(
     alloc: Global,
     r: &mut NaluReader<'_>,
@@ -60,7 +65,9 @@ fn read_rows<'s>(
     picture_sets: &BTreeMap<u8, Rc<Pps>>,
 ) -> Result<PlainSlice<'s>, ParseError>
     requires { bits_left r.old % 8 ≡ 0 }
-    ensures { ReadsNaming plain_slice result r.new (read (slice_header_table (found_picture_set picture_sets.now) (found_set sequence_sets.now)) (bits r.old)) }
+    ensures { ReadsNaming plain_slice result r.new
+        (read (slice_header_table (found_picture_set picture_sets.now)
+        (found_set sequence_sets.now)) (bits r.old)) }
 {
     let slice = read_fields(alloc, r, sequence_sets, picture_sets)?;
     skip(r, Row(14, 53), 1)?;
@@ -77,7 +84,9 @@ fn read_fields<'s>(
     sequence_sets: &'s BTreeMap<u8, Rc<Sps>>,
     picture_sets: &BTreeMap<u8, Rc<Pps>>,
 ) -> Result<PlainSlice<'s>, ParseError>
-    ensures read { ReadsNaming plain_slice result r.new (read (header_fields (found_picture_set picture_sets.now) (found_set sequence_sets.now)) (bits r.old)) }
+    ensures read { ReadsNaming plain_slice result r.new
+        (read (header_fields (found_picture_set picture_sets.now) (found_set sequence_sets.now))
+        (bits r.old)) }
     ensures moves { IsAhead r.old r.new }
 {
     let start = read_start(r)?;
@@ -114,7 +123,9 @@ fn read_behind_start<'s>(
     picture_set: &Pps,
     sequence_set: &'s Rc<Sps>,
 ) -> Result<PlainSlice<'s>, ParseError>
-    ensures read { Reads plain_slice result r.new (read (header_of (plain_start start) (plain_pps picture_set.now) (shared_set sequence_set.now)) (bits r.old)) }
+    ensures read { Reads plain_slice result r.new
+        (read (header_of (plain_start start) (plain_pps picture_set.now)
+        (shared_set sequence_set.now)) (bits r.old)) }
     ensures moves { IsAhead r.old r.new }
 {
     let elements = read_elements(r, picture_set, sequence_set)?;
@@ -131,7 +142,9 @@ fn header_of(
     picture_set: &Pps,
     elements: HeaderElements,
 ) -> SliceHeader
-    ensures { plain_slice_header result ≡ header_with (plain_start start) (plain_pps picture_set.now) (plain_header_elements elements) }
+    ensures { plain_slice_header result
+        ≡ header_with (plain_start start) (plain_pps picture_set.now)
+        (plain_header_elements elements) }
 {
     let HeaderElements {
         kind,
@@ -168,7 +181,9 @@ fn read_elements(
     picture_set: &Pps,
     sequence_set: &Sps,
 ) -> Result<HeaderElements, ParseError>
-    ensures read { Reads plain_header_elements result r.new (read (header_elements (plain_pps picture_set.now) (plain_sps sequence_set.now)) (bits r.old)) }
+    ensures read { Reads plain_header_elements result r.new
+        (read (header_elements (plain_pps picture_set.now) (plain_sps sequence_set.now))
+        (bits r.old)) }
     ensures moves { IsAhead r.old r.new }
 {
     let kind = read_kind(r, picture_set, sequence_set)?;
@@ -193,7 +208,8 @@ fn read_kind(
     picture_set: &Pps,
     sequence_set: &Sps,
 ) -> Result<Kind, ParseError>
-    ensures read { Reads plain_kind result r.new (read (kind (plain_pps picture_set.now) (plain_sps sequence_set.now)) (bits r.old)) }
+    ensures read { Reads plain_kind result r.new
+        (read (kind (plain_pps picture_set.now) (plain_sps sequence_set.now)) (bits r.old)) }
     ensures moves { IsAhead r.old r.new }
 {
     skip(
@@ -218,7 +234,8 @@ fn read_adaptive_offset(
     r: &mut NaluReader<'_>,
     sequence_set: &Sps,
 ) -> Result<AdaptiveOffset, ParseError>
-    ensures read { Reads plain_adaptive_offset result r.new (read (adaptive_offset (plain_sps sequence_set.now)) (bits r.old)) }
+    ensures read { Reads plain_adaptive_offset result r.new
+        (read (adaptive_offset (plain_sps sequence_set.now)) (bits r.old)) }
     ensures moves { IsAhead r.old r.new }
 {
     let enabled = sequence_set.sample_adaptive_offset_enabled_flag;
@@ -234,7 +251,8 @@ fn read_adaptive_offset(
 /// Rows 35 to 40 of table 14.
 #[tactic(auto, unfolding(hevc_plain_tables::specs::PlainSliceHeader::slice_quantiser))]
 fn read_quantiser(r: &mut NaluReader<'_>, picture_set: &Pps) -> Result<SliceQuantiser, ParseError>
-    ensures read { Reads plain_slice_quantiser result r.new (read (slice_quantiser (plain_pps picture_set.now)) (bits r.old)) }
+    ensures read { Reads plain_slice_quantiser result r.new
+        (read (slice_quantiser (plain_pps picture_set.now)) (bits r.old)) }
     ensures moves { IsAhead r.old r.new }
 {
     let qp_delta = se_i8(r, Row(14, 35), -87, 77)?;
@@ -271,7 +289,9 @@ fn read_chroma_offsets_if_present(
     r: &mut NaluReader<'_>,
     picture_set: &Pps,
 ) -> Result<ChromaOffsets, ParseError>
-    ensures read { Reads plain_chroma_offsets result r.new (read (when picture_set.now.slice_chroma_qp_offsets_present_flag no_chroma_offsets (chroma_offsets (plain_pps picture_set.now))) (bits r.old)) }
+    ensures read { Reads plain_chroma_offsets result r.new
+        (read (when picture_set.now.slice_chroma_qp_offsets_present_flag no_chroma_offsets
+        (chroma_offsets (plain_pps picture_set.now))) (bits r.old)) }
     ensures moves { IsAhead r.old r.new }
 {
     if picture_set.slice_chroma_qp_offsets_present_flag {
@@ -290,7 +310,8 @@ fn read_chroma_offsets(
     r: &mut NaluReader<'_>,
     picture_set: &Pps,
 ) -> Result<ChromaOffsets, ParseError>
-    ensures read { Reads plain_chroma_offsets result r.new (read (chroma_offsets (plain_pps picture_set.now)) (bits r.old)) }
+    ensures read { Reads plain_chroma_offsets result r.new
+        (read (chroma_offsets (plain_pps picture_set.now)) (bits r.old)) }
     ensures moves { IsAhead r.old r.new }
 {
     let cb_qp_offset = read_chroma_offset(r, 37, picture_set.cb_qp_offset)?;
@@ -302,14 +323,15 @@ fn read_chroma_offsets(
 }
 
 /// A row of a chroma offset, and the check behind it.
-#[tactic(auto, unfolding(hevc_plain_tables::specs::PlainSliceHeader::chroma_offset))]
+#[tactic(auto, unfolding(hevc_tables::specs::SliceHeaderTable::chroma_offset))]
 fn read_chroma_offset(
     r: &mut NaluReader<'_>,
     number: u8,
     of_picture_set: i8,
 ) -> Result<i8, ParseError>
     requires { number ≤ 254 }
-    ensures read { Reads (λ offset. offset) result r.new (read (chroma_offset number of_picture_set) (bits r.old)) }
+    ensures read { Reads (λ offset. offset) result r.new
+        (read (chroma_offset number of_picture_set) (bits r.old)) }
     ensures moves { IsAhead r.old r.new }
 {
     let offset = se_i8(r, Row(14, number), -12, 12)?;
@@ -332,7 +354,8 @@ fn is_chroma_offset(offset: i8, of_picture_set: i8) -> bool
 /// Rows 43 to 46 of table 14.
 #[tactic(auto, unfolding(hevc_plain_tables::specs::PlainSliceHeader::slice_deblocking))]
 fn read_deblocking(r: &mut NaluReader<'_>, picture_set: &Pps) -> Result<SliceDeblocking, ParseError>
-    ensures read { Reads plain_slice_deblocking result r.new (read (slice_deblocking (plain_pps picture_set.now)) (bits r.old)) }
+    ensures read { Reads plain_slice_deblocking result r.new
+        (read (slice_deblocking (plain_pps picture_set.now)) (bits r.old)) }
     ensures moves { IsAhead r.old r.new }
 {
     let present = picture_set.deblocking_filter_override_enabled_flag;
@@ -360,7 +383,9 @@ fn read_filter_offsets_if(
     present: bool,
     picture_set: &Pps,
 ) -> Result<SliceFilterOffsets, ParseError>
-    ensures read { Reads plain_slice_filter_offsets result r.new (read (when present (inherited_filter_offsets (plain_pps picture_set.now)) slice_filter_offsets) (bits r.old)) }
+    ensures read { Reads plain_slice_filter_offsets result r.new
+        (read (when present
+        (inherited_filter_offsets (plain_pps picture_set.now)) slice_filter_offsets) (bits r.old)) }
     ensures moves { IsAhead r.old r.new }
 {
     if present {
@@ -376,7 +401,8 @@ fn read_filter_offsets_if(
 /// Rows 45 and 46 of table 14.
 #[tactic(auto, unfolding(hevc_plain_tables::specs::PlainSliceHeader::slice_filter_offsets))]
 fn read_filter_offsets(r: &mut NaluReader<'_>) -> Result<SliceFilterOffsets, ParseError>
-    ensures read { Reads plain_slice_filter_offsets result r.new (read slice_filter_offsets (bits r.old)) }
+    ensures read { Reads plain_slice_filter_offsets result r.new
+        (read slice_filter_offsets (bits r.old)) }
     ensures moves { IsAhead r.old r.new }
 {
     let beta_offset_div2 = se_i8(r, Row(14, 45), -6, 6)?;
@@ -395,7 +421,9 @@ fn read_loop_filter(
     offset: &AdaptiveOffset,
     disabled: bool,
 ) -> Result<bool, ParseError>
-    ensures read { Reads (λ b. b) result r.new (read (loop_filter (plain_pps picture_set.now) (plain_adaptive_offset offset.now) disabled) (bits r.old)) }
+    ensures read { Reads (λ b. b) result r.new
+        (read (loop_filter (plain_pps picture_set.now) (plain_adaptive_offset offset.now) disabled)
+        (bits r.old)) }
     ensures moves { IsAhead r.old r.new }
 {
     let inherited = picture_set.loop_filter_across_slices_enabled_flag;

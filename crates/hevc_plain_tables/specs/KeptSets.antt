@@ -1,7 +1,8 @@
--- The parameter sets that are kept (7.4.2.4.2): of each id the latest one.
-use Rattle.std.specs.Prelude.{ℕ, Option, Some, None, ◌==◌, if◌then◌else◌}
+-- Goes with the decoder over plain sets, for `Kept` of hevc_stream: the plain parameter sets that are kept (7.4.2.4.2), of each id the latest one.
+use Rattle.std.specs.Prelude.{ℕ, Option, Some, None}
 use Rattle.hevc_records.specs.Sps.{PlainSps}
 use Rattle.hevc_records.specs.Pps.{PlainPps}
+use Rattle.hevc_stream.specs.Kept.{with_set}
 
 -- The plain sets by their ids (7.4.2.4.2), and the first sequence set of all, whose format is negotiated first.
 pub record KeptSets : Type 0 where
@@ -12,10 +13,6 @@ pub record KeptSets : Type 0 where
 -- before the first set
 abbrev pub nothing_kept : KeptSets
 nothing_kept = record { first_sequence_set = None; sequence_sets = λ id. None; picture_sets = λ id. None }
-
--- one more set, in the place of an earlier one of its id (7.4.2.4.2)
-abbrev pub with_set : {A : Type 0} → ℕ → A → (ℕ → Option A) → ℕ → Option A
-with_set id set sets k = if k == id then Some set else sets k
 
 -- the first set of all, behind one more
 abbrev pub first_or : {A : Type 0} → Option A → A → Option A

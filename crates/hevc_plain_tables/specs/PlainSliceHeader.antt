@@ -1,9 +1,10 @@
 -- Plain slice segment headers (7.3.6.1, table 14): of the first slice of an IDR picture, an I slice, with plain sets. So rows 4 and 5,
 -- 10 to 21, 24 to 34, 41, 42 and 48 to 52 are absent.
-use Rattle.std.specs.Prelude.{ℕ, ℤ, pos, neg_ℤ, int_le, ◌+ℤ◌, ◌+◌, ◌-◌, ◌%◌, Bool, true, false, not, ◌&&◌, ◌||◌, ◌==◌, Option}
-use Rattle.hevc_spec.specs.Table.{Table, done, sized, ◌>>=◌}
+use Rattle.std.specs.Prelude.{ℕ, ℤ, pos, neg_ℤ, Bool, true, false, not, ◌&&◌, ◌||◌, ◌==◌, Option}
+use Rattle.hevc_spec.specs.Table.{Table, done, ◌>>=◌}
 use Rattle.hevc_spec.specs.Rows.{row, flag_row, bits_row, ue_row, se_row, skip_row, check_row, when}
 use Rattle.hevc_tables.specs.PpsTable.{named}
+use Rattle.hevc_tables.specs.SliceHeaderTable.{is_slice_qp, chroma_offset, aligned}
 use Rattle.hevc_records.specs.Pps.{PlainPps}
 use Rattle.hevc_records.specs.SliceHeader.{PlainSliceSegmentHeader, default_slice_header, with_inferred}
 use Rattle.hevc_records.specs.Sps.{PlainSps}
@@ -47,17 +48,6 @@ adaptive_offset s = do
   chroma ← when (s.sample_adaptive_offset_enabled_flag && not (s.chroma_array_type == 0)) false (flag_row (row 14 23))
   done (record { sao_luma_flag = luma; sao_chroma_flag = chroma })
 
--- An offset of the slice and the picture set's are from -12 to 12 together (7.4.7.1).
-abbrev pub is_chroma_offset : ℤ → ℤ → Bool
-is_chroma_offset offset of_picture_set = int_le (neg_ℤ (pos 12)) (offset +ℤ of_picture_set) && int_le (offset +ℤ of_picture_set) (pos 12)
-
--- slice_cb_qp_offset or slice_cr_qp_offset and the check behind it (7.4.7.1): it and its sum with the picture set's are from -12 to 12
-unfoldable pub chroma_offset : ℕ → ℤ → Table ℤ
-chroma_offset number of_picture_set = do
-  offset ← se_row (row 14 number) (neg_ℤ (pos 12)) (pos 12)
-  _ ← check_row (row 14 (number + 1)) (is_chroma_offset offset of_picture_set)
-  done offset
-
 -- rows 37 and 39 (7.4.7.1)
 pub record ChromaOffsets : Type 0 where
   pub cb_qp_offset : ℤ
@@ -72,10 +62,6 @@ chroma_offsets p = do
 
 abbrev pub no_chroma_offsets : ChromaOffsets
 no_chroma_offsets = record { cb_qp_offset = pos 0; cr_qp_offset = pos 0 }
-
--- SliceQpY (7-54) is from -QpBdOffsetY to 51.
-abbrev pub is_slice_qp : PlainPps → ℤ → Bool
-is_slice_qp p delta = int_le (neg_ℤ (pos p.qp_bd_offset_y)) (pos 26 +ℤ p.init_qp_minus26 +ℤ delta) && int_le (pos 26 +ℤ p.init_qp_minus26 +ℤ delta) (pos 51)
 
 -- rows 35 to 39 (7.4.7.1): what the slice adds to the picture set's quantisers
 pub record Quantiser : Type 0 where
@@ -183,22 +169,6 @@ header_fields picture_sets sequence_sets = do
   p ← named (row 14 3) st.pic_parameter_set_id (picture_sets st.pic_parameter_set_id)
   s ← named (row 11 2) p.seq_parameter_set_id (sequence_sets p.seq_parameter_set_id)
   header_of st p s
-
--- a value with how many bits its lines take
-pub record Sized (A : Type 0) : Type 0 where
-  pub value : A
-  pub size : ℕ
-
-abbrev pub with_size : {A : Type 0} → Table A → Table (Sized A)
-with_size t = sized t (λ x size. record { value = x; size = size })
-
--- Row 53, behind lines that begin at a whole byte: byte_alignment( ) (7.3.2.12), a bit and as many as end the byte, of any value.
-unfoldable pub aligned : {A : Type 0} → Table A → Table A
-aligned t = do
-  h ← with_size t
-  _ ← skip_row (row 14 53) 1
-  _ ← skip_row (row 14 53) ((8 - (h.size + 1) % 8) % 8)
-  done h.value
 
 -- table 14 (7.3.6.1) of a plain header, with the sets that are kept, by their ids
 unfoldable pub plain_slice_header : (ℕ → Option PlainPps) → (ℕ → Option PlainSps) → Table PlainSlice

@@ -1,4 +1,4 @@
--- What a unit means where it stands, while only plain sets and plain slices of IDR pictures are read.
+-- Goes with the decoder over plain sets, for `Contents` of hevc_stream: what a unit means where it stands, while only plain sets and plain slices of IDR pictures are read.
 use Rattle.std.specs.Prelude.{ℕ, Bool, List, is_none, Result, Ok, Err, ◌==◌, ◌||◌, ◌-◌, if◌then◌else◌}
 use Rattle.hevc_spec.specs.UnitTypes.{is_idr, is_slice, is_end}
 use Rattle.hevc_spec.specs.UnitHeader.{UnitHeader, HeaderFault, unit_header}

@@ -39,7 +39,8 @@ pub(crate) fn layer_conforms_to(layer: &LayerProfile, number: u8) -> bool
 
 /// Whether constraint flags of the range extensions' profiles stand there.
 pub(crate) fn has_extensions(layer: &LayerProfile) -> bool
-    ensures { result ≡ has_range_extensions_flags layer.now.profile_idc layer.now.profile_compatibility_flag }
+    ensures { result
+        ≡ has_range_extensions_flags layer.now.profile_idc layer.now.profile_compatibility_flag }
 {
     has_range_extensions(layer.profile_idc, &layer.profile_compatibility_flag)
 }

@@ -18,7 +18,8 @@ pub(crate) fn read_constraints(
     scope: Scope,
     layer: &mut LayerProfile,
 ) -> Result<(), ParseError>
-    ensures { Fills plain_layer_profile (table.constraints (plain_scope scope)) result layer.old layer.new r.old r.new }
+    ensures { Fills plain_layer_profile
+        (table.constraints (plain_scope scope)) result layer.old layer.new r.old r.new }
 {
     if has_extensions(layer) {
         read_extensions(r, scope, layer)
@@ -36,7 +37,8 @@ fn read_extensions(
     scope: Scope,
     layer: &mut LayerProfile,
 ) -> Result<(), ParseError>
-    ensures { Fills plain_layer_profile (table.range_extensions_flags (plain_scope scope)) result layer.old layer.new r.old r.new }
+    ensures { Fills plain_layer_profile
+        (table.range_extensions_flags (plain_scope scope)) result layer.old layer.new r.old r.new }
 {
     read_formats(r, scope, layer)?;
     read_bit_depth_flag(r, scope, layer)
@@ -49,7 +51,8 @@ fn read_formats(
     scope: Scope,
     layer: &mut LayerProfile,
 ) -> Result<(), ParseError>
-    ensures { Fills plain_layer_profile (table.formats (plain_scope scope)) result layer.old layer.new r.old r.new }
+    ensures { Fills plain_layer_profile
+        (table.formats (plain_scope scope)) result layer.old layer.new r.old r.new }
 {
     let row = row_of(scope, 6);
     layer.max_12bit_constraint_flag = flag(r, row)?;
@@ -71,7 +74,8 @@ fn read_bit_depth_flag(
     scope: Scope,
     layer: &mut LayerProfile,
 ) -> Result<(), ParseError>
-    ensures { Fills plain_layer_profile (table.bit_depth_flag (plain_scope scope)) result layer.old layer.new r.old r.new }
+    ensures { Fills plain_layer_profile
+        (table.bit_depth_flag (plain_scope scope)) result layer.old layer.new r.old r.new }
 {
     let present = has_14bit(layer);
     layer.max_14bit_constraint_flag = flag_if(r, present, row_of(scope, 7))?;
@@ -89,7 +93,8 @@ fn read_main_10(
     scope: Scope,
     layer: &mut LayerProfile,
 ) -> Result<(), ParseError>
-    ensures { Fills plain_layer_profile (table.main_10_flags (plain_scope scope)) result layer.old layer.new r.old r.new }
+    ensures { Fills plain_layer_profile
+        (table.main_10_flags (plain_scope scope)) result layer.old layer.new r.old r.new }
 {
     skip(r, row_of(scope, 10), 7)?;
     layer.one_picture_only_constraint_flag = flag(r, row_of(scope, 11))?;
@@ -103,7 +108,8 @@ fn skip_reserved_bits(
     scope: Scope,
     layer: &mut LayerProfile,
 ) -> Result<(), ParseError>
-    ensures { Fills plain_layer_profile (table.reserved_bits (plain_scope scope)) result layer.old layer.new r.old r.new }
+    ensures { Fills plain_layer_profile
+        (table.reserved_bits (plain_scope scope)) result layer.old layer.new r.old r.new }
 {
     let _ = layer;
     skip(r, row_of(scope, 13), 43)

@@ -19,7 +19,8 @@ pub(crate) fn read_layer_profile(
     r: &mut NaluReader<'_>,
     scope: Scope,
 ) -> Result<LayerProfile, ParseError>
-    ensures read { Reads plain_layer_profile result r.new (read (table.layer_profile (plain_scope scope)) (bits r.old)) }
+    ensures read { Reads plain_layer_profile result r.new
+        (read (table.layer_profile (plain_scope scope)) (bits r.old)) }
     ensures moves { IsAhead r.old r.new }
 {
     let mut layer = LayerProfile::new();
@@ -37,7 +38,8 @@ fn read_profiles(
     scope: Scope,
     layer: &mut LayerProfile,
 ) -> Result<(), ParseError>
-    ensures { Fills plain_layer_profile (table.profiles (plain_scope scope)) result layer.old layer.new r.old r.new }
+    ensures { Fills plain_layer_profile
+        (table.profiles (plain_scope scope)) result layer.old layer.new r.old r.new }
 {
     layer.profile_space = bits_u8(r, row_of(scope, 1), 2, 0, 3)?;
     layer.tier_flag = flag(r, row_of(scope, 2))?;
@@ -52,7 +54,8 @@ fn read_compatibility_flags(
     scope: Scope,
     layer: &mut LayerProfile,
 ) -> Result<(), ParseError>
-    ensures { Fills plain_layer_profile (table.compatibility_flags (plain_scope scope)) result layer.old layer.new r.old r.new }
+    ensures { Fills plain_layer_profile
+        (table.compatibility_flags (plain_scope scope)) result layer.old layer.new r.old r.new }
 {
     for i in 0..32usize {
         read_compatibility_flag(r, scope, i, layer)?;
@@ -69,7 +72,8 @@ fn read_compatibility_flag(
     layer: &mut LayerProfile,
 ) -> Result<(), ParseError>
     requires { i < 32 }
-    ensures { Fills plain_layer_profile (table.compatibility_flag (plain_scope scope) i) result layer.old layer.new r.old r.new }
+    ensures { Fills plain_layer_profile
+        (table.compatibility_flag (plain_scope scope) i) result layer.old layer.new r.old r.new }
 {
     layer.profile_compatibility_flag[i] = flag(r, row_of(scope, 4))?;
     Ok(())
@@ -82,7 +86,8 @@ fn read_source(
     scope: Scope,
     layer: &mut LayerProfile,
 ) -> Result<(), ParseError>
-    ensures { Fills plain_layer_profile (table.source (plain_scope scope)) result layer.old layer.new r.old r.new }
+    ensures { Fills plain_layer_profile
+        (table.source (plain_scope scope)) result layer.old layer.new r.old r.new }
 {
     let row = row_of(scope, 5);
     layer.progressive_source_flag = flag(r, row)?;
@@ -99,7 +104,8 @@ fn read_inbld(
     scope: Scope,
     layer: &mut LayerProfile,
 ) -> Result<(), ParseError>
-    ensures { Fills plain_layer_profile (table.inbld (plain_scope scope)) result layer.old layer.new r.old r.new }
+    ensures { Fills plain_layer_profile
+        (table.inbld (plain_scope scope)) result layer.old layer.new r.old r.new }
 {
     let present = has_inbld(layer);
     layer.inbld_flag = flag_if(r, present, row_of(scope, 14))?;

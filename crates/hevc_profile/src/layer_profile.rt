@@ -65,7 +65,9 @@ impl LayerProfile {
 /// Puts the profile of the whole stream.
 #[tactic(auto, unfolding(hevc_tables::specs::ProfileTierLevelTable::with_general_profile))]
 pub(crate) fn put_general_profile(all: &mut ProfileTierLevel, layer: &LayerProfile)
-    ensures { plain_profile_tier_level all.new ≡ table.with_general_profile (plain_profile_tier_level all.old) (plain_layer_profile layer.now) }
+    ensures { plain_profile_tier_level all.new
+        ≡ table.with_general_profile (plain_profile_tier_level all.old)
+        (plain_layer_profile layer.now) }
 {
     all.general_profile_space = layer.profile_space;
     all.general_tier_flag = layer.tier_flag;
@@ -92,7 +94,9 @@ pub(crate) fn put_general_profile(all: &mut ProfileTierLevel, layer: &LayerProfi
 #[tactic(auto, unfolding(hevc_tables::specs::ProfileTierLevelTable::with_sub_layer_profile))]
 pub(crate) fn put_sub_layer_profile(all: &mut ProfileTierLevel, i: usize, layer: &LayerProfile)
     requires { i < 6 }
-    ensures { plain_profile_tier_level all.new ≡ table.with_sub_layer_profile (plain_profile_tier_level all.old) i (plain_layer_profile layer.now) }
+    ensures { plain_profile_tier_level all.new
+        ≡ table.with_sub_layer_profile (plain_profile_tier_level all.old) i
+        (plain_layer_profile layer.now) }
 {
     all.sub_layer_profile_space[i] = layer.profile_space;
     all.sub_layer_tier_flag[i] = layer.tier_flag;

@@ -27,8 +27,10 @@ pub fn read_profile_tier_level(
     max_sub_layers_minus1: u8,
 ) -> Result<ProfileTierLevel, ParseError>
     requires { max_sub_layers_minus1 ≤ 6 }
-    ensures read { Reads plain_profile_tier_level result r.new (read (profile_tier_level max_sub_layers_minus1) (bits r.old)) }
-    ensures means { Means plain_profile_tier_level (profile_tier_level max_sub_layers_minus1) result r.old r.new }
+    ensures read { Reads plain_profile_tier_level result r.new
+        (read (profile_tier_level max_sub_layers_minus1) (bits r.old)) }
+    ensures means { Means plain_profile_tier_level
+        (profile_tier_level max_sub_layers_minus1) result r.old r.new }
     ensures moves { IsAhead r.old r.new }
 {
     read_rows(r, max_sub_layers_minus1)
@@ -41,7 +43,8 @@ fn read_rows(
     max_sub_layers_minus1: u8,
 ) -> Result<ProfileTierLevel, ParseError>
     requires { max_sub_layers_minus1 ≤ 6 }
-    ensures read { Reads plain_profile_tier_level result r.new (read (profile_tier_level max_sub_layers_minus1) (bits r.old)) }
+    ensures read { Reads plain_profile_tier_level result r.new
+        (read (profile_tier_level max_sub_layers_minus1) (bits r.old)) }
     ensures moves { IsAhead r.old r.new }
 {
     let mut all = ProfileTierLevel::new();

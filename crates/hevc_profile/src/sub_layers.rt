@@ -22,7 +22,8 @@ pub(crate) fn read_presence(
     all: &mut ProfileTierLevel,
 ) -> Result<(), ParseError>
     requires { max_sub_layers_minus1 ≤ 6 }
-    ensures { Fills plain_profile_tier_level (table.presence max_sub_layers_minus1) result all.old all.new r.old r.new }
+    ensures { Fills plain_profile_tier_level
+        (table.presence max_sub_layers_minus1) result all.old all.new r.old r.new }
 {
     let count = usize::from(max_sub_layers_minus1);
     for i in 0..count {
@@ -39,7 +40,8 @@ fn read_next_presence(
     all: &mut ProfileTierLevel,
 ) -> Result<(), ParseError>
     requires { i < 6 }
-    ensures { Fills plain_profile_tier_level (table.next_presence i) result all.old all.new r.old r.new }
+    ensures { Fills plain_profile_tier_level
+        (table.next_presence i) result all.old all.new r.old r.new }
 {
     all.sub_layer_profile_present_flag[i] = flag(r, Row(2, 28))?;
     all.sub_layer_level_present_flag[i] = flag(r, Row(2, 28))?;
@@ -53,7 +55,8 @@ pub(crate) fn skip_absent_layers(
     max_sub_layers_minus1: u8,
 ) -> Result<(), ParseError>
     requires { max_sub_layers_minus1 ≤ 6 }
-    ensures read { Reads (λ _. 0) result r.new (read (table.absent_layers max_sub_layers_minus1) (bits r.old)) }
+    ensures read { Reads (λ _. 0) result r.new
+        (read (table.absent_layers max_sub_layers_minus1) (bits r.old)) }
     ensures moves { IsAhead r.old r.new }
 {
     if max_sub_layers_minus1 > 0 {
@@ -70,7 +73,8 @@ pub(crate) fn read_sub_layers(
     all: &mut ProfileTierLevel,
 ) -> Result<(), ParseError>
     requires { max_sub_layers_minus1 ≤ 6 }
-    ensures { Fills plain_profile_tier_level (table.sub_layers max_sub_layers_minus1) result all.old all.new r.old r.new }
+    ensures { Fills plain_profile_tier_level
+        (table.sub_layers max_sub_layers_minus1) result all.old all.new r.old r.new }
 {
     let count = usize::from(max_sub_layers_minus1);
     for i in 0..count {
@@ -87,7 +91,8 @@ fn read_next_sub_layer(
     all: &mut ProfileTierLevel,
 ) -> Result<(), ParseError>
     requires { i < 6 }
-    ensures { Fills plain_profile_tier_level (table.next_sub_layer i) result all.old all.new r.old r.new }
+    ensures { Fills plain_profile_tier_level
+        (table.next_sub_layer i) result all.old all.new r.old r.new }
 {
     if all.sub_layer_profile_present_flag[i] {
         read_sub_layer_profile(r, i, all)?;
@@ -106,7 +111,8 @@ fn read_sub_layer_profile(
     all: &mut ProfileTierLevel,
 ) -> Result<(), ParseError>
     requires { i < 6 }
-    ensures { Fills plain_profile_tier_level (table.sub_layer_profile i) result all.old all.new r.old r.new }
+    ensures { Fills plain_profile_tier_level
+        (table.sub_layer_profile i) result all.old all.new r.old r.new }
 {
     let layer = read_layer_profile(r, Scope::SubLayer)?;
     put_sub_layer_profile(all, i, &layer);
@@ -121,7 +127,8 @@ fn read_sub_layer_level(
     all: &mut ProfileTierLevel,
 ) -> Result<(), ParseError>
     requires { i < 6 }
-    ensures { Fills plain_profile_tier_level (table.sub_layer_level i) result all.old all.new r.old r.new }
+    ensures { Fills plain_profile_tier_level
+        (table.sub_layer_level i) result all.old all.new r.old r.new }
 {
     all.sub_layer_level_idc[i] = read_level(r, Row(2, 31))?;
     Ok(())

@@ -1,6 +1,6 @@
 -- Reference picture lists, as the walk has them.
 use Rattle.std.specs.Prelude.{◌≡◌, Bool, List, map, Option, option_map}
-use Rattle.hevc_stream.specs.Headers.{slice_header_of}
+use Rattle.hevc_views.specs.Headers.{slice_header_of}
 use Rattle.hevc_types_d.specs.declared.slice_header.SliceHeader.{SliceHeader}
 use Rattle.hevc_types_d.specs.SliceHeader.{plain_slice_header}
 use Rattle.hevc_walk.specs.Meanings.{Slice}

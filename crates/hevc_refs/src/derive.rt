@@ -29,7 +29,8 @@ fn is_idr(pic: &PictureData) -> bool
 
 /// An IRAP picture with NoRaslOutputFlag refers to nothing that is stored.
 fn unmark_before_sequence<T: Copy>(dpb: &mut Dpb<T>, pic: &PictureData)
-    ensures buffer { (p : Head) → IsHeadOf p pic.now → buffer_of dpb.new ≡ references_before p (buffer_of dpb.old) }
+    ensures buffer { (p : Head) → IsHeadOf p pic.now
+        → buffer_of dpb.new ≡ references_before p (buffer_of dpb.old) }
     ensures kept { KeepsAllButMarks dpb.old dpb.new }
 {
     if pic.is_irap && pic.no_rasl_output_flag {
@@ -46,10 +47,16 @@ fn derive_members<T: Copy>(
     max_pic_order_cnt_lsb: i32,
 ) -> RefPicSet
     requires { IsMaxPicOrderCntLsb max_pic_order_cnt_lsb }
-    ensures lists { (p : Head) (first : Slice) → IsHeadOf p pic.now → HasMembers first header.now set.now max_pic_order_cnt_lsb
-        → plain_set result ≡ five_lists p first (short_term_set first) (buffer_of dpb.old) (with_long_term p first (buffer_of dpb.old)) }
-    ensures marks { (p : Head) (first : Slice) → IsHeadOf p pic.now → HasMembers first header.now set.now max_pic_order_cnt_lsb
-        → buffer_of dpb.new ≡ map (marked_if (all_members (plain_set result))) (with_long_term p first (buffer_of dpb.old)) }
+    ensures lists { (p : Head) (first : Slice) → IsHeadOf p pic.now
+        → HasMembers first header.now set.now max_pic_order_cnt_lsb
+        → plain_set result
+        ≡ five_lists p first (short_term_set first) (buffer_of dpb.old)
+        (with_long_term p first (buffer_of dpb.old)) }
+    ensures marks { (p : Head) (first : Slice) → IsHeadOf p pic.now
+        → HasMembers first header.now set.now max_pic_order_cnt_lsb
+        → buffer_of dpb.new
+        ≡ map (marked_if (all_members (plain_set result)))
+        (with_long_term p first (buffer_of dpb.old)) }
     ensures kept { KeepsAllButMarks dpb.old dpb.new }
 {
     let order_count = pic.pic_order_cnt_val;
@@ -76,9 +83,11 @@ fn derive<T: Copy>(
     max_pic_order_cnt_lsb: i32,
 ) -> RefPicSet
     requires { IsMaxPicOrderCntLsb max_pic_order_cnt_lsb }
-    ensures set { (p : Head) (first : Slice) → IsHeadOf p pic.now → HasMembers first header.now set.now max_pic_order_cnt_lsb
+    ensures set { (p : Head) (first : Slice) → IsHeadOf p pic.now
+        → HasMembers first header.now set.now max_pic_order_cnt_lsb
         → plain_set result ≡ reference_set p first (buffer_of dpb.old) }
-    ensures marks { (p : Head) (first : Slice) → IsHeadOf p pic.now → HasMembers first header.now set.now max_pic_order_cnt_lsb
+    ensures marks { (p : Head) (first : Slice) → IsHeadOf p pic.now
+        → HasMembers first header.now set.now max_pic_order_cnt_lsb
         → buffer_of dpb.new ≡ with_marks p first (buffer_of dpb.old) }
     ensures kept { KeepsAllButMarks dpb.old dpb.new }
 {
@@ -103,18 +112,26 @@ pub fn derive_and_mark<T: Copy>(
     max_pic_order_cnt_lsb: i32,
 ) -> RefPicSet
     requires { IsMaxPicOrderCntLsb max_pic_order_cnt_lsb }
-    ensures set { (p : Head) (first : Slice) → IsHeadOf p pic.now → HasMembers first header.now set.now max_pic_order_cnt_lsb
+    ensures set { (p : Head) (first : Slice) → IsHeadOf p pic.now
+        → HasMembers first header.now set.now max_pic_order_cnt_lsb
         → plain_set result ≡ reference_set p first (buffer_of dpb.old) }
-    ensures marks { (p : Head) (first : Slice) → IsHeadOf p pic.now → HasMembers first header.now set.now max_pic_order_cnt_lsb
+    ensures marks { (p : Head) (first : Slice) → IsHeadOf p pic.now
+        → HasMembers first header.now set.now max_pic_order_cnt_lsb
         → buffer_of dpb.new ≡ with_marks p first (buffer_of dpb.old) }
     ensures kept { KeepsAllButMarks dpb.old dpb.new }
     // What a list names is used for reference, and nothing else is; no picture is a short-term and a long-term member.
-    ensures named { (p : Head) (first : Slice) → IsHeadOf p pic.now → HasMembers first header.now set.now max_pic_order_cnt_lsb
-        → (n : ℕ) → names n (all_members (plain_set result)) ≡ true → has_reference n (buffer_of dpb.new) ≡ true }
-    ensures exactly { (p : Head) (first : Slice) → IsHeadOf p pic.now → HasMembers first header.now set.now max_pic_order_cnt_lsb
-        → All (λ e. is_reference e.mark ≡ names e.number (all_members (plain_set result))) (buffer_of dpb.new) }
-    ensures apart { (p : Head) (first : Slice) → IsHeadOf p pic.now → HasMembers first header.now set.now max_pic_order_cnt_lsb
-        → (n : ℕ) → names n (short_term_members (plain_set result)) ≡ true → names n (long_term_members (plain_set result)) ≡ false }
+    ensures named { (p : Head) (first : Slice) → IsHeadOf p pic.now
+        → HasMembers first header.now set.now max_pic_order_cnt_lsb
+        → (n : ℕ) → names n (all_members (plain_set result)) ≡ true
+        → has_reference n (buffer_of dpb.new) ≡ true }
+    ensures exactly { (p : Head) (first : Slice) → IsHeadOf p pic.now
+        → HasMembers first header.now set.now max_pic_order_cnt_lsb
+        → All (λ e. is_reference e.mark ≡ names e.number (all_members (plain_set result)))
+        (buffer_of dpb.new) }
+    ensures apart { (p : Head) (first : Slice) → IsHeadOf p pic.now
+        → HasMembers first header.now set.now max_pic_order_cnt_lsb
+        → (n : ℕ) → names n (short_term_members (plain_set result)) ≡ true
+        → names n (long_term_members (plain_set result)) ≡ false }
 {
     derive(dpb, pic, header, set, max_pic_order_cnt_lsb)
 }

@@ -2,7 +2,7 @@
 ghost use Rattle.std.specs.Int.{int_rem_euclid};
 ghost use Rattle.std.specs.Prelude.{◌≡◌, ◌≤◌, ◌<◌, ◌+◌, ◌*◌, ◌&&◌, ◌<ℤ◌, ◌≤ℤ◌, ℕ, pos, not, map, filter};
 ghost use Rattle.arrayvec.specs.ArrayVec.{array_vec_len};
-ghost use Rattle.hevc_stream.specs.Headers.{long_term_member, long_term_members};
+ghost use Rattle.hevc_views.specs.Headers.{long_term_member, long_term_members};
 ghost use Rattle.hevc_types_d.specs.SliceHeader.{plain_slice_header};
 ghost use Rattle.hevc_walk.specs.Meanings.{Slice};
 ghost use Rattle.hevc_walk.specs.Pictures.{Head};
@@ -50,8 +50,11 @@ fn sought(order_count: i32, header: &SliceHeader, i: usize, modulus: i32) -> Sou
     requires within { i < 16 }
     requires modulus { IsMaxPicOrderCntLsb modulus }
     ensures modulus { HasModulus result }
-    ensures fits { (p : Head) (first : Slice) (e : Entry) → order_count ≡ p.order_count → modulus ≡ pos first.max_pic_order_cnt_lsb
-        → fits result e ≡ (is_reference e.mark && is_named p first (long_term_member (plain_slice_header header.now) i).poc_lsb
+    ensures fits { (p : Head) (first : Slice) (e : Entry) → order_count ≡ p.order_count
+        → modulus ≡ pos first.max_pic_order_cnt_lsb
+        → fits result e
+        ≡ (is_reference e.mark && is_named p first
+        (long_term_member (plain_slice_header header.now) i).poc_lsb
         (long_term_member (plain_slice_header header.now) i).delta_poc_msb_cycle e.order_count) }
 {
     let lsb = header.poc_lsb_lt[i];
@@ -73,8 +76,10 @@ fn number_of<T: Copy>(
 ) -> Option<u64>
     requires within { i < 16 }
     requires modulus { IsMaxPicOrderCntLsb modulus }
-    ensures { (p : Head) (first : Slice) → order_count ≡ p.order_count → modulus ≡ pos first.max_pic_order_cnt_lsb
-        → result ≡ long_term_entry p first (buffer_of dpb.now) (long_term_member (plain_slice_header header.now) i) }
+    ensures { (p : Head) (first : Slice) → order_count ≡ p.order_count
+        → modulus ≡ pos first.max_pic_order_cnt_lsb
+        → result ≡ long_term_entry p first (buffer_of dpb.now)
+        (long_term_member (plain_slice_header header.now) i) }
 {
     dpb.find(sought(order_count, header, i, modulus))
 }
@@ -94,12 +99,15 @@ pub(crate) fn find_long_term<T: Copy>(
     modulus: i32,
 ) -> LongTermPics
     requires { IsMaxPicOrderCntLsb modulus }
-    ensures curr { (p : Head) (first : Slice) → order_count ≡ p.order_count → modulus ≡ pos first.max_pic_order_cnt_lsb
+    ensures curr { (p : Head) (first : Slice) → order_count ≡ p.order_count
+        → modulus ≡ pos first.max_pic_order_cnt_lsb
         → result.curr.items ≡ map (long_term_entry p first (buffer_of dpb.now))
         (filter is_curr_long_term (long_term_members (plain_slice_header header.now))) }
-    ensures foll { (p : Head) (first : Slice) → order_count ≡ p.order_count → modulus ≡ pos first.max_pic_order_cnt_lsb
+    ensures foll { (p : Head) (first : Slice) → order_count ≡ p.order_count
+        → modulus ≡ pos first.max_pic_order_cnt_lsb
         → result.foll.items ≡ map (long_term_entry p first (buffer_of dpb.now))
-        (filter (λ m. not (is_curr_long_term m)) (long_term_members (plain_slice_header header.now))) }
+        (filter (λ m. not (is_curr_long_term m))
+        (long_term_members (plain_slice_header header.now))) }
 {
     let mut curr = ArrayVec::new();
     let mut foll = ArrayVec::new();

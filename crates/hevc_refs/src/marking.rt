@@ -65,7 +65,8 @@ fn long_term_mark<T: Copy>(
     curr: &[Option<u64>],
     foll: &[Option<u64>],
 ) -> Reference
-    ensures { record (plain_entry entry.now) { mark = mark_of result } ≡ long_term_if (curr.now ++ foll.now) (plain_entry entry.now) }
+    ensures { record (plain_entry entry.now) { mark = mark_of result }
+        ≡ long_term_if (curr.now ++ foll.now) (plain_entry entry.now) }
 {
     if either_names(curr, foll, entry.number) {
         Reference::LongTerm
@@ -88,7 +89,8 @@ fn kept_mark<T: Copy>(entry: &DpbEntry<T>, set: &RefPicSet) -> Reference
 
 /// Long-term members are marked.
 pub(crate) fn mark_long_term<T: Copy>(dpb: &mut Dpb<T>, curr: &[Option<u64>], foll: &[Option<u64>])
-    ensures buffer { buffer_of dpb.new ≡ map (long_term_if (curr.now ++ foll.now)) (buffer_of dpb.old) }
+    ensures buffer { buffer_of dpb.new
+        ≡ map (long_term_if (curr.now ++ foll.now)) (buffer_of dpb.old) }
     ensures kept { KeepsAllButMarks dpb.old dpb.new }
 {
     for position in 0..dpb.len() {
@@ -99,7 +101,8 @@ pub(crate) fn mark_long_term<T: Copy>(dpb: &mut Dpb<T>, curr: &[Option<u64>], fo
 
 /// What no list names is marked as unused for reference.
 pub(crate) fn unmark_others<T: Copy>(dpb: &mut Dpb<T>, set: &RefPicSet)
-    ensures buffer { buffer_of dpb.new ≡ map (marked_if (all_members (plain_set set.now))) (buffer_of dpb.old) }
+    ensures buffer { buffer_of dpb.new
+        ≡ map (marked_if (all_members (plain_set set.now))) (buffer_of dpb.old) }
     ensures kept { KeepsAllButMarks dpb.old dpb.new }
 {
     for position in 0..dpb.len() {

@@ -19,7 +19,8 @@ type Base = ArrayVec<Option<RefPicListEntry>, 49>;
 /// Pictures are appended to a base.
 fn append(base: &mut Base, numbers: &[Option<u64>])
     requires { array_vec_len base.old + length numbers.now ≤ 49 }
-    ensures appended { plain_places base.new.items ≡ plain_places base.old.items ++ map entry_of_number numbers.now }
+    ensures appended { plain_places base.new.items
+        ≡ plain_places base.old.items ++ map entry_of_number numbers.now }
     ensures whole { array_vec_len base.new ≡ array_vec_len base.old + length numbers.now }
 {
     for number in numbers {
@@ -47,7 +48,8 @@ fn base_of(
     requires first { length first.now ≤ 16 }
     requires second { length second.now ≤ 16 }
     requires long_term { length long_term.now ≤ 16 }
-    ensures { plain_places result.items ≡ map entry_of_number (first.now ++ second.now ++ long_term.now)
+    ensures { plain_places result.items
+        ≡ map entry_of_number (first.now ++ second.now ++ long_term.now)
         ++ (if curr_pic_ref_enabled then Some walk.CurrentPicture ∷ [] else []) }
 {
     let mut base = ArrayVec::new();
@@ -102,7 +104,10 @@ fn places(
     requires few { active ≤ 16 }
     requires entries { is_changed ≡ true → length list_entry.now ≡ active }
     ensures places { plain_places result.items ≡ list_places
-        (record { num_ref_idx_active = active; list_entry = if is_changed then Some list_entry.now else None }) (plain_places base.now) }
+        (record {
+          num_ref_idx_active = active;
+          list_entry = if is_changed then Some list_entry.now else None;
+        }) (plain_places base.now) }
     ensures whole { array_vec_len result ≡ active }
 {
     let mut places = ArrayVec::new();
@@ -116,7 +121,8 @@ fn places(
 fn put_current_last(places: &mut ArrayVec<Option<RefPicListEntry>, 16>)
     requires some { 1 ≤ array_vec_len places.old }
     requires few { array_vec_len places.old ≤ 16 }
-    ensures { plain_places places.new.items ≡ take (array_vec_len places.old - 1) (plain_places places.old.items)
+    ensures { plain_places places.new.items
+        ≡ take (array_vec_len places.old - 1) (plain_places places.old.items)
         ++ Some walk.CurrentPicture ∷ [] }
 {
     places.pop();
@@ -126,7 +132,8 @@ fn put_current_last(places: &mut ArrayVec<Option<RefPicListEntry>, 16>)
 /// RefPicList0 of a slice that isn't an I slice (8-9).
 fn inter_list0(header: &SliceHeader, sets: &RefPicSet, curr_pic_ref_enabled: bool) -> RefPicList
     ensures { (s : Slice) → HasHeader s header.now curr_pic_ref_enabled
-        → plain_places (places_of result) ≡ with_current s (list_places s.list0 (base0 (plain_set sets.now) s)) }
+        → plain_places (places_of result)
+        ≡ with_current s (list_places s.list0 (base0 (plain_set sets.now) s)) }
 {
     let modification = &header.ref_pic_list_modification;
     let is_changed = modification.ref_pic_list_modification_flag_l0;

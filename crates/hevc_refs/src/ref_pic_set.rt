@@ -75,7 +75,8 @@ impl RefPicSet {
 /// A member is pushed where it is wanted.
 pub(crate) fn push_if(list: &mut ArrayVec<Option<u64>, 16>, number: Option<u64>, is_wanted: bool)
     requires { array_vec_len list.old < 16 }
-    ensures pushed { list.new.items ≡ (if is_wanted then list.old.items ++ number ∷ [] else list.old.items) }
+    ensures pushed { list.new.items
+        ≡ (if is_wanted then list.old.items ++ number ∷ [] else list.old.items) }
     ensures few { array_vec_len list.new ≤ array_vec_len list.old + 1 }
 {
     if is_wanted {

@@ -2,7 +2,7 @@
 ghost use Rattle.std.specs.Prelude.{◌≡◌, ◌≤◌, ◌+◌, ◌++◌, ◌&&◌, ◌+ℤ◌, not, map, filter, if◌then◌else◌};
 ghost use Rattle.std.specs.Ordering.{int_eq};
 ghost use Rattle.arrayvec.specs.ArrayVec.{array_vec_len};
-ghost use Rattle.hevc_stream.specs.Headers.{short_term_members, short_term_set_of};
+ghost use Rattle.hevc_views.specs.Headers.{short_term_members, short_term_set_of};
 ghost use Rattle.hevc_types_a.specs.ShortTermRefPicSet.{plain_short_term_ref_pic_set};
 ghost use Rattle.hevc_walk.specs.Pictures.{Head};
 ghost use Rattle.hevc_walk.specs.ReferenceSets.{first_number, is_short_term, short_term_entry, is_curr_short_term};
@@ -16,7 +16,9 @@ use hevc_types_a::ShortTermRefPicSet;
 
 /// The first short-term reference picture whose order count differs so from this one.
 fn number_of<T: Copy>(dpb: &Dpb<T>, order_count: i32, delta: i32) -> Option<u64>
-    ensures { result ≡ first_number (λ e. is_short_term e.mark && int_eq e.order_count (order_count +ℤ delta)) (buffer_of dpb.now) }
+    ensures { result
+        ≡ first_number (λ e. is_short_term e.mark && int_eq e.order_count (order_count +ℤ delta))
+        (buffer_of dpb.now) }
 {
     dpb.find(Sought::ShortTermCount(order_count as i128 + delta as i128))
 }
@@ -41,7 +43,8 @@ fn push_members<T: Copy>(
     requires half { count ≤ 16 }
     requires few { array_vec_len out.old + count ≤ 16 }
     ensures pushed { (p : Head) → order_count ≡ p.order_count → out.new.items ≡ out.old.items
-        ++ map (short_term_entry p (buffer_of dpb.now)) (filter (is_wanted wanted) (short_term_members count deltas.now used.now)) }
+        ++ map (short_term_entry p (buffer_of dpb.now))
+        (filter (is_wanted wanted) (short_term_members count deltas.now used.now)) }
     ensures few { array_vec_len out.new ≤ array_vec_len out.old + count }
 {
     for i in 0..count {
@@ -64,12 +67,18 @@ pub(crate) fn find_short_term<T: Copy>(
     order_count: i32,
     set: &ShortTermRefPicSet,
 ) -> ShortTermPics
-    ensures before { (p : Head) → order_count ≡ p.order_count → result.before.items ≡ map (short_term_entry p (buffer_of dpb.now))
-        (filter is_curr_short_term (short_term_set_of (plain_short_term_ref_pic_set set.now)).negative_pics) }
-    ensures after { (p : Head) → order_count ≡ p.order_count → result.after.items ≡ map (short_term_entry p (buffer_of dpb.now))
-        (filter is_curr_short_term (short_term_set_of (plain_short_term_ref_pic_set set.now)).positive_pics) }
-    ensures foll { (p : Head) → order_count ≡ p.order_count → result.foll.items ≡ map (short_term_entry p (buffer_of dpb.now))
-        (filter (λ m. not (is_curr_short_term m)) ((short_term_set_of (plain_short_term_ref_pic_set set.now)).negative_pics
+    ensures before { (p : Head) → order_count ≡ p.order_count
+        → result.before.items ≡ map (short_term_entry p (buffer_of dpb.now))
+        (filter is_curr_short_term
+        (short_term_set_of (plain_short_term_ref_pic_set set.now)).negative_pics) }
+    ensures after { (p : Head) → order_count ≡ p.order_count
+        → result.after.items ≡ map (short_term_entry p (buffer_of dpb.now))
+        (filter is_curr_short_term
+        (short_term_set_of (plain_short_term_ref_pic_set set.now)).positive_pics) }
+    ensures foll { (p : Head) → order_count ≡ p.order_count
+        → result.foll.items ≡ map (short_term_entry p (buffer_of dpb.now))
+        (filter (λ m. not (is_curr_short_term m))
+        ((short_term_set_of (plain_short_term_ref_pic_set set.now)).negative_pics
         ++ (short_term_set_of (plain_short_term_ref_pic_set set.now)).positive_pics)) }
 {
     let (num_negative, num_positive) = (

@@ -24,7 +24,8 @@ pub(crate) fn read_coded<const N: usize>(
 ) -> Result<(), ParseError>
     requires count { N ≡ table.coef_num (plain_size size) }
     requires there { matrix_id < 6 }
-    ensures { Fills plain_matrices (table.coded_matrix (plain_size size) matrix_id) result all.old all.new r.old r.new }
+    ensures { Fills plain_matrices
+        (table.coded_matrix (plain_size size) matrix_id) result all.old all.new r.old r.new }
 {
     let dc_coef_minus8 = read_dc_if(r, has_dc_coef(size))?;
     let coefs = read_coefs(r, (dc_coef_minus8 + 8) as u8)?;
@@ -35,7 +36,8 @@ pub(crate) fn read_coded<const N: usize>(
 /// Row 3 of table 6, where it is present.
 #[tactic(auto, unfolding(hevc_spec::specs::Rows::when))]
 fn read_dc_if(r: &mut NaluReader<'_>, present: bool) -> Result<i16, ParseError>
-    ensures read { Reads (λ n. n) result r.new (read (when present (pos 0) (se_row (row 6 3) (negsuc 6) (pos 247))) (bits r.old)) }
+    ensures read { Reads (λ n. n) result r.new
+        (read (when present (pos 0) (se_row (row 6 3) (negsuc 6) (pos 247))) (bits r.old)) }
     ensures moves { IsAhead r.old r.new }
     ensures bounds { IfOk result (λ n. (negsuc 6 ≤ℤ n) × (n ≤ℤ pos 247)) }
 {

@@ -21,7 +21,8 @@ pub(crate) fn read_matrices<const N: usize>(
     defaults: &[[u8; N]; 6],
 ) -> Result<Matrices<N>, ParseError>
     requires { N ≡ table.coef_num (plain_size size) }
-    ensures read { Reads plain_matrices result r.new (read (table.matrices (plain_size size) defaults.now) (bits r.old)) }
+    ensures read { Reads plain_matrices result r.new
+        (read (table.matrices (plain_size size) defaults.now) (bits r.old)) }
     ensures moves { IsAhead r.old r.new }
 {
     let mut all = Matrices {
@@ -45,7 +46,9 @@ fn read_next<const N: usize>(
 ) -> Result<(), ParseError>
     requires count { N ≡ table.coef_num (plain_size size) }
     requires there { matrix_id < 6 }
-    ensures { Fills plain_matrices (table.next_matrix (plain_size size) defaults.now matrix_id) result all.old all.new r.old r.new }
+    ensures { Fills plain_matrices
+        (table.next_matrix
+        (plain_size size) defaults.now matrix_id) result all.old all.new r.old r.new }
 {
     if has_matrix(size, matrix_id) {
         read_matrix(r, size, defaults, matrix_id, all)?;
@@ -64,7 +67,8 @@ fn read_matrix<const N: usize>(
 ) -> Result<(), ParseError>
     requires count { N ≡ table.coef_num (plain_size size) }
     requires there { matrix_id < 6 }
-    ensures { Fills plain_matrices (table.matrix (plain_size size) defaults.now matrix_id) result all.old all.new r.old r.new }
+    ensures { Fills plain_matrices
+        (table.matrix (plain_size size) defaults.now matrix_id) result all.old all.new r.old r.new }
 {
     if flag(r, Row(6, 1))? {
         read_coded(r, size, matrix_id, all)
@@ -83,7 +87,9 @@ fn read_predicted<const N: usize>(
     all: &mut Matrices<N>,
 ) -> Result<(), ParseError>
     requires { matrix_id < 6 }
-    ensures { Fills plain_matrices (table.predicted_matrix (plain_size size) defaults.now matrix_id) result all.old all.new r.old r.new }
+    ensures { Fills plain_matrices
+        (table.predicted_matrix
+        (plain_size size) defaults.now matrix_id) result all.old all.new r.old r.new }
 {
     let delta = ue_u8(r, Row(6, 2), 0, max_delta(size, matrix_id))?;
     if delta == 0 {
@@ -97,7 +103,8 @@ fn read_predicted<const N: usize>(
 /// Puts the default matrix at its matrixId.
 fn put_default<const N: usize>(defaults: &[[u8; N]; 6], matrix_id: u8, all: &mut Matrices<N>)
     requires { matrix_id < 6 }
-    ensures { plain_matrices all.new ≡ table.with_default defaults.now matrix_id (plain_matrices all.old) }
+    ensures { plain_matrices all.new
+        ≡ table.with_default defaults.now matrix_id (plain_matrices all.old) }
 {
     put_matrix(8, &defaults[usize::from(matrix_id)], matrix_id, all);
 }
@@ -107,7 +114,8 @@ fn put_default<const N: usize>(defaults: &[[u8; N]; 6], matrix_id: u8, all: &mut
 fn put_copy<const N: usize>(ref_matrix_id: u8, matrix_id: u8, all: &mut Matrices<N>)
     requires earlier { ref_matrix_id < 6 }
     requires there { matrix_id < 6 }
-    ensures { plain_matrices all.new ≡ table.with_copy ref_matrix_id matrix_id (plain_matrices all.old) }
+    ensures { plain_matrices all.new
+        ≡ table.with_copy ref_matrix_id matrix_id (plain_matrices all.old) }
 {
     let entries = all.entries[usize::from(ref_matrix_id)];
     put_matrix(
@@ -129,7 +137,8 @@ pub(crate) fn put_matrix<const N: usize>(
     requires least { negsuc 6 ≤ℤ dc_coef_minus8 }
     requires most { dc_coef_minus8 ≤ℤ pos 247 }
     requires there { matrix_id < 6 }
-    ensures { plain_matrices all.new ≡ table.with_matrix (plain_matrices all.old) matrix_id dc_coef_minus8 entries.now }
+    ensures { plain_matrices all.new
+        ≡ table.with_matrix (plain_matrices all.old) matrix_id dc_coef_minus8 entries.now }
 {
     all.dc_coef_minus8[usize::from(matrix_id)] = dc_coef_minus8;
     all.entries[usize::from(matrix_id)] = *entries;

@@ -1,5 +1,5 @@
 -- Bounds on the numbers of sub-layers, and lists that grow.
-use Rattle.std.proofs.Common.{◌≡◌, ℕ, zero, suc, ◌+◌, ◌-◌, ◌≤◌, List, ◌++◌, replicate, rules, arith, IsTrue}
+use Rattle.std.proofs.Common.{ℕ, zero, suc, ◌+◌, ◌-◌, ◌≤◌, List, ◌++◌, replicate, rules, arith}
 use Rattle.std.proofs.lemmas.List.{map-append, length-append, length-map}
 use Rattle.hevc_records.specs.Bounds.{AtMost, AtMostEach}
 use Rattle.hevc_records.proofs.BoundLemmas.{AtMost-at, AtMost-set, AtMostEach-set}

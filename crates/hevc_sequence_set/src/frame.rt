@@ -67,7 +67,8 @@ fn read_window(r: &mut NaluReader<'_>, sps: &mut Sps) -> Result<(), ParseError>
 /// Whether the conformance cropping window leaves some of the picture.
 #[tactic(auto, unfolding(hevc_records::specs::SpsSizes::leaves_some))]
 fn leaves_part(sps: &Sps, left: u32, right: u32, top: u32, bottom: u32) -> bool
-    ensures { result ≡ leaves_some sps.now.chroma_array_type sps.now.pic_width_in_luma_samples sps.now.pic_height_in_luma_samples left right top bottom }
+    ensures { result ≡ leaves_some sps.now.chroma_array_type
+        sps.now.pic_width_in_luma_samples sps.now.pic_height_in_luma_samples left right top bottom }
 {
     let width = u64::from(sps.pic_width_in_luma_samples);
     let height = u64::from(sps.pic_height_in_luma_samples);

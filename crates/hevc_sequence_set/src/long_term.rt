@@ -1,13 +1,12 @@
 //! The long-term pictures that slices may name (7.3.2.2.1, rows 37 to 40 of table 5).
-ghost use Rattle.std.specs.Prelude.{◌≤◌, ◌<◌, IfOk};
-ghost use Rattle.hevc_spec.specs.Rows.{row, ue_row};
-ghost use Rattle.hevc_elements.specs.Words.{bits, IsAhead, read, when, Reads, Fills};
+ghost use Rattle.std.specs.Prelude.{◌<◌};
+ghost use Rattle.hevc_elements.specs.Words.{Fills};
 ghost use Rattle.hevc_tables.specs.SpsTable as table;
 ghost use Rattle.hevc_types_c.specs.Sps.{plain_sps};
 
 use hevc_bits::NaluReader;
 use hevc_elements::ParseError;
-use hevc_elements::rows::{bits_u32, flag, ue_u8};
+use hevc_elements::rows::{bits_u32, flag, ue_u8_if};
 use hevc_spec::Row;
 use hevc_types_c::Sps;
 
@@ -17,24 +16,10 @@ pub(crate) fn read_long_term(r: &mut NaluReader<'_>, sps: &mut Sps) -> Result<()
     ensures { Fills plain_sps table.long_term result sps.old sps.new r.old r.new }
 {
     let present = flag(r, Row(5, 37))?;
-    let count = read_count(r, present)?;
+    let count = ue_u8_if(r, present, Row(5, 38), 0, 32)?;
     sps.long_term_ref_pics_present_flag = present;
     sps.num_long_term_ref_pics_sps = count;
     read_pictures(r, sps)
-}
-
-/// Row 38 of table 5, where it is present.
-#[tactic(auto, unfolding(hevc_spec::specs::Rows::when))]
-fn read_count(r: &mut NaluReader<'_>, present: bool) -> Result<u8, ParseError>
-    ensures read { Reads (λ n. n) result r.new (read (when present 0 (ue_row (row 5 38) 0 32)) (bits r.old)) }
-    ensures moves { IsAhead r.old r.new }
-    ensures bounds { IfOk result (λ n. n ≤ 32) }
-{
-    if present {
-        ue_u8(r, Row(5, 38), 0, 32)
-    } else {
-        Ok(0)
-    }
 }
 
 /// Rows 39 and 40 of table 5, for each picture.

@@ -14,7 +14,8 @@ use hevc_types_c::SpsRangeExtension;
 pub(crate) fn read_sps_range_extension(
     r: &mut NaluReader<'_>,
 ) -> Result<SpsRangeExtension, ParseError>
-    ensures read { Reads plain_sps_range_extension result r.new (read sps_range_extension (bits r.old)) }
+    ensures read { Reads plain_sps_range_extension result r.new
+        (read sps_range_extension (bits r.old)) }
     ensures moves { IsAhead r.old r.new }
 {
     let row = Row(9, 1);

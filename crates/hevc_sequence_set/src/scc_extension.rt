@@ -18,7 +18,8 @@ pub(crate) fn read_sps_scc_extension(
     r: &mut NaluReader<'_>,
     format: SampleFormat,
 ) -> Result<SpsSccExtension, ParseError>
-    ensures read { Reads plain_sps_scc_extension result r.new (read (table.sps_scc_extension (plain_format format)) (bits r.old)) }
+    ensures read { Reads plain_sps_scc_extension result r.new
+        (read (table.sps_scc_extension (plain_format format)) (bits r.old)) }
     ensures moves { IsAhead r.old r.new }
 {
     let mut x = SpsSccExtension::new();
@@ -39,7 +40,8 @@ fn read_palettes(
     format: SampleFormat,
     x: &mut SpsSccExtension,
 ) -> Result<(), ParseError>
-    ensures { Fills plain_sps_scc_extension (table.palettes (plain_format format)) result x.old x.new r.old r.new }
+    ensures { Fills plain_sps_scc_extension
+        (table.palettes (plain_format format)) result x.old x.new r.old r.new }
 {
     let size = ue_u8(r, Row(10, 2), 0, 64)?;
     let delta = ue_u8(r, Row(10, 3), 0, 128 - size)?;
@@ -61,7 +63,8 @@ fn read_initializers(
     format: SampleFormat,
     x: &mut SpsSccExtension,
 ) -> Result<(), ParseError>
-    ensures { Fills plain_sps_scc_extension (table.initializers (plain_format format)) result x.old x.new r.old r.new }
+    ensures { Fills plain_sps_scc_extension
+        (table.initializers (plain_format format)) result x.old x.new r.old r.new }
 {
     let most = x.palette_max_size + x.delta_palette_max_predictor_size;
     let least = if most == 0 { 1 } else { 0 };
@@ -79,7 +82,8 @@ fn read_predictors(
     x: &mut SpsSccExtension,
 ) -> Result<(), ParseError>
     requires { count ≤ 128 }
-    ensures { Fills plain_sps_scc_extension (table.predictors (plain_format format) count) result x.old x.new r.old r.new }
+    ensures { Fills plain_sps_scc_extension
+        (table.predictors (plain_format format) count) result x.old x.new r.old r.new }
 {
     let num_components = if format.chroma_format_idc == 0 { 1 } else { 3 };
     for component in 0..num_components {
@@ -99,7 +103,9 @@ fn read_component(
 ) -> Result<(), ParseError>
     requires many { count ≤ 128 }
     requires there { component < 3 }
-    ensures { Fills plain_sps_scc_extension (table.component_predictors (plain_format format) count component) result x.old x.new r.old r.new }
+    ensures { Fills plain_sps_scc_extension
+        (table.component_predictors
+        (plain_format format) count component) result x.old x.new r.old r.new }
 {
     for i in 0..count {
         read_predictor(r, format, component, i, x)?;
@@ -118,7 +124,8 @@ fn read_predictor(
 ) -> Result<(), ParseError>
     requires component { component < 3 }
     requires there { i < 128 }
-    ensures { Fills plain_sps_scc_extension (table.predictor (plain_format format) component i) result x.old x.new r.old r.new }
+    ensures { Fills plain_sps_scc_extension
+        (table.predictor (plain_format format) component i) result x.old x.new r.old r.new }
 {
     let depth = format.bit_depth(component);
     let predictor = bits_u32(r, Row(10, 6), depth, 0, (1u32 << depth) - 1)?;

@@ -32,9 +32,13 @@ use std::alloc::Global;
 #[tactic(auto, using(hevc_elements::proofs::SetMeaning::set_meanings, crate::proofs::Orders::are_in_order))]
 pub fn read_sps(alloc: Global, nalu: &Nalu<'_, NaluHeader>) -> Result<Sps, ParseError>
     requires { length nalu.now.stream < 2 ^ 60 }
-    ensures wrong_type { IsErrOf result ParseError.WrongNaluType ↔ ¬ (nalu.now.header.nal_unit_type ≡ 33) }
-    ensures read { nalu.now.header.nal_unit_type ≡ 33 → ReadsSet plain_sps result (read table.sequence_parameter_set (payload (bytes_of nalu.now))) }
-    ensures means { nalu.now.header.nal_unit_type ≡ 33 → MeansSet plain_sps table.sequence_parameter_set result (payload (bytes_of nalu.now)) }
+    ensures wrong_type { IsErrOf result ParseError.WrongNaluType
+        ↔ ¬ (nalu.now.header.nal_unit_type ≡ 33) }
+    ensures read { nalu.now.header.nal_unit_type ≡ 33
+        → ReadsSet plain_sps result
+        (read table.sequence_parameter_set (payload (bytes_of nalu.now))) }
+    ensures means { nalu.now.header.nal_unit_type ≡ 33
+        → MeansSet plain_sps table.sequence_parameter_set result (payload (bytes_of nalu.now)) }
     ensures names_no_set { IfErr result NamesNoSet }
     // Along every chain of predictions negatives fall, positives rise, and none is 0.
     ensures predictions { IfOk result (λ sps. AreInOrder sps.short_term_ref_pic_set) }
@@ -56,7 +60,8 @@ fn is_sequence_set(nalu_type: NaluType) -> bool
 #[tactic(auto, using(hevc_elements::proofs::SetMeaning::sets_from_growing))]
 fn read_payload(alloc: Global, payload: &[u8]) -> Result<Sps, ParseError>
     requires { length payload.now < 2 ^ 60 }
-    ensures read { ReadsSet plain_sps result (read table.sequence_parameter_set (payload_bits 0 payload.now)) }
+    ensures read { ReadsSet plain_sps result
+        (read table.sequence_parameter_set (payload_bits 0 payload.now)) }
     ensures names_no_set { IfErr result NamesNoSet }
 {
     read_rows(alloc, &mut NaluReader::new(payload))
@@ -65,7 +70,8 @@ fn read_payload(alloc: Global, payload: &[u8]) -> Result<Sps, ParseError>
 /// Rows 1 to 50 of table 5.
 #[tactic(auto, unfolding(hevc_tables::specs::SpsTable::sequence_parameter_set))]
 fn read_rows(alloc: Global, r: &mut NaluReader<'_>) -> Result<Sps, ParseError>
-    ensures read { ReadsGrowing plain_sps result r.new (read table.sequence_parameter_set (bits r.old)) }
+    ensures read { ReadsGrowing plain_sps result r.new
+        (read table.sequence_parameter_set (bits r.old)) }
     ensures moves { IsAhead r.old r.new }
 {
     let mut sps = Sps::new(alloc);

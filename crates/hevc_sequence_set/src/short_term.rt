@@ -41,7 +41,8 @@ fn read_sets(
 ) -> Result<Items<ShortTermRefPicSet>, ParseError>
     requires few { count ≤ 64 }
     requires room { buffering ≤ 16 }
-    ensures read { ReadsGrowing (λ sets. map plain_short_term_ref_pic_set sets) result r.new (read (table.short_term_sets count buffering) (bits r.old)) }
+    ensures read { ReadsGrowing (λ sets. map plain_short_term_ref_pic_set sets) result r.new
+        (read (table.short_term_sets count buffering) (bits r.old)) }
     ensures moves { IsAhead r.old r.new }
     ensures all { IfOk result (λ sets. length sets ≡ count) }
 {

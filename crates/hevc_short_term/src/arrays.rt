@@ -6,7 +6,7 @@ ghost use Rattle.hevc_tables.specs.ShortTermTable.{deltas, used, is_i32, array_o
 use hevc_tables::ShortTermMember;
 
 /// The differences of members, and zeros behind them.
-#[tactic(auto, using(crate::proofs::FilledArrays::arrays, crate::proofs::Parts::fit_at))]
+#[tactic(auto, using(hevc_short_term_laws::proofs::FilledArrays::arrays, hevc_short_term_laws::proofs::Parts::fit_at))]
 pub(crate) fn difference_array(members: &[ShortTermMember]) -> [i32; 16]
     requires few { length members.now ≤ 16 }
     requires fit { IsTrue (list_all is_i32 (deltas members.now)) }
@@ -28,7 +28,7 @@ fn difference(member: &ShortTermMember) -> i32
 }
 
 /// Which members the current picture may refer to, and none behind them.
-#[tactic(auto, using(crate::proofs::FilledArrays::arrays))]
+#[tactic(auto, using(hevc_short_term_laws::proofs::FilledArrays::arrays))]
 pub(crate) fn used_array(members: &[ShortTermMember]) -> [bool; 16]
     requires { length members.now ≤ 16 }
     ensures { result ≡ array_of false (used members.now) }

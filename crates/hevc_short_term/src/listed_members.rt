@@ -4,7 +4,7 @@ ghost use Rattle.hevc_spec.specs.Payload.{bits, IsAhead};
 ghost use Rattle.hevc_spec.specs.Table.{read};
 ghost use Rattle.hevc_elements.specs.Reads.{Reads};
 ghost use Rattle.hevc_tables.specs.ShortTermTable.{member_before, member_after, listed_before, listed_after, last_delta};
-ghost use Rattle.hevc_short_term.specs.Sides.{LieBefore, LieAfter};
+ghost use Rattle.hevc_short_term_laws.specs.Sides.{LieBefore, LieAfter};
 
 use arrayvec::ArrayVec;
 use hevc_bits::NaluReader;
@@ -14,7 +14,7 @@ use hevc_spec::Row;
 use hevc_tables::ShortTermMember;
 
 /// Rows 9 and 10 of table 7, for so many members.
-#[tactic(auto, using(hevc_elements::proofs::Loops::loops, crate::proofs::Listed::listed), unfolding(hevc_tables::specs::ShortTermTable::listed_before, hevc_tables::specs::ShortTermTable::next_member_before))]
+#[tactic(auto, using(hevc_elements::proofs::Loops::loops, hevc_short_term_laws::proofs::Listed::listed), unfolding(hevc_tables::specs::ShortTermTable::listed_before, hevc_tables::specs::ShortTermTable::next_member_before))]
 pub(crate) fn read_listed_before(
     r: &mut NaluReader<'_>,
     count: u8,
@@ -41,7 +41,8 @@ fn read_member_before(
 ) -> Result<ShortTermMember, ParseError>
     requires least { negsuc 4294967295 ≤ℤ last_delta members.now }
     requires most { last_delta members.now ≤ℤ pos 0 }
-    ensures read { Reads (λ m. m) result r.new (read (member_before (last_delta members.now)) (bits r.old)) }
+    ensures read { Reads (λ m. m) result r.new
+        (read (member_before (last_delta members.now)) (bits r.old)) }
     ensures moves { IsAhead r.old r.new }
     ensures below { IfOk result (λ m. m.delta_poc <ℤ last_delta members.now) }
     ensures near { IfOk result (λ m. (last_delta members.now -ℤ pos 32768) ≤ℤ m.delta_poc) }
@@ -55,7 +56,7 @@ fn read_member_before(
 }
 
 /// Rows 11 and 12 of table 7, for so many members.
-#[tactic(auto, using(hevc_elements::proofs::Loops::loops, crate::proofs::Listed::listed), unfolding(hevc_tables::specs::ShortTermTable::listed_after, hevc_tables::specs::ShortTermTable::next_member_after))]
+#[tactic(auto, using(hevc_elements::proofs::Loops::loops, hevc_short_term_laws::proofs::Listed::listed), unfolding(hevc_tables::specs::ShortTermTable::listed_after, hevc_tables::specs::ShortTermTable::next_member_after))]
 pub(crate) fn read_listed_after(
     r: &mut NaluReader<'_>,
     count: u8,
@@ -82,7 +83,8 @@ fn read_member_after(
 ) -> Result<ShortTermMember, ParseError>
     requires least { pos 0 ≤ℤ last_delta members.now }
     requires most { last_delta members.now ≤ℤ pos 4294967295 }
-    ensures read { Reads (λ m. m) result r.new (read (member_after (last_delta members.now)) (bits r.old)) }
+    ensures read { Reads (λ m. m) result r.new
+        (read (member_after (last_delta members.now)) (bits r.old)) }
     ensures moves { IsAhead r.old r.new }
     ensures above { IfOk result (λ m. last_delta members.now <ℤ m.delta_poc) }
     ensures near { IfOk result (λ m. m.delta_poc ≤ℤ (last_delta members.now +ℤ pos 32768)) }
@@ -96,7 +98,7 @@ fn read_member_after(
 }
 
 /// The difference of the last member, else 0.
-#[tactic(auto, using(crate::proofs::Listed::last_is))]
+#[tactic(auto, using(hevc_short_term_laws::proofs::Listed::last_is))]
 fn difference_of_last(members: &[ShortTermMember]) -> i64
     ensures { result ≡ last_delta members.now }
 {

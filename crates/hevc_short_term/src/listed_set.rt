@@ -20,7 +20,8 @@ pub(crate) fn read_listed_set(
     set: &mut ShortTermRefPicSet,
 ) -> Result<(), ParseError>
     requires { buffering ≤ 16 }
-    ensures { Fills plain_short_term_ref_pic_set (table.listed_set buffering) result set.old set.new r.old r.new }
+    ensures { Fills plain_short_term_ref_pic_set
+        (table.listed_set buffering) result set.old set.new r.old r.new }
 {
     let num_negative_pics = ue_u8(r, Row(7, 7), 0, buffering)?;
     let num_positive_pics = ue_u8(r, Row(7, 8), 0, buffering - num_negative_pics)?;

@@ -19,7 +19,8 @@ pub(crate) fn read_all_flags(
     num_delta_pocs: u32,
 ) -> Result<ArrayVec<MemberFlags, 17>, ParseError>
     requires { num_delta_pocs ≤ 16 }
-    ensures read { Reads (λ flags. flags.items) result r.new (read (all_member_flags num_delta_pocs) (bits r.old)) }
+    ensures read { Reads (λ flags. flags.items) result r.new
+        (read (all_member_flags num_delta_pocs) (bits r.old)) }
     ensures moves { IsAhead r.old r.new }
     ensures all { IfOk result (λ flags. length flags.items ≡ num_delta_pocs + 1) }
 {

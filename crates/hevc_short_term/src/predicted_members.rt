@@ -2,7 +2,7 @@
 ghost use Rattle.std.specs.Prelude.{◌≡◌, ◌+◌, ◌≤◌, ◌<◌, [], ◌++◌, length, reverse};
 ghost use Rattle.hevc_tables.specs.ShortTermTable.{deltas, shifted, shifted_one, predicted_members as members_by_table};
 ghost use Rattle.hevc_types_a.specs.ShortTermRefPicSet.{plain_short_term_ref_pic_set};
-ghost use Rattle.hevc_short_term.specs.Orders.{Rises};
+ghost use Rattle.hevc_short_term_laws.specs.Orders.{Rises};
 
 use arrayvec::ArrayVec;
 use hevc_tables::{MemberFlags, ShortTermMember};
@@ -19,7 +19,8 @@ pub(crate) fn predicted_members(
     flags: &[MemberFlags],
 ) -> ArrayVec<ShortTermMember, 17>
     requires { length flags.now ≡ other.now.num_delta_pocs + 1 }
-    ensures members { result.items ≡ members_by_table (plain_short_term_ref_pic_set other.now) shift flags.now }
+    ensures members { result.items
+        ≡ members_by_table (plain_short_term_ref_pic_set other.now) shift flags.now }
     ensures rises { Rises (deltas result.items) }
 {
     let num_before = usize::from(other.num_negative_pics);
@@ -51,7 +52,8 @@ fn push_backwards(
 )
     requires room { length members.old.items + length differences.now ≤ 17 }
     requires flagged { length differences.now ≤ length flags.now }
-    ensures items { members.new.items ≡ members.old.items ++ reverse (shifted shift differences.now flags.now) }
+    ensures items { members.new.items
+        ≡ members.old.items ++ reverse (shifted shift differences.now flags.now) }
     ensures count { length members.new.items ≤ length members.old.items + length differences.now }
 {
     for i in (0..differences.len()).rev() {

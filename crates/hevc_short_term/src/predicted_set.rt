@@ -5,7 +5,7 @@ ghost use Rattle.hevc_elements.specs.Words.{Fills};
 ghost use Rattle.hevc_tables.specs.ShortTermTable as table;
 ghost use Rattle.hevc_tables.specs.ShortTermTable.{deltas};
 ghost use Rattle.hevc_types_a.specs.ShortTermRefPicSet.{plain_short_term_ref_pic_set};
-ghost use Rattle.hevc_short_term.specs.Orders.{Rises};
+ghost use Rattle.hevc_short_term_laws.specs.Orders.{Rises};
 
 use crate::member_flags::read_all_flags;
 use crate::predicted_members::predicted_members;
@@ -30,7 +30,9 @@ pub(crate) fn read_predicted_set(
 ) -> Result<(), ParseError>
     requires some { 0 < st_rps_idx }
     requires known { st_rps_idx ≤ length sets.now }
-    ensures { Fills plain_short_term_ref_pic_set (table.predicted_set (map plain_short_term_ref_pic_set sets.now) count st_rps_idx) result set.old set.new r.old r.new }
+    ensures { Fills plain_short_term_ref_pic_set
+        (table.predicted_set (map plain_short_term_ref_pic_set sets.now) count st_rps_idx)
+        result set.old set.new r.old r.new }
 {
     read_prediction(r, count, st_rps_idx, set)?;
     let other = &sets[usize::from(st_rps_idx - 1 - set.delta_idx_minus1)];
@@ -40,14 +42,15 @@ pub(crate) fn read_predicted_set(
 }
 
 /// Row 6 of table 7; then the set has these members.
-#[tactic(auto, using(crate::proofs::Parts::room), unfolding(hevc_tables::specs::ShortTermTable::fitting_set))]
+#[tactic(auto, using(hevc_short_term_laws::proofs::Parts::room), unfolding(hevc_tables::specs::ShortTermTable::fitting_set))]
 fn fit_members(
     r: &mut NaluReader<'_>,
     members: &[ShortTermMember],
     set: &mut ShortTermRefPicSet,
 ) -> Result<(), ParseError>
     requires { Rises (deltas members.now) }
-    ensures { Fills plain_short_term_ref_pic_set (table.fitting_set members.now) result set.old set.new r.old r.new }
+    ensures { Fills plain_short_term_ref_pic_set
+        (table.fitting_set members.now) result set.old set.new r.old r.new }
 {
     check(r, Row(7, 6), has_room(members))?;
     let before = members_before(members);

@@ -20,7 +20,8 @@ pub(crate) fn read_prediction(
     set: &mut ShortTermRefPicSet,
 ) -> Result<(), ParseError>
     requires { 0 < st_rps_idx }
-    ensures fills { Fills plain_short_term_ref_pic_set (table.prediction count st_rps_idx) result set.old set.new r.old r.new }
+    ensures fills { Fills plain_short_term_ref_pic_set
+        (table.prediction count st_rps_idx) result set.old set.new r.old r.new }
     ensures before { OnOk result (set.new.delta_idx_minus1 < st_rps_idx) }
     ensures bounded { OnOk result (set.new.abs_delta_rps_minus1 < 32768) }
 {

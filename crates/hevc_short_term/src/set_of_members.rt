@@ -2,14 +2,14 @@
 ghost use Rattle.std.specs.Prelude.{◌≡◌, ◌+◌, ◌≤◌, length};
 ghost use Rattle.hevc_tables.specs.ShortTermTable.{with_members};
 ghost use Rattle.hevc_types_a.specs.ShortTermRefPicSet.{plain_short_term_ref_pic_set};
-ghost use Rattle.hevc_short_term.specs.Sides.{LieBefore, LieAfter};
+ghost use Rattle.hevc_short_term_laws.specs.Sides.{LieBefore, LieAfter};
 
 use crate::arrays::{difference_array, used_array};
 use hevc_tables::ShortTermMember;
 use hevc_types_a::ShortTermRefPicSet;
 
 /// Puts the members before the current picture and those after it into a set.
-#[tactic(auto, using(crate::proofs::FilledArrays::orders), unfolding(hevc_tables::specs::ShortTermTable::with_members))]
+#[tactic(auto, using(hevc_short_term_laws::proofs::FilledArrays::orders), unfolding(hevc_tables::specs::ShortTermTable::with_members))]
 pub(crate) fn put_members(
     set: &mut ShortTermRefPicSet,
     before: &[ShortTermMember],
@@ -18,7 +18,8 @@ pub(crate) fn put_members(
     requires falls { LieBefore before.now }
     requires rises { LieAfter after.now }
     requires room { length before.now + length after.now ≤ 16 }
-    ensures { plain_short_term_ref_pic_set set.new ≡ with_members (plain_short_term_ref_pic_set set.old) before.now after.now }
+    ensures { plain_short_term_ref_pic_set set.new
+        ≡ with_members (plain_short_term_ref_pic_set set.old) before.now after.now }
 {
     let delta_poc_s0 = difference_array(before);
     let used_by_curr_pic_s0 = used_array(before);

@@ -37,8 +37,12 @@ pub fn read_short_term_set(
     requires few { count ≤ 64 }
     requires known { st_rps_idx ≤ length sets.now }
     requires room { buffering ≤ 16 }
-    ensures read { Reads plain_short_term_ref_pic_set result r.new (read (short_term_ref_pic_set (map plain_short_term_ref_pic_set sets.now) count buffering st_rps_idx) (bits r.old)) }
-    ensures means { Means plain_short_term_ref_pic_set (short_term_ref_pic_set (map plain_short_term_ref_pic_set sets.now) count buffering st_rps_idx) result r.old r.new }
+    ensures read { Reads plain_short_term_ref_pic_set result r.new
+        (read (short_term_ref_pic_set
+        (map plain_short_term_ref_pic_set sets.now) count buffering st_rps_idx) (bits r.old)) }
+    ensures means { Means plain_short_term_ref_pic_set
+        (short_term_ref_pic_set
+        (map plain_short_term_ref_pic_set sets.now) count buffering st_rps_idx) result r.old r.new }
     ensures moves { IsAhead r.old r.new }
 {
     read_rows(r, sets, count, buffering, st_rps_idx)
@@ -55,7 +59,9 @@ fn read_rows(
 ) -> Result<ShortTermRefPicSet, ParseError>
     requires known { st_rps_idx ≤ length sets.now }
     requires room { buffering ≤ 16 }
-    ensures read { Reads plain_short_term_ref_pic_set result r.new (read (short_term_ref_pic_set (map plain_short_term_ref_pic_set sets.now) count buffering st_rps_idx) (bits r.old)) }
+    ensures read { Reads plain_short_term_ref_pic_set result r.new
+        (read (short_term_ref_pic_set
+        (map plain_short_term_ref_pic_set sets.now) count buffering st_rps_idx) (bits r.old)) }
     ensures moves { IsAhead r.old r.new }
 {
     let mut set = ShortTermRefPicSet::new();

@@ -2,14 +2,14 @@
 ghost use Rattle.std.specs.Prelude.{◌≡◌, ◌≤◌, IsTrue, length};
 ghost use Rattle.std.specs.List.{list_all};
 ghost use Rattle.hevc_tables.specs.ShortTermTable.{deltas, is_i32, members_before as before_by_table, members_after as after_by_table, has_room as has_room_by_table};
-ghost use Rattle.hevc_short_term.specs.Orders.{Rises};
-ghost use Rattle.hevc_short_term.specs.Sides.{LieBefore, LieAfter};
+ghost use Rattle.hevc_short_term_laws.specs.Orders.{Rises};
+ghost use Rattle.hevc_short_term_laws.specs.Sides.{LieBefore, LieAfter};
 
 use arrayvec::ArrayVec;
 use hevc_tables::ShortTermMember;
 
 /// The members before the current picture, nearest first, out of members in rising order.
-#[tactic(auto, using(crate::proofs::Parts::parts), unfolding(hevc_tables::specs::ShortTermTable::members_before))]
+#[tactic(auto, using(hevc_short_term_laws::proofs::Parts::parts), unfolding(hevc_tables::specs::ShortTermTable::members_before))]
 pub(crate) fn members_before(members: &[ShortTermMember]) -> ArrayVec<ShortTermMember, 17>
     requires few { length members.now ≤ 16 }
     requires rises { Rises (deltas members.now) }
@@ -28,7 +28,7 @@ pub(crate) fn members_before(members: &[ShortTermMember]) -> ArrayVec<ShortTermM
 }
 
 /// The members after the current picture, nearest first, out of members in rising order.
-#[tactic(auto, using(crate::proofs::Parts::parts), unfolding(hevc_tables::specs::ShortTermTable::members_after))]
+#[tactic(auto, using(hevc_short_term_laws::proofs::Parts::parts), unfolding(hevc_tables::specs::ShortTermTable::members_after))]
 pub(crate) fn members_after(members: &[ShortTermMember]) -> ArrayVec<ShortTermMember, 17>
     requires few { length members.now ≤ 16 }
     requires rises { Rises (deltas members.now) }

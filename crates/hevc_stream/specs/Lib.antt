@@ -1,2 +1,5 @@
-pub mod Sequences
-pub mod Headers
+pub mod Options
+pub mod Kept
+pub mod Slices
+pub mod Contents
+pub mod Stream

@@ -11,8 +11,10 @@ pub use plain_tables::{
     one_plain_picture_set_meaning, one_plain_sequence_set_meaning, one_plain_slice_header_meaning,
 };
 pub use tables::{
-    one_hrd_parameters_meaning, one_profile_tier_level_meaning, one_scaling_list_data_meaning,
-    one_sequence_set_meaning, one_short_term_set_meaning, one_sps_range_extension_meaning,
+    one_hrd_parameters_meaning, one_picture_set_meaning, one_pps_range_extension_meaning,
+    one_pps_scc_extension_meaning, one_pred_weight_table_meaning, one_profile_tier_level_meaning,
+    one_ref_pic_list_modification_meaning, one_scaling_list_data_meaning, one_sequence_set_meaning,
+    one_short_term_set_meaning, one_slice_header_meaning, one_sps_range_extension_meaning,
     one_sps_scc_extension_meaning, one_sub_layer_hrd_parameters_meaning, one_video_set_meaning,
     one_vui_parameters_meaning,
 };

@@ -16,11 +16,13 @@ pub fn one_plain_sequence_set_meaning()
 /// A plain picture parameter set (table 11), with the sequence parameter sets that are kept.
 #[tactic(auto, using(crate::proofs::Laws::one_meaning))]
 pub fn one_plain_picture_set_meaning()
-    ensures { (temporal_id : ℕ) (sequence_sets : ℕ → Option PlainSps) → HasOneMeaning (plain_picture_set temporal_id sequence_sets) }
+    ensures { (temporal_id : ℕ) (sequence_sets : ℕ → Option PlainSps)
+        → HasOneMeaning (plain_picture_set temporal_id sequence_sets) }
 {}
 
 /// A plain slice header (table 14), with the sets that are kept.
 #[tactic(auto, using(crate::proofs::Laws::one_meaning))]
 pub fn one_plain_slice_header_meaning()
-    ensures { (picture_sets : ℕ → Option PlainPps) (sequence_sets : ℕ → Option PlainSps) → HasOneMeaning (plain_slice_header picture_sets sequence_sets) }
+    ensures { (picture_sets : ℕ → Option PlainPps) (sequence_sets : ℕ → Option PlainSps)
+        → HasOneMeaning (plain_slice_header picture_sets sequence_sets) }
 {}

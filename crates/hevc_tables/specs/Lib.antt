@@ -10,3 +10,8 @@ pub mod SpsTable
 pub mod PpsRangeExtensionTable
 pub mod PpsSccExtensionTable
 pub mod PpsTable
+pub mod MathFunctions
+pub mod SliceTypes
+pub mod RefPicListModificationTable
+pub mod WeightedPredictionTable
+pub mod SliceHeaderTable

@@ -26,8 +26,12 @@ pub fn read_hrd_parameters(
     before: &HrdParams,
 ) -> Result<HrdParams, ParseError>
     requires { max_sub_layers_minus1 ≤ 6 }
-    ensures read { Reads plain_hrd_params result r.new (read (table.hrd_parameters common max_sub_layers_minus1 (plain_hrd_params before.now)) (bits r.old)) }
-    ensures means { Means plain_hrd_params (table.hrd_parameters common max_sub_layers_minus1 (plain_hrd_params before.now)) result r.old r.new }
+    ensures read { Reads plain_hrd_params result r.new
+        (read (table.hrd_parameters common max_sub_layers_minus1 (plain_hrd_params before.now))
+        (bits r.old)) }
+    ensures means { Means plain_hrd_params
+        (table.hrd_parameters common max_sub_layers_minus1
+        (plain_hrd_params before.now)) result r.old r.new }
     ensures moves { IsAhead r.old r.new }
 {
     read_rows(r, common, max_sub_layers_minus1, before)
@@ -42,7 +46,9 @@ fn read_rows(
     before: &HrdParams,
 ) -> Result<HrdParams, ParseError>
     requires { max_sub_layers_minus1 ≤ 6 }
-    ensures read { Reads plain_hrd_params result r.new (read (table.hrd_parameters common max_sub_layers_minus1 (plain_hrd_params before.now)) (bits r.old)) }
+    ensures read { Reads plain_hrd_params result r.new
+        (read (table.hrd_parameters common max_sub_layers_minus1 (plain_hrd_params before.now))
+        (bits r.old)) }
     ensures moves { IsAhead r.old r.new }
 {
     let mut hrd = common_or(r, common, before)?;
@@ -57,7 +63,9 @@ fn common_or(
     common: bool,
     before: &HrdParams,
 ) -> Result<HrdParams, ParseError>
-    ensures read { Reads plain_hrd_params result r.new (read (when common (table.common_of (plain_hrd_params before.now)) (table.common_parameters default_hrd_params)) (bits r.old)) }
+    ensures read { Reads plain_hrd_params result r.new
+        (read (when common (table.common_of (plain_hrd_params before.now))
+        (table.common_parameters default_hrd_params)) (bits r.old)) }
     ensures moves { IsAhead r.old r.new }
 {
     if common {

@@ -18,7 +18,8 @@ pub(crate) fn read_schedules(
     cpb_cnt_minus1: u32,
 ) -> Result<SublayerHrdParameters, ParseError>
     requires { cpb_cnt_minus1 ≤ 31 }
-    ensures read { Reads plain_sublayer_hrd_parameters result r.new (read (table.sub_layer_hrd_parameters by_units cpb_cnt_minus1) (bits r.old)) }
+    ensures read { Reads plain_sublayer_hrd_parameters result r.new
+        (read (table.sub_layer_hrd_parameters by_units cpb_cnt_minus1) (bits r.old)) }
     ensures moves { IsAhead r.old r.new }
 {
     let mut hrd = SublayerHrdParameters::new();
@@ -38,7 +39,8 @@ fn read_schedule(
     hrd: &mut SublayerHrdParameters,
 ) -> Result<(), ParseError>
     requires { i < 32 }
-    ensures { Fills plain_sublayer_hrd_parameters (table.schedule by_units i) result hrd.old hrd.new r.old r.new }
+    ensures { Fills plain_sublayer_hrd_parameters
+        (table.schedule by_units i) result hrd.old hrd.new r.old r.new }
 {
     hrd.bit_rate_value_minus1[i] = ue(r, Row(4, 1), 0, 2_147_483_647)?;
     hrd.cpb_size_value_minus1[i] = ue(r, Row(4, 1), 0, 2_147_483_647)?;

@@ -21,7 +21,8 @@ pub(crate) fn read_sub_layers(
     hrd: &mut HrdParams,
 ) -> Result<(), ParseError>
     requires { max_sub_layers_minus1 ≤ 6 }
-    ensures { Fills plain_hrd_params (table.sub_layers max_sub_layers_minus1) result hrd.old hrd.new r.old r.new }
+    ensures { Fills plain_hrd_params
+        (table.sub_layers max_sub_layers_minus1) result hrd.old hrd.new r.old r.new }
 {
     let count = usize::from(max_sub_layers_minus1) + 1;
     for i in 0..count {
@@ -63,7 +64,9 @@ fn schedules_if(
     cpb_cnt_minus1: u32,
 ) -> Result<SublayerHrdParameters, ParseError>
     requires { cpb_cnt_minus1 ≤ 31 }
-    ensures read { Reads plain_sublayer_hrd_parameters result r.new (read (when present default_sublayer_hrd_parameters (table.sub_layer_hrd_parameters by_units cpb_cnt_minus1)) (bits r.old)) }
+    ensures read { Reads plain_sublayer_hrd_parameters result r.new
+        (read (when present default_sublayer_hrd_parameters
+        (table.sub_layer_hrd_parameters by_units cpb_cnt_minus1)) (bits r.old)) }
     ensures moves { IsAhead r.old r.new }
 {
     if present {

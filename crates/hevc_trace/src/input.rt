@@ -42,11 +42,13 @@ impl From<AllocError> for InputError {
 
 /// Reads a source to its end.
 pub(crate) fn read_all<S: Source>(alloc: Global, source: &mut S) -> Result<Vec<u8>, InputError>
-    ensures all { IfOk result (λ input. Consumes (S.left source.old) (S.left source.new) input.items) }
+    ensures all { IfOk result
+        (λ input. Consumes (S.left source.old) (S.left source.new) input.items) }
     ensures end { IfOk result (λ _. IsAtEnd (S.left source.new)) }
     ensures limit { IfOk result (λ input. vec_len input ≤ INPUT_LIMIT) }
     ensures later { S.faults source.old ≤ S.faults source.new }
-    ensures failed { IsErrOf result InputError.Failed → Rose (S.faults source.old) (S.faults source.new) }
+    ensures failed { IsErrOf result InputError.Failed
+        → Rose (S.faults source.old) (S.faults source.new) }
     ensures too_long { IsErrOf result InputError.TooLong → (given : List ℕ)
         × Consumes (S.left source.old) (S.left source.new) given × (INPUT_LIMIT < length given) }
 {

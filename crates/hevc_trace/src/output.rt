@@ -11,7 +11,8 @@ pub(crate) fn write_all<K: Sink>(sink: &mut K, text: &[u8]) -> Result<(), SinkEr
     ensures all { OnOk result (Appends (K.written sink.old) (K.written sink.new) text.now) }
     ensures part { OnErr result (AppendsPrefix (K.written sink.old) (K.written sink.new) text.now) }
     ensures later { K.faults sink.old ≤ K.faults sink.new }
-    ensures failed { IsErrOf result SinkError.Failed → Rose (K.faults sink.old) (K.faults sink.new) }
+    ensures failed { IsErrOf result SinkError.Failed
+        → Rose (K.faults sink.old) (K.faults sink.new) }
 {
     let mut done = 0;
     while done < text.len() {

@@ -48,25 +48,33 @@ pub fn run<S: Source, K: Sink>(alloc: Global, words: &[Word], source: &mut S, si
     ensures statuses { result ≤ 6 }
 
     // On 0 and 1 all was read, the report on it was written, and the status tells whether it was decoded.
-    ensures whole { words.now ≡ [] → result ≤ 1 → IsAtEnd (S.left source.new) × IfSome (S.left source.old) (λ s.
-        Appends (K.written sink.old) (K.written sink.new) (report_of s) × (result ≡ status_of (ending_of s))) }
+    ensures whole { words.now ≡ [] → result ≤ 1
+        → IsAtEnd (S.left source.new) × IfSome (S.left source.old) (λ s.
+        Appends (K.written sink.old) (K.written sink.new) (report_of s)
+        × (result ≡ status_of (ending_of s))) }
     // That is so for no longer input than may be.
-    ensures limit { words.now ≡ [] → result ≤ 1 → IfSome (S.left source.old) (λ s. length s ≤ INPUT_LIMIT) }
+    ensures limit { words.now ≡ [] → result ≤ 1
+        → IfSome (S.left source.old) (λ s. length s ≤ INPUT_LIMIT) }
     // Whatever the status, what was written is a front of that report.
     ensures part { words.now ≡ [] → IfSome (S.left source.old) (λ s.
         AppendsPrefix (K.written sink.old) (K.written sink.new) (report_of s)) }
 
     // 2 exactly where there are words, and then nothing is read or written.
     ensures command { (result ≡ 2) ⊎ (words.now ≡ []) }
-    ensures faulty { result ≡ 2 → (words.now ≢ []) × (source.new ≡ source.old) × (sink.new ≡ sink.old) }
+    ensures faulty { result ≡ 2
+        → (words.now ≢ []) × (source.new ≡ source.old) × (sink.new ≡ sink.old) }
 
-    ensures read { result ≡ 3 → Rose (S.faults source.old) (S.faults source.new) × (sink.new ≡ sink.old) }
+    ensures read { result ≡ 3
+        → Rose (S.faults source.old) (S.faults source.new) × (sink.new ≡ sink.old) }
     ensures write { result ≡ 4 → Rose (K.faults sink.old) (K.faults sink.new) }
-    ensures long { result ≡ 6 → (sink.new ≡ sink.old) × IfSome (S.left source.old) (λ s. INPUT_LIMIT < length s) }
+    ensures long { result ≡ 6
+        → (sink.new ≡ sink.old) × IfSome (S.left source.old) (λ s. INPUT_LIMIT < length s) }
 
     // No words, ends that don't fail, and an input within the limit.
-    ensures completes { (s : List ℕ) → S.left source.old ≡ Some s → length s ≤ INPUT_LIMIT → words.now ≡ [] →
-        ¬ (Rose (S.faults source.old) (S.faults source.new)) → ¬ (Rose (K.faults sink.old) (K.faults sink.new)) → IsDone result }
+    ensures completes { (s : List ℕ) → S.left source.old ≡ Some s → length s ≤ INPUT_LIMIT
+        → words.now ≡ []
+        → ¬ (Rose (S.faults source.old) (S.faults source.new))
+        → ¬ (Rose (K.faults sink.old) (K.faults sink.new)) → IsDone result }
 {
     if !words.is_empty() {
         return 2;
@@ -87,14 +95,18 @@ fn write_report<S: Source, K: Sink>(
     source: &mut S,
     sink: &mut K,
 ) -> Result<bool, Stop>
-    ensures whole { IfOk result (λ is_decoded. IsAtEnd (S.left source.new) × IfSome (S.left source.old) (λ s.
-        Appends (K.written sink.old) (K.written sink.new) (report_of s) × (is_decoded ≡ is_ok (ending_of s)))) }
+    ensures whole { IfOk result
+        (λ is_decoded. IsAtEnd (S.left source.new) × IfSome (S.left source.old) (λ s.
+        Appends (K.written sink.old) (K.written sink.new) (report_of s)
+        × (is_decoded ≡ is_ok (ending_of s)))) }
     ensures limit { IfOk result (λ _. IfSome (S.left source.old) (λ s. length s ≤ INPUT_LIMIT)) }
     ensures part { IfSome (S.left source.old) (λ s.
         AppendsPrefix (K.written sink.old) (K.written sink.new) (report_of s)) }
-    ensures read { IsErrOf result Stop.Read → Rose (S.faults source.old) (S.faults source.new) × (sink.new ≡ sink.old) }
+    ensures read { IsErrOf result Stop.Read
+        → Rose (S.faults source.old) (S.faults source.new) × (sink.new ≡ sink.old) }
     ensures write { IsErrOf result Stop.Write → Rose (K.faults sink.old) (K.faults sink.new) }
-    ensures long { IsErrOf result Stop.TooLong → (sink.new ≡ sink.old) × IfSome (S.left source.old) (λ s. INPUT_LIMIT < length s) }
+    ensures long { IsErrOf result Stop.TooLong
+        → (sink.new ≡ sink.old) × IfSome (S.left source.old) (λ s. INPUT_LIMIT < length s) }
 {
     let input = match read_all(alloc, source) {
         Ok(input) => input,

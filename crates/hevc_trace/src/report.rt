@@ -31,7 +31,8 @@ pub(crate) fn report_text(
 
 #[tactic(auto, using(std::proofs::Common::append_assoc))]
 fn push_calls(text: &mut String, log: &[Call<u64>]) -> Result<(), AllocError>
-    ensures { OnOk result (string_bytes text.new ≡ string_bytes text.old ++ flat_map log_line log.now) }
+    ensures { OnOk result
+        (string_bytes text.new ≡ string_bytes text.old ++ flat_map log_line log.now) }
 {
     for call in log {
         push_call(text, call)?;
@@ -41,7 +42,8 @@ fn push_calls(text: &mut String, log: &[Call<u64>]) -> Result<(), AllocError>
 
 #[tactic(auto, using(std::proofs::Common::append_assoc))]
 fn push_outputs(text: &mut String, shown: &[Shown<u64>]) -> Result<(), AllocError>
-    ensures { OnOk result (string_bytes text.new ≡ string_bytes text.old ++ flat_map shown_line shown.now) }
+    ensures { OnOk result
+        (string_bytes text.new ≡ string_bytes text.old ++ flat_map shown_line shown.now) }
 {
     for output in shown {
         push_shown(text, output)?;

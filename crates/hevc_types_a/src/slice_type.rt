@@ -20,7 +20,8 @@ impl SliceType {
 
     /// The type of this number, `None` for other numbers.
     pub fn n(value: u32) -> Option<SliceType>
-        ensures { (slice_type : SliceType) → (result ≡ Some slice_type) ↔ (slice_type_number slice_type ≡ value) }
+        ensures { (slice_type : SliceType)
+            → (result ≡ Some slice_type) ↔ (slice_type_number slice_type ≡ value) }
     {
         match value {
             0 => Some(SliceType::B),

@@ -49,7 +49,9 @@ impl<'a> Slice<'a> {
     /// Errors: the segment isn't a dependent one; it then stays as it was, and `header` is dropped.
     pub fn replace_header(&mut self, header: SliceHeader) -> Result<(), NotDependent>
         ensures refused { IsErr result ↔ (self.old.header.dependent_slice_segment_flag ≡ false) }
-        ensures completed { OnOk result (plain_slice_header self.new.header ≡ completed_header (plain_slice_header self.old.header) (plain_slice_header header)) }
+        ensures completed { OnOk result
+            (plain_slice_header self.new.header
+            ≡ completed_header (plain_slice_header self.old.header) (plain_slice_header header)) }
         ensures same_unit { OnOk result (self.new.nalu ≡ self.old.nalu) }
         ensures unchanged { OnErr result (self.new ≡ self.old) }
     {

@@ -202,7 +202,10 @@ impl SliceHeader {
         num_short_term_ref_pic_sets: u8,
         motion_vector_resolution_control_idc: u8,
     )
-        ensures { plain_slice_header self.new ≡ with_inferred (plain_pps pps.now) num_short_term_ref_pic_sets motion_vector_resolution_control_idc (plain_slice_header self.old) }
+        ensures { plain_slice_header self.new
+            ≡ with_inferred
+            (plain_pps pps.now) num_short_term_ref_pic_sets motion_vector_resolution_control_idc
+            (plain_slice_header self.old) }
     {
         self.deblocking_filter_disabled_flag = pps.deblocking_filter_disabled_flag;
         self.beta_offset_div2 = pps.beta_offset_div2;
@@ -214,7 +217,8 @@ impl SliceHeader {
 
     // The whole header of a dependent segment (7.4.7.1), from its own header and that of the independent segment before it.
     pub(crate) fn complete(&mut self, independent: SliceHeader)
-        ensures { plain_slice_header self.new ≡ completed_header (plain_slice_header self.old) (plain_slice_header independent) }
+        ensures { plain_slice_header self.new
+            ≡ completed_header (plain_slice_header self.old) (plain_slice_header independent) }
     {
         let mut completed = independent;
         completed.first_slice_segment_in_pic_flag = self.first_slice_segment_in_pic_flag;

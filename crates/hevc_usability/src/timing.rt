@@ -19,7 +19,8 @@ pub(crate) fn read_timing_info(
     vui: &mut VuiParams,
 ) -> Result<(), ParseError>
     requires { max_sub_layers_minus1 ≤ 6 }
-    ensures { Fills plain_vui_params (table.timing_info max_sub_layers_minus1) result vui.old vui.new r.old r.new }
+    ensures { Fills plain_vui_params
+        (table.timing_info max_sub_layers_minus1) result vui.old vui.new r.old r.new }
 {
     vui.timing_info_present_flag = flag(r, Row(8, 15))?;
     if vui.timing_info_present_flag {
@@ -36,7 +37,8 @@ fn read_timing(
     vui: &mut VuiParams,
 ) -> Result<(), ParseError>
     requires { max_sub_layers_minus1 ≤ 6 }
-    ensures { Fills plain_vui_params (table.timing max_sub_layers_minus1) result vui.old vui.new r.old r.new }
+    ensures { Fills plain_vui_params
+        (table.timing max_sub_layers_minus1) result vui.old vui.new r.old r.new }
 {
     vui.num_units_in_tick = bits_32(r, Row(8, 16))?;
     vui.time_scale = bits_32(r, Row(8, 16))?;
@@ -58,7 +60,8 @@ fn read_hrd(
     vui: &mut VuiParams,
 ) -> Result<(), ParseError>
     requires { max_sub_layers_minus1 ≤ 6 }
-    ensures { Fills plain_vui_params (table.hrd max_sub_layers_minus1) result vui.old vui.new r.old r.new }
+    ensures { Fills plain_vui_params
+        (table.hrd max_sub_layers_minus1) result vui.old vui.new r.old r.new }
 {
     vui.hrd = read_hrd_parameters(r, true, max_sub_layers_minus1, &HrdParams::new())?;
     Ok(())

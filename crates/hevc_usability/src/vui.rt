@@ -24,8 +24,10 @@ pub fn read_vui_parameters(
     max_sub_layers_minus1: u8,
 ) -> Result<VuiParams, ParseError>
     requires { max_sub_layers_minus1 ≤ 6 }
-    ensures read { Reads plain_vui_params result r.new (read (vui_parameters max_sub_layers_minus1) (bits r.old)) }
-    ensures means { Means plain_vui_params (vui_parameters max_sub_layers_minus1) result r.old r.new }
+    ensures read { Reads plain_vui_params result r.new
+        (read (vui_parameters max_sub_layers_minus1) (bits r.old)) }
+    ensures means { Means plain_vui_params
+        (vui_parameters max_sub_layers_minus1) result r.old r.new }
     ensures moves { IsAhead r.old r.new }
 {
     read_rows(r, max_sub_layers_minus1)
@@ -35,7 +37,8 @@ pub fn read_vui_parameters(
 #[tactic(auto, unfolding(hevc_tables::specs::VuiTable::vui_parameters))]
 fn read_rows(r: &mut NaluReader<'_>, max_sub_layers_minus1: u8) -> Result<VuiParams, ParseError>
     requires { max_sub_layers_minus1 ≤ 6 }
-    ensures read { Reads plain_vui_params result r.new (read (vui_parameters max_sub_layers_minus1) (bits r.old)) }
+    ensures read { Reads plain_vui_params result r.new
+        (read (vui_parameters max_sub_layers_minus1) (bits r.old)) }
     ensures moves { IsAhead r.old r.new }
 {
     let mut vui = VuiParams::new();

@@ -1,5 +1,5 @@
 -- Structures behind one another.
-use Rattle.std.proofs.Common.{◌-◌, length, map}
+use Rattle.std.proofs.Common.{◌-◌}
 use Rattle.std.proofs.lemmas.List.{map-append, length-map}
 
 pub ruleset pushes = (map-append)

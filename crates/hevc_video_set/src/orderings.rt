@@ -70,7 +70,9 @@ fn check_risen(
     number: u32,
 ) -> Result<(), ParseError>
     requires { i < 7 }
-    ensures read { Reads (λ _. 0) result r.new (read (when (not (i == 0)) 0 (check_row row (table.is_risen numbers.now i number))) (bits r.old)) }
+    ensures read { Reads (λ _. 0) result r.new
+        (read (when (not (i == 0)) 0 (check_row row (table.is_risen numbers.now i number)))
+        (bits r.old)) }
     ensures moves { IsAhead r.old r.new }
 {
     if i != 0 {

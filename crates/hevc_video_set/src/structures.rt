@@ -82,7 +82,9 @@ fn read_next(
     structures: &[HrdParams],
 ) -> Result<HrdParams, ParseError>
     requires { max_sub_layers_minus1 ≤ 6 }
-    ensures read { Reads plain_hrd_params result r.new (read (hrd_parameters common max_sub_layers_minus1 (table.last_structure (map plain_hrd_params structures.now))) (bits r.old)) }
+    ensures read { Reads plain_hrd_params result r.new
+        (read (hrd_parameters common max_sub_layers_minus1
+        (table.last_structure (map plain_hrd_params structures.now))) (bits r.old)) }
     ensures moves { IsAhead r.old r.new }
 {
     match structures.last() {

@@ -25,9 +25,12 @@ use std::alloc::Global;
 #[tactic(auto, using(hevc_elements::proofs::SetMeaning::set_meanings))]
 pub fn read_vps(alloc: Global, nalu: &Nalu<'_, NaluHeader>) -> Result<Vps, ParseError>
     requires { length nalu.now.stream < 2 ^ 60 }
-    ensures wrong_type { IsErrOf result ParseError.WrongNaluType ↔ ¬ (nalu.now.header.nal_unit_type ≡ 32) }
-    ensures read { nalu.now.header.nal_unit_type ≡ 32 → ReadsSet plain_vps result (read video_parameter_set (payload (bytes_of nalu.now))) }
-    ensures means { nalu.now.header.nal_unit_type ≡ 32 → MeansSet plain_vps video_parameter_set result (payload (bytes_of nalu.now)) }
+    ensures wrong_type { IsErrOf result ParseError.WrongNaluType
+        ↔ ¬ (nalu.now.header.nal_unit_type ≡ 32) }
+    ensures read { nalu.now.header.nal_unit_type ≡ 32
+        → ReadsSet plain_vps result (read video_parameter_set (payload (bytes_of nalu.now))) }
+    ensures means { nalu.now.header.nal_unit_type ≡ 32
+        → MeansSet plain_vps video_parameter_set result (payload (bytes_of nalu.now)) }
     ensures names_no_set { IfErr result NamesNoSet }
 {
     if !is_video_set(nalu.header().nalu_type()) {
@@ -47,7 +50,8 @@ fn is_video_set(nalu_type: NaluType) -> bool
 #[tactic(auto, using(hevc_elements::proofs::SetMeaning::sets_from_growing))]
 fn read_payload(alloc: Global, payload: &[u8]) -> Result<Vps, ParseError>
     requires { length payload.now < 2 ^ 60 }
-    ensures read { ReadsSet plain_vps result (read video_parameter_set (payload_bits 0 payload.now)) }
+    ensures read { ReadsSet plain_vps result
+        (read video_parameter_set (payload_bits 0 payload.now)) }
     ensures names_no_set { IfErr result NamesNoSet }
 {
     read_rows(alloc, &mut NaluReader::new(payload))

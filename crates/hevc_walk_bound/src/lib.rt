@@ -25,11 +25,13 @@ pub fn never_full()
 /// A latency count stops at 2 ^ 31 - 1. Where limits are bytes no rule can tell it from one that goes on, so the same
 /// pictures are output, and the same are left.
 pub fn cap_is_unseen()
-    ensures stored { (p : Head) (es : Buffer) → with_stored p (map capped es) ≡ map capped (with_stored_uncapped p es) }
+    ensures stored { (p : Head) (es : Buffer)
+        → with_stored p (map capped es) ≡ map capped (with_stored_uncapped p es) }
     ensures additional { (limits : Limits) (es : Buffer) → IsLimits limits
         → needs_additional_bumping limits (map capped es) ≡ needs_additional_bumping limits es }
     ensures before_decoding { (limits : Limits) (es : Buffer) → IsLimits limits
         → needs_bumping limits (map capped es) ≡ needs_bumping limits es }
-    ensures bumped { (rule : Buffer → Bool) (es : Buffer) → ((fs : Buffer) → rule (map capped fs) ≡ rule fs)
+    ensures bumped { (rule : Buffer → Bool) (es : Buffer)
+        → ((fs : Buffer) → rule (map capped fs) ≡ rule fs)
         → bumping rule (map capped es) ≡ capped_bumped (bumping rule es) }
 {}

@@ -15,7 +15,9 @@ pub fn output_once()
 
 /// Where no unit is refused, the pictures that are output are those whose fate is to be displayed.
 pub fn displayed_are_output()
-    ensures { (us : List Meaning) → stop us ≡ None → (n : ℕ) → times n (output_numbers us) ≡ times n (displayed_numbers (discarded_numbers us) (pictures us)) }
+    ensures { (us : List Meaning) → stop us ≡ None → (n : ℕ)
+        → times n (output_numbers us)
+        ≡ times n (displayed_numbers (discarded_numbers us) (pictures us)) }
 {}
 
 /// No picture is submitted twice.
@@ -25,5 +27,6 @@ pub fn submitted_once()
 
 /// Every picture that is output was submitted.
 pub fn outputs_are_submitted()
-    ensures { (us : List Meaning) (n : ℕ) → times n (output_numbers us) ≤ times n (submitted_numbers us) }
+    ensures { (us : List Meaning) (n : ℕ)
+        → times n (output_numbers us) ≤ times n (submitted_numbers us) }
 {}

@@ -11,7 +11,7 @@ use Rattle.hevc_walk.specs.Results.{walk_events, ending, events, full_at_end, fu
 use Rattle.hevc_walk_fates.proofs.Accepted.{accepted_is}
 use Rattle.hevc_walk_fates.proofs.Numbers.{Numbered, unit-numbered, numbered-length}
 use Rattle.hevc_walk_units.specs.Units as units
-use Rattle.hevc_walk_units.specs.Units.{Current, NoPicture, SkippedPicture, OpenPicture, Standing, unit_part, refusal_at, is_full_at, on_store, open_head, current_of, tid0_behind, first_slice, later_slice, slice_part, decode_current, begins_picture, events_from, verdict_from, refused_at, full_or_cause}
+use Rattle.hevc_walk_units.specs.Units.{Current, NoPicture, SkippedPicture, OpenPicture, Standing, unit_part, refusal_at, is_full_at, open_head, current_of, tid0_behind, first_slice, later_slice, slice_part, decode_current, begins_picture, events_from, verdict_from, refused_at, full_or_cause}
 use Rattle.hevc_walk_joined.specs.Standings.{next_context, current_by, standing, full_by, Takes}
 use Rattle.std.specs.Prelude.{nat_le}
 use Rattle.hevc_walk.specs.Buffer.{draining}

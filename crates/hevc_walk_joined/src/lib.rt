@@ -30,39 +30,66 @@ pub fn same_verdict()
 /// One more unit that isn't refused does what the standing behind the units before it asks, and leads to the standing
 /// behind all of them.
 pub fn next_moment()
-    ensures { (us : List Meaning) (x : Meaning) → refusal (stream us) x ≡ None → Takes (length us) (stream us) (unit_part x (standing (stream us))) (is_full_at x (standing (stream us))) (stream (us ++ x ∷ [])) }
+    ensures { (us : List Meaning) (x : Meaning) → refusal (stream us) x ≡ None
+        → Takes (length us) (stream us) (unit_part x (standing (stream us)))
+        (is_full_at x (standing (stream us))) (stream (us ++ x ∷ [])) }
 {}
 
 /// Before a unit, what the units in front of it ask is done: nothing of it depends on what comes.
 pub fn done_before()
-    ensures calls { (front back : List Meaning) → stop front ≡ None → calls_below (length front) (calls (front ++ back)) ≡ calls_in (walk_events (stream front)) }
-    ensures outputs { (front back : List Meaning) → stop front ≡ None → so_far (length front) (front ++ back) ≡ outputs_in (walk_events (stream front)) }
+    ensures calls { (front back : List Meaning) → stop front ≡ None
+        → calls_below (length front) (calls (front ++ back))
+        ≡ calls_in (walk_events (stream front)) }
+    ensures outputs { (front back : List Meaning) → stop front ≡ None
+        → so_far (length front) (front ++ back) ≡ outputs_in (walk_events (stream front)) }
 {}
 
 /// At a unit, what its part asks is done, whether it is refused or not.
 pub fn done_at()
-    ensures calls { (front : List Meaning) (x : Meaning) (back : List Meaning) → stop front ≡ None → calls_of_unit (length front) (calls (front ++ x ∷ back)) ≡ calls_in (at_unit (length front) (unit_part x (standing (stream front))).events) }
-    ensures outputs { (front : List Meaning) (x : Meaning) (back : List Meaning) → stop front ≡ None → outputs_of_unit (length front) (outputs (front ++ x ∷ back)) ≡ outputs_in (at_unit (length front) (unit_part x (standing (stream front))).events) }
+    ensures calls { (front : List Meaning) (x : Meaning) (back : List Meaning) → stop front ≡ None
+        → calls_of_unit (length front) (calls (front ++ x ∷ back))
+        ≡ calls_in (at_unit (length front) (unit_part x (standing (stream front))).events) }
+    ensures outputs { (front : List Meaning) (x : Meaning) (back : List Meaning) → stop front ≡ None
+        → outputs_of_unit (length front) (outputs (front ++ x ∷ back))
+        ≡ outputs_in (at_unit (length front) (unit_part x (standing (stream front))).events) }
 {}
 
 /// What a list of units asks is what those in front ask, then what is asked from the next one on; so is the verdict.
 pub fn done_from()
-    ensures calls { (front back : List Meaning) → stop front ≡ None → calls (front ++ back) ≡ calls_in (walk_events (stream front)) ++ calls_in (events_from (standing (stream front)) (length front) back) }
-    ensures outputs { (front back : List Meaning) → stop front ≡ None → outputs (front ++ back) ≡ outputs_in (walk_events (stream front)) ++ outputs_in (events_from (standing (stream front)) (length front) back) }
-    ensures verdict { (front back : List Meaning) → stop front ≡ None → verdict (front ++ back) ≡ full_or (full_by (stream front)) (verdict_from (standing (stream front)) (length front) back) }
+    ensures calls { (front back : List Meaning) → stop front ≡ None
+        → calls (front ++ back)
+        ≡ calls_in (walk_events (stream front))
+        ++ calls_in (events_from (standing (stream front)) (length front) back) }
+    ensures outputs { (front back : List Meaning) → stop front ≡ None
+        → outputs (front ++ back)
+        ≡ outputs_in (walk_events (stream front))
+        ++ outputs_in (events_from (standing (stream front)) (length front) back) }
+    ensures verdict { (front back : List Meaning) → stop front ≡ None
+        → verdict (front ++ back)
+        ≡ full_or (full_by (stream front))
+        (verdict_from (standing (stream front)) (length front) back) }
 {}
 
 /// Calls and outputs stand in the order of their units: those below a unit, those at it, and those above.
 pub fn in_unit_order()
-    ensures calls { (us : List Meaning) (k : ℕ) → calls us ≡ calls_below k (calls us) ++ calls_of_unit k (calls us) ++ calls_above k (calls us) }
-    ensures outputs { (us : List Meaning) (k : ℕ) → outputs us ≡ so_far k us ++ outputs_of_unit k (outputs us) ++ outputs_above k (outputs us) }
+    ensures calls { (us : List Meaning) (k : ℕ)
+        → calls us ≡ calls_below k (calls us) ++ calls_of_unit k (calls us)
+        ++ calls_above k (calls us) }
+    ensures outputs { (us : List Meaning) (k : ℕ)
+        → outputs us ≡ so_far k us ++ outputs_of_unit k (outputs us)
+        ++ outputs_above k (outputs us) }
 {}
 
 /// A unit that means nothing may be taken out: the units behind it come one place earlier.
 pub fn dropped_unit()
-    ensures calls { (front back : List Meaning) → calls (front ++ Other ∷ back) ≡ map (raised_call (length front)) (calls (front ++ back)) }
-    ensures outputs { (front back : List Meaning) → outputs (front ++ Other ∷ back) ≡ map (raised_output (length front)) (outputs (front ++ back)) }
-    ensures verdict { (front back : List Meaning) → verdict (front ++ Other ∷ back) ≡ raised_verdict (length front) (verdict (front ++ back)) }
+    ensures calls { (front back : List Meaning)
+        → calls (front ++ Other ∷ back) ≡ map (raised_call (length front)) (calls (front ++ back)) }
+    ensures outputs { (front back : List Meaning)
+        → outputs (front ++ Other ∷ back)
+        ≡ map (raised_output (length front)) (outputs (front ++ back)) }
+    ensures verdict { (front back : List Meaning)
+        → verdict (front ++ Other ∷ back)
+        ≡ raised_verdict (length front) (verdict (front ++ back)) }
 {}
 
 /// Where a picture is first to be stored into a full buffer, its submission is the first call of that unit.
@@ -73,7 +100,8 @@ pub fn full_submits()
 /// Both forms refuse the same units, and a further unit stops a list exactly where it is refused.
 pub fn next_stop()
     ensures same { (v : Stream) (x : Meaning) → refusal_at x (standing v) ≡ refusal v x }
-    ensures last { (us : List Meaning) (x : Meaning) → stop us ≡ None → stop (us ++ x ∷ []) ≡ first_refusal (length us) (refusal (stream us) x) None }
+    ensures last { (us : List Meaning) (x : Meaning) → stop us ≡ None
+        → stop (us ++ x ∷ []) ≡ first_refusal (length us) (refusal (stream us) x) None }
 {}
 
 /// Nothing is asked or output behind the end of the stream, whose place is the number of units.

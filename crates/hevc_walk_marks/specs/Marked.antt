@@ -1,6 +1,6 @@
 -- Which entries a reference picture set marks (8.3.2).
-use Rattle.std.specs.Prelude.{◌≢◌, ℕ, Bool, false, ◌&&◌, ◌||◌, ◌==◌, List, [], ◌∷◌, ◌++◌, Option}
-use Rattle.hevc_walk.specs.Buffer.{Buffer, Entry, is_reference}
+use Rattle.std.specs.Prelude.{ℕ, Bool, false, ◌&&◌, ◌||◌, ◌==◌, List, [], ◌∷◌, ◌++◌, Option}
+use Rattle.hevc_walk.specs.Buffer.{Buffer, is_reference}
 use Rattle.hevc_walk.specs.ReferenceSets.{RefPicSet}
 
 -- an entry of this number is used for reference

@@ -17,10 +17,26 @@ pub fn long_term_pictures()
     ensures sets { reference_sets long_terms ≡ (0, no_references)
         ∷ (1, record no_references { st_curr_before = Some 0 ∷ [] })
         ∷ (2, record no_references { st_curr_before = Some 1 ∷ Some 0 ∷ [] })
-        ∷ (3, record no_references { st_curr_before = None ∷ Some 1 ∷ []; lt_curr = Some 0 ∷ Some 2 ∷ [] })
-        ∷ (4, record no_references { st_curr_before = None ∷ []; st_foll = Some 1 ∷ []; lt_curr = Some 0 ∷ []; lt_foll = Some 2 ∷ [] })
+        ∷ (
+          3,
+          record no_references {
+            st_curr_before = None ∷ Some 1 ∷ [];
+            lt_curr = Some 0 ∷ Some 2 ∷ [];
+          },
+        )
+        ∷ (
+          4,
+          record no_references {
+            st_curr_before = None ∷ [];
+            st_foll = Some 1 ∷ [];
+            lt_curr = Some 0 ∷ [];
+            lt_foll = Some 2 ∷ [];
+          },
+        )
         ∷ (5, record no_references { st_curr_before = None ∷ Some 1 ∷ [] }) ∷ [] }
-    ensures lists { slice_lists long_terms ≡ (0, [], []) ∷ (1, Some (DpbEntry 0) ∷ [], []) ∷ (2, Some (DpbEntry 1) ∷ Some (DpbEntry 0) ∷ [], [])
+    ensures lists { slice_lists long_terms
+        ≡ (0, [], []) ∷ (1, Some (DpbEntry 0) ∷ [], []) ∷
+        (2, Some (DpbEntry 1) ∷ Some (DpbEntry 0) ∷ [], [])
         ∷ (3, None ∷ Some (DpbEntry 1) ∷ Some (DpbEntry 0) ∷ Some (DpbEntry 2) ∷ None ∷ [], [])
         ∷ (4, Some (DpbEntry 0) ∷ Some (DpbEntry 0) ∷ None ∷ [], [])
         ∷ (5, None ∷ Some (DpbEntry 1) ∷ [], []) ∷ [] }
@@ -28,8 +44,11 @@ pub fn long_term_pictures()
 
 /// The current picture stands last in the bases, and takes the last place of a list 0 that has no place for it.
 pub fn current_picture()
-    ensures { slice_lists screen ≡ (0, [], []) ∷ (1, Some CurrentPicture ∷ [], []) ∷ (1, Some (DpbEntry 0) ∷ Some CurrentPicture ∷ Some (DpbEntry 0) ∷ [], [])
-        ∷ (1, Some (DpbEntry 0) ∷ [], []) ∷ (1, Some CurrentPicture ∷ [], Some (DpbEntry 0) ∷ Some CurrentPicture ∷ []) ∷ [] }
+    ensures { slice_lists screen
+        ≡ (0, [], []) ∷ (1, Some CurrentPicture ∷ [], []) ∷
+        (1, Some (DpbEntry 0) ∷ Some CurrentPicture ∷ Some (DpbEntry 0) ∷ [], [])
+        ∷ (1, Some (DpbEntry 0) ∷ [], [])
+        ∷ (1, Some CurrentPicture ∷ [], Some (DpbEntry 0) ∷ Some CurrentPicture ∷ []) ∷ [] }
 {}
 
 /// A picture is output once as many were stored behind it as SpsMaxLatencyPictures says, hidden ones too.
@@ -59,14 +78,17 @@ pub fn leading_alone()
 
 /// Order counts are taken from the latest picture of temporal id 0 that is no leading and no sub-layer non-reference one.
 pub fn earlier_pictures()
-    ensures { new_pictures tid0 ≡ (0, 19, pos 0, true) ∷ (1, 0, pos 7, true) ∷ (2, 1, pos 8, true) ∷ (3, 7, pos 5, true) ∷ (4, 1, negsuc 6, true) ∷ [] }
+    ensures { new_pictures tid0
+        ≡ (0, 19, pos 0, true) ∷ (1, 0, pos 7, true) ∷ (2, 1, pos 8, true) ∷ (3, 7, pos 5, true) ∷
+        (4, 1, negsuc 6, true) ∷ [] }
 {}
 
 /// At a BLA picture what waits is output, and its RASL pictures are skipped; those of a CRA picture within a sequence aren't.
 pub fn random_access()
     ensures broken_link { shown broken_link ≡ (0, pos 0, 4) ∷ (1, pos 4, 4) ∷ (2, pos 8, 6) ∷ [] }
     ensures skipped { fates broken_link ≡ Skipped ∷ Displayed ∷ Displayed ∷ Displayed ∷ [] }
-    ensures open_gop { new_pictures open_gop ≡ (0, 19, pos 0, true) ∷ (1, 21, pos 8, true) ∷ (2, 9, pos 6, true) ∷ [] }
+    ensures open_gop { new_pictures open_gop
+        ≡ (0, 19, pos 0, true) ∷ (1, 21, pos 8, true) ∷ (2, 9, pos 6, true) ∷ [] }
 {}
 
 /// A CRA picture within a sequence that is handled as a BLA picture discards what waits, and its RASL pictures are skipped;
@@ -74,25 +96,31 @@ pub fn random_access()
 pub fn handled_as_bla()
     ensures pictures { new_pictures handled_cra ≡ (0, 19, pos 0, true) ∷ (1, 21, pos 8, true) ∷ [] }
     ensures fates { fates handled_cra ≡ Skipped ∷ Displayed ∷ Discarded ∷ [] }
-    ensures cra_alone { new_pictures handled_rasl ≡ (0, 19, pos 0, true) ∷ (1, 21, pos 8, true) ∷ (2, 9, pos 6, true) ∷ [] }
+    ensures cra_alone { new_pictures handled_rasl
+        ≡ (0, 19, pos 0, true) ∷ (1, 21, pos 8, true) ∷ (2, 9, pos 6, true) ∷ [] }
 {}
 
 /// What a dependent slice takes from the independent one before it, and when it is refused.
 pub fn dependent_headers()
     ensures taken { calls dependent_p ≡ (0, NewSequence plain_format)
-        ∷ (2, NewPicture 0 19 (pos 0) true 0) ∷ (2, BeginPicture 0 no_references) ∷ (2, DecodeSlice 0 0 idr_bytes [] [])
+        ∷ (2, NewPicture 0 19 (pos 0) true 0) ∷ (2, BeginPicture 0 no_references)
+        ∷ (2, DecodeSlice 0 0 idr_bytes [] [])
         ∷ (3, SubmitPicture 0)
-        ∷ (3, NewPicture 1 1 (pos 4) true 0) ∷ (3, BeginPicture 1 (record no_references { st_curr_before = Some 0 ∷ [] })) ∷ (3, DecodeSlice 1 0 p4_bytes (Some (DpbEntry 0) ∷ []) [])
+        ∷ (3, NewPicture 1 1 (pos 4) true 0)
+        ∷ (3, BeginPicture 1 (record no_references { st_curr_before = Some 0 ∷ [] }))
+        ∷ (3, DecodeSlice 1 0 p4_bytes (Some (DpbEntry 0) ∷ []) [])
         ∷ (4, DecodeSlice 1 3 (2 ∷ 1 ∷ []) (Some (DpbEntry 0) ∷ []) [])
         ∷ (5, SubmitPicture 1) ∷ [] }
     ensures other_set { verdict other_set ≡ Err (record { unit = 3; cause = NoIndependentSlice }) }
-    ensures fewer_sets { verdict fewer_sets ≡ Err (record { unit = 3; cause = NoIndependentSlice }) }
+    ensures fewer_sets { verdict fewer_sets
+        ≡ Err (record { unit = 3; cause = NoIndependentSlice }) }
 {}
 
 /// A picture whose order count is out of range still ends the one before it, and negotiates its format.
 pub fn far_counts()
     ensures calls { calls far_count ≡ (0, NewSequence plain_format)
-        ∷ (2, NewPicture 0 19 (pos 0) true 0) ∷ (2, BeginPicture 0 no_references) ∷ (2, DecodeSlice 0 0 idr_bytes [] [])
+        ∷ (2, NewPicture 0 19 (pos 0) true 0) ∷ (2, BeginPicture 0 no_references)
+        ∷ (2, DecodeSlice 0 0 idr_bytes [] [])
         ∷ (3, SubmitPicture 0) ∷ (3, NewSequence deep_format) ∷ [] }
     ensures outputs { shown far_count ≡ (0, pos 0, 3) ∷ [] }
     ensures verdict { verdict far_count ≡ Err (record { unit = 3; cause = PocOutOfRange }) }
@@ -100,9 +128,12 @@ pub fn far_counts()
 
 /// A refused unit ends nothing that is open.
 pub fn refused_units()
-    ensures calls { calls refused_slice ≡ (0, NewSequence plain_format) ∷ (2, NewPicture 0 19 (pos 0) true 0) ∷ (2, BeginPicture 0 no_references) ∷ (2, DecodeSlice 0 0 idr_bytes [] []) ∷ [] }
+    ensures calls { calls refused_slice
+        ≡ (0, NewSequence plain_format) ∷ (2, NewPicture 0 19 (pos 0) true 0) ∷
+        (2, BeginPicture 0 no_references) ∷ (2, DecodeSlice 0 0 idr_bytes [] []) ∷ [] }
     ensures outputs { shown refused_slice ≡ [] }
-    ensures verdict { verdict refused_slice ≡ Err (record { unit = 3; cause = UnitRefused OutOfBits }) }
+    ensures verdict { verdict refused_slice
+        ≡ Err (record { unit = 3; cause = UnitRefused OutOfBits }) }
 {}
 
 /// The short-term set may be one of the sequence set's.

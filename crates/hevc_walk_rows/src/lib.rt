@@ -17,11 +17,22 @@ ghost use Rattle.hevc_walk_rows.specs.Streams.{plain_format, deep_format, plain,
 /// An IDR picture and two P pictures, the second between the first two in output order.
 pub fn plain_stream()
     ensures calls { calls plain ≡ (0, NewSequence plain_format)
-        ∷ (2, NewPicture 0 19 (pos 0) true 0) ∷ (2, BeginPicture 0 no_references) ∷ (2, DecodeSlice 0 0 idr_bytes [] [])
+        ∷ (2, NewPicture 0 19 (pos 0) true 0) ∷ (2, BeginPicture 0 no_references)
+        ∷ (2, DecodeSlice 0 0 idr_bytes [] [])
         ∷ (3, SubmitPicture 0)
-        ∷ (3, NewPicture 1 1 (pos 4) true 0) ∷ (3, BeginPicture 1 (record no_references { st_curr_before = Some 0 ∷ [] })) ∷ (3, DecodeSlice 1 0 p4_bytes (Some (DpbEntry 0) ∷ []) [])
+        ∷ (3, NewPicture 1 1 (pos 4) true 0)
+        ∷ (3, BeginPicture 1 (record no_references { st_curr_before = Some 0 ∷ [] }))
+        ∷ (3, DecodeSlice 1 0 p4_bytes (Some (DpbEntry 0) ∷ []) [])
         ∷ (4, SubmitPicture 1)
-        ∷ (4, NewPicture 2 1 (pos 2) true 0) ∷ (4, BeginPicture 2 (record no_references { st_curr_before = Some 0 ∷ []; st_curr_after = Some 1 ∷ [] })) ∷ (4, DecodeSlice 2 0 p2_bytes (Some (DpbEntry 0) ∷ []) [])
+        ∷ (4, NewPicture 2 1 (pos 2) true 0)
+        ∷ (
+          4,
+          BeginPicture 2 (record no_references {
+            st_curr_before = Some 0 ∷ [];
+            st_curr_after = Some 1 ∷ [];
+          }),
+        )
+        ∷ (4, DecodeSlice 2 0 p2_bytes (Some (DpbEntry 0) ∷ []) [])
         ∷ (5, SubmitPicture 2) ∷ [] }
     ensures outputs { shown plain ≡ (0, pos 0, 4) ∷ (2, pos 2, 5) ∷ (1, pos 4, 5) ∷ [] }
     ensures verdict { verdict plain ≡ Ok 3 }
@@ -39,7 +50,8 @@ pub fn skipped_leading()
 pub fn ends()
     ensures sequence { shown (ended_by EndOfSequence) ≡ (0, pos 0, 5) ∷ (2, pos 8, 6) ∷ [] }
     ensures sequence_verdict { verdict (ended_by EndOfSequence) ≡ Ok 3 }
-    ensures bitstream { shown (ended_by EndOfBitstream) ≡ (0, pos 0, 5) ∷ (1, pos 4, 5) ∷ (2, pos 8, 6) ∷ [] }
+    ensures bitstream { shown (ended_by EndOfBitstream)
+        ≡ (0, pos 0, 5) ∷ (1, pos 4, 5) ∷ (2, pos 8, 6) ∷ [] }
     ensures bitstream_verdict { verdict (ended_by EndOfBitstream) ≡ Ok 3 }
 {}
 
@@ -47,12 +59,17 @@ pub fn ends()
 pub fn ties()
     ensures stream { shown equal_counts ≡ (0, pos 0, 4) ∷ (1, pos 0, 4) ∷ [] }
     ensures verdict { verdict equal_counts ≡ Ok 2 }
-    ensures drained { draining three_waiting ≡ record { outputs = waiting 8 (pos 0) ∷ waiting 9 (pos 0) ∷ waiting 7 (pos 4) ∷ []; left = [] } }
+    ensures drained { draining three_waiting
+        ≡ record {
+          outputs = waiting 8 (pos 0) ∷ waiting 9 (pos 0) ∷ waiting 7 (pos 4) ∷ [];
+          left = [];
+        } }
 {}
 
 /// A P slice over an empty reference picture set has a place without a picture.
 pub fn missing_reference()
-    ensures pictures { new_pictures without_reference ≡ (0, 19, pos 0, true) ∷ (1, 1, pos 4, true) ∷ [] }
+    ensures pictures { new_pictures without_reference
+        ≡ (0, 19, pos 0, true) ∷ (1, 1, pos 4, true) ∷ [] }
     ensures slices { slice_lists without_reference ≡ (0, [], []) ∷ (1, None ∷ [], []) ∷ [] }
     ensures verdict { verdict without_reference ≡ Ok 2 }
 {}
@@ -67,18 +84,23 @@ pub fn order_counts()
 
 /// As an encoder writes it, with a B slice.
 pub fn encoder_stream()
-    ensures pictures { new_pictures encoded ≡ (0, 19, pos 0, true) ∷ (1, 1, pos 4, true) ∷ (2, 1, pos 2, true) ∷ [] }
-    ensures slices { slice_lists encoded ≡ (0, [], []) ∷ (1, Some (DpbEntry 0) ∷ [], []) ∷ (2, Some (DpbEntry 0) ∷ [], Some (DpbEntry 1) ∷ []) ∷ [] }
+    ensures pictures { new_pictures encoded
+        ≡ (0, 19, pos 0, true) ∷ (1, 1, pos 4, true) ∷ (2, 1, pos 2, true) ∷ [] }
+    ensures slices { slice_lists encoded
+        ≡ (0, [], []) ∷ (1, Some (DpbEntry 0) ∷ [], []) ∷
+        (2, Some (DpbEntry 0) ∷ [], Some (DpbEntry 1) ∷ []) ∷ [] }
     ensures outputs { shown encoded ≡ (0, pos 0, 6) ∷ (2, pos 2, 7) ∷ (1, pos 4, 7) ∷ [] }
     ensures verdict { verdict encoded ≡ Ok 3 }
 {}
 
 /// A dependent slice has the header of the independent one before it, and is refused without one.
 pub fn dependent_slices()
-    ensures alone { verdict dependent_alone ≡ Err (record { unit = 2; cause = NoIndependentSlice }) }
+    ensures alone { verdict dependent_alone
+        ≡ Err (record { unit = 2; cause = NoIndependentSlice }) }
     ensures alone_calls { calls dependent_alone ≡ (0, NewSequence plain_format) ∷ [] }
     ensures behind { calls dependent_behind ≡ (0, NewSequence plain_format)
-        ∷ (2, NewPicture 0 19 (pos 0) true 0) ∷ (2, BeginPicture 0 no_references) ∷ (2, DecodeSlice 0 0 idr_bytes [] [])
+        ∷ (2, NewPicture 0 19 (pos 0) true 0) ∷ (2, BeginPicture 0 no_references)
+        ∷ (2, DecodeSlice 0 0 idr_bytes [] [])
         ∷ (3, DecodeSlice 0 0 dependent_bytes [] []) ∷ (4, SubmitPicture 0) ∷ [] }
     ensures outputs { shown dependent_behind ≡ (0, pos 0, 4) ∷ [] }
     ensures verdict { verdict dependent_behind ≡ Ok 1 }
@@ -96,11 +118,15 @@ pub fn full_buffer()
 /// says, and within a picture it is refused.
 pub fn changed_depth()
     ensures calls { calls deeper ≡ (0, NewSequence plain_format)
-        ∷ (2, NewPicture 0 19 (pos 0) true 0) ∷ (2, BeginPicture 0 no_references) ∷ (2, DecodeSlice 0 0 idr_bytes [] [])
+        ∷ (2, NewPicture 0 19 (pos 0) true 0) ∷ (2, BeginPicture 0 no_references)
+        ∷ (2, DecodeSlice 0 0 idr_bytes [] [])
         ∷ (5, SubmitPicture 0) ∷ (5, NewSequence deep_format)
-        ∷ (5, NewPicture 1 19 (pos 0) true 0) ∷ (5, BeginPicture 1 no_references) ∷ (5, DecodeSlice 1 0 idr_bytes [] [])
+        ∷ (5, NewPicture 1 19 (pos 0) true 0) ∷ (5, BeginPicture 1 no_references)
+        ∷ (5, DecodeSlice 1 0 idr_bytes [] [])
         ∷ (6, SubmitPicture 1) ∷ [] }
     ensures outputs { shown deeper ≡ (0, pos 0, 5) ∷ (1, pos 0, 6) ∷ [] }
-    ensures without_prior { shown deeper_without_prior ≡ (0, pos 0, 6) ∷ (1, pos 4, 6) ∷ (2, pos 0, 7) ∷ [] }
-    ensures mid_picture { verdict deeper_mid_picture ≡ Err (record { unit = 5; cause = ChangedMidPicture plain_format deep_format }) }
+    ensures without_prior { shown deeper_without_prior
+        ≡ (0, pos 0, 6) ∷ (1, pos 4, 6) ∷ (2, pos 0, 7) ∷ [] }
+    ensures mid_picture { verdict deeper_mid_picture
+        ≡ Err (record { unit = 5; cause = ChangedMidPicture plain_format deep_format }) }
 {}

@@ -14,7 +14,8 @@ pub(crate) fn push_last(
     shown: usize,
     verdict: Result<u64, Refused>,
 ) -> Result<(), AllocError>
-    ensures { OnOk result (string_bytes text.new ≡ string_bytes text.old ++ last_line shown verdict) }
+    ensures { OnOk result
+        (string_bytes text.new ≡ string_bytes text.old ++ last_line shown verdict) }
 {
     match verdict {
         Ok(pictures) => writeln!(text, "end pictures {pictures} shown {shown}"),

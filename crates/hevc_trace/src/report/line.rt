@@ -47,7 +47,8 @@ pub(crate) fn push_call(text: &mut String, call: &Call<u64>) -> Result<(), Alloc
 }
 
 fn push_sequence(text: &mut String, info: &NegotiationInfo) -> Result<(), AllocError>
-    ensures { OnOk result (string_bytes text.new ≡ string_bytes text.old ++ sequence_line (format_of info.now)) }
+    ensures { OnOk result
+        (string_bytes text.new ≡ string_bytes text.old ++ sequence_line (format_of info.now)) }
 {
     let width = info.coded_resolution.width;
     let height = info.coded_resolution.height;

@@ -1,5 +1,5 @@
 use Rattle.std.proofs.Common.{◌≡◌, pos}
-use Rattle.hevc_short_term.proofs.FilledArrays.{filled}
+use Rattle.hevc_short_term_laws.proofs.FilledArrays.{filled}
 use Rattle.hevc_short_term.proofs.arrays.difference_array.Given as goal
 
 abbrev pub invariant-loop-i : goal.invariant-loop-i

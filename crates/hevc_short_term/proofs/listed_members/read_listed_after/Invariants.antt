@@ -3,7 +3,7 @@ use Rattle.hevc_spec.specs.Payload.{bits, IsAhead}
 use Rattle.hevc_spec.specs.Table.{read}
 use Rattle.hevc_spec.specs.Rows.{repeat}
 use Rattle.hevc_tables.specs.ShortTermTable.{next_member_after, listed_after}
-use Rattle.hevc_short_term.proofs.Listed.{UpTo}
+use Rattle.hevc_short_term_laws.proofs.Listed.{UpTo}
 use Rattle.hevc_short_term.proofs.listed_members.read_listed_after.Given as goal
 
 abbrev pub invariant-loop-i : goal.invariant-loop-i

@@ -1,7 +1,7 @@
 use Rattle.std.proofs.Common.{arith, rules}
 use Rattle.hevc_elements.proofs.Loops.{loops}
 use Rattle.hevc_tables.specs.ShortTermTable.{next_member_before}
-use Rattle.hevc_short_term.proofs.Listed.{down_more}
+use Rattle.hevc_short_term_laws.proofs.Listed.{down_more}
 use Rattle.hevc_short_term.proofs.listed_members.read_listed_before.Goals as goal
 
 pub loop-i-preserved : goal.loop-i-preserved

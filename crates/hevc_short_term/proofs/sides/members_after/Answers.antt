@@ -1,7 +1,7 @@
 use Rattle.std.proofs.Common.{◌≡◌, arith}
 use Rattle.std.proofs.lemmas.Grind.{common_steps}
 use Rattle.hevc_tables.specs.ShortTermTable.{members_after}
-use Rattle.hevc_short_term.proofs.Parts.{lie_after}
+use Rattle.hevc_short_term_laws.proofs.Parts.{lie_after}
 use Rattle.hevc_short_term.proofs.sides.members_after.Goals as goal
 
 pub returns-clause-after : goal.returns-clause-after

@@ -15,7 +15,7 @@ use Rattle.hevc_plain.specs.TakenUnits.{plain_meaning}
 use Rattle.hevc_decoder.specs.declared.decode_error.DecodeError.TheVariants as errors
 use Rattle.hevc_backend.specs.Negotiation.{format_of}
 use Rattle.hevc_decoder.specs.StreamMeanings.{first_format, picture_meaning, slice_meaning}
-use Rattle.hevc_stream.specs.Sequences.{format_of_set}
+use Rattle.hevc_views.specs.Sequences.{format_of_set}
 
 pub returns-in_err-set-clause-part : goal.returns-in_err-set-clause-part
 returns-in_err-set-clause-part g c = takes_exit _ _ _ _ _ _ _ errors.NoMemory c.from_residual.ensures.1 (stops_at_once ⊥ _ _ _ refl refl refl (λ f. absurd f))

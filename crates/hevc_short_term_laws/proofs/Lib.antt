@@ -1,0 +1,5 @@
+pub mod OrderLaws
+pub mod LinedUp
+pub mod Listed
+pub mod FilledArrays
+pub mod Parts

@@ -1,0 +1,4 @@
+pub mod OwnIds
+pub mod Kept
+pub mod Lending
+pub mod Slices

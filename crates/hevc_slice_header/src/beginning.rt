@@ -1,0 +1,62 @@
+//! Where a segment stands (7.3.6.1, rows 1 to 5 of table 14).
+ghost use Rattle.std.specs.Prelude.{◌≡◌, ◌≤◌, ◌^◌};
+ghost use Rattle.hevc_bits.specs.NaluType.{nalu_type_number};
+ghost use Rattle.hevc_elements.specs.Words.{Fills};
+ghost use Rattle.hevc_tables.specs.SliceHeaderTable as table;
+ghost use Rattle.hevc_types_c.specs.Sps.{plain_sps};
+ghost use Rattle.hevc_types_d.specs.Pps.{plain_pps};
+ghost use Rattle.hevc_types_d.specs.SliceHeader.{plain_slice_header};
+
+use hevc_bits::{NaluReader, NaluType};
+use hevc_elements::ParseError;
+use hevc_elements::rows::{bits_u32, flag, flag_if, ue_u8};
+use hevc_slice_parts::ceil_log2;
+use hevc_spec::Row;
+use hevc_types_c::Sps;
+use hevc_types_d::{Pps, SliceHeader};
+
+/// Rows 1 to 3 of table 14.
+#[tactic(auto, unfolding(hevc_tables::specs::SliceHeaderTable::beginning))]
+pub(crate) fn read_beginning(
+    r: &mut NaluReader<'_>,
+    nalu_type: NaluType,
+    h: &mut SliceHeader,
+) -> Result<(), ParseError>
+    ensures { Fills plain_slice_header
+        (table.beginning (nalu_type_number nalu_type)) result h.old h.new r.old r.new }
+{
+    h.first_slice_segment_in_pic_flag = flag(r, Row(14, 1))?;
+    h.no_output_of_prior_pics_flag = flag_if(r, nalu_type.is_irap(), Row(14, 2))?;
+    h.pic_parameter_set_id = ue_u8(r, Row(14, 3), 0, 63)?;
+    Ok(())
+}
+
+/// Rows 4 and 5 of table 14.
+#[tactic(auto, unfolding(hevc_tables::specs::SliceHeaderTable::later_segment))]
+pub(crate) fn read_later_segment(
+    r: &mut NaluReader<'_>,
+    sps: &Sps,
+    pps: &Pps,
+    h: &mut SliceHeader,
+) -> Result<(), ParseError>
+    ensures { Fills plain_slice_header
+        (table.later_segment (plain_sps sps.now)
+        (plain_pps pps.now)) result h.old h.new r.old r.new }
+{
+    let size = size_in_blocks(sps);
+    h.dependent_slice_segment_flag = flag_if(
+        r,
+        pps.dependent_slice_segments_enabled_flag,
+        Row(14, 4),
+    )?;
+    h.segment_address = bits_u32(r, Row(14, 5), ceil_log2(size), 0, size - 1)?;
+    Ok(())
+}
+
+/// PicSizeInCtbsY (7-17), at most 2^31.
+fn size_in_blocks(sps: &Sps) -> u32
+    ensures value { result ≡ (plain_sps sps.now).pic_size_in_ctbs_y }
+    ensures range { (1 ≤ result) × (result ≤ 2 ^ 31) }
+{
+    sps.pic_size_in_ctbs_y
+}

@@ -1,0 +1,19 @@
+//! Slice segment headers, and their reader.
+#![tactic(auto)]
+
+mod beginning;
+mod entry_points;
+mod filters;
+mod kind;
+mod prediction;
+mod quantiser;
+mod segment;
+mod sizes;
+mod slice_header;
+
+pub use prediction::parse_pred_weight_table;
+pub use segment::slice_header_set_defaults;
+pub use slice_header::read_slice_header;
+
+#[cfg(test)]
+mod tests;

@@ -1,0 +1,177 @@
+//! Slice segment headers (7.3.6.1, table 14).
+ghost use Rattle.std.specs.Prelude.{◌≡◌, ◌==◌, ◌+◌, ◌-◌, ◌<◌, ◌%◌, ◌^◌, ◌↔◌, IfErr, IfOk, IsErrOf, IsFalse, IsTrue, ◌≤◌, drop, length};
+ghost use Rattle.hevc_spec.specs.Payload.{payload, payload_bits, bits_left};
+ghost use Rattle.hevc_spec.specs.UnitTypes.{is_slice as is_slice_number};
+ghost use Rattle.hevc_bits.specs.FoundUnit.{bytes_of};
+ghost use Rattle.hevc_bits.specs.NaluType.{nalu_type_number};
+ghost use Rattle.hevc_elements.specs.Words.{bits, IsAhead, read, Fills, FillsGrowing, ReadsSet, MeansSet};
+ghost use Rattle.hevc_tables.specs.SliceHeaderTable as table;
+ghost use Rattle.hevc_types_c.specs.Sps.{plain_sps};
+ghost use Rattle.hevc_types_d.specs.Pps.{plain_pps};
+ghost use Rattle.hevc_types_d.specs.SliceHeader.{plain_slice_header};
+ghost use Rattle.hevc_slice_header.specs.Answers.{ReadsHeader, NamesNoSequenceSet};
+ghost use Rattle.hevc_slice_header.specs.Kept.{kept_active_sets};
+ghost use Rattle.hevc_slice_header.specs.Lists.{HasLists};
+
+use crate::beginning::read_beginning;
+use crate::segment::read_behind_sets;
+use crate::sizes::emulation_prevention_bytes;
+use hevc_bits::{Nalu, NaluHeader, NaluReader, NaluType};
+use hevc_elements::ParseError;
+use hevc_elements::rows::skip;
+use hevc_slice_references::bits_between;
+use hevc_spec::Row;
+use hevc_types_c::Sps;
+use hevc_types_d::{Pps, SliceHeader};
+use std::alloc::Global;
+use std::collections::BTreeMap;
+
+/// Reads a slice segment header out of its unit, of a stream of less than 2^60 bytes, by table 14 (7.3.6.1), with the parameter sets
+/// that are kept, by their ids. It takes memory from `alloc` for its entry points.
+///
+/// An element that is absent has its value of `SliceHeader::new`, but for what its sets infer (`SliceHeader::set_defaults`).
+///
+/// Errors: `WrongNaluType` first, where the unit is no slice (types 0 to 9 and 16 to 21); `OutOfBits` where the payload ends within
+/// an element; `OutOfRange` with table and row of the first element that isn't allowed; behind row 3, `MissingPps` where none of
+/// the picture sets has the id that it names, with a sequence set that is kept; `NoMemory`.
+#[tactic(auto, using(hevc_elements::proofs::SetMeaning::set_meanings))]
+pub fn read_slice_header(
+    alloc: Global,
+    nalu: &Nalu<'_, NaluHeader>,
+    spses: &BTreeMap<u8, Sps>,
+    ppses: &BTreeMap<u8, Pps>,
+) -> Result<SliceHeader, ParseError>
+    requires { length nalu.now.stream < 2 ^ 60 }
+    ensures wrong_type { IsErrOf result ParseError.WrongNaluType
+        ↔ IsFalse (is_slice_number nalu.now.header.nal_unit_type) }
+    ensures read { IsTrue (is_slice_number nalu.now.header.nal_unit_type)
+        → ReadsSet plain_slice_header result
+        (read (table.slice_segment_header nalu.now.header.nal_unit_type (drop 2 (bytes_of nalu.now))
+        (kept_active_sets ppses.now spses.now)) (payload (bytes_of nalu.now))) }
+    ensures means { IsTrue (is_slice_number nalu.now.header.nal_unit_type)
+        → MeansSet plain_slice_header
+        (table.slice_segment_header nalu.now.header.nal_unit_type (drop 2 (bytes_of nalu.now))
+        (kept_active_sets ppses.now spses.now)) result (payload (bytes_of nalu.now)) }
+    ensures names { IfErr result NamesNoSequenceSet }
+    // Each list whose order is told has an entry for each active place, each below NumPicTotalCurr.
+    ensures lists { IfOk result (λ h. HasLists (plain_slice_header h)) }
+{
+    let header = nalu.header();
+    if !is_slice(header.nalu_type()) {
+        return Err(ParseError::WrongNaluType);
+    }
+    read_payload(alloc, header.nalu_type(), nalu.payload(), spses, ppses)
+}
+
+/// Whether a unit of this type is a slice.
+fn is_slice(nalu_type: NaluType) -> bool
+    ensures { result ≡ is_slice_number (nalu_type_number nalu_type) }
+{
+    let number = nalu_type as u8;
+    number <= 9 || (16 <= number && number <= 21)
+}
+
+/// Reads the payload of a unit of this type.
+#[tactic(auto, unfolding(hevc_spec::specs::Payload::bits_left))]
+fn read_payload(
+    alloc: Global,
+    nalu_type: NaluType,
+    payload: &[u8],
+    spses: &BTreeMap<u8, Sps>,
+    ppses: &BTreeMap<u8, Pps>,
+) -> Result<SliceHeader, ParseError>
+    requires { length payload.now < 2 ^ 60 }
+    ensures read { ReadsSet plain_slice_header result
+        (read (table.slice_segment_header (nalu_type_number nalu_type) payload.now
+        (kept_active_sets ppses.now spses.now)) (payload_bits 0 payload.now)) }
+    ensures names { IfErr result NamesNoSequenceSet }
+    ensures lists { IfOk result (λ h. HasLists (plain_slice_header h)) }
+{
+    let mut r = NaluReader::new(payload);
+    let before = r.fork();
+    match read_aligned(alloc, &mut r, nalu_type, spses, ppses) {
+        Ok(mut h) => {
+            set_sizes(payload, bits_between(&before, &r), &mut h);
+            Ok(h)
+        }
+        Err(error) => Err(error),
+    }
+}
+
+/// The sizes of a header of so many payload bits.
+#[tactic(auto, unfolding(hevc_tables::specs::SliceHeaderTable::with_sizes))]
+fn set_sizes(payload: &[u8], size: u32, h: &mut SliceHeader)
+    requires short { length payload.now < 2 ^ 60 }
+    requires there { size ≤ length (payload_bits 0 payload.now) }
+    requires few { size < 2 ^ 32 - 16 }
+    ensures set { plain_slice_header h.new
+        ≡ table.with_sizes payload.now (plain_slice_header h.old) size }
+    ensures lists { HasLists (plain_slice_header h.old) → HasLists (plain_slice_header h.new) }
+{
+    h.header_bit_size = 16 + size;
+    h.n_emulation_prevention_bytes = emulation_prevention_bytes(payload, size);
+}
+
+/// Rows 1 to 53 of table 14, from a whole byte on.
+#[tactic(auto, unfolding(hevc_tables::specs::SliceHeaderTable::aligned))]
+fn read_aligned(
+    alloc: Global,
+    r: &mut NaluReader<'_>,
+    nalu_type: NaluType,
+    spses: &BTreeMap<u8, Sps>,
+    ppses: &BTreeMap<u8, Pps>,
+) -> Result<SliceHeader, ParseError>
+    requires { bits_left r.old % 8 ≡ 0 }
+    ensures read { ReadsHeader plain_slice_header result r.new
+        (read (table.aligned
+        (table.elements (nalu_type_number nalu_type) (kept_active_sets ppses.now spses.now)))
+        (bits r.old)) }
+    ensures moves { IsAhead r.old r.new }
+    ensures few { IfOk result (λ _. length (bits r.old) ≤ 2 ^ 31 + 8 + length (bits r.new)) }
+    ensures names { IfErr result NamesNoSequenceSet }
+    ensures lists { IfOk result (λ h. HasLists (plain_slice_header h)) }
+{
+    let h = read_elements(alloc, r, nalu_type, spses, ppses)?;
+    skip(r, Row(14, 53), 1)?;
+    let left_in_byte = r.num_bits_left() % 8;
+    skip(r, Row(14, 53), left_in_byte)?;
+    Ok(h)
+}
+
+/// Rows 1 to 52 of table 14.
+#[tactic(auto, using(crate::proofs::Answered::answered), unfolding(hevc_tables::specs::SliceHeaderTable::elements, hevc_tables::specs::PpsTable::named))]
+fn read_elements(
+    alloc: Global,
+    r: &mut NaluReader<'_>,
+    nalu_type: NaluType,
+    spses: &BTreeMap<u8, Sps>,
+    ppses: &BTreeMap<u8, Pps>,
+) -> Result<SliceHeader, ParseError>
+    ensures read { ReadsHeader plain_slice_header result r.new
+        (read (table.elements (nalu_type_number nalu_type) (kept_active_sets ppses.now spses.now))
+        (bits r.old)) }
+    ensures moves { IsAhead r.old r.new }
+    ensures few { IfOk result (λ _. length (bits r.old) ≤ 2 ^ 31 + length (bits r.new)) }
+    ensures names { IfErr result NamesNoSequenceSet }
+    ensures lists { IfOk result (λ h. HasLists (plain_slice_header h)) }
+{
+    let mut h = SliceHeader::new(alloc);
+    read_beginning(r, nalu_type, &mut h)?;
+    let missing = ParseError::MissingPps(h.pic_parameter_set_id);
+    let Some(pps) = ppses.get(&h.pic_parameter_set_id) else {
+        return Err(missing);
+    };
+    let Some(sps) = spses.get(&pps.seq_parameter_set_id) else {
+        return Err(missing);
+    };
+    has_few_extra_bits(pps);
+    read_behind_sets(alloc, r, nalu_type, sps, pps, &mut h)?;
+    Ok(h)
+}
+
+/// Says that row 6 is short, on which the size of a header rests.
+fn has_few_extra_bits(pps: &Pps)
+    ensures { pps.now.num_extra_slice_header_bits ≤ 255 }
+{
+    prove!(pps.num_extra_slice_header_bits <= 255);
+}

@@ -1,0 +1,15 @@
+use Rattle.std.proofs.Common.{◌≡◌, ◌-◌, length}
+use Rattle.hevc_spec.specs.Payload.{bits, IsAhead}
+use Rattle.hevc_spec.specs.Table.{read}
+use Rattle.hevc_spec.specs.Rows.{repeat}
+use Rattle.hevc_records.specs.Bounds.{AtMost}
+use Rattle.hevc_tables.specs.RefPicListModificationTable.{list_entry, list_entries}
+use Rattle.hevc_slice_parts.proofs.list_modification.read_entries.Given as goal
+
+abbrev pub invariant-loop-i : goal.invariant-loop-i
+invariant-loop-i l = record {
+  same : read (repeat (list_entry l.row l.num_pic_total_curr) l.i (l.count - l.i) l.entries.items) (bits l.r) ≡ read (list_entries l.row l.num_pic_total_curr l.count) (bits l.fn.r);
+  count : length l.entries.items ≡ l.i;
+  fit : AtMost (l.num_pic_total_curr - 1) l.entries.items;
+  ahead : IsAhead l.fn.r l.r;
+}

@@ -1,0 +1,4 @@
+pub mod Cycles
+pub mod UsedMembers
+pub mod Sizes
+pub mod SetSize

@@ -1,0 +1,15 @@
+use Rattle.std.proofs.Common.{◌≡◌, ◌-◌, ◌*◌, ◌^◌, ◌≤◌}
+use Rattle.hevc_spec.specs.Payload.{bits, IsAhead}
+use Rattle.hevc_spec.specs.Table.{read}
+use Rattle.hevc_spec.specs.Rows.{repeat}
+use Rattle.hevc_tables.specs.SliceHeaderTable.{cycles_before, long_term_picture, long_term_pictures}
+use Rattle.hevc_types_c.specs.Sps.{plain_sps}
+use Rattle.hevc_types_d.specs.SliceHeader.{plain_slice_header}
+use Rattle.hevc_slice_references.proofs.long_term.read_pictures.Given as goal
+
+abbrev pub invariant-loop-i : goal.invariant-loop-i
+invariant-loop-i l = record {
+  same : read (repeat (long_term_picture (plain_sps l.fn.sps)) l.i (l.count - l.i) (plain_slice_header l.h)) (bits l.r) ≡ read (long_term_pictures (plain_sps l.fn.sps) (plain_slice_header l.fn.h)) (bits l.fn.r);
+  few : cycles_before l.i (plain_slice_header l.h) ≤ l.i * 2 ^ 28;
+  ahead : IsAhead l.fn.r l.r;
+}

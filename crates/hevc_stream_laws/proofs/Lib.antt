@@ -1,0 +1,11 @@
+pub mod Gives
+pub mod ShortTermSets
+pub mod WalkSets
+pub mod SequenceSets
+pub mod PictureSets
+pub mod SliceHeaders
+pub mod Meanings
+pub mod OneContent
+pub mod KeptWell
+pub mod Waiting
+pub mod ByType

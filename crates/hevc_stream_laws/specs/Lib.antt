@@ -1,0 +1,2 @@
+pub mod UnitMeans
+pub mod KeptWell
