@@ -11,6 +11,7 @@ pub mod ProfileConformance
 pub mod ProfileTierLevel
 pub mod RefPicListModification
 pub mod ScalingLists
+pub mod SetsById
 pub mod ShortTermRefPicSet
 pub mod SliceHeader
 pub mod Sps
