@@ -1,9 +1,9 @@
 -- One output more, as bumping goes on.
-use Rattle.std.proofs.Common.{◌≡◌, ⊎_elim, ℕ, suc, ◌+◌, ◌≤◌, Bool, true, false, cond, List, [], ◌∷◌, ◌++◌, length, map, take, refl, sym, ap, ◌∙◌, subst, arith}
+use Rattle.std.proofs.Common.{◌≡◌, ⊎_elim, ℕ, ℤ, suc, ◌+◌, ◌≤◌, Bool, true, false, cond, List, [], ◌∷◌, ◌++◌, length, map, take, refl, sym, ap, ◌∙◌, subst, arith}
 use Rattle.std.specs.Prelude.{Some, None, Contains}
 use Rattle.std.specs.Option.{option_map}
-use Rattle.std.proofs.lemmas.List.{append_assoc, map-append, append-nil}
-use Rattle.hevc_walk.specs.Buffer.{Entry, Buffer, in_output_order, after_output, placed, bumping, Bumped}
+use Rattle.std.proofs.lemmas.List.{append_assoc, map-append, append-nil, length-append}
+use Rattle.hevc_walk.specs.Buffer.{Entry, Buffer, in_output_order, after_output, placed, due_outputs, bumping, Bumped}
 use Rattle.hevc_walk_bumps.specs.Steps as steps
 use Rattle.hevc_walk_bumps.specs.Steps.{after_one}
 use Rattle.hevc_walk_bumps.proofs.Bumps.{one_more, over, order_after_one}
@@ -17,7 +17,11 @@ use Rattle.hevc_dpb.specs.Sublists.{IsSublist}
 use Rattle.hevc_dpb.specs.Views.{stored_entries, max_num_pics_of, room_of, buffer_of}
 use Rattle.hevc_dpb.proofs.Sublists.{sublist_part}
 use Rattle.hevc_dpb.proofs.Members.{contains_first, contains_later, contains_cases}
-use Rattle.hevc_bumping.specs.Bumps.{Bumps}
+use Rattle.std.specs.VecDeque.{VecDeque, deque_capacity}
+use Rattle.hevc_walk.specs.Buffer.{shortest_front, draining}
+use Rattle.hevc_bumping.specs.declared.frame.Frame.{Frame}
+use Rattle.hevc_bumping.specs.Frames.{frame_of, frame_ticket, frame_output, entry_output}
+use Rattle.hevc_bumping.specs.Bumps.{Bumps, num_waiting}
 
 plain_absent : {T : Type 0} (n : ℕ) (es : List (DpbEntry T)) → Absent n (numbers es) → steps.Absent n (plain_entries es)
 plain_absent n [] h = tt
@@ -29,7 +33,7 @@ plain_distinct (e ∷ es) d = (plain_absent e.number es d.0, plain_distinct es d
 
 -- what one output does
 pub record Step (rule : Buffer → Bool) (es left : Buffer) (x : Entry) : Type 0 where
-  pub given : map plain_output (bumping rule es).outputs ≡ x ∷ map plain_output (bumping rule left).outputs
+  pub given : map entry_output (bumping rule es).outputs ≡ entry_output x ∷ map entry_output (bumping rule left).outputs
   pub left_is : (bumping rule es).left ≡ (bumping rule left).left
   pub fewer : length (in_output_order left) + 1 ≡ length (in_output_order es)
 
@@ -39,7 +43,7 @@ step_by rule es x distinct holds (e ∷ rest) order is =
     let first : x ≡ plain_output e = cc is in
     let more = one_more rule es e rest distinct order holds in
     record {
-      given = ap (λ (b : Bumped). map plain_output b.outputs) more ∙ ap (λ (y : Entry). y ∷ map plain_output (bumping rule (after_one es)).outputs) (sym first);
+      given = ap (λ (b : Bumped). map entry_output b.outputs) more ∙ ap (λ (y : Entry). entry_output y ∷ map entry_output (bumping rule (after_one es)).outputs) (sym first);
       left_is = ap (λ (b : Bumped). b.left) more;
       fewer = (let a = ap length (order_after_one es e rest distinct order) in let b = ap length order in omega (arith, a, b));
     }
@@ -80,65 +84,89 @@ few_wait [] = omega arith
 few_wait (e ∷ es) = wait_by e.needed_for_output e (in_output_order es) es (few_wait es)
 
 -- as far as bumping has come
-pub record Progress {T : Type 0} (rule : Buffer → Bool) (old now : Dpb T) (before items : List (DpbEntry T)) : Type 0 where
-  pub out : List (DpbEntry T)
-  pub appended : items ≡ before ++ out
-  pub given : map plain_entry out ++ map plain_output (bumping rule (buffer_of now)).outputs ≡ map plain_output (bumping rule (buffer_of old)).outputs
+pub record Progress {H Z : Type 0} (rule : Buffer → Bool) (old now : Dpb H) (before queue : VecDeque (Frame H) Z) : Type 0 where
+  pub out : List (Frame H)
+  pub appended : queue.items ≡ before.items ++ out
+  pub given : map frame_output out ++ map entry_output (bumping rule (buffer_of now)).outputs ≡ map entry_output (bumping rule (buffer_of old)).outputs
   pub left : (bumping rule (buffer_of now)).left ≡ (bumping rule (buffer_of old)).left
-  pub out_handles : IsPartOf (tickets out) (tickets (stored_entries old))
+  pub out_handles : IsPartOf (map frame_ticket out) (tickets (stored_entries old))
   pub handles : IsPartOf (tickets (stored_entries now)) (tickets (stored_entries old))
   pub size : max_num_pics_of now ≡ max_num_pics_of old
   pub room : room_of now ≡ room_of old
   pub latency : HaveLatency (stored_entries now)
+  pub capacity : deque_capacity queue ≡ deque_capacity before
+  pub fewer : length out + num_waiting (buffer_of now) ≡ num_waiting (buffer_of old)
 
-module _ {T : Type 0} (rule : Buffer → Bool) where
-  pub begun : (dpb : Dpb T) (items : List (DpbEntry T)) → HaveLatency (stored_entries dpb) → Progress rule dpb dpb items items
-  begun dpb items h = record { out = []; appended = sym (append-nil items); given = refl; left = refl; out_handles = λ x k. absurd (let l = k.1 in omega arith); handles = λ x k. k; size = refl; room = refl; latency = h }
+-- what one output leaves of a buffer but its entries
+pub record LeavesRest {H : Type 0} (mid now : Dpb H) : Type 0 where
+  pub handles : IsSublist (tickets (stored_entries now)) (tickets (stored_entries mid))
+  pub size : max_num_pics_of now ≡ max_num_pics_of mid
+  pub room : room_of now ≡ room_of mid
+  pub latency : HaveLatency (stored_entries now)
 
-  pub ended : (old now : Dpb T) (before items : List (DpbEntry T)) → Progress rule old now before items → bumping rule (buffer_of now) ≡ steps.nothing_output (buffer_of now) → Bumps (bumping rule (buffer_of old)) old now before items
-  ended old now before items p over = record {
+module _ {H Z : Type 0} (rule : Buffer → Bool) where
+  pub begun : (dpb : Dpb H) (queue : VecDeque (Frame H) Z) → HaveLatency (stored_entries dpb) → Progress rule dpb dpb queue queue
+  begun dpb queue h = record { out = []; appended = sym (append-nil queue.items); given = refl; left = refl; out_handles = λ x k. absurd (let l = k.1 in omega arith); handles = λ x k. k; size = refl; room = refl; latency = h; capacity = refl; fewer = refl }
+
+  pub ended : (old now : Dpb H) (before queue : VecDeque (Frame H) Z) → Progress rule old now before queue → bumping rule (buffer_of now) ≡ steps.nothing_output (buffer_of now) → Bumps (bumping rule (buffer_of old)) old now before queue
+  ended old now before queue p over = record {
     out = p.out;
     appended = p.appended;
-    given = sym (append-nil (map plain_entry p.out)) ∙ ap (λ (b : Bumped). map plain_entry p.out ++ map plain_output b.outputs) (sym over) ∙ p.given;
+    given = sym (append-nil (map frame_output p.out)) ∙ ap (λ (b : Bumped). map frame_output p.out ++ map entry_output b.outputs) (sym over) ∙ p.given;
     left = sym (ap (λ (b : Bumped). b.left) over) ∙ p.left;
     out_handles = p.out_handles;
     handles = p.handles;
     size = p.size;
     room = p.room;
     latency = p.latency;
+    capacity = p.capacity;
+    fewer = p.fewer;
   }
 
-  one_among : (out : List (DpbEntry T)) (e : DpbEntry T) (ts : List (ℕ × T)) → IsPartOf (tickets out) ts → Contains ts (ticket e) → IsPartOf (tickets (out ++ e ∷ [])) ts
-  one_among [] e ts h here = λ x k. ⊎_elim (λ is. subst (Contains ts) is here) (λ none. absurd (let l = none.1 in omega arith)) (contains_cases (ticket e) x [] k)
-  one_among (f ∷ out) e ts h here = λ x k. ⊎_elim (λ is. h x (subst (Contains (tickets (f ∷ out))) is (contains_first (ticket f) (tickets out)))) (λ rest. one_among out e ts (λ y m. h y (contains_later (ticket f) y (tickets out) m)) here x rest) (contains_cases (ticket f) x (tickets (out ++ e ∷ [])) k)
+  one_among : (out : List (Frame H)) (f : Frame H) (ts : List (ℕ × H)) → IsPartOf (map frame_ticket out) ts → Contains ts (frame_ticket f) → IsPartOf (map frame_ticket (out ++ f ∷ [])) ts
+  one_among [] f ts h here = λ x k. ⊎_elim (λ is. subst (Contains ts) is here) (λ none. absurd (let l = none.1 in omega arith)) (contains_cases (frame_ticket f) x [] k)
+  one_among (g ∷ out) f ts h here = λ x k. ⊎_elim (λ is. h x (subst (Contains (map frame_ticket (g ∷ out))) is (contains_first (frame_ticket g) (map frame_ticket out)))) (λ rest. one_among out f ts (λ y m. h y (contains_later (frame_ticket g) y (map frame_ticket out) m)) here x rest) (contains_cases (frame_ticket g) x (map frame_ticket (out ++ f ∷ [])) k)
 
-  pub onward : (old mid now : Dpb T) (before items more : List (DpbEntry T)) (e : DpbEntry T) → Progress rule old mid before items → Step rule (buffer_of mid) (buffer_of now) (plain_entry e) → more ≡ items ++ e ∷ []
-      → Contains (tickets (stored_entries mid)) (ticket e) → IsSublist (tickets (stored_entries now)) (tickets (stored_entries mid)) → max_num_pics_of now ≡ max_num_pics_of mid → room_of now ≡ room_of mid → HaveLatency (stored_entries now)
-      → Progress rule old now before more
-  onward old mid now before items more e p s is here sublist size room latency = record {
-    out = p.out ++ e ∷ [];
-    appended = is ∙ ap (λ l. l ++ e ∷ []) p.appended ∙ append_assoc before p.out (e ∷ []);
-    given = ap (λ (l : List Entry). l ++ map plain_output (bumping rule (buffer_of now)).outputs) (map-append plain_entry p.out (e ∷ [])) ∙ append_assoc (map plain_entry p.out) (plain_entry e ∷ []) (map plain_output (bumping rule (buffer_of now)).outputs)
-        ∙ ap (λ (l : List Entry). map plain_entry p.out ++ l) (sym s.given) ∙ p.given;
+  pub onward : (old mid now : Dpb H) (before queue more : VecDeque (Frame H) Z) (e : DpbEntry H) → Progress rule old mid before queue → Step rule (buffer_of mid) (buffer_of now) (plain_entry e) → more.items ≡ queue.items ++ frame_of e ∷ [] → deque_capacity more ≡ deque_capacity queue
+      → Contains (tickets (stored_entries mid)) (ticket e) → LeavesRest mid now → Progress rule old now before more
+  onward old mid now before queue more e p s is capacity here rest = record {
+    out = p.out ++ frame_of e ∷ [];
+    appended = is ∙ ap (λ l. l ++ frame_of e ∷ []) p.appended ∙ append_assoc before.items p.out (frame_of e ∷ []);
+    given = ap (λ (l : List (ℕ × ℤ)). l ++ map entry_output (bumping rule (buffer_of now)).outputs) (map-append frame_output p.out (frame_of e ∷ [])) ∙ append_assoc (map frame_output p.out) (frame_output (frame_of e) ∷ []) (map entry_output (bumping rule (buffer_of now)).outputs)
+        ∙ ap (λ (l : List (ℕ × ℤ)). map frame_output p.out ++ l) (sym s.given) ∙ p.given;
     left = sym s.left_is ∙ p.left;
-    out_handles = one_among p.out e (tickets (stored_entries old)) p.out_handles (p.handles (ticket e) here);
-    handles = λ x k. p.handles x (sublist_part sublist x k);
-    size = size ∙ p.size;
-    room = room ∙ p.room;
-    latency = latency;
+    out_handles = one_among p.out (frame_of e) (tickets (stored_entries old)) p.out_handles (p.handles (ticket e) here);
+    handles = λ x k. p.handles x (sublist_part rest.handles x k);
+    size = rest.size ∙ p.size;
+    room = rest.room ∙ p.room;
+    latency = rest.latency;
+    capacity = capacity ∙ p.capacity;
+    fewer = (let l = length-append p.out (frame_of e ∷ []) in omega (arith, l, s.fewer, p.fewer));
   }
 
   -- nothing was output
-  pub unchanged : (old mid now : Dpb T) (before items : List (DpbEntry T)) → Progress rule old mid before items → buffer_of now ≡ buffer_of mid → IsSublist (tickets (stored_entries now)) (tickets (stored_entries mid))
-      → max_num_pics_of now ≡ max_num_pics_of mid → room_of now ≡ room_of mid → HaveLatency (stored_entries now) → Progress rule old now before items
-  unchanged old mid now before items p same sublist size room latency = record {
+  pub unchanged : (old mid now : Dpb H) (before queue : VecDeque (Frame H) Z) → Progress rule old mid before queue → buffer_of now ≡ buffer_of mid → LeavesRest mid now → Progress rule old now before queue
+  unchanged old mid now before queue p same rest = record {
     out = p.out;
     appended = p.appended;
-    given = ap (λ (b : Buffer). map plain_entry p.out ++ map plain_output (bumping rule b).outputs) same ∙ p.given;
+    given = ap (λ (b : Buffer). map frame_output p.out ++ map entry_output (bumping rule b).outputs) same ∙ p.given;
     left = ap (λ (b : Buffer). (bumping rule b).left) same ∙ p.left;
     out_handles = p.out_handles;
-    handles = λ x k. p.handles x (sublist_part sublist x k);
-    size = size ∙ p.size;
-    room = room ∙ p.room;
-    latency = latency;
+    handles = λ x k. p.handles x (sublist_part rest.handles x k);
+    size = rest.size ∙ p.size;
+    room = rest.room ∙ p.room;
+    latency = rest.latency;
+    capacity = p.capacity;
+    fewer = ap (λ (b : Buffer). length p.out + num_waiting b) same ∙ p.fewer;
   }
+
+-- ---- all that waits
+
+all_due : (xs : List Entry) → shortest_front (λ (outputs : List Entry). false) xs ≡ xs
+all_due [] = refl
+all_due (x ∷ xs) = ap (λ (l : List Entry). x ∷ l) (all_due xs)
+
+-- bumping that always goes on outputs all that waits
+pub all_output : (es : Buffer) → (bumping (λ (b : Buffer). true) es).outputs ≡ (draining es).outputs
+unfolding due_outputs
+all_output es = all_due (in_output_order es)

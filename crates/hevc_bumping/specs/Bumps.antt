@@ -1,20 +1,29 @@
--- What bumping does to a buffer, and what it gives.
-use Rattle.std.specs.Prelude.{◌≡◌, List, ◌++◌, map}
-use Rattle.hevc_walk.specs.Buffer.{Bumped}
-use Rattle.hevc_dpb.specs.declared.entry.DpbEntry.{DpbEntry}
+-- What bumping does to a buffer, and to the queue of pictures that are output.
+use Rattle.std.specs.Prelude.{◌≡◌, ℕ, ◌+◌, ◌≤◌, List, ◌++◌, length, map}
+use Rattle.std.specs.VecDeque.{VecDeque, deque_capacity}
+use Rattle.hevc_walk.specs.Buffer.{Buffer, Bumped, in_output_order}
 use Rattle.hevc_dpb.specs.declared.dpb.Dpb.{Dpb}
 use Rattle.hevc_dpb.specs.Entries.{IsPartOf, tickets}
-use Rattle.hevc_dpb.specs.Plain.{plain_entry, plain_output, HaveLatency}
+use Rattle.hevc_dpb.specs.Plain.{HaveLatency}
 use Rattle.hevc_dpb.specs.Views.{stored_entries, max_num_pics_of, room_of, buffer_of}
+use Rattle.hevc_bumping.specs.declared.frame.Frame.{Frame}
+use Rattle.hevc_bumping.specs.Frames.{frame_ticket, frame_output, entry_output}
 
--- these entries are output, each with the handle that was stored with it, and these are left
-pub record Bumps {T : Type 0} (bumped : Bumped) (old new : Dpb T) (before now : List (DpbEntry T)) : Type 0 where
-  pub out : List (DpbEntry T)
-  pub appended : now ≡ before ++ out
-  pub given : map plain_entry out ≡ map plain_output bumped.outputs
+-- how many entries are needed for output
+abbrev pub num_waiting : Buffer → ℕ
+num_waiting es = length (in_output_order es)
+
+-- These entries are output, each with the handle that was stored with it, and these are left.
+pub record Bumps {H Z : Type 0} (bumped : Bumped) (old new : Dpb H) (before now : VecDeque (Frame H) Z) : Type 0 where
+  pub out : List (Frame H)
+  pub appended : now.items ≡ before.items ++ out
+  pub given : map frame_output out ≡ map entry_output bumped.outputs
   pub left : buffer_of new ≡ bumped.left
-  pub out_handles : IsPartOf (tickets out) (tickets (stored_entries old))
+  pub out_handles : IsPartOf (map frame_ticket out) (tickets (stored_entries old))
   pub handles : IsPartOf (tickets (stored_entries new)) (tickets (stored_entries old))
   pub size : max_num_pics_of new ≡ max_num_pics_of old
   pub room : room_of new ≡ room_of old
   pub latency : HaveLatency (stored_entries new)
+  pub capacity : deque_capacity now ≡ deque_capacity before
+  -- each output waits no longer
+  pub fewer : length out + num_waiting (buffer_of new) ≡ num_waiting (buffer_of old)

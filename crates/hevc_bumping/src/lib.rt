@@ -1,43 +1,73 @@
-//! Bumping goes on as long as a rule asks for it (C.5.2.2, C.5.2.3).
+//! Output of pictures: bumping goes on as long as a rule asks for it, and what is output goes into a queue (C.5.2.2, C.5.2.3).
 #![tactic(auto)]
 
-ghost use Rattle.std.specs.Prelude.{◌≤◌, ◌+◌, vec_len};
-ghost use Rattle.std.specs.Vec.{vec_capacity};
-ghost use Rattle.hevc_walk.specs.Buffer.{bumping, needs_additional_bumping, needs_bumping};
+mod frame;
+mod rule;
+
+pub use frame::Frame;
+pub use hevc_dpb::Limits;
+
+ghost use Rattle.std.specs.Prelude.{◌≤◌, ◌+◌, ◌<◌, Bool};
+ghost use Rattle.std.specs.VecDeque.{deque_len, deque_capacity};
+ghost use Rattle.hevc_walk.specs.Buffer.{bumping, draining, needs_additional_bumping, needs_bumping};
 ghost use Rattle.hevc_pictures.specs.Limits.{limits_of};
 ghost use Rattle.hevc_dpb.specs.Plain.{HaveLatency};
 ghost use Rattle.hevc_dpb.specs.Views.{stored_entries, buffer_of};
-ghost use Rattle.hevc_bumping.specs.Bumps.{Bumps};
+ghost use Rattle.hevc_bumping.specs.Bumps.{Bumps, num_waiting};
+ghost use Rattle.hevc_bumping.specs.Rules.{holds};
 
-use hevc_dpb::{Dpb, DpbEntry, Limits};
+use crate::rule::Rule;
+use hevc_dpb::Dpb;
+use std::collections::VecDeque;
 
-/// Additional bumping, once a picture is stored (C.5.2.3): what is due is appended to `out`.
-pub fn bump_additionally<T: Copy>(dpb: &mut Dpb<T>, limits: &Limits, out: &mut Vec<DpbEntry<T>>)
+/// Additional bumping, once a picture is stored (C.5.2.3): what is due goes behind the queue.
+pub fn bump_additionally<H: Copy>(
+    dpb: &mut Dpb<H>,
+    limits: &Limits,
+    queue: &mut VecDeque<Frame<H>>,
+)
     requires latency { HaveLatency (stored_entries dpb.old) }
-    requires room { vec_len out.old + 16 ≤ vec_capacity out.old }
-    ensures { Bumps
-        (bumping (needs_additional_bumping (limits_of limits.now))
-        (buffer_of dpb.old)) dpb.old dpb.new out.old.items out.new.items }
+    requires room { deque_len queue.old + num_waiting (buffer_of dpb.old)
+        ≤ deque_capacity queue.old }
+    ensures { Bumps (bumping (needs_additional_bumping (limits_of limits.now))
+        (buffer_of dpb.old)) dpb.old dpb.new queue.old queue.new }
 {
-    while dpb.needs_additional_bumping(limits) {
-        match dpb.bump(false) {
-            Some(entry) => out.push_reserved(entry),
-            None => return,
-        }
-    }
+    bump_while(Rule::Additional(*limits), dpb, queue);
 }
 
-/// Bumping before a picture is decoded (C.5.2.2): what is due is appended to `out`.
-pub fn bump_for_room<T: Copy>(dpb: &mut Dpb<T>, limits: &Limits, out: &mut Vec<DpbEntry<T>>)
+/// Bumping before a picture is decoded (C.5.2.2): what is due goes behind the queue.
+pub fn bump_for_room<H: Copy>(dpb: &mut Dpb<H>, limits: &Limits, queue: &mut VecDeque<Frame<H>>)
     requires latency { HaveLatency (stored_entries dpb.old) }
-    requires room { vec_len out.old + 16 ≤ vec_capacity out.old }
-    ensures { Bumps
-        (bumping (needs_bumping (limits_of limits.now))
-        (buffer_of dpb.old)) dpb.old dpb.new out.old.items out.new.items }
+    requires room { deque_len queue.old + num_waiting (buffer_of dpb.old)
+        ≤ deque_capacity queue.old }
+    ensures { Bumps (bumping (needs_bumping (limits_of limits.now))
+        (buffer_of dpb.old)) dpb.old dpb.new queue.old queue.new }
 {
-    while dpb.needs_bumping(limits) {
+    bump_while(Rule::ForRoom(*limits), dpb, queue);
+}
+
+/// All pictures that wait go behind the queue, in output order, and the buffer is emptied (C.5.2.2).
+pub fn output_all<H: Copy>(dpb: &mut Dpb<H>, queue: &mut VecDeque<Frame<H>>)
+    requires latency { HaveLatency (stored_entries dpb.old) }
+    requires room { deque_len queue.old + num_waiting (buffer_of dpb.old)
+        ≤ deque_capacity queue.old }
+    ensures { Bumps (draining (buffer_of dpb.old)) dpb.old dpb.new queue.old queue.new }
+{
+    bump_while(Rule::Always, dpb, queue);
+    dpb.clear();
+}
+
+/// One picture after another is output while a rule holds.
+fn bump_while<H: Copy>(rule: Rule, dpb: &mut Dpb<H>, queue: &mut VecDeque<Frame<H>>)
+    requires latency { HaveLatency (stored_entries dpb.old) }
+    requires room { deque_len queue.old + num_waiting (buffer_of dpb.old)
+        ≤ deque_capacity queue.old }
+    ensures { Bumps (bumping (holds rule) (buffer_of dpb.old)) dpb.old dpb.new
+        queue.old queue.new }
+{
+    while rule.holds(dpb) {
         match dpb.bump(false) {
-            Some(entry) => out.push_reserved(entry),
+            Some(entry) => queue.push_back_reserved(Frame::of(&entry)),
             None => return,
         }
     }

@@ -1,0 +1,29 @@
+-- What answers tell of the backend.
+use Rattle.std.specs.Prelude.{ℕ, ◌≡◌, Result, Ok, Err}
+use Rattle.hevc_backend.specs.Trait.{Counts, Counted}
+use Rattle.hevc_driver.specs.declared.decode_error.DecodeError.{DecodeError}
+use Rattle.hevc_driver.specs.declared.decode_error.DecodeError.TheVariants.{Backend, NotEnoughOutputBuffers}
+
+-- both counts are as they were, unless the backend failed or had no frame: then that of faults or of empty answers rose
+abbrev pub CountsError : Counts → Counts → DecodeError → Type 0
+CountsError before now Backend = Counted before.faults now.faults × (now.empty_answers ≡ before.empty_answers)
+CountsError before now (NotEnoughOutputBuffers frames) = Counted before.empty_answers now.empty_answers × (now.faults ≡ before.faults)
+CountsError before now error = now ≡ before
+
+abbrev pub CountsErrors : {T : Type 0} → Counts → Counts → Result T DecodeError → Type 0
+CountsErrors before now (Ok value) = now ≡ before
+CountsErrors before now (Err error) = CountsError before now error
+
+abbrev pub IsOfBackend : DecodeError → Type 0
+IsOfBackend Backend = Unit {0}
+IsOfBackend (NotEnoughOutputBuffers frames) = Unit {0}
+IsOfBackend error = ⊥
+
+-- the answer is none of a backend that fails, or has no frame
+abbrev pub IsNotOfBackend : {T : Type 0} → Result T DecodeError → Type 0
+IsNotOfBackend (Ok value) = Unit {0}
+IsNotOfBackend (Err error) = ¬ IsOfBackend error
+
+-- a backend that never fails didn't, and never will
+abbrev pub KeepsFaultless : {T : Type 0} → Type 0 → Type 0 → Result T DecodeError → Type 0
+KeepsFaultless before now result = before → now × IsNotOfBackend result

@@ -1,0 +1,65 @@
+-- What a part of the walk does to the backend's log, to the queue and to the stored pictures' handles.
+use Rattle.std.specs.Prelude.{◌≡◌, ℕ, ℤ, List, [], ◌∷◌, ◌++◌, map, Option, Result, Ok, Err}
+use Rattle.std.specs.List.{AllByRecursion, flat_map}
+use Rattle.hevc_walk.specs.Walk as walk
+use Rattle.hevc_walk.specs.Walk.{Event, Called, Output, Part}
+use Rattle.hevc_walk_units.specs.Units.{Standing}
+use Rattle.hevc_dpb.specs.Entries.{IsPartOf}
+use Rattle.hevc_bumping.specs.declared.frame.Frame.{Frame}
+use Rattle.hevc_bumping.specs.Frames.{frame_output, frame_ticket}
+use Rattle.hevc_backend.specs.declared.call.Call.{Call}
+use Rattle.hevc_backend.specs.Trait.{logged}
+use Rattle.hevc_driver.specs.declared.decode_error.DecodeError.{DecodeError}
+use Rattle.hevc_driver.specs.declared.decode_error.DecodeError.TheVariants as errors
+use Rattle.hevc_driver.specs.Calls.{call_of, IsTimed, submissions}
+
+-- All that a part may change: the log, the queue, and what is stored.
+pub record Traces (H : Type 0) : Type 0 where
+  pub log : Option (List (Call H))
+  pub queue : List (Frame H)
+  pub tickets : List (ℕ × H)
+
+abbrev pub call_in : Event → List walk.Call
+call_in (Called call) = call ∷ []
+call_in (Output number order_count) = []
+
+abbrev pub output_in : Event → List (ℕ × ℤ)
+output_in (Called call) = []
+output_in (Output number order_count) = (number, order_count) ∷ []
+
+-- These events were done, each new picture with this timestamp, each output with a handle that was stored or was submitted for
+-- its number.
+pub record Does {H : Type 0} (timestamp : ℕ) (old new : Traces H) (done : List Event) : Type 0 where
+  pub calls : List (Call H)
+  pub log : new.log ≡ logged old.log calls
+  pub made : map call_of calls ≡ flat_map call_in done
+  pub timed : AllByRecursion (IsTimed timestamp) calls
+  pub out : List (Frame H)
+  pub queue : new.queue ≡ old.queue ++ out
+  pub given : map frame_output out ≡ flat_map output_in done
+  pub tied : IsPartOf (map frame_ticket out ++ new.tickets) (old.tickets ++ submissions calls)
+
+-- A plan was done up to a call, which the backend refused.
+pub record Stops {H : Type 0} (timestamp : ℕ) (old new : Traces H) (plan : List Event) (Left : walk.Call → Type 0) : Type 0 where
+  pub done : List Event
+  pub call : walk.Call
+  pub rest : List Event
+  pub whole : plan ≡ done ++ Called call ∷ rest
+  pub does : Does timestamp old new done
+  pub left : Left call
+
+-- A part was done whole, and led to a standing.
+pub record Completes {H : Type 0} (timestamp : ℕ) (old new : Traces H) (part : Part Standing) (standing : Standing) : Type 0 where
+  pub does : Does timestamp old new part.events
+  pub next : standing ≡ part.next
+
+-- the backend refused a call, for want of memory or because it failed
+abbrev pub StopsBy : {H : Type 0} → DecodeError → ℕ → Traces H → Traces H → List Event → (walk.Call → Type 0) → Type 0
+StopsBy errors.Backend timestamp old new plan Left = Stops timestamp old new plan Left
+StopsBy errors.NoMemory timestamp old new plan Left = Stops timestamp old new plan Left
+StopsBy error timestamp old new plan Left = ⊥
+
+-- a part was done whole, or up to a call
+abbrev pub Runs : {H T : Type 0} → Result T DecodeError → ℕ → Traces H → Traces H → Part Standing → (walk.Call → Type 0) → Standing → Type 0
+Runs (Ok value) timestamp old new part Left standing = Completes timestamp old new part standing
+Runs (Err error) timestamp old new part Left standing = StopsBy error timestamp old new part.events Left

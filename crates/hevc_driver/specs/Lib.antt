@@ -1,0 +1,11 @@
+pub mod Options
+pub mod Heads
+pub mod Slices
+pub mod Errors
+pub mod Calls
+pub mod Does
+pub mod Moments
+pub mod Takes
+pub mod Answers
+pub mod Standings
+pub mod Sound

@@ -1,0 +1,22 @@
+-- What slice segments stand for, with the sets that they make active (7.4.7.1).
+use Rattle.hevc_bits.specs.FoundUnit.{bytes_of}
+use Rattle.hevc_types_c.specs.declared.sps.Sps.{Sps}
+use Rattle.hevc_types_c.specs.Sps.{plain_sps}
+use Rattle.hevc_types_d.specs.declared.pps.Pps.{Pps}
+use Rattle.hevc_types_d.specs.Pps.{plain_pps}
+use Rattle.hevc_types_d.specs.declared.slice.Slice as code
+use Rattle.hevc_types_d.specs.declared.slice_header.SliceHeader as code_header
+use Rattle.hevc_types_d.specs.SliceHeader.{plain_slice_header}
+use Rattle.hevc_walk.specs.Meanings.{Slice}
+use Rattle.hevc_walk.specs.DependentSlices.{KeptHeader}
+use Rattle.hevc_views.specs.Headers.{slice_header_of}
+use Rattle.hevc_stream.specs.Slices.{coded_slice}
+use Rattle.hevc_driver.specs.declared.options.Options.{Options}
+use Rattle.hevc_driver.specs.Options.{options_of}
+
+unfoldable pub slice_of : Options → code.Slice → Sps → Pps → Slice
+slice_of options slice sps pps = coded_slice (options_of options) slice.nalu.header (bytes_of slice.nalu) (plain_slice_header slice.header) (record { sps = plain_sps sps; pps = plain_pps pps })
+
+-- the header that is kept of an independent slice segment
+unfoldable pub kept_of : code_header.SliceHeader → KeptHeader
+kept_of h = record { pic_parameter_set_id = h.pic_parameter_set_id; header = slice_header_of (plain_slice_header h) }

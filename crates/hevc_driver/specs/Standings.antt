@@ -1,0 +1,37 @@
+-- What stands between two calls, as the walk over units has it.
+use Rattle.std.specs.Prelude.{ℕ, List, option_map, Option}
+use Rattle.hevc_walk_units.specs.Units as units
+use Rattle.hevc_walk_units.specs.Units.{Standing}
+use Rattle.hevc_dpb.specs.Entries.{tickets}
+use Rattle.hevc_dpb.specs.Views.{stored_entries, buffer_of}
+use Rattle.hevc_refs.specs.Sets.{plain_set}
+use Rattle.hevc_backend.specs.declared.call.Call.{Call}
+use Rattle.hevc_backend.specs.Negotiation.{format_of}
+use Rattle.hevc_driver.specs.declared.current.Current.{Current}
+use Rattle.hevc_driver.specs.declared.current.Current.TheVariants as code
+use Rattle.hevc_driver.specs.declared.current.Open.{Open}
+use Rattle.hevc_driver.specs.declared.walk.Walk.{Walk}
+use Rattle.hevc_driver.specs.Heads.{head_of, context_of}
+use Rattle.hevc_driver.specs.Slices.{kept_of}
+use Rattle.hevc_driver.specs.Does.{Traces}
+
+abbrev pub current_of : {P : Type 0} → Current P → units.Current
+current_of code.NoPicture = units.NoPicture
+current_of code.Skipped = units.SkippedPicture
+current_of (code.Opened open_) = units.OpenPicture (head_of open_.head) (plain_set open_.set)
+
+-- a format that is awaited counts as accepted
+abbrev pub standing : {H P : Type 0} → Walk H P → Standing
+standing w = record {
+  store = record { accepted = option_map format_of w.accepted; buffer = buffer_of w.dpb };
+  current = current_of w.current;
+  kept = option_map kept_of w.kept;
+  next = context_of w.next;
+}
+
+abbrev pub traces : {H P : Type 0} → Option (List (Call H)) → Walk H P → Traces H
+traces log w = record { log = log; queue = w.queue.items; tickets = tickets (stored_entries w.dpb) }
+
+-- with this picture open
+abbrev pub with_open : {P : Type 0} → Open P → Standing → Standing
+with_open open_ s = record s { current = units.OpenPicture (head_of open_.head) (plain_set open_.set) }

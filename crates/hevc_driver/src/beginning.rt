@@ -1,0 +1,95 @@
+//! What a first slice tells of its picture (8.1.3, 8.3.1).
+ghost use Rattle.std.specs.Prelude.{◌≡◌, ◌<◌, ◌+◌, ◌-◌, ◌^◌, pos, true, false, Some, IfOk, OnOk, OnErr, if◌then◌else◌};
+ghost use Rattle.hevc_types_c.specs.Sps.{plain_sps};
+ghost use Rattle.hevc_types_d.specs.declared.pps.Pps.{Pps};
+ghost use Rattle.hevc_walk.specs.Pictures.{head, order_count_in_range, is_tid0};
+ghost use Rattle.hevc_walk_units.specs.Units.{context_behind, tid0_behind};
+ghost use Rattle.hevc_pictures.specs.OrderCounts.{IsMaxPicOrderCntLsb};
+ghost use Rattle.hevc_driver.specs.Heads.{head_of, context_of, tid0_count};
+ghost use Rattle.hevc_driver.specs.Slices.{slice_of};
+
+use crate::head::{Head, Next};
+use crate::options::Options;
+use hevc_dpb::{Limits, PictureData};
+use hevc_pictures::PocOutOfRange;
+use hevc_types_c::Sps;
+use hevc_types_d::Slice;
+
+/// MaxPicOrderCntLsb of a sequence set (7-8): 16 to 65536.
+pub(crate) fn max_pic_order_cnt_lsb(sps: &Sps) -> i32
+    ensures max { IsMaxPicOrderCntLsb result }
+    ensures value { result ≡ pos (2 ^ ((plain_sps sps.now).log2_max_pic_order_cnt_lsb_minus4 + 4)) }
+{
+    1 << (sps.log2_max_pic_order_cnt_lsb_minus4 + 4)
+}
+
+/// What a picture's first slice tells of it.
+///
+/// Errors: its order count, or its most significant bits, isn't a 32-bit number.
+pub(crate) fn head_of_first(
+    next: &Next,
+    options: Options,
+    slice: &Slice<'_>,
+    sps: &Sps,
+) -> Result<Head, PocOutOfRange>
+    ensures head { (pps : Pps) → IfOk result (λ h. head_of h
+        ≡ head (context_of next.now) (slice_of options slice.now sps.now pps)) }
+    ensures within { (pps : Pps) → OnOk result (order_count_in_range
+        (head (context_of next.now) (slice_of options slice.now sps.now pps)) ≡ true) }
+    ensures outside { (pps : Pps) → OnErr result (order_count_in_range
+        (head (context_of next.now) (slice_of options slice.now sps.now pps)) ≡ false) }
+{
+    let picture = PictureData::new_from_slice(
+        slice,
+        next.first_picture_in_bitstream,
+        next.first_picture_after_eos,
+        next.prev_tid0_pic.as_ref(),
+        max_pic_order_cnt_lsb(sps),
+        options.handle_cra_as_bla,
+    )?;
+    Ok(Head {
+        number: next.number,
+        picture,
+        skipped: picture.nalu_type.is_rasl() && next.latest_irap_no_rasl,
+        latest_irap_no_rasl: latest_irap_no_rasl(&picture, next.latest_irap_no_rasl),
+        format: sps.into(),
+        limits: Limits::of(sps, options.highest_tid),
+    })
+}
+
+/// NoRaslOutputFlag of the latest IRAP picture, up to this one.
+fn latest_irap_no_rasl(picture: &PictureData, earlier: bool) -> bool
+    ensures { result
+        ≡ (if picture.now.is_irap then picture.now.no_rasl_output_flag else earlier) }
+{
+    if picture.is_irap {
+        picture.no_rasl_output_flag
+    } else {
+        earlier
+    }
+}
+
+/// What the pictures with this one mean for the next.
+pub(crate) fn behind(next: &Next, head: &Head) -> Next
+    requires { head.now.number < 2 ^ 64 - 1 }
+    ensures { context_of result ≡ context_behind (head_of head.now) (context_of next.now) }
+{
+    Next {
+        number: head.number + 1,
+        first_picture_in_bitstream: false,
+        first_picture_after_eos: false,
+        prev_tid0_pic: next.prev_tid0_pic,
+        latest_irap_no_rasl: head.latest_irap_no_rasl,
+    }
+}
+
+/// prevTid0Pic, once this picture is over (8.3.1).
+pub(crate) fn tid0_behind(head: &Head, earlier: Option<PictureData>) -> Option<PictureData>
+    ensures { tid0_count result ≡ tid0_behind (Some (head_of head.now)) (tid0_count earlier) }
+{
+    if !head.skipped && head.picture.valid_for_prev_tid0_pic {
+        Some(head.picture)
+    } else {
+        earlier
+    }
+}

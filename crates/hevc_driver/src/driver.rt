@@ -1,0 +1,90 @@
+//! The driver, and what ends a stream.
+ghost use Rattle.std.specs.Prelude.{◌≡◌, [], ℕ, None, OnOk};
+ghost use Rattle.hevc_walk_units.specs.Units.{at_first};
+ghost use Rattle.hevc_driver.specs.Answers.{CountsErrors, KeepsFaultless};
+ghost use Rattle.hevc_driver.specs.Standings.{standing, traces};
+ghost use Rattle.hevc_driver.specs.Sound.{IsSound, HasRoom, Grows, total};
+ghost use Rattle.hevc_driver.specs.Takes.{Closes};
+
+use crate::current::Current;
+use crate::decode_error::DecodeError;
+use crate::head::Next;
+use crate::walk::Walk;
+use hevc_backend::StatelessH265DecoderBackend;
+use hevc_dpb::Dpb;
+use std::alloc::{AllocError, Global};
+use std::collections::VecDeque;
+
+/// A backend, and what stands between two calls of it.
+pub struct Driver<B: StatelessH265DecoderBackend> {
+    pub backend: B,
+    pub walk: Walk<B::Handle, B::Picture>,
+}
+
+impl<B: StatelessH265DecoderBackend> Driver<B> {
+    /// At the beginning of a stream, over a backend that was told nothing yet, or of other streams.
+    pub fn new(alloc: Global, backend: B) -> Driver<B>
+        ensures backend { result.backend ≡ backend }
+        ensures standing { standing result.walk ≡ at_first }
+        ensures queue { result.walk.queue.items ≡ [] }
+        ensures tickets { (traces None result.walk).tickets ≡ [] }
+        ensures sound { IsSound (B.log backend) result.walk }
+    {
+        Driver {
+            backend,
+            walk: Walk {
+                accepted: None,
+                dpb: Dpb::new(alloc),
+                current: Current::NoPicture,
+                kept: None,
+                next: Next {
+                    number: 0,
+                    first_picture_in_bitstream: true,
+                    first_picture_after_eos: true,
+                    prev_tid0_pic: None,
+                    latest_irap_no_rasl: false,
+                },
+                queue: VecDeque::new(alloc),
+            },
+        }
+    }
+
+    /// Makes room for 17 more pictures in the queue, and for 16 in the buffer.
+    ///
+    /// Errors: no memory; nothing has changed then but how much room there is.
+    pub fn reserve(&mut self) -> Result<(), AllocError>
+        requires sound { IsSound (B.log self.old.backend) self.old.walk }
+        ensures sound { IsSound (B.log self.new.backend) self.new.walk }
+        ensures room { OnOk result (HasRoom 1 self.new.walk) }
+        ensures standing { standing self.new.walk ≡ standing self.old.walk }
+        ensures traces { traces (B.log self.new.backend) self.new.walk
+            ≡ traces (B.log self.old.backend) self.old.walk }
+        ensures total { total self.new.walk ≡ total self.old.walk }
+        ensures backend { self.new.backend ≡ self.old.backend }
+    {
+        self.walk.queue.reserve(17)?;
+        self.walk.dpb.reserve()
+    }
+
+    /// The picture whose slices came is over, and all that waits is output.
+    ///
+    /// Errors: `Backend`, `DpbFull`, `NoMemory`; the picture is given up then.
+    pub fn close(&mut self) -> Result<(), DecodeError>
+        requires sound { IsSound (B.log self.old.backend) self.old.walk }
+        requires room { HasRoom 1 self.old.walk }
+        ensures sound { IsSound (B.log self.new.backend) self.new.walk }
+        ensures grows { Grows 1 self.old.walk self.new.walk }
+        ensures cause { CountsErrors (B.counts self.old.backend)
+            (B.counts self.new.backend) result }
+        ensures faultless { KeepsFaultless (B.is_faultless self.old.backend)
+            (B.is_faultless self.new.backend) result }
+        ensures part { (timestamp : ℕ) → Closes result timestamp
+            (traces (B.log self.old.backend) self.old.walk)
+            (traces (B.log self.new.backend) self.new.walk)
+            (standing self.old.walk) (standing self.new.walk) }
+    {
+        self.finish()?;
+        self.walk.output_all();
+        Ok(())
+    }
+}

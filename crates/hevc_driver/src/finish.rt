@@ -1,0 +1,70 @@
+//! A picture is over: it is submitted and stored (C.5.2.3).
+ghost use Rattle.std.specs.Prelude.{◌≡◌, ℕ, true};
+ghost use Rattle.hevc_walk.specs.Walk.{is_decoded};
+ghost use Rattle.hevc_walk_units.specs.Units.{NoPicture};
+ghost use Rattle.hevc_driver.specs.Heads.{head_of};
+ghost use Rattle.hevc_driver.specs.Answers.{CountsErrors, KeepsFaultless};
+ghost use Rattle.hevc_driver.specs.Standings.{standing, traces, current_of, with_open};
+ghost use Rattle.hevc_driver.specs.Sound.{IsSound, IsNewest, HasRoom, Grows};
+ghost use Rattle.hevc_driver.specs.Takes.{Finishes};
+
+use crate::beginning::tid0_behind;
+use crate::current::{Current, Open};
+use crate::decode_error::DecodeError;
+use crate::driver::Driver;
+use hevc_backend::StatelessH265DecoderBackend;
+use hevc_bumping::bump_additionally;
+use std::mem::replace;
+
+impl<B: StatelessH265DecoderBackend> Driver<B> {
+    /// The picture whose slices came is over, or the one whose slices were passed over.
+    pub(crate) fn finish(&mut self) -> Result<(), DecodeError>
+        requires sound { IsSound (B.log self.old.backend) self.old.walk }
+        requires room { HasRoom 1 self.old.walk }
+        ensures sound { IsSound (B.log self.new.backend) self.new.walk }
+        ensures grows { Grows 1 self.old.walk self.new.walk }
+        ensures cause { CountsErrors (B.counts self.old.backend)
+            (B.counts self.new.backend) result }
+        ensures faultless { KeepsFaultless (B.is_faultless self.old.backend)
+            (B.is_faultless self.new.backend) result }
+        ensures part { (timestamp : ℕ) → Finishes result timestamp
+            (traces (B.log self.old.backend) self.old.walk)
+            (traces (B.log self.new.backend) self.new.walk)
+            (standing self.old.walk) (standing self.new.walk) }
+    {
+        match replace(&mut self.walk.current, Current::NoPicture) {
+            Current::Opened(opened) => self.store(opened),
+            Current::Skipped => Ok(()),
+            Current::NoPicture => Ok(()),
+        }
+    }
+
+    /// Submits a picture and stores it; what is then due is output.
+    fn store(&mut self, opened: Open<B::Picture>) -> Result<(), DecodeError>
+        requires none { current_of self.old.walk.current ≡ NoPicture }
+        requires newest { IsNewest opened.head opened.set self.old.walk }
+        requires sound { IsSound (B.log self.old.backend) self.old.walk }
+        requires room { HasRoom 1 self.old.walk }
+        ensures sound { IsSound (B.log self.new.backend) self.new.walk }
+        ensures grows { Grows 1 self.old.walk self.new.walk }
+        ensures cause { CountsErrors (B.counts self.old.backend)
+            (B.counts self.new.backend) result }
+        ensures faultless { KeepsFaultless (B.is_faultless self.old.backend)
+            (B.is_faultless self.new.backend) result }
+        ensures part { (timestamp : ℕ) → Finishes result timestamp
+            (traces (B.log self.old.backend) self.old.walk)
+            (traces (B.log self.new.backend) self.new.walk)
+            (with_open opened (standing self.old.walk)) (standing self.new.walk) }
+    {
+        let Open {
+            head,
+            set: _,
+            picture,
+        } = opened;
+        let handle = self.backend.submit_picture(head.number, picture)?;
+        self.walk.next.prev_tid0_pic = tid0_behind(&head, self.walk.next.prev_tid0_pic);
+        self.walk.dpb.store_picture(head.number, head.picture, handle)?;
+        bump_additionally(&mut self.walk.dpb, &head.limits, &mut self.walk.queue);
+        Ok(())
+    }
+}

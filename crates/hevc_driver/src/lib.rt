@@ -1,0 +1,27 @@
+//! What drives a backend through the pictures of a stream: slices with the sets that they make active come in, pictures are begun, decoded
+//! and stored, and those that are output stand in a queue (8.1.3, 8.3, C.5.2).
+#![tactic(auto)]
+
+mod beginning;
+mod current;
+mod decode_error;
+mod driver;
+mod finish;
+mod head;
+mod kept;
+mod negotiation;
+mod open;
+mod options;
+mod references;
+mod room;
+mod slices;
+mod walk;
+
+pub use current::{Current, Open};
+pub use decode_error::DecodeError;
+pub use driver::Driver;
+pub use head::{Head, Next};
+pub use hevc_backend::{BackendError, NegotiationInfo, StatelessH265DecoderBackend, StreamInfo};
+pub use hevc_bumping::Frame;
+pub use options::Options;
+pub use walk::Walk;

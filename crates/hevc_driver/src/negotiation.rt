@@ -1,0 +1,113 @@
+//! A picture begins: first its format is negotiated, where it differs from the accepted one.
+ghost use Rattle.std.specs.Prelude.{◌≡◌, ℕ, option_map};
+ghost use Rattle.hevc_types_c.specs.Sps.{plain_sps};
+ghost use Rattle.hevc_views.specs.Sequences.{format_of_set};
+ghost use Rattle.hevc_walk.specs.Walk.{is_accepted, open_sequence};
+ghost use Rattle.hevc_walk_units.specs.Units.{NoPicture, on_store};
+ghost use Rattle.hevc_backend.specs.Negotiation.{format_of};
+ghost use Rattle.hevc_driver.specs.Slices.{slice_of};
+ghost use Rattle.hevc_driver.specs.Answers.{CountsErrors, KeepsFaultless};
+ghost use Rattle.hevc_driver.specs.Does.{Runs};
+ghost use Rattle.hevc_driver.specs.Standings.{standing, traces, current_of};
+ghost use Rattle.hevc_driver.specs.Sound.{IsSound, HasRoom, Grows, AreNamed};
+ghost use Rattle.hevc_driver.specs.Takes.{Begins, Negotiates, IsNewSequence};
+
+use crate::decode_error::DecodeError;
+use crate::driver::Driver;
+use crate::options::Options;
+use hevc_backend::{NegotiationInfo, StatelessH265DecoderBackend};
+use hevc_types_c::Sps;
+use hevc_types_d::{Pps, Slice};
+
+/// Whether this is the format that was accepted.
+fn is_accepted(named: &NegotiationInfo, accepted: Option<NegotiationInfo>) -> bool
+    ensures { result ≡ is_accepted (format_of named.now) (option_map format_of accepted) }
+{
+    accepted == Some(*named)
+}
+
+impl<B: StatelessH265DecoderBackend> Driver<B> {
+    /// A picture begins where none is current.
+    pub(crate) fn begin(
+        &mut self,
+        timestamp: u64,
+        options: Options,
+        slice: &Slice<'_>,
+        sps: &Sps,
+        pps: &Pps,
+    ) -> Result<(), DecodeError>
+        requires none { current_of self.old.walk.current ≡ NoPicture }
+        requires named { AreNamed slice.now sps.now pps.now }
+        requires sound { IsSound (B.log self.old.backend) self.old.walk }
+        requires room { HasRoom 0 self.old.walk }
+        ensures sound { IsSound (B.log self.new.backend) self.new.walk }
+        ensures grows { Grows 0 self.old.walk self.new.walk }
+        ensures cause { CountsErrors (B.counts self.old.backend)
+            (B.counts self.new.backend) result }
+        ensures faultless { KeepsFaultless (B.is_faultless self.old.backend)
+            (B.is_faultless self.new.backend) result }
+        ensures part { Begins result timestamp
+            (traces (B.log self.old.backend) self.old.walk)
+            (traces (B.log self.new.backend) self.new.walk)
+            (slice_of options slice.now sps.now pps.now)
+            (standing self.old.walk) (standing self.new.walk) }
+    {
+        if self.backend.num_free_frames() == 0 {
+            return Err(DecodeError::NotEnoughOutputBuffers(1));
+        }
+        if is_accepted(&sps.into(), self.walk.accepted) {
+            self.start(timestamp, options, slice, sps, pps)
+        } else {
+            self.negotiate(sps)?;
+            Err(DecodeError::CheckEvents)
+        }
+    }
+
+    /// Another format is negotiated: what waits is output before.
+    fn negotiate(&mut self, sps: &Sps) -> Result<(), DecodeError>
+        requires none { current_of self.old.walk.current ≡ NoPicture }
+        requires sound { IsSound (B.log self.old.backend) self.old.walk }
+        requires room { HasRoom 0 self.old.walk }
+        ensures sound { IsSound (B.log self.new.backend) self.new.walk }
+        ensures grows { Grows 0 self.old.walk self.new.walk }
+        ensures cause { CountsErrors (B.counts self.old.backend)
+            (B.counts self.new.backend) result }
+        ensures faultless { KeepsFaultless (B.is_faultless self.old.backend)
+            (B.is_faultless self.new.backend) result }
+        ensures part { (timestamp : ℕ) → Negotiates result timestamp
+            (traces (B.log self.old.backend) self.old.walk)
+            (traces (B.log self.new.backend) self.new.walk)
+            (format_of_set (plain_sps sps.now)) (standing self.old.walk)
+            (standing self.new.walk) }
+    {
+        self.walk.output_all();
+        self.open_sequence(sps)
+    }
+
+    /// The backend is told of a format, which is awaited from here on. Nothing is stored, and no picture is open.
+    ///
+    /// Errors: `Backend`, `NoMemory`; nothing has changed then.
+    pub fn open_sequence(&mut self, sps: &Sps) -> Result<(), DecodeError>
+        requires none { current_of self.old.walk.current ≡ NoPicture }
+        requires sound { IsSound (B.log self.old.backend) self.old.walk }
+        ensures sound { IsSound (B.log self.new.backend) self.new.walk }
+        ensures grows { Grows 0 self.old.walk self.new.walk }
+        ensures cause { CountsErrors (B.counts self.old.backend)
+            (B.counts self.new.backend) result }
+        ensures faultless { KeepsFaultless (B.is_faultless self.old.backend)
+            (B.is_faultless self.new.backend) result }
+        ensures part { (timestamp : ℕ) → Runs result timestamp
+            (traces (B.log self.old.backend) self.old.walk)
+            (traces (B.log self.new.backend) self.new.walk)
+            (on_store (open_sequence (format_of_set (plain_sps sps.now)))
+            (standing self.old.walk))
+            (λ call. IsNewSequence call × (standing self.new.walk ≡ standing self.old.walk))
+            (standing self.new.walk) }
+    {
+        self.backend.new_sequence(sps)?;
+        let format = NegotiationInfo::from(sps);
+        self.walk.dpb.set_max_num_pics(format.max_num_pics as usize);
+        self.walk.accepted = Some(format);
+        Ok(())
+    }
+}

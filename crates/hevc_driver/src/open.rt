@@ -1,0 +1,176 @@
+//! A picture of the accepted format begins.
+ghost use Rattle.std.specs.Prelude.{◌≡◌, ◌<◌, ◌+◌, ◌-◌, ◌^◌, ℕ, true, IsTrue, option_map};
+ghost use Rattle.hevc_types_c.specs.Sps.{plain_sps};
+ghost use Rattle.hevc_views.specs.Sequences.{format_of_set};
+ghost use Rattle.hevc_walk.specs.Walk.{is_decoded, is_accepted};
+ghost use Rattle.hevc_walk_units.specs.Units.{NoPicture};
+ghost use Rattle.hevc_dpb.specs.Entries.{numbers};
+ghost use Rattle.hevc_dpb.specs.Views.{stored_entries};
+ghost use Rattle.hevc_refs.specs.Sets.{plain_set};
+ghost use Rattle.hevc_backend.specs.Named.{SetNamesAmong};
+ghost use Rattle.hevc_driver.specs.Heads.{head_of};
+ghost use Rattle.hevc_driver.specs.Slices.{slice_of};
+ghost use Rattle.hevc_driver.specs.Answers.{CountsErrors, KeepsFaultless};
+ghost use Rattle.hevc_driver.specs.Does.{Runs};
+ghost use Rattle.hevc_driver.specs.Moments.{starts, hands_over, given_up};
+ghost use Rattle.hevc_driver.specs.Standings.{standing, traces, current_of};
+ghost use Rattle.hevc_driver.specs.Sound.{IsSound, IsNewest, HasRoom, Grows, AreNamed, IsNext};
+ghost use Rattle.hevc_backend.specs.Negotiation.{format_of};
+ghost use Rattle.hevc_driver.specs.declared.options.Options as code_options;
+ghost use Rattle.hevc_driver.specs.Takes.{Starts, LeftStarted};
+
+use crate::beginning::{behind, head_of_first};
+use crate::current::{Current, Open};
+use crate::decode_error::DecodeError;
+use crate::driver::Driver;
+use crate::head::Head;
+use crate::options::Options;
+use crate::references::reference_lists;
+use hevc_backend::StatelessH265DecoderBackend;
+use hevc_refs::RefPicSet;
+use hevc_types_c::Sps;
+use hevc_types_d::{Pps, Slice};
+
+impl<B: StatelessH265DecoderBackend> Driver<B> {
+    /// A picture of the accepted format begins, or its slices are passed over.
+    pub(crate) fn start(
+        &mut self,
+        timestamp: u64,
+        options: Options,
+        slice: &Slice<'_>,
+        sps: &Sps,
+        pps: &Pps,
+    ) -> Result<(), DecodeError>
+        requires none { current_of self.old.walk.current ≡ NoPicture }
+        requires accepted { is_accepted (format_of_set (plain_sps sps.now))
+            (option_map format_of self.old.walk.accepted) ≡ true }
+        requires named { AreNamed slice.now sps.now pps.now }
+        requires frame { IsTrue (B.room self.old.backend) }
+        requires sound { IsSound (B.log self.old.backend) self.old.walk }
+        requires room { HasRoom 0 self.old.walk }
+        ensures sound { IsSound (B.log self.new.backend) self.new.walk }
+        ensures grows { Grows 0 self.old.walk self.new.walk }
+        ensures cause { CountsErrors (B.counts self.old.backend)
+            (B.counts self.new.backend) result }
+        ensures faultless { KeepsFaultless (B.is_faultless self.old.backend)
+            (B.is_faultless self.new.backend) result }
+        ensures part { Starts result timestamp
+            (traces (B.log self.old.backend) self.old.walk)
+            (traces (B.log self.new.backend) self.new.walk)
+            (slice_of options slice.now sps.now pps.now)
+            (standing self.old.walk) (standing self.new.walk) }
+    {
+        if self.walk.next.number == u64::MAX {
+            return Err(DecodeError::PictureNumbersSpent);
+        }
+        let head = head_of_first(&self.walk.next, options, slice, sps)?;
+        if head.skipped {
+            self.walk.next = behind(&self.walk.next, &head);
+            self.walk.current = Current::Skipped;
+            return Ok(());
+        }
+        self.open(timestamp, &head, slice, sps, pps)
+    }
+
+    /// A picture is decoded from here on.
+    fn open(
+        &mut self,
+        timestamp: u64,
+        head: &Head,
+        slice: &Slice<'_>,
+        sps: &Sps,
+        pps: &Pps,
+    ) -> Result<(), DecodeError>
+        requires none { current_of self.old.walk.current ≡ NoPicture }
+        requires number { IsNext head.now self.old.walk }
+        requires decoded { is_decoded (head_of head.now) ≡ true }
+        requires accepted { is_accepted (format_of_set (plain_sps sps.now))
+            (option_map format_of self.old.walk.accepted) ≡ true }
+        requires named { AreNamed slice.now sps.now pps.now }
+        requires frame { IsTrue (B.room self.old.backend) }
+        requires sound { IsSound (B.log self.old.backend) self.old.walk }
+        requires room { HasRoom 0 self.old.walk }
+        ensures sound { IsSound (B.log self.new.backend) self.new.walk }
+        ensures grows { Grows 0 self.old.walk self.new.walk }
+        ensures cause { CountsErrors (B.counts self.old.backend)
+            (B.counts self.new.backend) result }
+        ensures faultless { KeepsFaultless (B.is_faultless self.old.backend)
+            (B.is_faultless self.new.backend) result }
+        ensures part { (o : code_options.Options) → Runs result timestamp
+            (traces (B.log self.old.backend) self.old.walk)
+            (traces (B.log self.new.backend) self.new.walk)
+            (starts (head_of head.now) (slice_of o slice.now sps.now pps.now)
+            (standing self.old.walk))
+            (λ call. LeftStarted call × (standing self.new.walk
+            ≡ given_up (starts (head_of head.now) (slice_of o slice.now sps.now pps.now)
+            (standing self.old.walk)).next))
+            (standing self.new.walk) }
+    {
+        let set = self.walk.enter(head, slice, sps);
+        self.hand_over(timestamp, head, set, slice, sps, pps)
+    }
+
+    /// The backend gets a picture with its first slice.
+    fn hand_over(
+        &mut self,
+        timestamp: u64,
+        head: &Head,
+        set: RefPicSet,
+        slice: &Slice<'_>,
+        sps: &Sps,
+        pps: &Pps,
+    ) -> Result<(), DecodeError>
+        requires none { current_of self.old.walk.current ≡ NoPicture }
+        requires newest { IsNewest head.now set self.old.walk }
+        requires decoded { is_decoded (head_of head.now) ≡ true }
+        requires accepted { is_accepted (format_of_set (plain_sps sps.now))
+            (option_map format_of self.old.walk.accepted) ≡ true }
+        requires named { AreNamed slice.now sps.now pps.now }
+        requires frame { IsTrue (B.room self.old.backend) }
+        requires sound { IsSound (B.log self.old.backend) self.old.walk }
+        ensures sound { IsSound (B.log self.new.backend) self.new.walk }
+        ensures grows { Grows 0 self.old.walk self.new.walk }
+        ensures cause { CountsErrors (B.counts self.old.backend)
+            (B.counts self.new.backend) result }
+        ensures faultless { KeepsFaultless (B.is_faultless self.old.backend)
+            (B.is_faultless self.new.backend) result }
+        ensures part { (o : code_options.Options) → Runs result timestamp
+            (traces (B.log self.old.backend) self.old.walk)
+            (traces (B.log self.new.backend) self.new.walk)
+            (hands_over (head_of head.now) (plain_set set)
+            (slice_of o slice.now sps.now pps.now) (standing self.old.walk))
+            (λ call. LeftStarted call × (standing self.new.walk ≡ standing self.old.walk))
+            (standing self.new.walk) }
+    {
+        let number = head.number;
+        let mut picture = self.backend.new_picture(number, &head.picture, timestamp)?;
+        let dpb = &self.walk.dpb;
+        self.backend.begin_picture(
+            number,
+            &mut picture,
+            &head.picture,
+            sps,
+            pps,
+            dpb,
+            &set,
+            slice,
+        )?;
+        let lists = reference_lists(slice, pps, &set);
+        self.backend.decode_slice(
+            number,
+            &mut picture,
+            slice,
+            sps,
+            pps,
+            dpb,
+            &lists.ref_pic_list0,
+            &lists.ref_pic_list1,
+        )?;
+        self.walk.current = Current::Opened(Open {
+            head: *head,
+            set,
+            picture,
+        });
+        Ok(())
+    }
+}

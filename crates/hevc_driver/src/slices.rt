@@ -1,0 +1,200 @@
+//! Slices.
+ghost use Rattle.std.specs.Prelude.{◌≡◌, ℕ, option_map};
+ghost use Rattle.hevc_types_c.specs.Sps.{plain_sps};
+ghost use Rattle.hevc_views.specs.Sequences.{format_of_set};
+ghost use Rattle.hevc_walk.specs.Meanings.{CodedSlice, same_format};
+ghost use Rattle.hevc_walk_units.specs.Units.{NoPicture, begins_picture, changed_by};
+ghost use Rattle.hevc_backend.specs.Negotiation.{format_of};
+ghost use Rattle.hevc_driver.specs.Slices.{slice_of};
+ghost use Rattle.hevc_driver.specs.Answers.{CountsErrors, KeepsFaultless};
+ghost use Rattle.hevc_driver.specs.Standings.{standing, traces, current_of, with_open};
+ghost use Rattle.hevc_backend.specs.Told.{WhereTold};
+ghost use Rattle.hevc_driver.specs.declared.current.Current.TheVariants.{Opened};
+ghost use Rattle.hevc_driver.specs.Sound.{IsSound, IsNewest, IsLatest, HasRoom, Grows, AreNamed};
+ghost use Rattle.hevc_driver.specs.Takes.{Takes, Changes, Follows, ChecksFormat};
+ghost use Rattle.hevc_types_c.specs.declared.sps.Sps as code_sps;
+ghost use Rattle.hevc_types_d.specs.declared.pps.Pps as code_pps;
+ghost use Rattle.hevc_driver.specs.declared.options.Options as code_options;
+
+use crate::current::{Current, Open};
+use crate::decode_error::DecodeError;
+use crate::driver::Driver;
+use crate::kept::{complete, keep};
+use crate::options::Options;
+use crate::references::reference_lists;
+use hevc_backend::{NegotiationInfo, StatelessH265DecoderBackend};
+use hevc_types_c::Sps;
+use hevc_types_d::{Pps, Slice};
+use std::mem::replace;
+
+/// Whether a slice begins a picture.
+fn begins<P>(current: &Current<P>, slice: &Slice<'_>) -> bool
+    ensures { (o : code_options.Options) (sps : code_sps.Sps) (pps : code_pps.Pps) → result
+        ≡ begins_picture (current_of current.now) (slice_of o slice.now sps pps) }
+{
+    matches!(current, Current::NoPicture) || slice.header().first_slice_segment_in_pic_flag
+}
+
+/// Whether two formats are the same.
+fn is_same(one: &NegotiationInfo, other: &NegotiationInfo) -> bool
+    ensures { result ≡ same_format (format_of one.now) (format_of other.now) }
+{
+    *one == *other
+}
+
+/// Refuses a format that differs from the accepted one.
+fn check_format(
+    accepted: Option<NegotiationInfo>,
+    named: &NegotiationInfo,
+) -> Result<(), DecodeError>
+    ensures { ChecksFormat result
+        (changed_by (format_of named.now) (option_map format_of accepted)) }
+{
+    let Some(accepted) = accepted else {
+        return Ok(());
+    };
+    if is_same(&accepted, named) {
+        Ok(())
+    } else {
+        Err(DecodeError::ChangedMidPicture {
+            accepted,
+            named: *named,
+        })
+    }
+}
+
+impl<B: StatelessH265DecoderBackend> Driver<B> {
+    /// Takes a slice segment with the sets that it makes active; it is completed where it is a dependent one. Where it opens a negotiation
+    /// the answer is `CheckEvents`, and the unit is to be given once more when its format is accepted.
+    pub fn take_slice(
+        &mut self,
+        timestamp: u64,
+        options: Options,
+        slice: &mut Slice<'_>,
+        sps: &Sps,
+        pps: &Pps,
+    ) -> Result<(), DecodeError>
+        requires named { AreNamed slice.old sps.now pps.now }
+        requires sound { IsSound (B.log self.old.backend) self.old.walk }
+        requires room { HasRoom 1 self.old.walk }
+        ensures sound { IsSound (B.log self.new.backend) self.new.walk }
+        ensures grows { Grows 1 self.old.walk self.new.walk }
+        ensures cause { CountsErrors (B.counts self.old.backend)
+            (B.counts self.new.backend) result }
+        ensures faultless { KeepsFaultless (B.is_faultless self.old.backend)
+            (B.is_faultless self.new.backend) result }
+        ensures part { Takes result timestamp
+            (traces (B.log self.old.backend) self.old.walk)
+            (traces (B.log self.new.backend) self.new.walk)
+            (CodedSlice (slice_of options slice.old sps.now pps.now))
+            (standing self.old.walk) (standing self.new.walk) }
+    {
+        if !complete(&self.walk.kept, slice, sps)? {
+            return Err(DecodeError::NoIndependentSlice);
+        }
+        keep(&mut self.walk.kept, slice)?;
+        if begins(&self.walk.current, slice) {
+            self.change_picture(timestamp, options, slice, sps, pps)
+        } else {
+            self.follow(slice, sps, pps)
+        }
+    }
+
+    /// The current picture is over, and the next one begins.
+    fn change_picture(
+        &mut self,
+        timestamp: u64,
+        options: Options,
+        slice: &Slice<'_>,
+        sps: &Sps,
+        pps: &Pps,
+    ) -> Result<(), DecodeError>
+        requires named { AreNamed slice.now sps.now pps.now }
+        requires sound { IsSound (B.log self.old.backend) self.old.walk }
+        requires room { HasRoom 1 self.old.walk }
+        ensures sound { IsSound (B.log self.new.backend) self.new.walk }
+        ensures grows { Grows 1 self.old.walk self.new.walk }
+        ensures cause { CountsErrors (B.counts self.old.backend)
+            (B.counts self.new.backend) result }
+        ensures faultless { KeepsFaultless (B.is_faultless self.old.backend)
+            (B.is_faultless self.new.backend) result }
+        ensures part { Changes result timestamp
+            (traces (B.log self.old.backend) self.old.walk)
+            (traces (B.log self.new.backend) self.new.walk)
+            (slice_of options slice.now sps.now pps.now)
+            (standing self.old.walk) (standing self.new.walk) }
+    {
+        self.finish()?;
+        self.begin(timestamp, options, slice, sps, pps)
+    }
+
+    /// A later slice of the current picture.
+    fn follow(&mut self, slice: &Slice<'_>, sps: &Sps, pps: &Pps) -> Result<(), DecodeError>
+        requires named { AreNamed slice.now sps.now pps.now }
+        requires sound { IsSound (B.log self.old.backend) self.old.walk }
+        ensures sound { IsSound (B.log self.new.backend) self.new.walk }
+        ensures grows { Grows 0 self.old.walk self.new.walk }
+        ensures cause { CountsErrors (B.counts self.old.backend)
+            (B.counts self.new.backend) result }
+        ensures faultless { KeepsFaultless (B.is_faultless self.old.backend)
+            (B.is_faultless self.new.backend) result }
+        ensures part { (timestamp : ℕ) (o : code_options.Options)
+            → Follows result timestamp
+            (traces (B.log self.old.backend) self.old.walk)
+            (traces (B.log self.new.backend) self.new.walk)
+            (slice_of o slice.now sps.now pps.now)
+            (standing self.old.walk) (standing self.new.walk) }
+    {
+        match replace(&mut self.walk.current, Current::NoPicture) {
+            Current::Opened(opened) => self.continue_with(opened, slice, sps, pps),
+            Current::Skipped => {
+                self.walk.current = Current::Skipped;
+                Ok(())
+            }
+            Current::NoPicture => Ok(()),
+        }
+    }
+
+    /// A later slice of an open picture.
+    fn continue_with(
+        &mut self,
+        mut opened: Open<B::Picture>,
+        slice: &Slice<'_>,
+        sps: &Sps,
+        pps: &Pps,
+    ) -> Result<(), DecodeError>
+        requires none { current_of self.old.walk.current ≡ NoPicture }
+        requires newest { IsNewest opened.head opened.set self.old.walk }
+        requires latest { WhereTold (B.log self.old.backend)
+            (λ t. IsLatest (Opened opened) t.picture) }
+        requires named { AreNamed slice.now sps.now pps.now }
+        requires sound { IsSound (B.log self.old.backend) self.old.walk }
+        ensures sound { IsSound (B.log self.new.backend) self.new.walk }
+        ensures grows { Grows 0 self.old.walk self.new.walk }
+        ensures cause { CountsErrors (B.counts self.old.backend)
+            (B.counts self.new.backend) result }
+        ensures faultless { KeepsFaultless (B.is_faultless self.old.backend)
+            (B.is_faultless self.new.backend) result }
+        ensures part { (timestamp : ℕ) (o : code_options.Options)
+            → Follows result timestamp
+            (traces (B.log self.old.backend) self.old.walk)
+            (traces (B.log self.new.backend) self.new.walk)
+            (slice_of o slice.now sps.now pps.now)
+            (with_open opened (standing self.old.walk)) (standing self.new.walk) }
+    {
+        check_format(self.walk.accepted, &sps.into())?;
+        let lists = reference_lists(slice, pps, &opened.set);
+        self.backend.decode_slice(
+            opened.head.number,
+            &mut opened.picture,
+            slice,
+            sps,
+            pps,
+            &self.walk.dpb,
+            &lists.ref_pic_list0,
+            &lists.ref_pic_list1,
+        )?;
+        self.walk.current = Current::Opened(opened);
+        Ok(())
+    }
+}

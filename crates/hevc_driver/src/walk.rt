@@ -1,0 +1,25 @@
+//! What stands between two calls.
+use crate::current::Current;
+use crate::head::Next;
+use hevc_backend::NegotiationInfo;
+use hevc_bumping::Frame;
+use hevc_dpb::Dpb;
+use hevc_types_d::SliceHeader;
+use std::collections::VecDeque;
+
+/// All but the backend and the parameter sets. While a format is awaited it counts as accepted here.
+#[derive(Drop)]
+pub struct Walk<H: Copy, P> {
+    /// The format that was negotiated last.
+    pub accepted: Option<NegotiationInfo>,
+    /// The decoded picture buffer.
+    pub dpb: Dpb<H>,
+    /// The picture whose slices come.
+    pub current: Current<P>,
+    /// The header of the latest independent slice segment (7.4.7.1).
+    pub kept: Option<SliceHeader>,
+    /// What stands for the next picture.
+    pub next: Next,
+    /// The pictures that came out.
+    pub queue: VecDeque<Frame<H>>,
+}
