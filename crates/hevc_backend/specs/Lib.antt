@@ -1,3 +1,7 @@
-pub mod Handles
-pub mod Trait
 pub mod Negotiation
+pub mod Named
+pub mod Trait
+pub mod Calls
+pub mod Told
+pub mod Handles
+pub mod Recording

@@ -1,4 +1,5 @@
-//! What decodes the pictures: the calls that a hardware decoder is driven by, and a backend that records them.
+//! What decodes the pictures: the calls that a hardware decoder is driven by, a backend that records them, and one that keeps
+//! nothing.
 #![tactic(auto)]
 
 mod backend;
@@ -6,12 +7,16 @@ mod call;
 mod error;
 mod negotiation;
 mod recording;
+mod silent;
+mod stream_info;
 
 pub use backend::StatelessH265DecoderBackend;
 pub use call::Call;
 pub use error::BackendError;
 pub use negotiation::{NegotiationInfo, Resolution};
 pub use recording::Backend;
+pub use silent::SilentBackend;
+pub use stream_info::StreamInfo;
 
 #[cfg(test)]
 mod tests;
