@@ -5,6 +5,7 @@
 mod backend;
 mod call;
 mod error;
+mod laws;
 mod negotiation;
 mod recording;
 mod silent;
@@ -13,6 +14,7 @@ mod stream_info;
 pub use backend::StatelessH265DecoderBackend;
 pub use call::Call;
 pub use error::BackendError;
+pub use laws::references_are_stored;
 pub use negotiation::{NegotiationInfo, Resolution};
 pub use recording::Backend;
 pub use silent::SilentBackend;
