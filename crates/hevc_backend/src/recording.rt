@@ -71,8 +71,8 @@ impl Backend {
         Backend::with_plan(alloc, Vec::new(alloc), Vec::new(alloc))
     }
 
-    /// A backend with an empty log that fails by a plan. The recorded calls are numbered from 1 in the order made, failed ones
-    /// included, and those whose number stands in `failing` fail. Questions for free frames are answered by the numbers of
+    /// A backend with an empty log that fails by a plan. Of the calls that a log tells of, whether they fail or not, the first
+    /// is number 1, and those whose number stands in `failing` fail. Questions for free frames are answered by the numbers of
     /// `free`, in order, and by 16 behind them.
     pub fn with_plan(alloc: Global, failing: Vec<u64>, free: Vec<usize>) -> Backend
         ensures { result ≡ planned failing.items free.items }

@@ -1,4 +1,4 @@
--- Goes with the decoder over plain sets, for hevc_backend. The handles that a log tells of.
+-- Goes with the decoder over plain sets, for `Handles` of hevc_backend: the handles that a log tells of.
 use Rattle.std.specs.Prelude.{◌≡◌, ℕ, List, [], ◌∷◌, length}
 use Rattle.std.specs.List.{flat_map, range_with_len}
 use Rattle.hevc_plain_backend.specs.declared.call.Call.{Call}

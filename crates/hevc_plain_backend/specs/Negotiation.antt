@@ -1,4 +1,4 @@
--- Goes with the decoder over plain sets, for hevc_backend. What a backend is told of a sequence, as the format of its pictures (7.4.3.2.1, A.4.2).
+-- Goes with the decoder over plain sets, for `Negotiation` of hevc_backend: what a backend is told of a sequence, as the format of its pictures (7.4.3.2.1, A.4.2).
 use Rattle.hevc_walk.specs.Meanings.{Format}
 use Rattle.hevc_plain_backend.specs.declared.negotiation.NegotiationInfo.{NegotiationInfo}
 

@@ -1,4 +1,4 @@
--- Goes with the decoder over plain sets, for hevc_backend. What a call of a backend leaves in its log and in its count of faults.
+-- Goes with the decoder over plain sets, for `Trait` of hevc_backend: what a call of a backend leaves in its log and in its count of faults.
 use Rattle.std.specs.Prelude.{ℕ, ◌≤◌, ◌≡◌, List, [], ◌∷◌, ◌++◌, Option, Some, None, Result, Ok, Err}
 use Rattle.hevc_faults.specs.Faults.{Rose}
 use Rattle.hevc_plain_backend.specs.declared.error.BackendError.{BackendError}
