@@ -4,7 +4,7 @@ use Rattle.std.specs.Prelude.{Contains}
 use Rattle.std.proofs.lemmas.Bool.Decides.{nat_tests}
 use Rattle.hevc_walk.specs.Meanings.{Slice}
 use Rattle.hevc_walk.specs.Buffer.{is_reference}
-use Rattle.hevc_walk.specs.ReferenceSets.{names, all_members}
+use Rattle.hevc_walk.specs.ReferenceSets.{names, all_members, no_references}
 use Rattle.hevc_walk.specs.ReferenceLists.{ref_pic_list0, ref_pic_list1}
 use Rattle.hevc_walk_marks.specs.Marked.{has_reference}
 use Rattle.hevc_walk_marks.specs.Listed.{lists}
@@ -18,6 +18,13 @@ use Rattle.hevc_refs.specs.declared.ref_pic_list.RefPicList.{RefPicList}
 use Rattle.hevc_refs.specs.Sets.{plain_set}
 use Rattle.hevc_refs.specs.Lists.{places_of, plain_places}
 use Rattle.hevc_backend.specs.Named.{SetNamesAmong, ListNamesAmong}
+
+-- a set of five empty lists, or an empty list, names nothing
+pub no_set_among : (ns : List ℕ) (set : RefPicSet) → plain_set set ≡ no_references → SetNamesAmong ns set
+no_set_among ns set is n h = let k : false ≡ true = subst (λ s. names n (all_members s) ≡ true) is h in absurd (cc k)
+
+pub no_list_among : (ns : List ℕ) (list : RefPicList) → places_of list ≡ [] → ListNamesAmong ns list
+no_list_among ns list is n h = let k : false ≡ true = subst (λ l. lists n (plain_places l) ≡ true) is h in absurd (cc k)
 
 or_cases : (a b : Bool) → (a || b) ≡ true → (a ≡ true) ⊎ (b ≡ true)
 or_cases true b h = inl refl

@@ -5,3 +5,4 @@ pub mod Calls
 pub mod Told
 pub mod Handles
 pub mod Recording
+pub mod Silent

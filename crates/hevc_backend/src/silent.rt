@@ -1,5 +1,6 @@
 //! A backend that decodes nothing and keeps nothing.
 ghost use Rattle.std.specs.Prelude.{◌≡◌, false, None};
+ghost use Rattle.hevc_backend.specs.Silent.{has_room};
 
 use crate::backend::StatelessH265DecoderBackend;
 use crate::error::BackendError;
@@ -12,14 +13,13 @@ use hevc_types_d::{Pps, Slice};
 /// A backend that decodes nothing, keeps nothing and tells no log. No call fails, and there is always a free frame.
 #[derive(Drop)]
 pub struct SilentBackend {
-    /// The last question for free frames was followed by no picture.
     room: bool,
 }
 
 impl SilentBackend {
     /// A backend that wasn't asked for frames.
     pub fn new() -> SilentBackend
-        ensures { result.room ≡ false }
+        ensures { has_room result ≡ false }
     {
         SilentBackend { room: false }
     }
@@ -34,7 +34,7 @@ impl StatelessH265DecoderBackend for SilentBackend {
 
     ghost counts = { λ _. record { faults = 0; empty_answers = 0 } };
 
-    ghost room = { λ backend. backend.room };
+    ghost room = { has_room };
 
     ghost info = { λ _. None };
 
