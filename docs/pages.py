@@ -1,6 +1,6 @@
-"""Makes MAP.md, and the columns of RECORDS.md that the code has: field, type and default.
+"""Makes MAP.md, the columns of RECORDS.md that the code has (field, type and default), and the example of BACKENDS.md.
 
-pages.py          writes both
+pages.py          writes them
 pages.py --check  says what differs, and ends with 1 where anything does
 """
 import re
@@ -144,9 +144,21 @@ def made_records(page):
     return "\n".join(out) + "\n"
 
 
+def made_backends(page):
+    """BACKENDS.md with the example as it stands in the code."""
+    example = (CRATES / "hevc_backend" / "src" / "tests" / "over_device.rt").read_text()
+    before, old = page.split("```rust\n")
+    behind = old.split("```\n")[1]
+    return f"{before}```rust\n{example}```\n{behind}"
+
+
 def main():
-    records = TOP / "docs" / "RECORDS.md"
-    pages = {TOP / "docs" / "MAP.md": made_map(), records: made_records(records.read_text())}
+    records, backends = TOP / "docs" / "RECORDS.md", TOP / "docs" / "BACKENDS.md"
+    pages = {
+        TOP / "docs" / "MAP.md": made_map(),
+        records: made_records(records.read_text()),
+        backends: made_backends(backends.read_text()),
+    }
     stale = [path for path, text in pages.items() if path.read_text() != text]
     if sys.argv[1:] == ["--check"]:
         for path in stale:

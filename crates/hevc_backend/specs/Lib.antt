@@ -1,3 +1,8 @@
-pub mod Handles
-pub mod Trait
 pub mod Negotiation
+pub mod Named
+pub mod Trait
+pub mod Calls
+pub mod Told
+pub mod Handles
+pub mod Recording
+pub mod Silent

@@ -1,8 +1,13 @@
--- What a call of a backend leaves in its log and in its count of faults.
-use Rattle.std.specs.Prelude.{ℕ, ◌≤◌, ◌≡◌, List, [], ◌∷◌, ◌++◌, Option, Some, None, Result, Ok, Err}
+-- What a call of a backend leaves in its log and in its counts.
+use Rattle.std.specs.Prelude.{ℕ, zero, suc, ◌≤◌, ◌≡◌, ◌≢◌, List, [], ◌∷◌, ◌++◌, Option, Some, None, Result, Ok, Err}
 use Rattle.hevc_faults.specs.Faults.{Rose}
 use Rattle.hevc_backend.specs.declared.error.BackendError.{BackendError}
 use Rattle.hevc_backend.specs.declared.error.BackendError.TheVariants.{Failed, NoMemory}
+
+-- How many calls failed, and how many questions for free frames were answered by 0.
+pub record Counts : Type 0 where
+  pub faults : ℕ
+  pub empty_answers : ℕ
 
 -- the log behind some more calls, where it is told
 abbrev pub logged : {X : Type 0} → Option (List X) → List X → Option (List X)
@@ -14,14 +19,23 @@ abbrev pub Logs : {T X : Type 0} → Option (List X) → Option (List X) → Res
 Logs before now (Ok value) call = now ≡ logged before (call value ∷ [])
 Logs before now (Err error) call = now ≡ before
 
--- the count is as it was, unless the backend failed: then it rose
-abbrev pub CountsFault : ℕ → ℕ → BackendError → Type 0
-CountsFault before now Failed = (before ≤ now) × Rose before now
+-- the count has not fallen, and has risen or stands at its last value
+abbrev pub Counted : ℕ → ℕ → Type 0
+Counted before now = (before ≤ now) × Rose before now
+
+-- both counts are as they were, unless the backend failed: then that of faults rose
+abbrev pub CountsFault : Counts → Counts → BackendError → Type 0
+CountsFault before now Failed = Counted before.faults now.faults × (now.empty_answers ≡ before.empty_answers)
 CountsFault before now NoMemory = now ≡ before
 
-abbrev pub CountsFaults : {T : Type 0} → ℕ → ℕ → Result T BackendError → Type 0
+abbrev pub CountsFaults : {T : Type 0} → Counts → Counts → Result T BackendError → Type 0
 CountsFaults before now (Ok value) = now ≡ before
 CountsFaults before now (Err error) = CountsFault before now error
+
+-- both counts are as they were, unless no frame is free: then that of empty answers rose
+abbrev pub CountsEmptyAnswers : Counts → Counts → (frames : ℕ) → Type 0
+CountsEmptyAnswers before now zero = Counted before.empty_answers now.empty_answers × (now.faults ≡ before.faults)
+CountsEmptyAnswers before now (suc n) = now ≡ before
 
 abbrev pub IsFault : BackendError → Type 0
 IsFault Failed = Unit {0}
@@ -35,3 +49,7 @@ HasNoFault (Err error) = ¬ IsFault error
 -- a backend that never fails didn't, and never will
 abbrev pub StaysFaultless : {T : Type 0} → Type 0 → Type 0 → Result T BackendError → Type 0
 StaysFaultless before now result = before → now × HasNoFault result
+
+-- a backend that never fails has a frame, and never will fail
+abbrev pub StaysWithFrames : Type 0 → Type 0 → (frames : ℕ) → Type 0
+StaysWithFrames before now frames = before → now × (frames ≢ 0)

@@ -1,20 +1,31 @@
 //! What the decoder asks of a backend.
-ghost use Rattle.std.specs.Prelude.{ℕ, List};
+ghost use Rattle.std.specs.Prelude.{◌≡◌, ◌==◌, not, IsTrue, ℕ, Bool, List, OnOk, OnErr};
+ghost use Rattle.std.specs.Option.{option_copied};
 ghost use Rattle.std.specs.declared.option.Option.{Option};
+ghost use Rattle.hevc_types_c.specs.Sps.{plain_sps};
+ghost use Rattle.hevc_views.specs.Sequences.{format_of_set};
+ghost use Rattle.hevc_dpb.specs.Entries.{numbers};
+ghost use Rattle.hevc_dpb.specs.Views.{stored_entries};
 ghost use Rattle.hevc_backend.specs.declared.call.Call.{Call};
-ghost use Rattle.hevc_backend.specs.declared.call.Call.TheVariants.{NewSequence, NewPicture, BeginPicture, DecodeSlice, SubmitPicture};
-ghost use Rattle.hevc_bits.specs.FoundUnit.{bytes_of};
-ghost use Rattle.hevc_backend.specs.Trait.{Logs, CountsFaults, StaysFaultless};
+ghost use Rattle.hevc_backend.specs.declared.call.Call.TheVariants.{SubmitPicture};
+ghost use Rattle.hevc_backend.specs.declared.stream_info.StreamInfo.{StreamInfo};
+ghost use Rattle.hevc_backend.specs.Named.{SetNamesAmong, ListNamesAmong};
+ghost use Rattle.hevc_backend.specs.Trait.{Counts, Logs, CountsFaults, CountsEmptyAnswers, StaysFaultless, StaysWithFrames};
+ghost use Rattle.hevc_backend.specs.Calls.{new_sequence_call, new_picture_call, begin_picture_call, decode_slice_call};
+ghost use Rattle.hevc_backend.specs.Told.{WhereTold, IsTold, IsBegun, begun_picture};
 
 use crate::error::BackendError;
-use crate::negotiation::NegotiationInfo;
-use hevc_bits::{Nalu, NaluHeader, NaluType};
+use crate::stream_info::StreamInfo;
+use hevc_dpb::{Dpb, PictureData};
+use hevc_refs::{RefPicList, RefPicSet};
+use hevc_types_c::Sps;
+use hevc_types_d::{Pps, Slice};
 
 /// What decodes the samples of pictures.
 ///
-/// Each call that succeeds stands in the log, and no other does. `Failed` has a cause: a fault was
-/// counted, or no more can be; the log stays. `NoMemory` leaves the log and the count. A backend that
-/// is faultless never answers `Failed`, now or later.
+/// Each of the first five calls that succeeds stands in the log, and no other call does. `Failed` has a cause: a fault was
+/// counted, or no more can be; the log stays. `NoMemory` leaves the log and both counts. A backend that is faultless never
+/// answers `Failed` and always has a free frame, now and later.
 pub trait StatelessH265DecoderBackend {
     /// What stands for a decoded picture.
     type Handle: Copy;
@@ -25,55 +36,95 @@ pub trait StatelessH265DecoderBackend {
     /// The calls that succeeded, in order, where the backend tells them.
     ghost log: { Self → Option (List (Call Self.Handle)) };
 
-    /// How many calls failed so far. It never falls, and stands still at 2^64 - 1.
-    ghost faults: { Self → ℕ };
+    /// How many calls failed, and how many questions for free frames were answered by 0, so far. Neither count falls, and
+    /// both stand still at 2^64 - 1.
+    ghost counts: { Self → Counts };
 
-    /// No call fails from here on.
+    /// The last question for free frames found one, and no picture has begun since.
+    ghost room: { Self → Bool };
+
+    /// What it tells of the sequence.
+    ghost info: { Self → Option StreamInfo };
+
+    /// No call fails from here on, and there is always a free frame.
     ghost is_faultless: { Self → Type 0 };
 
-    /// A sequence of this format begins.
-    fn new_sequence(&mut self, info: &NegotiationInfo) -> Result<(), BackendError>
-        ensures log { Logs (log self.old) (log self.new) result (λ _. NewSequence info.now) }
-        ensures cause { CountsFaults (faults self.old) (faults self.new) result }
-        ensures faultless { StaysFaultless (is_faultless self.old) (is_faultless self.new) result };
+    /// A sequence of the format of this set begins.
+    fn new_sequence(&mut self, sps: &Sps) -> Result<(), BackendError>
+        ensures log { Logs (log self.old) (log self.new) result (λ _. new_sequence_call sps.now) }
+        ensures cause { CountsFaults (counts self.old) (counts self.new) result }
+        ensures faultless { StaysFaultless (is_faultless self.old) (is_faultless self.new) result }
+        ensures room { room self.new ≡ room self.old };
 
-    /// A picture begins: of the type of its first slice (Table 7-1), with its order count
-    /// PicOrderCntVal (8.3.1) and PicOutputFlag (8.1.3).
+    /// A picture begins, and takes a free frame. `picture` has the type of its first slice (Table 7-1), its order count
+    /// PicOrderCntVal (8.3.1) and its PicOutputFlag (8.1.3).
     fn new_picture(
         &mut self,
         number: u64,
-        nalu_type: NaluType,
-        pic_order_cnt_val: i32,
-        pic_output_flag: bool,
+        picture: &PictureData,
         timestamp: u64,
     ) -> Result<Self::Picture, BackendError>
+        requires { IsTrue (room self.old) }
         ensures log { Logs (log self.old) (log self.new) result
-            (λ _. NewPicture number nalu_type pic_order_cnt_val pic_output_flag timestamp) }
-        ensures cause { CountsFaults (faults self.old) (faults self.new) result }
-        ensures faultless { StaysFaultless (is_faultless self.old) (is_faultless self.new) result };
+            (λ _. new_picture_call number picture.now timestamp) }
+        ensures cause { CountsFaults (counts self.old) (counts self.new) result }
+        ensures faultless { StaysFaultless (is_faultless self.old) (is_faultless self.new) result }
+        ensures taken { OnOk result (IsTrue (not (room self.new))) }
+        ensures not_taken { OnErr result (room self.new ≡ room self.old) }
+        ensures info { info self.new ≡ info self.old };
 
-    /// The slices of a picture come.
+    /// The slices of a picture come; `slice` is the first of them. `dpb` has the pictures that it may refer to, and `rps` is
+    /// its reference picture set over them (8.3.2).
     fn begin_picture(
         &mut self,
         number: u64,
         picture: &mut Self::Picture,
+        picture_data: &PictureData,
+        sps: &Sps,
+        pps: &Pps,
+        dpb: &Dpb<Self::Handle>,
+        rps: &RefPicSet,
+        slice: &Slice<'_>,
     ) -> Result<(), BackendError>
-        ensures log { Logs (log self.old) (log self.new) result (λ _. BeginPicture number) }
-        ensures cause { CountsFaults (faults self.old) (faults self.new) result }
-        ensures faultless { StaysFaultless (is_faultless self.old) (is_faultless self.new) result };
+        // Each picture that is named is handed over, and so are the sets that the slice means.
+        requires references { SetNamesAmong (numbers (stored_entries dpb.now)) rps.now }
+        requires pps { pps.now.pic_parameter_set_id ≡ slice.now.header.pic_parameter_set_id }
+        requires sps { sps.now.seq_parameter_set_id ≡ pps.now.seq_parameter_set_id }
+        // They are of the sequence and the picture that the backend was told of, with the handles that it gave.
+        requires told { WhereTold (log self.old)
+            (IsTold number (format_of_set (plain_sps sps.now)) (stored_entries dpb.now)) }
+        requires begun { WhereTold (log self.old) (IsBegun (begun_picture number picture_data.now)) }
+        ensures log { Logs (log self.old) (log self.new) result
+            (λ _. begin_picture_call number rps.now) }
+        ensures cause { CountsFaults (counts self.old) (counts self.new) result }
+        ensures faultless { StaysFaultless (is_faultless self.old) (is_faultless self.new) result }
+        ensures room { room self.new ≡ room self.old }
+        ensures info { info self.new ≡ info self.old };
 
-    /// A slice of a picture, at this address in coding tree blocks in raster scan.
+    /// A slice of a picture, with its two reference picture lists over `dpb` (8.3.4).
     fn decode_slice(
         &mut self,
         number: u64,
         picture: &mut Self::Picture,
-        address: u32,
-        nalu: &Nalu<'_, NaluHeader>,
+        slice: &Slice<'_>,
+        sps: &Sps,
+        pps: &Pps,
+        dpb: &Dpb<Self::Handle>,
+        ref_pic_list0: &RefPicList,
+        ref_pic_list1: &RefPicList,
     ) -> Result<(), BackendError>
+        requires list0 { ListNamesAmong (numbers (stored_entries dpb.now)) ref_pic_list0.now }
+        requires list1 { ListNamesAmong (numbers (stored_entries dpb.now)) ref_pic_list1.now }
+        requires pps { pps.now.pic_parameter_set_id ≡ slice.now.header.pic_parameter_set_id }
+        requires sps { sps.now.seq_parameter_set_id ≡ pps.now.seq_parameter_set_id }
+        requires told { WhereTold (log self.old)
+            (IsTold number (format_of_set (plain_sps sps.now)) (stored_entries dpb.now)) }
         ensures log { Logs (log self.old) (log self.new) result
-            (λ _. DecodeSlice number address (bytes_of nalu.now)) }
-        ensures cause { CountsFaults (faults self.old) (faults self.new) result }
-        ensures faultless { StaysFaultless (is_faultless self.old) (is_faultless self.new) result };
+            (λ _. decode_slice_call number slice.now ref_pic_list0.now ref_pic_list1.now) }
+        ensures cause { CountsFaults (counts self.old) (counts self.new) result }
+        ensures faultless { StaysFaultless (is_faultless self.old) (is_faultless self.new) result }
+        ensures room { room self.new ≡ room self.old }
+        ensures info { info self.new ≡ info self.old };
 
     /// A picture is whole. Its handle stands for it from here on.
     fn submit_picture(
@@ -83,6 +134,20 @@ pub trait StatelessH265DecoderBackend {
     ) -> Result<Self::Handle, BackendError>
         ensures log { Logs (log self.old) (log self.new) result
             (λ handle. SubmitPicture number handle) }
-        ensures cause { CountsFaults (faults self.old) (faults self.new) result }
-        ensures faultless { StaysFaultless (is_faultless self.old) (is_faultless self.new) result };
+        ensures cause { CountsFaults (counts self.old) (counts self.new) result }
+        ensures faultless { StaysFaultless (is_faultless self.old) (is_faultless self.new) result }
+        ensures room { room self.new ≡ room self.old }
+        ensures info { info self.new ≡ info self.old };
+
+    /// How many frames are free.
+    fn num_free_frames(&mut self) -> usize
+        ensures log { log self.new ≡ log self.old }
+        ensures cause { CountsEmptyAnswers (counts self.old) (counts self.new) result }
+        ensures faultless { StaysWithFrames (is_faultless self.old) (is_faultless self.new) result }
+        ensures room { room self.new ≡ not (result == 0) }
+        ensures info { info self.new ≡ info self.old };
+
+    /// What the backend tells of the sequence, None where it tells nothing.
+    fn stream_info(&self) -> Option<&StreamInfo>
+        ensures { option_copied result ≡ info self.now };
 }

@@ -4,10 +4,10 @@ use Rattle.std.specs.Result.{IsErrAnd}
 use Rattle.std.proofs.lemmas.Result.{err_from_is_err_and}
 use Rattle.std.proofs.lemmas.List.{map-append, append-nil}
 use Rattle.std.proofs.lemmas.Grind.{flat_map-append}
-use Rattle.hevc_backend.specs.declared.error.BackendError.{BackendError}
-use Rattle.hevc_backend.specs.declared.error.BackendError.TheVariants.{Failed, NoMemory}
-use Rattle.hevc_backend.specs.declared.call.Call.{Call}
-use Rattle.hevc_backend.specs.Trait.{logged}
+use Rattle.hevc_plain_backend.specs.declared.error.BackendError.{BackendError}
+use Rattle.hevc_plain_backend.specs.declared.error.BackendError.TheVariants.{Failed, NoMemory}
+use Rattle.hevc_plain_backend.specs.declared.call.Call.{Call}
+use Rattle.hevc_plain_backend.specs.Trait.{logged}
 use Rattle.hevc_walk.specs.Walk.{Event, Called, Output, Part, ◌>>=◌, at_unit}
 use Rattle.hevc_walk.specs.Results.{call_at, output_at, calls_in, outputs_in}
 use Rattle.hevc_walk.specs.Meanings.{Meaning, Refused, NotYet, Other}

@@ -3,8 +3,8 @@ use Rattle.std.proofs.Common.{◌≡◌, ℕ, ◌+◌, ◌≤◌, List, [], ◌�
 use Rattle.std.specs.Prelude.{OnOk}
 use Rattle.std.specs.List.{AllByRecursion}
 use Rattle.std.proofs.lemmas.List.{map-append, append-nil}
-use Rattle.hevc_backend.specs.declared.call.Call.{Call}
-use Rattle.hevc_backend.specs.declared.call.Call.TheVariants as code
+use Rattle.hevc_plain_backend.specs.declared.call.Call.{Call}
+use Rattle.hevc_plain_backend.specs.declared.call.Call.TheVariants as code
 use Rattle.hevc_walk.specs.Meanings.{Meaning}
 use Rattle.hevc_walk.specs.Pictures.{pictures}
 use Rattle.hevc_walk.specs.Walk as walk

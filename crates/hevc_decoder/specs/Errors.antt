@@ -1,6 +1,6 @@
 -- The decoder's names for the errors of a backend and of a unit.
-use Rattle.hevc_backend.specs.declared.error.BackendError.{BackendError}
-use Rattle.hevc_backend.specs.declared.error.BackendError.TheVariants.{Failed, NoMemory}
+use Rattle.hevc_plain_backend.specs.declared.error.BackendError.{BackendError}
+use Rattle.hevc_plain_backend.specs.declared.error.BackendError.TheVariants.{Failed, NoMemory}
 use Rattle.hevc_bits.specs.declared.header.UnitError.{UnitError}
 use Rattle.hevc_bits.specs.declared.header.UnitError.TheVariants.{NoNal, TruncatedNalu, InvalidNaluType, TemporalIdZero}
 use Rattle.hevc_decoder.specs.declared.decode_error.DecodeError.{DecodeError}

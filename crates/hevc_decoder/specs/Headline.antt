@@ -1,8 +1,8 @@
 -- What decoding a stream promises: which calls the backend got, which pictures came out, and how it ended.
 use Rattle.std.specs.Prelude.{◌≡◌, ℕ, ◌≤◌, List, [], ◌∷◌, ◌++◌, map, Option, Result, Ok, Err}
 use Rattle.std.specs.List.{AllByRecursion}
-use Rattle.hevc_backend.specs.declared.call.Call.{Call}
-use Rattle.hevc_backend.specs.Trait.{logged}
+use Rattle.hevc_plain_backend.specs.declared.call.Call.{Call}
+use Rattle.hevc_plain_backend.specs.Trait.{logged}
 use Rattle.hevc_walk.specs.Meanings.{Meaning}
 use Rattle.hevc_walk.specs.Pictures.{pictures}
 use Rattle.hevc_walk.specs.Walk as walk

@@ -1,10 +1,10 @@
 -- The calls, the outputs and the errors of the code, as those of the model. Handles are left out.
 use Rattle.std.specs.Prelude.{ℕ, [], Result, Ok, Err}
 use Rattle.hevc_bits.specs.NaluType.{nalu_type_number}
-use Rattle.hevc_backend.specs.declared.negotiation.NegotiationInfo.{NegotiationInfo}
-use Rattle.hevc_backend.specs.Negotiation.{format_of}
-use Rattle.hevc_backend.specs.declared.call.Call.{Call}
-use Rattle.hevc_backend.specs.declared.call.Call.TheVariants as code
+use Rattle.hevc_plain_backend.specs.declared.negotiation.NegotiationInfo.{NegotiationInfo}
+use Rattle.hevc_plain_backend.specs.Negotiation.{format_of}
+use Rattle.hevc_plain_backend.specs.declared.call.Call.{Call}
+use Rattle.hevc_plain_backend.specs.declared.call.Call.TheVariants as code
 use Rattle.hevc_walk.specs.Meanings as meaning
 use Rattle.hevc_walk.specs.Meanings.{Format, UnitCause}
 use Rattle.hevc_walk.specs.ReferenceSets.{no_references}

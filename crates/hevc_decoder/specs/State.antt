@@ -1,6 +1,6 @@
 -- What the decoder's state stands for.
 use Rattle.std.specs.Prelude.{ℕ, ◌+◌, ◌∷◌, List, [], option_map, Option, Some, None, Bool, false}
-use Rattle.hevc_backend.specs.declared.call.Call.{Call}
+use Rattle.hevc_plain_backend.specs.declared.call.Call.{Call}
 use Rattle.hevc_walk.specs.Meanings.{Slice}
 use Rattle.hevc_walk.specs.Walk.{Called, SubmitPicture, Part, ◌>>=◌}
 use Rattle.hevc_walk_idr.specs.IdrWalk.{OpenPicture, StoredPicture, IdrStanding, finish_events, stored_of, stored_behind, stored_output, leave_events, begin_events, open_of}
@@ -8,7 +8,7 @@ use Rattle.hevc_decoder.specs.declared.state.Open.{Open}
 use Rattle.hevc_decoder.specs.declared.state.Stored.{Stored}
 use Rattle.hevc_decoder.specs.declared.state.State.{State}
 use Rattle.hevc_decoder.specs.declared.decoded.Shown.{Shown}
-use Rattle.hevc_backend.specs.Negotiation.{format_of}
+use Rattle.hevc_plain_backend.specs.Negotiation.{format_of}
 use Rattle.hevc_decoder.specs.Does.{Traces}
 
 abbrev pub open_picture : {P : Type 0} → Open P → OpenPicture

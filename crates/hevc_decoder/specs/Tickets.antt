@@ -1,8 +1,8 @@
 -- A picture's number with its handle, where it is submitted and where it is output.
 use Rattle.std.specs.Prelude.{◌≡◌, ◌⊎◌, ℕ, List, [], ◌∷◌}
 use Rattle.std.specs.List.{flat_map}
-use Rattle.hevc_backend.specs.declared.call.Call.{Call}
-use Rattle.hevc_backend.specs.declared.call.Call.TheVariants as code
+use Rattle.hevc_plain_backend.specs.declared.call.Call.{Call}
+use Rattle.hevc_plain_backend.specs.declared.call.Call.TheVariants as code
 use Rattle.hevc_decoder.specs.declared.decoded.Shown.{Shown}
 
 abbrev pub Among : {X : Type 0} → X → List X → Type 0

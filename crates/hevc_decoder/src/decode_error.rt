@@ -3,8 +3,8 @@ ghost use Rattle.std.specs.Prelude.{◌≡◌};
 ghost use Rattle.hevc_decoder.specs.Errors.{backend_error, unit_error};
 ghost use Rattle.hevc_decoder.specs.declared.decode_error.DecodeError.TheVariants.{NoMemory};
 
-use hevc_backend::{BackendError, NegotiationInfo};
 use hevc_bits::UnitError;
+use hevc_plain_backend::{BackendError, NegotiationInfo};
 use std::alloc::{AllocError, AllocFailed};
 
 /// Why a stream is refused, or a call of the decoder.

@@ -8,7 +8,7 @@ ghost use Rattle.hevc_walk.specs.Meanings.{SequenceSet};
 ghost use Rattle.hevc_walk_idr.specs.IdrWalk.{idr_part};
 ghost use Rattle.hevc_decoder.specs.Answers.{CountsErrors, KeepsFaultless};
 ghost use Rattle.hevc_decoder.specs.Does.{Runs, TakesUnit};
-ghost use Rattle.hevc_backend.specs.Negotiation.{format_of};
+ghost use Rattle.hevc_plain_backend.specs.Negotiation.{format_of};
 ghost use Rattle.hevc_decoder.specs.State.{standing, traces, open_picture, finish, output_stored, leave, begin, start, store, change_picture, close};
 ghost use Rattle.hevc_decoder.specs.StreamMeanings.{first_format, picture_meaning, slice_meaning, slice_of};
 
@@ -16,9 +16,9 @@ use crate::decode_error::DecodeError;
 use crate::decoded::Shown;
 use crate::format::{is_accepted, max_num_reorder, negotiation_info};
 use crate::state::{IdrPicture, Open, State, Stored};
-use hevc_backend::{NegotiationInfo, StatelessH265DecoderBackend};
 use hevc_bits::{Nalu, NaluHeader};
 use hevc_plain::{ParameterSets, UnitMeaning};
+use hevc_plain_backend::{NegotiationInfo, StatelessH265DecoderBackend};
 use hevc_types_c::Sps;
 use hevc_types_d::SliceHeader;
 

@@ -2,11 +2,11 @@
 ghost use Rattle.std.specs.Prelude.{◌≡◌, option_map};
 ghost use Rattle.hevc_types_c.specs.Sps.{plain_sps};
 ghost use Rattle.hevc_walk.specs.Walk.{is_accepted};
-ghost use Rattle.hevc_backend.specs.Negotiation.{format_of};
+ghost use Rattle.hevc_plain_backend.specs.Negotiation.{format_of};
 ghost use Rattle.hevc_stream.specs.Options.{default_options};
 ghost use Rattle.hevc_views.specs.Sequences.{format_of_set, limits_of_set};
 
-use hevc_backend::NegotiationInfo;
+use hevc_plain_backend::NegotiationInfo;
 use hevc_types_c::Sps;
 
 /// What a backend is told of a sequence.

@@ -1,5 +1,5 @@
 //! What the units so far mean for those to come.
-use hevc_backend::NegotiationInfo;
+use hevc_plain_backend::NegotiationInfo;
 
 /// What is known of an IDR picture apart from its samples. Its order count PicOrderCntVal is 0 (8.3.1).
 #[derive(Clone, Copy)]

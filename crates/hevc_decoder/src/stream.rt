@@ -12,8 +12,8 @@ ghost use Rattle.hevc_decoder.specs.StreamMeanings.{meanings};
 use crate::decoded::{Decoded, Shown};
 use crate::decoder::Decoder;
 use crate::state::State;
-use hevc_backend::StatelessH265DecoderBackend;
 use hevc_plain::ParameterSets;
+use hevc_plain_backend::StatelessH265DecoderBackend;
 use std::alloc::Global;
 
 /// Decodes a byte stream (Annex B) of less than 2^60 bytes, and adds the pictures that come out to

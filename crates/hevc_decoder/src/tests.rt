@@ -2,7 +2,7 @@ mod failing;
 
 use crate::{DecodeError, Refused, Shown, decode_stream};
 use failing::Failing;
-use hevc_backend::Backend;
+use hevc_plain_backend::Backend;
 use std::alloc::Global;
 use std::process::Abort;
 use std::test::Fail;

@@ -13,8 +13,8 @@ ghost use Rattle.hevc_decoder.specs.StreamMeanings.{first_format, meanings_from,
 use crate::decode_error::DecodeError;
 use crate::decoded::{Refused, Shown};
 use crate::decoder::Decoder;
-use hevc_backend::StatelessH265DecoderBackend;
 use hevc_bits::{Nalu, UnitError};
+use hevc_plain_backend::StatelessH265DecoderBackend;
 
 impl<B: StatelessH265DecoderBackend> Decoder<B> {
     /// Takes all units of a stream, and gives the number of its pictures.

@@ -1,9 +1,9 @@
 -- What is written of the calls and the outputs is the report on the stream.
 use Rattle.std.proofs.Common.{◌≡◌, ℕ, suc, ◌+◌, List, [], ◌∷◌, ◌++◌, map, length, Option, Some, Result, Ok, Err, refl, sym, ap, ap₂, subst, ◌∙◌, append_assoc, codes, decimal}
 use Rattle.std.specs.List.{flat_map, range_with_len}
-use Rattle.hevc_backend.specs.declared.call.Call.{Call}
-use Rattle.hevc_backend.specs.declared.call.Call.TheVariants.{NewSequence, NewPicture, BeginPicture, DecodeSlice, SubmitPicture}
-use Rattle.hevc_backend.specs.Handles.{handles, AreCounted}
+use Rattle.hevc_plain_backend.specs.declared.call.Call.{Call}
+use Rattle.hevc_plain_backend.specs.declared.call.Call.TheVariants.{NewSequence, NewPicture, BeginPicture, DecodeSlice, SubmitPicture}
+use Rattle.hevc_plain_backend.specs.Handles.{handles, AreCounted}
 use Rattle.hevc_walk.specs.Meanings.{Meaning}
 use Rattle.hevc_walk.specs.Results.{calls, outputs, verdict}
 use Rattle.hevc_decoder.specs.declared.decoded.Shown.{Shown}

@@ -2,12 +2,12 @@
 use Rattle.std.specs.Prelude.{ℕ, List, [], ◌++◌, length, codes, decimal, Result}
 use Rattle.std.specs.List.{flat_map}
 use Rattle.hevc_bits.specs.NaluType.{nalu_type_number}
-use Rattle.hevc_backend.specs.declared.call.Call.{Call}
-use Rattle.hevc_backend.specs.declared.call.Call.TheVariants.{NewSequence, NewPicture, BeginPicture, DecodeSlice, SubmitPicture}
+use Rattle.hevc_plain_backend.specs.declared.call.Call.{Call}
+use Rattle.hevc_plain_backend.specs.declared.call.Call.TheVariants.{NewSequence, NewPicture, BeginPicture, DecodeSlice, SubmitPicture}
 use Rattle.hevc_decoder.specs.declared.decoded.Shown.{Shown}
 use Rattle.hevc_decoder.specs.declared.decoded.Refused.{Refused}
 use Rattle.hevc_decoder.specs.Maps.{output_picture}
-use Rattle.hevc_backend.specs.Negotiation.{format_of}
+use Rattle.hevc_plain_backend.specs.Negotiation.{format_of}
 use Rattle.hevc_trace.specs.Report.{sequence_line, picture_line, submission_line, output_line, last_line}
 
 -- the line of a call of the log

@@ -10,9 +10,9 @@ ghost use Rattle.hevc_trace.specs.Status.{status_of, IsDone, WantsMemory};
 use crate::input::{INPUT_LIMIT, InputError, read_all};
 use crate::output::write_all;
 use crate::report::report_text;
-use hevc_backend::Backend;
 use hevc_decoder::{DecodeError, Refused, decode_stream};
 use hevc_io::{Sink, SinkError, Source, Word};
+use hevc_plain_backend::Backend;
 use std::alloc::{AllocError, Global};
 
 /// Why a run has no status 0 or 1.

@@ -1,10 +1,10 @@
 //! A backend that records its calls, and fails at one of them.
 ghost use Rattle.std.specs.Prelude.{◌≡◌};
 ghost use Rattle.std.specs.declared.option.Option.TheVariants.{Some};
-ghost use Rattle.hevc_backend.specs.Trait.{CountsFaults};
+ghost use Rattle.hevc_plain_backend.specs.Trait.{CountsFaults};
 
-use hevc_backend::{Backend, BackendError, NegotiationInfo, StatelessH265DecoderBackend};
 use hevc_bits::{Nalu, NaluHeader, NaluType};
+use hevc_plain_backend::{Backend, BackendError, NegotiationInfo, StatelessH265DecoderBackend};
 use std::alloc::Global;
 
 /// So many calls are taken, and none behind them.

@@ -1,12 +1,12 @@
 //! One line of the report.
 ghost use Rattle.std.specs.Prelude.{◌≡◌, ◌++◌, OnOk};
 ghost use Rattle.std.specs.String.{string_bytes};
-ghost use Rattle.hevc_backend.specs.Negotiation.{format_of};
+ghost use Rattle.hevc_plain_backend.specs.Negotiation.{format_of};
 ghost use Rattle.hevc_trace.specs.Lines.{log_line, shown_line};
 ghost use Rattle.hevc_trace.specs.Report.{sequence_line};
 
-use hevc_backend::{Call, NegotiationInfo};
 use hevc_decoder::Shown;
+use hevc_plain_backend::{Call, NegotiationInfo};
 use std::alloc::AllocError;
 
 /// Adds the line of a call. Where the slices of a picture come there is none.

@@ -1,5 +1,5 @@
 use Rattle.std.proofs.Common.{pos, refl, sym}
-use Rattle.hevc_backend.specs.declared.call.Call.TheVariants as code
+use Rattle.hevc_plain_backend.specs.declared.call.Call.TheVariants as code
 use Rattle.hevc_decoder.proofs.Doing.{does_call, does_then, call_stops, stops_by_then, runs_exit}
 use Rattle.hevc_decoder.specs.State.{traces, begin}
 use Rattle.hevc_bits.specs.FoundUnit.{bytes_of}

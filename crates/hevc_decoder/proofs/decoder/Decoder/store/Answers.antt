@@ -1,6 +1,6 @@
 use Rattle.std.proofs.Common.{refl, arith}
 use Rattle.std.proofs.lemmas.Bool.Decides.{nat_tests}
-use Rattle.hevc_backend.specs.declared.call.Call.TheVariants as code
+use Rattle.hevc_plain_backend.specs.declared.call.Call.TheVariants as code
 use Rattle.hevc_decoder.proofs.Doing.{does_submit, runs_behind, runs_as, completes_as}
 use Rattle.hevc_decoder.proofs.Slices.{store_outputs, store_waits}
 use Rattle.hevc_decoder.specs.State.{standing, open_picture, output_stored, submit}

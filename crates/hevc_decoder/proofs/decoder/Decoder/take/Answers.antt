@@ -13,7 +13,7 @@ use Rattle.hevc_walk.specs.Meanings as walk
 use Rattle.hevc_plain.specs.Kept.{kept_sets}
 use Rattle.hevc_plain.specs.TakenUnits.{plain_meaning}
 use Rattle.hevc_decoder.specs.declared.decode_error.DecodeError.TheVariants as errors
-use Rattle.hevc_backend.specs.Negotiation.{format_of}
+use Rattle.hevc_plain_backend.specs.Negotiation.{format_of}
 use Rattle.hevc_decoder.specs.StreamMeanings.{first_format, picture_meaning, slice_meaning}
 use Rattle.hevc_views.specs.Sequences.{format_of_set}
 
