@@ -2,7 +2,7 @@
 use Rattle.std.proofs.Common.{◌≡◌, ⊎_elim, ℕ, ℤ, suc, ◌+◌, ◌≤◌, Bool, true, false, cond, List, [], ◌∷◌, ◌++◌, length, map, take, refl, sym, ap, ◌∙◌, subst, arith}
 use Rattle.std.specs.Prelude.{Some, None, Contains}
 use Rattle.std.specs.Option.{option_map}
-use Rattle.std.proofs.lemmas.List.{append_assoc, map-append, append-nil, length-append}
+use Rattle.std.proofs.lemmas.List.{append_assoc, map-append, append-nil, length-append, length-map}
 use Rattle.hevc_walk.specs.Buffer.{Entry, Buffer, in_output_order, after_output, placed, due_outputs, bumping, Bumped}
 use Rattle.hevc_walk_bumps.specs.Steps as steps
 use Rattle.hevc_walk_bumps.specs.Steps.{after_one}
@@ -17,7 +17,8 @@ use Rattle.hevc_dpb.specs.Sublists.{IsSublist}
 use Rattle.hevc_dpb.specs.Views.{stored_entries, max_num_pics_of, room_of, buffer_of}
 use Rattle.hevc_dpb.proofs.Sublists.{sublist_part}
 use Rattle.hevc_dpb.proofs.Members.{contains_first, contains_later, contains_cases}
-use Rattle.std.specs.VecDeque.{VecDeque, deque_capacity}
+use Rattle.std.specs.declared.collections.VecDeque.{VecDeque}
+use Rattle.std.specs.VecDeque.{deque_capacity}
 use Rattle.hevc_walk.specs.Buffer.{shortest_front, draining}
 use Rattle.hevc_bumping.specs.declared.frame.Frame.{Frame}
 use Rattle.hevc_bumping.specs.Frames.{frame_of, frame_ticket, frame_output, entry_output}
@@ -104,9 +105,13 @@ pub record LeavesRest {H : Type 0} (mid now : Dpb H) : Type 0 where
   pub room : room_of now ≡ room_of mid
   pub latency : HaveLatency (stored_entries now)
 
+one_among : {H : Type 0} (out : List (Frame H)) (f : Frame H) (ts : List (ℕ × H)) → IsPartOf (map frame_ticket out) ts → Contains ts (frame_ticket f) → IsPartOf (map frame_ticket (out ++ f ∷ [])) ts
+one_among [] f ts h here = λ x k. ⊎_elim (λ is. subst (Contains ts) is here) (λ none. absurd (let l = none.1 in omega arith)) (contains_cases (frame_ticket f) x [] k)
+one_among (g ∷ out) f ts h here = λ x k. ⊎_elim (λ is. h x (subst (Contains (map frame_ticket (g ∷ out))) is (contains_first (frame_ticket g) (map frame_ticket out)))) (λ rest. one_among out f ts (λ y m. h y (contains_later (frame_ticket g) y (map frame_ticket out) m)) here x rest) (contains_cases (frame_ticket g) x (map frame_ticket (out ++ f ∷ [])) k)
+
 module _ {H Z : Type 0} (rule : Buffer → Bool) where
   pub begun : (dpb : Dpb H) (queue : VecDeque (Frame H) Z) → HaveLatency (stored_entries dpb) → Progress rule dpb dpb queue queue
-  begun dpb queue h = record { out = []; appended = sym (append-nil queue.items); given = refl; left = refl; out_handles = λ x k. absurd (let l = k.1 in omega arith); handles = λ x k. k; size = refl; room = refl; latency = h; capacity = refl; fewer = refl }
+  begun dpb queue h = record { out = []; appended = sym (append-nil queue.items); given = refl; left = refl; out_handles = λ x k. absurd (let l = k.1 in omega arith); handles = λ x k. k; size = refl; room = refl; latency = h; capacity = refl; fewer = (let n : length {A = Frame H} [] ≡ 0 = refl in omega (arith, n)) }
 
   pub ended : (old now : Dpb H) (before queue : VecDeque (Frame H) Z) → Progress rule old now before queue → bumping rule (buffer_of now) ≡ steps.nothing_output (buffer_of now) → Bumps (bumping rule (buffer_of old)) old now before queue
   ended old now before queue p over = record {
@@ -122,10 +127,6 @@ module _ {H Z : Type 0} (rule : Buffer → Bool) where
     capacity = p.capacity;
     fewer = p.fewer;
   }
-
-  one_among : (out : List (Frame H)) (f : Frame H) (ts : List (ℕ × H)) → IsPartOf (map frame_ticket out) ts → Contains ts (frame_ticket f) → IsPartOf (map frame_ticket (out ++ f ∷ [])) ts
-  one_among [] f ts h here = λ x k. ⊎_elim (λ is. subst (Contains ts) is here) (λ none. absurd (let l = none.1 in omega arith)) (contains_cases (frame_ticket f) x [] k)
-  one_among (g ∷ out) f ts h here = λ x k. ⊎_elim (λ is. h x (subst (Contains (map frame_ticket (g ∷ out))) is (contains_first (frame_ticket g) (map frame_ticket out)))) (λ rest. one_among out f ts (λ y m. h y (contains_later (frame_ticket g) y (map frame_ticket out) m)) here x rest) (contains_cases (frame_ticket g) x (map frame_ticket (out ++ f ∷ [])) k)
 
   pub onward : (old mid now : Dpb H) (before queue more : VecDeque (Frame H) Z) (e : DpbEntry H) → Progress rule old mid before queue → Step rule (buffer_of mid) (buffer_of now) (plain_entry e) → more.items ≡ queue.items ++ frame_of e ∷ [] → deque_capacity more ≡ deque_capacity queue
       → Contains (tickets (stored_entries mid)) (ticket e) → LeavesRest mid now → Progress rule old now before more
@@ -170,3 +171,28 @@ all_due (x ∷ xs) = ap (λ (l : List Entry). x ∷ l) (all_due xs)
 pub all_output : (es : Buffer) → (bumping (λ (b : Buffer). true) es).outputs ≡ (draining es).outputs
 unfolding due_outputs
 all_output es = all_due (in_output_order es)
+
+none_latent : {H : Type 0} (es : List (DpbEntry H)) → es ≡ [] → HaveLatency es
+none_latent es is = subst HaveLatency (sym is) (λ k d lt. absurd (omega (arith, lt)))
+
+none_part : {H : Type 0} (es : List (DpbEntry H)) (ts : List (ℕ × H)) → es ≡ [] → IsPartOf (tickets es) ts
+none_part es ts is = subst (λ l. IsPartOf (tickets l) ts) (sym is) (λ x k. absurd (let l = k.1 in omega arith))
+
+-- what is left is cleared away
+pub drained : {H Z : Type 0} (old mid new : Dpb H) (before now : VecDeque (Frame H) Z) → Bumps (bumping (λ (b : Buffer). true) (buffer_of old)) old mid before now → stored_entries new ≡ [] → max_num_pics_of new ≡ max_num_pics_of mid → room_of new ≡ room_of mid
+    → Bumps (draining (buffer_of old)) old new before now
+drained old mid new before now p none size room =
+    let given = p.given ∙ ap (map entry_output) (all_output (buffer_of old)) in
+    record {
+      out = p.out;
+      appended = p.appended;
+      given = given;
+      left = ap (map plain_entry) none;
+      out_handles = p.out_handles;
+      handles = none_part (stored_entries new) (tickets (stored_entries old)) none;
+      size = size ∙ p.size;
+      room = room ∙ p.room;
+      latency = none_latent (stored_entries new) none;
+      capacity = p.capacity;
+      fewer = (let l = ap length given in let a = length-map p.out frame_output in let b = length-map (in_output_order (buffer_of old)) entry_output in let n = ap num_waiting (ap (map plain_entry) none) in omega (arith, l, a, b, n));
+    }

@@ -1,6 +1,7 @@
 -- What bumping does to a buffer, and to the queue of pictures that are output.
-use Rattle.std.specs.Prelude.{◌≡◌, ℕ, ◌+◌, ◌≤◌, List, ◌++◌, length, map}
-use Rattle.std.specs.VecDeque.{VecDeque, deque_capacity}
+use Rattle.std.specs.Prelude.{◌≡◌, ℕ, ◌+◌, List, ◌++◌, length, map}
+use Rattle.std.specs.declared.collections.VecDeque.{VecDeque}
+use Rattle.std.specs.VecDeque.{deque_capacity}
 use Rattle.hevc_walk.specs.Buffer.{Buffer, Bumped, in_output_order}
 use Rattle.hevc_dpb.specs.declared.dpb.Dpb.{Dpb}
 use Rattle.hevc_dpb.specs.Entries.{IsPartOf, tickets}

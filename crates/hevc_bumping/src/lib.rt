@@ -4,9 +4,6 @@
 mod frame;
 mod rule;
 
-pub use frame::Frame;
-pub use hevc_dpb::Limits;
-
 ghost use Rattle.std.specs.Prelude.{◌≤◌, ◌+◌, ◌<◌, Bool};
 ghost use Rattle.std.specs.VecDeque.{deque_len, deque_capacity};
 ghost use Rattle.hevc_walk.specs.Buffer.{bumping, draining, needs_additional_bumping, needs_bumping};
@@ -17,15 +14,13 @@ ghost use Rattle.hevc_bumping.specs.Bumps.{Bumps, num_waiting};
 ghost use Rattle.hevc_bumping.specs.Rules.{holds};
 
 use crate::rule::Rule;
+pub use frame::Frame;
 use hevc_dpb::Dpb;
+pub use hevc_dpb::Limits;
 use std::collections::VecDeque;
 
 /// Additional bumping, once a picture is stored (C.5.2.3): what is due goes behind the queue.
-pub fn bump_additionally<H: Copy>(
-    dpb: &mut Dpb<H>,
-    limits: &Limits,
-    queue: &mut VecDeque<Frame<H>>,
-)
+pub fn bump_additionally<H: Copy>(dpb: &mut Dpb<H>, limits: &Limits, queue: &mut VecDeque<Frame<H>>)
     requires latency { HaveLatency (stored_entries dpb.old) }
     requires room { deque_len queue.old + num_waiting (buffer_of dpb.old)
         ≤ deque_capacity queue.old }

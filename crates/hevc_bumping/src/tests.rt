@@ -1,5 +1,6 @@
-use crate::{bump_additionally, bump_for_room};
+use crate::{Frame, bump_additionally, bump_for_room, output_all};
 use hevc_dpb::{Dpb, Limits, PictureData};
+use std::collections::VecDeque;
 use std::test::Fail;
 
 fn picture(count: i32) -> PictureData {
@@ -23,17 +24,38 @@ fn what_is_due_is_output_in_order(rt: HostRuntime) -> Result<(), Fail> {
         latency_plus1: 0,
         buffering: 1,
     };
-    let mut out = Vec::new(alloc);
-    out.reserve(16)?;
-    bump_additionally(&mut dpb, &limits, &mut out);
-    assert_eq!(rt; out.len(), 2);
-    assert_eq!(rt; out.get(0).ok_or("none")?.number, 8);
-    assert_eq!(rt; out.get(1).ok_or("none")?.handle, 90);
+    let mut queue = VecDeque::new(alloc);
+    queue.reserve(16)?;
+    bump_additionally(&mut dpb, &limits, &mut queue);
+    assert_eq!(rt; queue.len(), 2);
+    let first: Frame<u64> = queue.pop_front().ok_or("none")?;
+    assert_eq!(rt; (first.number, first.handle, first.order_count), (8, 80, 0));
+    let second = queue.pop_front().ok_or("none")?;
+    assert_eq!(rt;
+        (second.number, second.handle, second.order_count),
+        (9, 90, 2)
+    );
     assert_eq!(rt; dpb.len(), 3);
-    let mut later = Vec::new(alloc);
-    later.reserve(16)?;
-    bump_for_room(&mut dpb, &limits, &mut later);
-    assert_eq!(rt; later.len(), 1);
-    assert_eq!(rt; later.get(0).ok_or("none")?.number, 7);
+    bump_for_room(&mut dpb, &limits, &mut queue);
+    assert_eq!(rt; queue.len(), 1);
+    assert_eq!(rt; queue.pop_front().ok_or("none")?.number, 7);
+    Ok(())
+}
+
+#[test]
+fn all_that_waits_is_output_and_the_buffer_is_emptied(rt: HostRuntime) -> Result<(), Fail> {
+    let alloc = rt.alloc();
+    let mut dpb: Dpb<u64> = Dpb::new(alloc);
+    dpb.reserve()?;
+    dpb.set_max_num_pics(2);
+    dpb.store_picture(0, picture(8), 1).or(Err("full"))?;
+    dpb.store_picture(1, picture(-4), 2).or(Err("full"))?;
+    let mut queue = VecDeque::new(alloc);
+    queue.reserve(16)?;
+    output_all(&mut dpb, &mut queue);
+    assert!(rt; dpb.is_empty());
+    assert_eq!(rt; queue.len(), 2);
+    assert_eq!(rt; queue.pop_front().ok_or("none")?.number, 1);
+    assert_eq!(rt; queue.pop_front().ok_or("none")?.number, 0);
     Ok(())
 }

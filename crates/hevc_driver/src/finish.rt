@@ -63,7 +63,9 @@ impl<B: StatelessH265DecoderBackend> Driver<B> {
         } = opened;
         let handle = self.backend.submit_picture(head.number, picture)?;
         self.walk.next.prev_tid0_pic = tid0_behind(&head, self.walk.next.prev_tid0_pic);
-        self.walk.dpb.store_picture(head.number, head.picture, handle)?;
+        self.walk
+            .dpb
+            .store_picture(head.number, head.picture, handle)?;
         bump_additionally(&mut self.walk.dpb, &head.limits, &mut self.walk.queue);
         Ok(())
     }

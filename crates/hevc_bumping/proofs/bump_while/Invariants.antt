@@ -6,11 +6,11 @@ use Rattle.hevc_bumping.specs.Rules.{holds}
 use Rattle.hevc_bumping.proofs.Steps.{Progress}
 use Rattle.hevc_bumping.proofs.bump_while.Given as goal
 
-abbrev pub invariant-loop-dpb : goal.invariant-loop-dpb
-invariant-loop-dpb g l = record {
+abbrev pub invariant-loop-rule : goal.invariant-loop-rule
+invariant-loop-rule g l = record {
   so_far : Progress (holds l.rule) l.initial.dpb l.dpb l.initial.queue l.queue;
   room : deque_len l.queue + num_waiting (buffer_of l.dpb) ≤ deque_capacity l.queue;
 }
 
-abbrev pub decreases-loop-dpb : goal.decreases-loop-dpb
-decreases-loop-dpb g l = num_waiting (buffer_of l.dpb)
+abbrev pub decreases-loop-rule : goal.decreases-loop-rule
+decreases-loop-rule g l = num_waiting (buffer_of l.dpb)
