@@ -68,7 +68,7 @@ pub stays_whole : (es : Buffer) → in_output_order es ≡ [] → after_one es �
 stays_whole es is = ap (λ (l : List Entry). after_output (take 1 l) es) is ∙ all_stay es
 
 -- at most as many wait as are stored
-placed_length : (e : Entry) (fs : Buffer) → length (placed e fs) ≡ suc (length fs)
+pub placed_length : (e : Entry) (fs : Buffer) → length (placed e fs) ≡ suc (length fs)
 placed_length e [] = refl
 placed_length e (f ∷ fs) = by_test _ (placed_length e fs)
   where

@@ -61,9 +61,9 @@ begins_by None s = false
 begins_by (Some slice) s = begins_picture s.current slice
 
 -- a unit begins a picture
-abbrev pub begins : Meaning → Standing → Bool
-begins (CodedSlice slice) s = begins_by (whole_slice s.kept slice) s
-begins u s = false
+abbrev pub begins_at : Meaning → Standing → Bool
+begins_at (CodedSlice slice) s = begins_by (whole_slice s.kept slice) s
+begins_at u s = false
 
 abbrev pub negotiates_by : Option Slice → Standing → Bool
 negotiates_by None s = false

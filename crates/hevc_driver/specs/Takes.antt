@@ -12,7 +12,7 @@ use Rattle.hevc_driver.specs.declared.decode_error.DecodeError.{DecodeError}
 use Rattle.hevc_driver.specs.declared.decode_error.DecodeError.TheVariants as errors
 use Rattle.hevc_driver.specs.Errors.{error_of}
 use Rattle.hevc_driver.specs.Does.{Traces, Does, Stops, StopsBy, Completes, Runs}
-use Rattle.hevc_driver.specs.Moments.{begins, negotiates, opening, step_part, kept_behind, not_stored, left_at, left_by, given_up, drained, renegotiates, starts, closes}
+use Rattle.hevc_driver.specs.Moments.{begins_at, negotiates, opening, step_part, kept_behind, not_stored, left_at, left_by, given_up, drained, renegotiates, starts, closes}
 
 -- The unit was taken.
 pub record Goes {H : Type 0} (timestamp : ℕ) (old new : Traces H) (u : Meaning) (before standing : Standing) : Type 0 where
@@ -37,7 +37,7 @@ pub record Fills {H : Type 0} (timestamp : ℕ) (old new : Traces H) (plan : Lis
 
 -- A picture begins, and what was before it is over.
 pub record Halts {H : Type 0} (timestamp : ℕ) (old new : Traces H) (u : Meaning) (before standing : Standing) : Type 0 where
-  pub begins : begins u before ≡ true
+  pub begins : begins_at u before ≡ true
   pub room : is_full_at u before ≡ false
   pub does : Does timestamp old new (finish_current (kept_behind u before)).events
   pub left : standing ≡ (finish_current (kept_behind u before)).next

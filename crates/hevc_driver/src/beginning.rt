@@ -1,5 +1,7 @@
 //! What a first slice tells of its picture (8.1.3, 8.3.1).
-ghost use Rattle.std.specs.Prelude.{◌≡◌, ◌<◌, ◌+◌, ◌-◌, ◌^◌, pos, true, false, Some, IfOk, OnOk, OnErr, if◌then◌else◌};
+ghost use Rattle.std.specs.Prelude.{◌≡◌, ◌&&◌, ◌<◌, ◌+◌, ◌-◌, ◌^◌, pos, true, false, Some, IfOk, OnOk, OnErr, if◌then◌else◌};
+ghost use Rattle.hevc_spec.specs.UnitTypes.{is_rasl};
+ghost use Rattle.hevc_bits.specs.NaluType.{nalu_type_number};
 ghost use Rattle.hevc_types_c.specs.Sps.{plain_sps};
 ghost use Rattle.hevc_types_d.specs.declared.pps.Pps.{Pps};
 ghost use Rattle.hevc_walk.specs.Pictures.{head, order_count_in_range, is_tid0};
@@ -10,6 +12,7 @@ ghost use Rattle.hevc_driver.specs.Slices.{slice_of};
 
 use crate::head::{Head, Next};
 use crate::options::Options;
+use hevc_bits::NaluType;
 use hevc_dpb::{Limits, PictureData};
 use hevc_pictures::PocOutOfRange;
 use hevc_types_c::Sps;
@@ -39,6 +42,7 @@ pub(crate) fn head_of_first(
     ensures outside { (pps : Pps) → OnErr result (order_count_in_range
         (head (context_of next.now) (slice_of options slice.now sps.now pps)) ≡ false) }
 {
+    let nalu_type = slice.nalu().header().nalu_type();
     let picture = PictureData::new_from_slice(
         slice,
         next.first_picture_in_bitstream,
@@ -50,11 +54,18 @@ pub(crate) fn head_of_first(
     Ok(Head {
         number: next.number,
         picture,
-        skipped: picture.nalu_type.is_rasl() && next.latest_irap_no_rasl,
+        skipped: is_skipped(nalu_type, next.latest_irap_no_rasl),
         latest_irap_no_rasl: latest_irap_no_rasl(&picture, next.latest_irap_no_rasl),
         format: sps.into(),
         limits: Limits::of(sps, options.highest_tid),
     })
+}
+
+/// Whether a picture isn't decoded: RASL, where the latest IRAP picture has NoRaslOutputFlag (8.1.3).
+fn is_skipped(nalu_type: NaluType, latest_irap_no_rasl: bool) -> bool
+    ensures { result ≡ (is_rasl (nalu_type_number nalu_type) && latest_irap_no_rasl) }
+{
+    nalu_type.is_rasl() && latest_irap_no_rasl
 }
 
 /// NoRaslOutputFlag of the latest IRAP picture, up to this one.
@@ -92,4 +103,11 @@ pub(crate) fn tid0_behind(head: &Head, earlier: Option<PictureData>) -> Option<P
     } else {
         earlier
     }
+}
+
+/// Whether it is an IRAP picture with NoRaslOutputFlag: a coded video sequence begins.
+pub(crate) fn starts_sequence(head: &Head) -> bool
+    ensures { result ≡ (head_of head.now).starts_sequence }
+{
+    head.picture.is_irap && head.picture.no_rasl_output_flag
 }

@@ -63,7 +63,8 @@ impl<B: StatelessH265DecoderBackend> Driver<B> {
         ensures backend { self.new.backend ≡ self.old.backend }
     {
         self.walk.queue.reserve(17)?;
-        self.walk.dpb.reserve()
+        self.walk.dpb.reserve()?;
+        Ok(())
     }
 
     /// The picture whose slices came is over, and all that waits is output.

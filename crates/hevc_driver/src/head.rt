@@ -1,5 +1,5 @@
 //! What is known of pictures as they begin.
-ghost use Rattle.std.specs.Prelude.{◌≤ℤ◌, pos};
+ghost use Rattle.std.specs.Prelude.{◌≡◌, ◌≤ℤ◌, ◌&&◌, pos, true};
 
 use hevc_backend::NegotiationInfo;
 use hevc_dpb::{Limits, PictureData};
@@ -20,6 +20,7 @@ pub struct Head {
     /// What its sequence set declares for the highest sub-layer that is decoded (C.5.2.2).
     pub limits: Limits,
     ghost lsb: { pos 0 ≤ℤ picture.slice_pic_order_cnt_lsb },
+    ghost prior: { picture.no_output_of_prior_pics_flag ≡ true → (picture.is_irap && picture.no_rasl_output_flag) ≡ true },
 }
 
 /// What the pictures so far mean for the next one (8.1.3, 8.3.1).

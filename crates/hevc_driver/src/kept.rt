@@ -23,6 +23,7 @@ fn completes(kept: &SliceHeader, header: &SliceHeader, sps: &Sps) -> bool
 
 /// Completes the header of a dependent slice segment by that of the latest independent one. Whether the segment has its whole header
 /// then; one that has it already stays.
+#[tactic(auto, unfolding(crate::specs::Slices::slice_of, crate::specs::Slices::kept_of))]
 pub(crate) fn complete(
     kept: &Option<SliceHeader>,
     slice: &mut Slice<'_>,
@@ -51,6 +52,7 @@ pub(crate) fn complete(
 }
 
 /// Keeps the header of an independent slice segment for the dependent ones behind it.
+#[tactic(auto, unfolding(crate::specs::Slices::slice_of, crate::specs::Slices::kept_of))]
 pub(crate) fn keep(kept: &mut Option<SliceHeader>, slice: &Slice<'_>) -> Result<(), AllocError>
     ensures kept { (o : Options) (sps : Sps) (pps : Pps) → OnOk result
         (option_map kept_of kept.new

@@ -1,13 +1,13 @@
 //! The reference pictures of a picture and of its slices (8.3.2, 8.3.4).
-ghost use Rattle.std.specs.Prelude.{◌≡◌, get_or};
+ghost use Rattle.std.specs.Prelude.{◌≡◌, ℕ, true, false, get_or};
 ghost use Rattle.hevc_types_c.specs.Sps.{plain_sps};
 ghost use Rattle.hevc_types_d.specs.SliceHeader.{plain_slice_header};
 ghost use Rattle.hevc_types_a.specs.ShortTermRefPicSet.{plain_short_term_ref_pic_set};
 ghost use Rattle.hevc_types_c.specs.declared.sps.Sps as code_sps;
 ghost use Rattle.hevc_types_d.specs.declared.pps.Pps as code_pps;
-ghost use Rattle.hevc_views.specs.Headers.{short_term_set_of};
-ghost use Rattle.hevc_walk.specs.ReferenceSets.{reference_set, short_term_set, with_marks};
+ghost use Rattle.hevc_walk.specs.ReferenceSets.{reference_set, with_marks, names, all_members};
 ghost use Rattle.hevc_walk.specs.ReferenceLists.{ref_pic_list0, ref_pic_list1};
+ghost use Rattle.hevc_walk_marks.specs.Marked.{has_reference};
 ghost use Rattle.hevc_dpb.specs.Views.{buffer_of};
 ghost use Rattle.hevc_refs.specs.Sets.{plain_set};
 ghost use Rattle.hevc_refs.specs.Lists.{places_of, plain_places};
@@ -49,6 +49,11 @@ pub(crate) fn reference_set<H: Copy>(
         (buffer_of dpb.old) }
     ensures marks { (o : Options) (pps : code_pps.Pps) → buffer_of dpb.new
         ≡ with_marks (head_of head.now) (slice_of o slice.now sps.now pps) (buffer_of dpb.old) }
+    // What it names is used for reference, and a picture that begins a sequence names nothing.
+    ensures named { (n : ℕ) → names n (all_members (plain_set result)) ≡ true
+        → has_reference n (buffer_of dpb.new) ≡ true }
+    ensures nothing { (n : ℕ) → (head_of head.now).starts_sequence ≡ true
+        → names n (all_members (plain_set result)) ≡ false }
     ensures kept { KeepsAllButMarks dpb.old dpb.new }
 {
     let header = slice.header();

@@ -1,5 +1,5 @@
 //! Pictures leave the buffer before one is decoded (8.3.2, C.5.2.2).
-ghost use Rattle.std.specs.Prelude.{◌≡◌, ◌<◌, ◌-◌, ◌^◌, ℕ, List, Option};
+ghost use Rattle.std.specs.Prelude.{◌≡◌, ◌<◌, ◌+◌, ◌-◌, ◌^◌, ℕ, List, Option};
 ghost use Rattle.hevc_types_d.specs.declared.pps.Pps.{Pps};
 ghost use Rattle.hevc_walk.specs.ReferenceSets.{reference_set};
 ghost use Rattle.hevc_walk.specs.Buffer.{draining};
@@ -12,7 +12,7 @@ ghost use Rattle.hevc_refs.specs.Sets.{plain_set};
 ghost use Rattle.hevc_backend.specs.declared.call.Call.{Call};
 ghost use Rattle.hevc_backend.specs.Named.{SetNamesAmong};
 
-use crate::beginning::behind;
+use crate::beginning::{behind, starts_sequence};
 use crate::head::Head;
 use crate::references::reference_set;
 use crate::walk::Walk;
@@ -55,7 +55,7 @@ impl<H: Copy, P> Walk<H, P> {
     {
         if head.picture.no_output_of_prior_pics_flag {
             self.dpb.clear();
-        } else if head.picture.is_irap && head.picture.no_rasl_output_flag {
+        } else if starts_sequence(head) {
             output_all(&mut self.dpb, &mut self.queue);
         } else {
             self.dpb.remove_unused();

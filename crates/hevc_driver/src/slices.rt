@@ -28,6 +28,7 @@ use hevc_types_d::{Pps, Slice};
 use std::mem::replace;
 
 /// Whether a slice begins a picture.
+#[tactic(auto, unfolding(crate::specs::Slices::slice_of))]
 fn begins<P>(current: &Current<P>, slice: &Slice<'_>) -> bool
     ensures { (o : code_options.Options) (sps : code_sps.Sps) (pps : code_pps.Pps) → result
         ≡ begins_picture (current_of current.now) (slice_of o slice.now sps pps) }

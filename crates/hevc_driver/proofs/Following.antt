@@ -1,0 +1,70 @@
+-- A later slice of the current picture.
+use Rattle.std.proofs.Common.{◌≡◌, ◌⊎◌, inl, inr, ℕ, List, [], ◌∷◌, ◌++◌, refl, sym, ◌∙◌, ap, subst, Option, Some, None, Result, Ok, Err, Bool, true, false, if◌then◌else◌}
+use Rattle.std.specs.Prelude.{is_some}
+use Rattle.std.specs.Result.{IsErrAnd}
+use Rattle.std.proofs.lemmas.Result.{err_from_is_err_and}
+use Rattle.hevc_backend.specs.declared.error.BackendError.{BackendError}
+use Rattle.hevc_backend.specs.declared.error.BackendError.TheVariants.{Failed, NoMemory}
+use Rattle.hevc_backend.specs.declared.call.Call.{Call}
+use Rattle.hevc_backend.specs.declared.call.Call.TheVariants as code
+use Rattle.hevc_backend.specs.Trait.{logged}
+use Rattle.hevc_walk.specs.Meanings.{Slice}
+use Rattle.hevc_walk.specs.Pictures.{Head}
+use Rattle.hevc_walk.specs.ReferenceSets.{RefPicSet}
+use Rattle.hevc_walk.specs.ReferenceLists.{ref_pic_list0, ref_pic_list1}
+use Rattle.hevc_walk.specs.Walk as walk
+use Rattle.hevc_walk.specs.Walk.{Event, Called, Part, nothing, call, slice_call, is_decoded}
+use Rattle.hevc_walk.specs.Refusals.{Cause}
+use Rattle.hevc_walk_units.specs.Units.{Standing, Current, NoPicture, SkippedPicture, OpenPicture, later_slice, decode_slice, changed_by, refusal_of_later}
+use Rattle.hevc_driver.specs.declared.decode_error.DecodeError.{DecodeError}
+use Rattle.hevc_driver.specs.Errors.{backend_error}
+use Rattle.hevc_driver.specs.Does.{Traces, Does, Stops, Completes}
+use Rattle.hevc_driver.specs.Calls.{call_of, IsTimed, submissions}
+use Rattle.hevc_driver.specs.Moments.{given_up}
+use Rattle.hevc_driver.specs.Takes.{Follows, LeftStarted}
+use Rattle.hevc_driver.proofs.Doing.{does_nothing, does_call, stops_at, stops_as, keeps_all, keeps_more}
+
+abbrev opened : Head → RefPicSet → Standing → Standing
+opened p set s = record s { current = OpenPicture p set }
+
+abbrev later_part : Head → RefPicSet → Slice → Standing → Part Standing
+later_part p set w s = record { events = Called (slice_call p set w) ∷ []; next = opened p set s }
+
+later_is : (p : Head) (set : RefPicSet) (w : Slice) (s : Standing) → is_decoded p ≡ true → changed_by w.format s.store.accepted ≡ None → later_slice w (opened p set s) ≡ later_part p set w s
+later_is p set w s decoded fine =
+    ap (λ (c : Option Cause). if is_some c then nothing (opened p set s) else decode_slice w (opened p set s)) fine
+    ∙ ap (λ (b : Bool). if b then call (slice_call p set w) (opened p set s) else nothing (opened p set s)) decoded
+
+pub followed : {H : Type 0} (t : ℕ) (a b : Traces H) (p : Head) (set : RefPicSet) (w : Slice) (s st : Standing) (made : Call H) → is_decoded p ≡ true → changed_by w.format s.store.accepted ≡ None
+    → call_of made ≡ slice_call p set w → IsTimed t made → b.log ≡ logged a.log (made ∷ []) → b.queue ≡ a.queue → b.tickets ≡ a.tickets → st ≡ opened p set s
+    → (changed_by w.format s.store.accepted ≡ None) × Completes t a b (later_slice w (opened p set s)) st
+followed {H} t a b p set w s st made decoded fine is timed log queue tickets next = (
+  fine,
+  subst (λ (q : Part Standing). Completes t a b q st) (sym (later_is p set w s decoded fine)) (record {
+    does = subst (λ (c : walk.Call). Does t a b (Called c ∷ [])) is (does_call t a b made log queue (keeps_more a.tickets b.tickets (submissions (made ∷ [])) tickets) timed);
+    next = next;
+  }),
+)
+
+pub follow_stops : {H T : Type 0} (r : Result T DecodeError) (e : BackendError) (t : ℕ) (a b : Traces H) (p : Head) (set : RefPicSet) (w : Slice) (s st : Standing) → IsErrAnd r (λ y. y ≡ backend_error e) → is_decoded p ≡ true → changed_by w.format s.store.accepted ≡ None
+    → b.log ≡ a.log → b.queue ≡ a.queue → b.tickets ≡ a.tickets → st ≡ given_up s → Follows r t a b w (opened p set s) st
+follow_stops {H} {T} r e t a b p set w s st is decoded fine log queue tickets left = let q = err_from_is_err_and r is in rw q.1 (rw q.2 (by e))
+  where
+    stops : Stops t a b (later_slice w (opened p set s)).events (λ c. LeftStarted c × (st ≡ given_up (opened p set s)))
+    stops = stops_as t a b (Called (slice_call p set w) ∷ []) (later_slice w (opened p set s)).events (λ c. LeftStarted c × (st ≡ given_up (opened p set s))) (λ c. LeftStarted c × (st ≡ given_up (opened p set s)))
+        (ap (λ (q : Part Standing). q.events) (later_is p set w s decoded fine)) (λ c h. h)
+        (stops_at t a b (slice_call p set w) [] (λ c. LeftStarted c × (st ≡ given_up (opened p set s))) log queue (keeps_all a.tickets b.tickets tickets) (tt, left))
+
+    by : (e : BackendError) → Follows {H = H} {T = T} (Err (backend_error e)) t a b w (opened p set s) st
+    by Failed = stops
+    by NoMemory = stops
+
+-- a slice of a skipped picture, or of none
+pub not_followed : {H : Type 0} (t : ℕ) (a b : Traces H) (w : Slice) (s st : Standing) (current : Current) → s.current ≡ current → refusal_of_later current w s.store.accepted ≡ None → decode_slice w (record s { current = current }) ≡ nothing (record s { current = current })
+    → b.log ≡ a.log → b.queue ≡ a.queue → b.tickets ≡ a.tickets → st ≡ s → (refusal_of_later s.current w s.store.accepted ≡ None) × Completes t a b (later_slice w s) st
+not_followed {H} t a b w s st current is fine idle log queue tickets same = (
+  ap (λ (v : Current). refusal_of_later v w s.store.accepted) is ∙ fine,
+  subst (λ (v : Current). Completes t a b (later_slice w (record s { current = v })) (record st { current = st.current })) (sym is)
+  (subst (λ (c : Option Cause). Completes t a b (if is_some c then nothing (record s { current = current }) else decode_slice w (record s { current = current })) st) (sym fine)
+  (subst (λ (q : Part Standing). Completes t a b q st) (sym idle) (record { does = does_nothing t a b log queue (keeps_all a.tickets b.tickets tickets); next = same ∙ ap (λ (v : Current). record s { current = v }) is }))),
+)

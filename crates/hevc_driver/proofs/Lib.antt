@@ -1,0 +1,11 @@
+pub mod Members
+pub mod Doing
+pub mod Storing
+pub mod PictureBegins
+pub mod Following
+pub mod Taking
+pub mod Closing
+pub mod Rooms
+pub mod Soundness
+pub mod SliceViews
+pub mod HeadViews

@@ -1,0 +1,104 @@
+-- What holds between two calls goes on holding.
+use Rattle.std.proofs.Common.{◌≡◌, ⊎_elim, ℕ, ◌+◌, ◌<◌, ◌≤◌, Bool, true, false, List, [], ◌∷◌, ◌++◌, refl, sym, ap, ◌∙◌, subst, arith, Option, Some, None}
+use Rattle.std.specs.Prelude.{Contains, option_map, is_some, length}
+use Rattle.std.specs.declared.collections.VecDeque.{VecDeque}
+use Rattle.std.specs.VecDeque.{deque_len}
+use Rattle.std.proofs.lemmas.List.{length-append}
+use Rattle.hevc_walk.specs.Buffer.{Bumped}
+use Rattle.hevc_dpb.specs.declared.dpb.Dpb.{Dpb}
+use Rattle.hevc_bumping.specs.declared.frame.Frame.{Frame}
+use Rattle.hevc_bumping.specs.Bumps.{Bumps, num_waiting}
+use Rattle.hevc_walk.specs.Meanings.{Format}
+use Rattle.hevc_walk.specs.Walk.{is_accepted, accepted_size}
+use Rattle.hevc_walk_fates.proofs.Accepted.{same_format-equal}
+use Rattle.hevc_walk_units.specs.Units as units
+use Rattle.hevc_dpb.specs.declared.entry.DpbEntry.{DpbEntry}
+use Rattle.hevc_dpb.specs.Entries.{IsPartOf, numbers, tickets}
+use Rattle.hevc_dpb.specs.Plain.{HaveLatency}
+use Rattle.hevc_dpb.specs.Views.{stored_entries, max_num_pics_of, buffer_of}
+use Rattle.hevc_refs.specs.declared.ref_pic_set.RefPicSet.{RefPicSet}
+use Rattle.hevc_backend.specs.declared.call.Call.{Call}
+use Rattle.hevc_backend.specs.declared.negotiation.NegotiationInfo.{NegotiationInfo}
+use Rattle.hevc_backend.specs.Negotiation.{format_of}
+use Rattle.hevc_backend.specs.Told.{Told, WhereTold, BegunPicture}
+use Rattle.hevc_backend.proofs.ToldLaws.{told_same}
+use Rattle.hevc_driver.specs.declared.current.Current.{Current}
+use Rattle.hevc_driver.specs.declared.current.Current.TheVariants.{NoPicture, Skipped, Opened}
+use Rattle.hevc_driver.specs.declared.walk.Walk.{Walk}
+use Rattle.hevc_driver.specs.Standings.{current_of}
+use Rattle.hevc_driver.specs.Sound.{AreBelow, IsAccepted, IsLatest, Fits, IsNewest, IsOpenNewest, IsSound, Leaves}
+
+-- ---- no picture is open
+
+pub none_newest : {H P : Type 0} (c : Current P) (w : Walk H P) → current_of c ≡ units.NoPicture → IsOpenNewest c w
+none_newest NoPicture w is = tt
+none_newest Skipped w is = tt
+none_newest (Opened o) w is = absurd (cc is)
+
+pub none_latest : {P : Type 0} (c : Current P) (picture : Option BegunPicture) → current_of c ≡ units.NoPicture → IsLatest c picture
+none_latest NoPicture picture is = tt
+none_latest Skipped picture is = tt
+none_latest (Opened o) picture is = absurd (cc is)
+
+-- ---- numbers
+
+pub below_part : {H : Type 0} (n m : ℕ) (ts us : List (ℕ × H)) → AreBelow n ts → n ≤ m → IsPartOf us ts → AreBelow m us
+below_part n m ts us below more part = λ t k. let l = below t (part t k) in omega (arith, l, more)
+
+-- ---- pictures are output, and some leave
+
+pub left_sound : {H P : Type 0} (log : Option (List (Call H))) (old new : Walk H P) → IsSound log old → current_of old.current ≡ units.NoPicture → Leaves old new → old.next.number ≤ new.next.number → IsSound log new
+left_sound log old new s none l more = record {
+  sized = l.size ∙ s.sized ∙ ap (λ (a : Option NegotiationInfo). accepted_size (option_map format_of a)) (sym l.accepted);
+  latency = l.latency;
+  below = below_part old.next.number new.next.number (tickets (stored_entries old.dpb)) (tickets (stored_entries new.dpb)) s.below more l.handles;
+  newest = none_newest new.current new (ap current_of l.current ∙ none);
+  told = told_same refl s.told (λ t h. record {
+    handles = λ x k. h.handles x (l.handles x k);
+    sequence = subst (λ (a : Option NegotiationInfo). IsAccepted a t.sequence) (sym l.accepted) h.sequence;
+    picture = none_latest new.current t.picture (ap current_of l.current ∙ none);
+  });
+}
+
+-- ---- the accepted format
+
+pub accepted_sequence : (named : Format) (accepted : Option NegotiationInfo) (sequence : Option Format) → is_accepted named (option_map format_of accepted) ≡ true → IsAccepted accepted sequence → sequence ≡ Some named
+accepted_sequence named None sequence is told = absurd (cc is)
+accepted_sequence named (Some a) sequence is told = told ∙ ap Some (same_format-equal (format_of a) named is)
+
+pub is_negotiated : (named : Format) (accepted : Option NegotiationInfo) → is_accepted named (option_map format_of accepted) ≡ true → is_some accepted ≡ true
+is_negotiated named None is = absurd (cc is)
+is_negotiated named (Some a) is = refl
+
+-- ---- nothing but room has changed
+
+part_same : {H : Type 0} (es fs : List (DpbEntry H)) → fs ≡ es → IsPartOf (tickets fs) (tickets es)
+part_same {H} es fs same = λ x k. subst (λ (l : List (DpbEntry H)). Contains (tickets l) x) same k
+
+kept_newest : {H P : Type 0} (c : Current P) (old new : Walk H P) → stored_entries new.dpb ≡ stored_entries old.dpb → new.accepted ≡ old.accepted → new.next.number ≡ old.next.number → IsOpenNewest c old → IsOpenNewest c new
+kept_newest NoPicture old new entries accepted number h = tt
+kept_newest Skipped old new entries accepted number h = tt
+kept_newest (Opened o) old new entries accepted number h = record {
+  newer = below_part o.head.number o.head.number (tickets (stored_entries old.dpb)) (tickets (stored_entries new.dpb)) h.newer (omega arith) (part_same (stored_entries old.dpb) (stored_entries new.dpb) entries);
+  counted = (let l = h.counted in omega (arith, l, number));
+  references = λ n k. subst (λ es. Contains (numbers es) n) (sym entries) (h.references n k);
+  negotiated = ap is_some accepted ∙ h.negotiated;
+}
+
+pub kept_sound : {H P : Type 0} (log : Option (List (Call H))) (old new : Walk H P) → IsSound log old → stored_entries new.dpb ≡ stored_entries old.dpb → max_num_pics_of new.dpb ≡ max_num_pics_of old.dpb → new.accepted ≡ old.accepted → new.current ≡ old.current → new.next.number ≡ old.next.number → IsSound log new
+kept_sound log old new s entries size accepted current number = record {
+  sized = size ∙ s.sized ∙ ap (λ (a : Option NegotiationInfo). accepted_size (option_map format_of a)) (sym accepted);
+  latency = subst HaveLatency (sym entries) s.latency;
+  below = below_part old.next.number new.next.number (tickets (stored_entries old.dpb)) (tickets (stored_entries new.dpb)) s.below (omega (arith, number)) (part_same (stored_entries old.dpb) (stored_entries new.dpb) entries);
+  newest = subst (λ c. IsOpenNewest c new) (sym current) (kept_newest old.current old new entries accepted number s.newest);
+  told = told_same refl s.told (λ t h. record {
+    handles = λ x k. h.handles x (part_same (stored_entries old.dpb) (stored_entries new.dpb) entries x k);
+    sequence = subst (λ (a : Option NegotiationInfo). IsAccepted a t.sequence) (sym accepted) h.sequence;
+    picture = subst (λ c. IsLatest c t.picture) (sym current) h.picture;
+  });
+}
+
+-- ---- room
+
+pub bumped_total : {H Z : Type 0} (bumped : Bumped) (old new : Dpb H) (before now : VecDeque (Frame H) Z) → Bumps bumped old new before now → deque_len now + num_waiting (buffer_of new) ≡ deque_len before + num_waiting (buffer_of old)
+bumped_total bumped old new before now b = let more = ap length b.appended in let sum = length-append before.items b.out in omega (arith, before.ok.0, now.ok.0, more, sum, b.fewer)

@@ -1,0 +1,220 @@
+-- A slice as a whole.
+use Rattle.std.proofs.Common.{◌≡◌, ◌⊎◌, inl, inr, ℕ, List, [], ◌∷◌, ◌++◌, refl, sym, ◌∙◌, ap, subst, append_assoc, Option, Some, None, Result, Ok, Err, Bool, true, false, not, ◌&&◌, if◌then◌else◌}
+use Rattle.std.specs.Prelude.{is_some}
+use Rattle.std.proofs.lemmas.List.{append-nil}
+use Rattle.hevc_walk.specs.Meanings.{Format, Slice, Meaning, CodedSlice}
+use Rattle.hevc_walk.specs.DependentSlices.{whole_slice}
+use Rattle.hevc_walk.specs.Pictures.{Head, head, order_count_in_range}
+use Rattle.hevc_walk.specs.Walk as walk
+use Rattle.hevc_walk.specs.Walk.{Event, Called, Part, ◌>>=◌, nothing, call, slice_call, Store, is_decoded, is_accepted, finish, store_picture, change_format, begin_picture}
+use Rattle.hevc_walk.specs.Refusals.{Cause, NoIndependentSlice, PocOutOfRange, ChangedMidPicture, refusal_of_picture}
+use Rattle.hevc_walk_units.specs.Units.{Standing, Current, NoPicture, SkippedPicture, OpenPicture, on_store, finish_current, open_head, begin_slice, first_slice, later_slice, slice_part, whole_part, decode_slice, decode_current, begins_picture, refusal_of_later, refusal_of_slice, refusal_of_whole, refusal_at, is_full_now, is_full_at, fills_by}
+use Rattle.hevc_driver.specs.declared.decode_error.DecodeError.{DecodeError}
+use Rattle.hevc_driver.specs.declared.decode_error.DecodeError.TheVariants as errors
+use Rattle.hevc_backend.specs.Negotiation.{format_of}
+use Rattle.hevc_driver.specs.Does.{Traces, Does, Stops, Completes}
+use Rattle.hevc_driver.specs.Moments.{given_up, with_kept, starts, begins_at, begins_by, negotiates, negotiates_by, opening, opening_by, step_part, left_at, left_by, drained}
+use Rattle.hevc_driver.specs.Takes.{Goes, Opens, Fills, Halts, Spends, Refuses, Stays, Takes, Follows, Changes, BeginsBehind, IsRefused, Finishes, Begins, LeftStarted, LeftBegun, LeftUnsubmitted, Changed}
+use Rattle.hevc_driver.proofs.Doing.{does_nothing, does_then, stops_as, stops_then, stops_more, keeps_all}
+use Rattle.hevc_driver.proofs.PictureBegins.{begin_accepted, starts_nothing}
+
+-- a slice of the current picture changes nothing
+pub decode_next : (w : Slice) (s : Standing) → (decode_slice w s).next ≡ s
+decode_next w s = current s.current
+  where
+    decoded : (p : Bool) (c : walk.Call) → (if p then call c s else nothing s).next ≡ s
+    decoded true c = refl
+    decoded false c = refl
+
+    current : (v : Current) → (decode_current v w s).next ≡ s
+    current NoPicture = refl
+    current SkippedPicture = refl
+    current (OpenPicture p set) = decoded (is_decoded p) (slice_call p set w)
+
+pub later_next : (w : Slice) (s : Standing) → (later_slice w s).next ≡ s
+later_next w s = by (is_some (refusal_of_later s.current w s.store.accepted))
+  where
+    by : (b : Bool) → (if b then nothing s else decode_slice w s).next ≡ s
+    by true = refl
+    by false = decode_next w s
+
+later_refused : (w : Slice) (s : Standing) (c : Cause) → refusal_of_later s.current w s.store.accepted ≡ Some c → (later_slice w s).events ≡ []
+later_refused w s c e = ap (λ (o : Option Cause). (if is_some o then nothing s else decode_slice w s).events) e
+
+pub finish_accepted : (h : Option Head) (st : Store) → (finish h st).next.accepted ≡ st.accepted
+unfolding finish store_picture
+finish_accepted None st = refl
+finish_accepted (Some p) st = by p.skipped
+  where
+    by : (b : Bool) → (if b then nothing st else store_picture p st).next.accepted ≡ st.accepted
+    by true = refl
+    by false = refl
+
+module _ {H : Type 0} (t : ℕ) (a b : Traces H) (x w : Slice) (s st : Standing) (whole : whole_slice s.kept x ≡ Some w) where
+  abbrev u : Meaning
+  u = CodedSlice x
+
+  abbrev k : Standing
+  k = with_kept x s
+
+  negotiates_is : (v : Bool) → begins_picture s.current w ≡ v → negotiates u s ≡ (v && not (is_accepted w.format s.store.accepted))
+  negotiates_is v e = ap (λ o. negotiates_by o s) whole ∙ ap (λ c. c && not (is_accepted w.format s.store.accepted)) e
+
+  begins_is : (v : Bool) → begins_picture s.current w ≡ v → begins_at u s ≡ v
+  begins_is v e = ap (λ o. begins_by o s) whole ∙ e
+
+  full_is : (v : Bool) → begins_picture s.current w ≡ v → is_full_at u s ≡ (v && is_full_now s)
+  full_is v e = ap (λ o. fills_by o s) whole ∙ ap (λ c. c && is_full_now s) e
+
+  refusal_is : (v : Bool) → begins_picture s.current w ≡ v → refusal_at u s ≡ (if v then refusal_of_picture (head (finish_current s).next.next w) else refusal_of_later s.current w s.store.accepted)
+  refusal_is v e = ap (λ o. refusal_of_whole o s) whole ∙ ap (λ (c : Bool). if c then refusal_of_picture (head (finish_current s).next.next w) else refusal_of_later s.current w s.store.accepted) e
+
+  part_is : (v : Bool) → begins_picture s.current w ≡ v → step_part u s ≡ (if v then first_slice w k else later_slice w k)
+  part_is v e = ap (λ o. whole_part o k) whole ∙ ap (λ (c : Bool). if c then first_slice w k else later_slice w k) e
+
+  -- ---- a later slice
+
+  module _ (later : begins_picture s.current w ≡ false) where
+    left_later : (c : walk.Call) → LeftStarted c × (st ≡ given_up k) → st ≡ left_at c u s
+    left_later (walk.SubmitPicture number) h = absurd h.0
+    left_later (walk.NewSequence info) h = absurd h.0
+    left_later c h = h.1 ∙ ap given_up (sym (ap (λ (q : Part Standing). q.next) (part_is false later) ∙ later_next w k))
+
+    stops_later : Stops t a b (later_slice w k).events (λ c. LeftStarted c × (st ≡ given_up k)) → Stops t a b (step_part u s).events (λ c. st ≡ left_at c u s)
+    stops_later y = stops_as t a b (later_slice w k).events (step_part u s).events (λ c. LeftStarted c × (st ≡ given_up k)) (λ c. st ≡ left_at c u s) (ap (λ (q : Part Standing). q.events) (part_is false later)) left_later y
+
+    refused_later : (e : DecodeError) → Changed e (refusal_of_later s.current w s.store.accepted) × (b ≡ a) × (st ≡ given_up k) → Refuses e t a b u s st
+    refused_later e y = record {
+      accepted = negotiates_is false later;
+      room = full_is false later;
+      cause = ChangedMidPicture (format_of y.0.accepted) (format_of y.0.named);
+      refused = refusal_is false later ∙ y.0.refused;
+      named = sym y.0.told;
+      does = subst (Does t a b) (sym (ap (λ (q : Part Standing). q.events) (part_is false later) ∙ later_refused w k (ChangedMidPicture (format_of y.0.accepted) (format_of y.0.named)) y.0.refused))
+          (does_nothing t a b (ap (λ (v : Traces H). v.log) y.1) (ap (λ (v : Traces H). v.queue) y.1) (keeps_all a.tickets b.tickets (ap (λ (v : Traces H). v.tickets) y.1)));
+      left = y.2;
+    }
+
+    pub takes_later : {T : Type 0} (r : Result T DecodeError) → Follows r t a b w k st → Takes r t a b u s st
+    takes_later (Ok v) y = record { accepted = negotiates_is false later; room = full_is false later; goes_on = refusal_is false later ∙ y.0; completes = subst (λ (q : Part Standing). Completes t a b q st) (sym (part_is false later)) y.1 }
+    takes_later (Err errors.Backend) y = stops_later y
+    takes_later (Err errors.NoMemory) y = inr (stops_later y)
+    takes_later (Err errors.CheckEvents) y = absurd (cc y.0.told)
+    takes_later (Err errors.DpbFull) y = absurd (cc y.0.told)
+    takes_later (Err errors.PictureNumbersSpent) y = absurd (cc y.0.told)
+    takes_later (Err (errors.NotEnoughOutputBuffers n)) y = absurd (cc y.0.told)
+    takes_later (Err e) y = refused_later e y
+
+  -- ---- a slice that begins a picture
+
+  module _ (begins : begins_picture s.current w ≡ true) where
+    abbrev m : Standing
+    m = (finish_current k).next
+
+    accepted_is : m.store.accepted ≡ s.store.accepted
+    accepted_is = finish_accepted (open_head s.current) s.store
+
+    opens : (v : Bool) → is_accepted w.format m.store.accepted ≡ v → negotiates u s ≡ not v
+    opens v e = negotiates_is true begins ∙ ap (λ (o : Option Format). not (is_accepted w.format o)) (sym accepted_is) ∙ ap not e
+
+    plan : (step_part u s).events ≡ (finish_current k).events ++ (begin_slice w m).events
+    plan = ap (λ (q : Part Standing). q.events) (part_is true begins)
+
+    next_is : (step_part u s).next ≡ (begin_slice w m).next
+    next_is = ap (λ (q : Part Standing). q.next) (part_is true begins)
+
+    opening_is : opening u s ≡ (finish_current k >>= on_store (change_format w.format))
+    opening_is = ap (λ o. opening_by o k) whole
+
+    -- stopped as the picture before was finished
+    left_unsubmitted : (c : walk.Call) → LeftUnsubmitted c k st → st ≡ left_at c u s
+    left_unsubmitted (walk.SubmitPicture number) h = h
+    left_unsubmitted (walk.NewSequence info) h = absurd h
+    left_unsubmitted (walk.NewPicture number nal c o i) h = absurd h
+    left_unsubmitted (walk.BeginPicture number set) h = absurd h
+    left_unsubmitted (walk.DecodeSlice number address bytes l0 l1) h = absurd h
+
+    stops_first : Stops t a b (finish_current k).events (λ c. LeftUnsubmitted c k st) → Stops t a b (step_part u s).events (λ c. st ≡ left_at c u s)
+    stops_first y = stops_as t a b ((finish_current k).events ++ (begin_slice w m).events) (step_part u s).events (λ c. st ≡ left_at c u s) (λ c. st ≡ left_at c u s) plan (λ c h. h)
+        (stops_more t a b (finish_current k).events (begin_slice w m).events (λ c. st ≡ left_at c u s) (stops_as t a b (finish_current k).events (finish_current k).events (λ c. LeftUnsubmitted c k st) (λ c. st ≡ left_at c u s) refl left_unsubmitted y))
+
+    full_first : (is_full_now k ≡ true) × Fills t a b (finish_current k).events k st → (is_full_at u s ≡ true) × Fills t a b (step_part u s).events k st
+    full_first y = (
+      full_is true begins ∙ y.0,
+      record { number = y.1.number; rest = y.1.rest ++ (begin_slice w m).events; whole = plan ∙ ap (λ es. es ++ (begin_slice w m).events) y.1.whole; does = y.1.does; left = y.1.left },
+    )
+
+    unfinished : {T : Type 0} (r : Result T DecodeError) → IsRefused r → Finishes r t a b k st → Takes r t a b u s st
+    unfinished (Ok v) i y = absurd i
+    unfinished (Err errors.Backend) i y = stops_first y
+    unfinished (Err errors.NoMemory) i y = inr (stops_first y)
+    unfinished (Err errors.DpbFull) i y = full_first y
+    unfinished (Err e) i y = absurd y
+
+    -- stopped behind that
+    module _ (mid : Traces H) (room : is_full_now k ≡ false) (finishes : Does t a mid (finish_current k).events) where
+      left_begun : (c : walk.Call) → LeftBegun c w m st → st ≡ left_at c u s
+      left_begun (walk.SubmitPicture number) h = absurd h
+      left_begun (walk.NewSequence info) h = h
+      left_begun (walk.NewPicture number nal c o i) h = h ∙ ap given_up (sym next_is)
+      left_begun (walk.BeginPicture number set) h = h ∙ ap given_up (sym next_is)
+      left_begun (walk.DecodeSlice number address bytes l0 l1) h = h ∙ ap given_up (sym next_is)
+
+      stops_behind : Stops t mid b (begin_slice w m).events (λ c. LeftBegun c w m st) → Stops t a b (step_part u s).events (λ c. st ≡ left_at c u s)
+      stops_behind y = stops_as t a b ((finish_current k).events ++ (begin_slice w m).events) (step_part u s).events (λ c. LeftBegun c w m st) (λ c. st ≡ left_at c u s) plan left_begun
+          (stops_then t a mid b (finish_current k).events (begin_slice w m).events (λ c. LeftBegun c w m st) finishes y)
+
+      halts : b ≡ mid → st ≡ m → Halts t a b u s st
+      halts same left = record {
+        begins = begins_is true begins;
+        room = full_is true begins ∙ room;
+        does = subst (λ (v : Traces H). Does t a v (finish_current k).events) (sym same) finishes;
+        left = left;
+      }
+
+      out_of_range : (is_accepted w.format m.store.accepted ≡ true) × (refusal_of_picture (head m.next w) ≡ Some PocOutOfRange) × (b ≡ mid) × (st ≡ m) → Refuses errors.PocOutOfRange t a b u s st
+      out_of_range y = record {
+        accepted = opens true y.0;
+        room = full_is true begins ∙ room;
+        cause = PocOutOfRange;
+        refused = refusal_is true begins ∙ y.1;
+        named = refl;
+        does = subst (Does t a b) (sym (plan ∙ ap (λ es. (finish_current k).events ++ es) (ap (λ (q : Part Standing). q.events) (begin_accepted w m y.0) ∙ starts_nothing (head m.next w) w m y.1) ∙ append-nil (finish_current k).events))
+            (subst (λ (v : Traces H). Does t a v (finish_current k).events) (sym y.2) finishes);
+        left = y.3;
+      }
+
+      behind : {T : Type 0} (r : Result T DecodeError) → Begins r t mid b w m st → Takes r t a b u s st
+      behind (Ok v) y = record {
+        accepted = opens true y.0;
+        room = full_is true begins ∙ room;
+        goes_on = refusal_is true begins ∙ y.1;
+        completes = record { does = subst (Does t a b) (sym plan) (does_then t a mid b (finish_current k).events (begin_slice w m).events finishes y.2.does); next = y.2.next ∙ sym next_is };
+      }
+      behind (Err errors.CheckEvents) y = record {
+        negotiates = opens false y.0;
+        room = full_is true begins ∙ room;
+        completes = subst (λ (q : Part Standing). Completes t a b q st) (sym opening_is) (record { does = does_then t a mid b (finish_current k).events (on_store (change_format w.format) m).events finishes y.1.does; next = y.1.next });
+      }
+      behind (Err errors.Backend) y = stops_behind y
+      behind (Err errors.NoMemory) y = inr (stops_behind y)
+      behind (Err (errors.NotEnoughOutputBuffers n)) y = (y.0, halts y.1 y.2)
+      behind (Err errors.PictureNumbersSpent) y = record { accepted = opens true y.0; spent = y.1; halts = halts y.2 y.3 }
+      behind (Err errors.PocOutOfRange) y = out_of_range y
+      behind (Err e) y = absurd y
+
+    pub takes_first : {T : Type 0} (r : Result T DecodeError) → Changes r t a b w k st → Takes r t a b u s st
+    takes_first r (inl y) = behind y.mid y.room y.finishes r y.begins
+    takes_first r (inr (i, y)) = unfinished r i y
+
+-- a slice that lacks an independent one
+pub lacks : {H : Type 0} (t : ℕ) (a b : Traces H) (x : Slice) (s st : Standing) → whole_slice s.kept x ≡ None → b.log ≡ a.log → b.queue ≡ a.queue → b.tickets ≡ a.tickets → st ≡ s → Refuses errors.NoIndependentSlice t a b (CodedSlice x) s st
+lacks t a b x s st none log queue tickets same = record {
+  accepted = ap (λ o. negotiates_by o s) none;
+  room = ap (λ o. fills_by o s) none;
+  cause = NoIndependentSlice;
+  refused = ap (λ o. refusal_of_whole o s) none;
+  named = refl;
+  does = subst (Does t a b) (sym (ap (λ o. (whole_part o (with_kept x s)).events) none)) (does_nothing t a b log queue (keeps_all a.tickets b.tickets tickets));
+  left = same;
+}

@@ -1,0 +1,42 @@
+use Rattle.std.proofs.Common.{refl, ◌≡◌, sym, ap, ◌∙◌, length, arith}
+use Rattle.hevc_dpb.specs.Plain.{plain_entries}
+use Rattle.hevc_dpb.specs.Entries.{tickets}
+use Rattle.hevc_dpb.specs.Views.{buffer_of}
+use Rattle.hevc_dpb.proofs.Sublists.{sublist_part}
+use Rattle.hevc_walk.specs.Buffer.{in_output_order}
+use Rattle.hevc_bumping.specs.Bumps.{num_waiting}
+use Rattle.hevc_driver.specs.Heads.{head_of}
+use Rattle.hevc_driver.specs.Standings.{standing}
+use Rattle.hevc_driver.proofs.PictureBegins.{clears, drains, bumps}
+use Rattle.hevc_driver.proofs.Rooms.{needed_order}
+use Rattle.hevc_driver.proofs.Soundness.{bumped_total}
+use Rattle.hevc_driver.proofs.walk.Walk.make_room.Goals as goal
+
+pub returns-then-head-clause-part : goal.returns-then-head-clause-part
+returns-then-head-clause-part g c log t = clears t _ _ (head_of c.args.head.now) (standing c.args.self.now) c.clear.new.self c.if-head.true (ap plain_entries c.clear.ensures.entries) (ap tickets c.clear.ensures.entries) refl refl refl
+
+pub returns-then-starts_sequence-clause-part : goal.returns-then-starts_sequence-clause-part
+returns-then-starts_sequence-clause-part g c log t = drains t _ _ (head_of c.args.head.now) (standing c.args.self.now) c.args.self.now.dpb c.output_all.new.dpb c.args.self.now.queue c.output_all.new.queue c.if-head.false (sym c.starts_sequence.ensures ∙ c.if-starts_sequence.true) refl c.output_all.ensures refl refl refl refl refl
+
+pub returns-else-starts_sequence-clause-part : goal.returns-else-starts_sequence-clause-part
+returns-else-starts_sequence-clause-part g c log t = bumps t _ _ (head_of c.args.head.now) (standing c.args.self.now) c.remove_unused.new.self c.bump_for_room.new.dpb c.args.self.now.queue c.bump_for_room.new.queue c.if-head.false (sym c.starts_sequence.ensures ∙ c.if-starts_sequence.false) c.remove_unused.ensures.buffer (λ x k. sublist_part c.remove_unused.ensures.handles x k) c.bump_for_room.ensures refl refl refl refl
+
+pub bump_for_room-requires-clause-room : goal.bump_for_room-requires-clause-room
+bump_for_room-requires-clause-room g c =
+    let same = ap num_waiting c.remove_unused.ensures.buffer in
+    let kept = ap length (needed_order (buffer_of c.args.self.now.dpb)) in
+    omega (arith, same, kept, c.requires.room.queue)
+
+pub returns-else-starts_sequence-clause-leaves : goal.returns-else-starts_sequence-clause-leaves
+returns-else-starts_sequence-clause-leaves g c =
+    let same = ap num_waiting c.remove_unused.ensures.buffer in
+    let kept = ap length (needed_order (buffer_of c.args.self.now.dpb)) in
+    let b = c.bump_for_room.ensures in
+    record {
+      handles = λ x k. sublist_part c.remove_unused.ensures.handles x (b.handles x k);
+      size = b.size ∙ c.remove_unused.ensures.size;
+      latency = b.latency;
+      grows = record { few = (let t = bumped_total _ _ _ _ _ b in omega (arith, t, same, kept)); capacity = b.capacity; stored = b.room ∙ c.remove_unused.ensures.room };
+      accepted = refl;
+      current = refl;
+    }
