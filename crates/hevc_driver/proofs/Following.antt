@@ -21,7 +21,8 @@ use Rattle.hevc_driver.specs.Errors.{backend_error}
 use Rattle.hevc_driver.specs.Does.{Traces, Does, Stops, Completes}
 use Rattle.hevc_driver.specs.Calls.{call_of, IsTimed, submissions}
 use Rattle.hevc_driver.specs.Moments.{given_up}
-use Rattle.hevc_driver.specs.Takes.{Follows, LeftStarted}
+use Rattle.hevc_driver.specs.Takes.{Follows, LeftStarted, Changed}
+use Rattle.hevc_driver.specs.declared.decode_error.DecodeError.TheVariants as errors
 use Rattle.hevc_driver.proofs.Doing.{does_nothing, does_call, stops_at, stops_as, keeps_all, keeps_more}
 
 abbrev opened : Head → RefPicSet → Standing → Standing
@@ -65,6 +66,15 @@ pub not_followed : {H : Type 0} (t : ℕ) (a b : Traces H) (w : Slice) (s st : S
 not_followed {H} t a b w s st current is fine idle log queue tickets same = (
   ap (λ (v : Current). refusal_of_later v w s.store.accepted) is ∙ fine,
   subst (λ (v : Current). Completes t a b (later_slice w (record s { current = v })) (record st { current = st.current })) (sym is)
-  (subst (λ (c : Option Cause). Completes t a b (if is_some c then nothing (record s { current = current }) else decode_slice w (record s { current = current })) st) (sym fine)
-  (subst (λ (q : Part Standing). Completes t a b q st) (sym idle) (record { does = does_nothing t a b log queue (keeps_all a.tickets b.tickets tickets); next = same ∙ ap (λ (v : Current). record s { current = v }) is }))),
+      (subst (λ (c : Option Cause). Completes t a b (if is_some c then nothing (record s { current = current }) else decode_slice w (record s { current = current })) st) (sym fine)
+      (subst (λ (q : Part Standing). Completes t a b q st) (sym idle) (record { does = does_nothing t a b log queue (keeps_all a.tickets b.tickets tickets); next = same ∙ ap (λ (v : Current). record s { current = v }) is }))),
 )
+
+-- another format is named
+pub follow_changed : {H T : Type 0} (r : Result T DecodeError) (e : DecodeError) (t : ℕ) (a b : Traces H) (w : Slice) (s st : Standing) → IsErrAnd r (λ y. y ≡ e) → Changed e (refusal_of_later s.current w s.store.accepted) → b ≡ a → st ≡ given_up s → Follows r t a b w s st
+follow_changed {H} {T} r e t a b w s st is changed same left = let q = err_from_is_err_and r is in rw q.1 (rw q.2 (by e changed))
+  where
+    by : (e : DecodeError) → Changed e (refusal_of_later s.current w s.store.accepted) → Follows {H = H} {T = T} (Err e) t a b w s st
+    by errors.Backend h = absurd (cc h.told)
+    by errors.NoMemory h = absurd (cc h.told)
+    by e h = (h, same, left)

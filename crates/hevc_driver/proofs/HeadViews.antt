@@ -1,12 +1,13 @@
 -- What the code's records of pictures stand for.
-use Rattle.std.proofs.Common.{◌≡◌, ℕ, ℤ, pos, negsuc, ◌≤ℤ◌, Bool, true, false, ◌&&◌, refl, sym, ap, ◌∙◌, subst, if◌then◌else◌, arith}
+use Rattle.std.proofs.Common.{◌≡◌, ℕ, ℤ, pos, negsuc, ◌≤ℤ◌, Bool, true, false, ◌&&◌, not, refl, sym, ap, ◌∙◌, subst, if◌then◌else◌, arith}
 use Rattle.std.specs.Prelude.{IsErr, OnErr, Result, Ok, Err}
 use Rattle.std.proofs.lemmas.Int.{ints}
 use Rattle.hevc_spec.specs.UnitTypes.{is_irap, is_rasl}
 use Rattle.hevc_bits.specs.NaluType.{nalu_type_number}
 use Rattle.hevc_walk.specs.Meanings.{Slice}
 use Rattle.hevc_walk.specs.Pictures as walk
-use Rattle.hevc_walk.specs.Pictures.{Context, head, no_rasl_output}
+use Rattle.hevc_walk.specs.Pictures.{Context, head, no_rasl_output, order_count_in_range}
+use Rattle.hevc_walk.specs.Walk.{is_decoded}
 use Rattle.hevc_pictures.specs.declared.limits.Limits.{Limits}
 use Rattle.hevc_pictures.specs.declared.picture_data.PictureData.{PictureData}
 use Rattle.hevc_backend.specs.declared.negotiation.NegotiationInfo.{NegotiationInfo}
@@ -76,3 +77,6 @@ refused_as r e (Err f) P is h = h (subst IsErr (sym is) refl)
 
 pub from_lsb : (n : ℤ) (m : ℕ) → n ≡ pos m → pos 0 ≤ℤ n
 from_lsb n m is = omega (arith, ints, is)
+
+pub decoded_is : (p q : walk.Head) → p ≡ q → order_count_in_range q ≡ true → p.skipped ≡ false → is_decoded p ≡ true
+decoded_is p q same within shown = ap (λ (b : Bool). b && not p.skipped) (ap order_count_in_range same ∙ within) ∙ ap not shown

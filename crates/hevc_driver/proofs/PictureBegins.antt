@@ -137,7 +137,7 @@ pub skips_at : {H : Type 0} (t : ℕ) (a b : Traces H) (w : Slice) (s st : Stand
 skips_at t a b w s st p is ranges skipped log queue tickets next = (
   in_range_head (head s.next w) ranges,
   subst (λ (v : Head). Completes t a b (starts v w s) st) is
-  (subst (λ (q : Part Standing). Completes t a b q st) (sym (skips_is p w s skipped)) (record { does = does_nothing t a b log queue (keeps_all a.tickets b.tickets tickets); next = next })),
+      (subst (λ (q : Part Standing). Completes t a b q st) (sym (skips_is p w s skipped)) (record { does = does_nothing t a b log queue (keeps_all a.tickets b.tickets tickets); next = next })),
 )
 
 module _ {H T : Type 0} (r : Result T DecodeError) (t : ℕ) (a b : Traces H) (w : Slice) (s st : Standing) where

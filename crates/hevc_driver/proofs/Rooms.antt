@@ -128,7 +128,7 @@ needed_order (e ∷ es) = waits_on e.needed_for_output (is_reference e.mark) e e
 
 -- ---- marks change no waiting
 
-order_length : (b : Bool) (e : Entry) (xs : List Entry) → length (if b then placed e xs else xs) ≡ (if b then suc (length xs) else length xs)
+pub order_length : (b : Bool) (e : Entry) (xs : List Entry) → length (if b then placed e xs else xs) ≡ (if b then suc (length xs) else length xs)
 order_length false e xs = refl
 order_length true e xs = placed_length e xs
 

@@ -1,13 +1,13 @@
 -- What slices stand for.
-use Rattle.std.proofs.Common.{◌≡◌, ℕ, ℤ, to_z, of_z, w32, pos, zero, suc, ◌+◌, ◌-◌, ◌<◌, ◌≤◌, ◌^◌, ◌==◌, Bool, true, false, List, [], ◌∷◌, map, get_or, refl, sym, ap, ◌∙◌, subst, arith, if◌then◌else◌, Result, Ok, Err}
-use Rattle.std.specs.Prelude.{nat_le}
+use Rattle.std.proofs.Common.{◌≡◌, ℕ, ℤ, length, ◌&&◌, Some, None, to_z, of_z, w32, pos, zero, suc, ◌+◌, ◌-◌, ◌<◌, ◌≤◌, ◌^◌, ◌==◌, Bool, true, false, List, [], ◌∷◌, map, get_or, refl, sym, ap, ◌∙◌, subst, arith, if◌then◌else◌, Result, Ok, Err}
+use Rattle.std.specs.Prelude.{nat_le, IsErr, OnOk, is_ok}
 use Rattle.std.proofs.lemmas.Bool.Decides.{nat_tests}
 use Rattle.std.proofs.lemmas.Int.{ints}
 use Rattle.hevc_pictures.proofs.Powers.{power_most}
 use Rattle.hevc_spec.specs.UnitHeader.{UnitHeader, HeaderFault, unit_header, checked_header, header_fields}
 use Rattle.hevc_records.specs.Pps.{PlainPps, default_pps}
 use Rattle.hevc_records.specs.ShortTermRefPicSet.{PlainShortTermRefPicSet}
-use Rattle.hevc_bits.specs.FoundUnit.{bytes_of}
+use Rattle.hevc_bits.specs.FoundUnit.{FoundUnit, bytes_of}
 use Rattle.hevc_bits.specs.ParsedHeader.{parsed_header, answer_of}
 use Rattle.hevc_types_a.specs.declared.short_term_ref_pic_set.ShortTermRefPicSet.{ShortTermRefPicSet}
 use Rattle.hevc_types_a.specs.ShortTermRefPicSet.{plain_short_term_ref_pic_set}
@@ -17,6 +17,18 @@ use Rattle.hevc_types_d.specs.declared.pps.Pps.{Pps}
 use Rattle.hevc_types_d.specs.Pps.{plain_pps}
 use Rattle.hevc_types_d.specs.declared.slice.Slice.{Slice}
 use Rattle.hevc_types_d.specs.SliceHeader.{plain_slice_header}
+use Rattle.hevc_records.specs.SliceHeader.{PlainSliceSegmentHeader, completed_header}
+use Rattle.hevc_types_d.specs.declared.slice_header.SliceHeader.{SliceHeader}
+use Rattle.std.proofs.lemmas.List.{length-map}
+use Rattle.hevc_walk.specs.DependentSlices.{whole_slice, with_kept, completes}
+use Rattle.hevc_walk.specs.Pictures.{Head}
+use Rattle.hevc_walk.specs.ReferenceSets.{RefPicSet}
+use Rattle.hevc_walk.specs.ReferenceLists.{ref_pic_list0, ref_pic_list1}
+use Rattle.hevc_walk.specs.Walk.{slice_call}
+use Rattle.hevc_refs.specs.declared.ref_pic_list.RefPicList.{RefPicList}
+use Rattle.hevc_refs.specs.Lists.{places_of, plain_places}
+use Rattle.hevc_backend.specs.Calls.{decode_slice_call}
+use Rattle.hevc_driver.specs.Calls.{call_of}
 use Rattle.hevc_walk.specs.Meanings as walk
 use Rattle.hevc_views.specs.Headers.{short_term_set_of}
 use Rattle.hevc_views.specs.Sequences.{format_of_set, limits_of_set}
@@ -27,7 +39,7 @@ use Rattle.hevc_refs.specs.Lists.{HasHeader}
 use Rattle.hevc_refs.specs.Marking.{HasMembers}
 use Rattle.hevc_driver.specs.declared.options.Options.{Options}
 use Rattle.hevc_driver.specs.Options.{options_of}
-use Rattle.hevc_driver.specs.Slices.{slice_of}
+use Rattle.hevc_driver.specs.Slices.{slice_of, kept_of}
 
 pub has_header : (o : Options) (s : Slice) (sps : Sps) (pps : Pps) → HasHeader (slice_of o s sps pps) s.header (plain_pps pps).scc_extension.curr_pic_ref_enabled_flag
 unfolding slice_of
@@ -110,3 +122,35 @@ slice_limits o s sps pps = refl
 
 pub signed_lsb : (max : ℤ) (k : ℕ) → k ≤ 12 → max ≡ pos (2 ^ (k + 4)) → to_z w32 (of_z w32 max) ≡ pos (2 ^ (k + 4))
 signed_lsb max k le is = let most = power_most k le in let same : to_z w32 (of_z w32 max) ≡ max = omega (arith, ints, most, is) in same ∙ is
+
+-- ---- dependent slices
+
+pub completes_as : (o : Options) (s t : Slice) (sps : Sps) (pps : Pps) (h : SliceHeader) → s.header.dependent_slice_segment_flag ≡ true → (h.pic_parameter_set_id == s.header.pic_parameter_set_id && nat_le h.curr_rps_idx sps.num_short_term_ref_pic_sets) ≡ true
+    → plain_slice_header t.header ≡ completed_header (plain_slice_header s.header) (plain_slice_header h) → t.nalu ≡ s.nalu → whole_slice (Some (kept_of h)) (slice_of o s sps pps) ≡ Some (slice_of o t sps pps)
+unfolding slice_of kept_of
+completes_as o s t sps pps h dependent fits header unit =
+    let many : length (map short_term_set_of (plain_sps sps).short_term_ref_pic_set) ≡ sps.num_short_term_ref_pic_sets = length-map (plain_sps sps).short_term_ref_pic_set short_term_set_of ∙ length-map sps.short_term_ref_pic_set plain_short_term_ref_pic_set ∙ sps.short_term_sets in
+    let form : PlainSliceSegmentHeader → FoundUnit UnitHeader → walk.Slice = λ (x : PlainSliceSegmentHeader) (u : FoundUnit UnitHeader). coded_slice (options_of o) u.header (bytes_of u) x (record { sps = plain_sps sps; pps = plain_pps pps }) in
+    let given : walk.Slice = slice_of o s sps pps in
+    let kept = kept_of h in
+    let fit : completes kept given ≡ true = ap (λ (n : ℕ). h.pic_parameter_set_id == s.header.pic_parameter_set_id && nat_le h.curr_rps_idx n) many ∙ fits in
+    ap (λ (b : Bool). if b then with_kept (Some kept) given else Some given) dependent
+    ∙ ap (λ (b : Bool). if b then Some (record given { header = kept.header }) else None) fit
+    ∙ ap Some (ap (λ (x : PlainSliceSegmentHeader). form x s.nalu) (sym header) ∙ ap (λ (u : FoundUnit UnitHeader). form (plain_slice_header t.header) u) (sym unit))
+
+-- ---- the call that hands a slice over
+
+pub slice_made : (H : Type 0) (o : Options) (s : Slice) (sps : Sps) (pps : Pps) (p : Head) (set : RefPicSet) (list0 list1 : RefPicList) → plain_places (places_of list0) ≡ ref_pic_list0 set (slice_of o s sps pps) → plain_places (places_of list1) ≡ ref_pic_list1 set (slice_of o s sps pps)
+    → call_of (decode_slice_call {H = H} p.number s list0 list1) ≡ slice_call p set (slice_of o s sps pps)
+unfolding slice_of
+slice_made H o s sps pps p set list0 list1 first second = rw (first, second) refl
+
+-- ---- results
+
+pub no_error : {T E : Type 0} (r : Result T E) → (IsErr r → ⊥) → is_ok r ≡ true
+no_error (Ok v) h = refl
+no_error (Err e) h = absurd (h refl)
+
+pub of_ok : {T E : Type 0} (r : Result T E) (P : Type 0) → (IsErr r → ⊥) → OnOk r P → P
+of_ok (Ok v) P h p = p
+of_ok (Err e) P h p = absurd (h refl)

@@ -1,25 +1,34 @@
 -- What holds between two calls goes on holding.
-use Rattle.std.proofs.Common.{◌≡◌, ⊎_elim, ℕ, ◌+◌, ◌<◌, ◌≤◌, Bool, true, false, List, [], ◌∷◌, ◌++◌, refl, sym, ap, ◌∙◌, subst, arith, Option, Some, None}
+use Rattle.std.proofs.Common.{◌≡◌, ⊎_elim, ℕ, zero, suc, map, if◌then◌else◌, ◌+◌, ◌<◌, ◌≤◌, Bool, true, false, List, [], ◌∷◌, ◌++◌, refl, sym, ap, ◌∙◌, subst, arith, Option, Some, None}
 use Rattle.std.specs.Prelude.{Contains, option_map, is_some, length}
 use Rattle.std.specs.declared.collections.VecDeque.{VecDeque}
 use Rattle.std.specs.VecDeque.{deque_len}
 use Rattle.std.proofs.lemmas.List.{length-append}
-use Rattle.hevc_walk.specs.Buffer.{Bumped}
+use Rattle.std.proofs.lemmas.List.Elements.{Contains-push_cases}
+use Rattle.hevc_walk.specs.Buffer.{Bumped, Buffer, Entry, in_output_order, with_latency, with_stored, entry_of}
+use Rattle.hevc_walk.specs.Pictures.{Head}
+use Rattle.hevc_walk.specs.Refusals.{ChangedMidPicture}
+use Rattle.hevc_walk_units.specs.Units.{changed_by}
+use Rattle.hevc_dpb.specs.Numbers.{Absent}
+use Rattle.hevc_dpb.proofs.Members.{contains_first, contains_later}
+use Rattle.hevc_bumping.proofs.Steps.{few_wait}
+use Rattle.hevc_driver.proofs.Rooms.{order_length}
 use Rattle.hevc_dpb.specs.declared.dpb.Dpb.{Dpb}
 use Rattle.hevc_bumping.specs.declared.frame.Frame.{Frame}
 use Rattle.hevc_bumping.specs.Bumps.{Bumps, num_waiting}
-use Rattle.hevc_walk.specs.Meanings.{Format}
+use Rattle.hevc_walk.specs.Meanings.{Format, same_format}
 use Rattle.hevc_walk.specs.Walk.{is_accepted, accepted_size}
 use Rattle.hevc_walk_fates.proofs.Accepted.{same_format-equal}
 use Rattle.hevc_walk_units.specs.Units as units
 use Rattle.hevc_dpb.specs.declared.entry.DpbEntry.{DpbEntry}
-use Rattle.hevc_dpb.specs.Entries.{IsPartOf, numbers, tickets}
+use Rattle.hevc_dpb.specs.Entries.{IsPartOf, numbers, ticket, tickets}
 use Rattle.hevc_dpb.specs.Plain.{HaveLatency}
 use Rattle.hevc_dpb.specs.Views.{stored_entries, max_num_pics_of, buffer_of}
 use Rattle.hevc_refs.specs.declared.ref_pic_set.RefPicSet.{RefPicSet}
 use Rattle.hevc_backend.specs.declared.call.Call.{Call}
 use Rattle.hevc_backend.specs.declared.negotiation.NegotiationInfo.{NegotiationInfo}
 use Rattle.hevc_backend.specs.Negotiation.{format_of}
+use Rattle.hevc_backend.specs.Trait.{Counts, CountsEmptyAnswers}
 use Rattle.hevc_backend.specs.Told.{Told, WhereTold, BegunPicture}
 use Rattle.hevc_backend.proofs.ToldLaws.{told_same}
 use Rattle.hevc_driver.specs.declared.current.Current.{Current}
@@ -72,7 +81,7 @@ is_negotiated named (Some a) is = refl
 
 -- ---- nothing but room has changed
 
-part_same : {H : Type 0} (es fs : List (DpbEntry H)) → fs ≡ es → IsPartOf (tickets fs) (tickets es)
+pub part_same : {H : Type 0} (es fs : List (DpbEntry H)) → fs ≡ es → IsPartOf (tickets fs) (tickets es)
 part_same {H} es fs same = λ x k. subst (λ (l : List (DpbEntry H)). Contains (tickets l) x) same k
 
 kept_newest : {H P : Type 0} (c : Current P) (old new : Walk H P) → stored_entries new.dpb ≡ stored_entries old.dpb → new.accepted ≡ old.accepted → new.next.number ≡ old.next.number → IsOpenNewest c old → IsOpenNewest c new
@@ -102,3 +111,66 @@ kept_sound log old new s entries size accepted current number = record {
 
 pub bumped_total : {H Z : Type 0} (bumped : Bumped) (old new : Dpb H) (before now : VecDeque (Frame H) Z) → Bumps bumped old new before now → deque_len now + num_waiting (buffer_of new) ≡ deque_len before + num_waiting (buffer_of old)
 bumped_total bumped old new before now b = let more = ap length b.appended in let sum = length-append before.items b.out in omega (arith, before.ok.0, now.ok.0, more, sum, b.fewer)
+
+stored_by : (w : Bool) (e : Entry) (es rest : Buffer) → e.needed_for_output ≡ w → num_waiting (es ++ rest) ≤ num_waiting es + num_waiting rest → num_waiting ((e ∷ es) ++ rest) ≤ num_waiting (e ∷ es) + num_waiting rest
+stored_by w e es rest is h = let a = order_length e.needed_for_output e (in_output_order (es ++ rest)) in let b = order_length e.needed_for_output e (in_output_order es) in by w is a b
+  where
+    by : (v : Bool) → e.needed_for_output ≡ v → length (in_output_order (e ∷ (es ++ rest))) ≡ (if e.needed_for_output then suc (num_waiting (es ++ rest)) else num_waiting (es ++ rest)) → length (in_output_order (e ∷ es)) ≡ (if e.needed_for_output then suc (num_waiting es) else num_waiting es) → num_waiting ((e ∷ es) ++ rest) ≤ num_waiting (e ∷ es) + num_waiting rest
+    by true v a b = let c = a ∙ ap (λ (x : Bool). if x then suc (num_waiting (es ++ rest)) else num_waiting (es ++ rest)) v in let d = b ∙ ap (λ (x : Bool). if x then suc (num_waiting es) else num_waiting es) v in omega (arith, c, d, h)
+    by false v a b = let c = a ∙ ap (λ (x : Bool). if x then suc (num_waiting (es ++ rest)) else num_waiting (es ++ rest)) v in let d = b ∙ ap (λ (x : Bool). if x then suc (num_waiting es) else num_waiting es) v in omega (arith, c, d, h)
+
+joined_waiting : (es rest : Buffer) → num_waiting (es ++ rest) ≤ num_waiting es + num_waiting rest
+joined_waiting [] rest = omega arith
+joined_waiting (e ∷ es) rest = stored_by e.needed_for_output e es rest refl (joined_waiting es rest)
+
+aged_waiting : (es : Buffer) → num_waiting (map with_latency es) ≡ num_waiting es
+aged_waiting [] = refl
+aged_waiting (e ∷ es) = order_length e.needed_for_output (with_latency e) (in_output_order (map with_latency es)) ∙ ap (λ (n : ℕ). if e.needed_for_output then suc n else n) (aged_waiting es) ∙ sym (order_length e.needed_for_output e (in_output_order es))
+
+-- one picture more waits at most
+pub stored_waiting : (p : Head) (es : Buffer) → num_waiting (with_stored p es) ≤ num_waiting es + 1
+unfolding with_stored
+stored_waiting p es =
+    let a = joined_waiting (map with_latency es) (entry_of p ∷ []) in
+    let b = aged_waiting es in
+    let c = few_wait (entry_of p ∷ []) in
+    omega (arith, a, b, c)
+
+-- ---- numbers that are below are others
+
+pub below_absent : {H : Type 0} (n : ℕ) (es : List (DpbEntry H)) → AreBelow n (tickets es) → Absent n (numbers es)
+below_absent n [] below = tt
+below_absent {H} n (e ∷ es) below = ((λ is. let l = below (ticket e) (contains_first (ticket e) (tickets es)) in absurd (omega (arith, l, is))), below_absent n es (λ t k. below t (contains_later (ticket e) t (tickets es) k)))
+
+-- ---- what a backend was told
+
+pub both_told : {H : Type 0} (P Q : Told H → Type 0) (log : Option (List (Call H))) → WhereTold log P → WhereTold log Q → WhereTold log (λ t. P t × Q t)
+both_told P Q None p q = record { of_log = tt }
+both_told P Q (Some log) p q = record { of_log = (p.of_log, q.of_log) }
+
+pub fits_none : {H P : Type 0} (w : Walk H P) (t u : Told H) → current_of w.current ≡ units.NoPicture → u.submitted ≡ t.submitted → u.sequence ≡ t.sequence → Fits w t → Fits w u
+fits_none w t u none submitted sequence h = record {
+  handles = λ x k. subst (λ ts. Contains ts x) (sym submitted) (h.handles x k);
+  sequence = subst (IsAccepted w.accepted) (sym sequence) h.sequence;
+  picture = none_latest w.current u.picture none;
+}
+
+pub sound_told : {H P : Type 0} (log now : Option (List (Call H))) (w : Walk H P) → IsSound log w → WhereTold now (Fits w) → IsSound now w
+sound_told log now w s told = record { sized = s.sized; latency = s.latency; below = s.below; newest = s.newest; told = told }
+
+unchanged_by : (a named : Format) (b : Bool) → same_format a named ≡ b → (if b then None else Some (ChangedMidPicture a named)) ≡ None → b ≡ true
+unchanged_by a named true is h = refl
+unchanged_by a named false is h = absurd (cc h)
+
+pub unchanged_accepted : (named : Format) (accepted : Option NegotiationInfo) → is_some accepted ≡ true → changed_by named (option_map format_of accepted) ≡ None → is_accepted named (option_map format_of accepted) ≡ true
+unchanged_accepted named None some is = absurd (cc some)
+unchanged_accepted named (Some a) some is = unchanged_by (format_of a) named (same_format (format_of a) named) refl is
+
+pub stored_below : {H : Type 0} (n : ℕ) (ts us : List (ℕ × H)) (t : ℕ × H) → AreBelow n ts → t.0 < n → us ≡ ts ++ t ∷ [] → AreBelow n us
+stored_below {H} n ts us t below less is = λ x k. ⊎_elim (λ old. below x old) (λ same. subst (λ (y : ℕ × H). y.0 < n) same less) (Contains-push_cases ts t x (subst (λ l. Contains l x) is k))
+
+-- ---- counts
+
+pub has_frames : (before now : Counts) (frames : ℕ) → (frames ≡ 0 → ⊥) → CountsEmptyAnswers before now frames → now ≡ before
+has_frames before now zero is h = absurd (is refl)
+has_frames before now (suc n) is h = h

@@ -1,6 +1,7 @@
 -- A picture is over.
-use Rattle.std.proofs.Common.{◌≡◌, ℕ, ℤ, List, [], ◌∷◌, ◌++◌, map, length, refl, sym, ◌∙◌, ap, subst, Option, Some, None, Result, Ok, Err, Bool, true, false, not, ◌&&◌}
-use Rattle.std.specs.Prelude.{nat_le}
+use Rattle.std.proofs.Common.{◌≡◌, ℕ, ℤ, ◌≤◌, arith, List, [], ◌∷◌, ◌++◌, map, length, refl, sym, ◌∙◌, ap, subst, Option, Some, None, Result, Ok, Err, Bool, true, false, not, ◌&&◌}
+use Rattle.std.specs.Prelude.{nat_le, IsErr}
+use Rattle.std.proofs.lemmas.Bool.Decides.{nat_tests}
 use Rattle.std.specs.Result.{IsErrAnd}
 use Rattle.std.proofs.lemmas.Result.{err_from_is_err_and}
 use Rattle.hevc_backend.specs.declared.error.BackendError.{BackendError}
@@ -118,3 +119,15 @@ nothing_over t a b s st current is none log queue tickets left = let h : open_he
   rw h refl,
   rw h (record { does = does_nothing t a b log queue (keeps_all a.tickets b.tickets tickets); next = left }),
 )
+
+-- ---- whether there is room
+
+pub room_left : {T E : Type 0} (r : Result T E) (v : T) (m n k : ℕ) → r ≡ Ok v → (m ≤ n → IsErr r) → n ≡ k → nat_le m k ≡ false
+room_left {T} {E} r v m n k is full same = by (nat_le m k) refl
+  where
+    by : (b : Bool) → nat_le m k ≡ b → nat_le m k ≡ false
+    by false e = e
+    by true e = let le : m ≤ k = grind (arith, nat_tests, e) in absurd (cc (subst IsErr is (full (omega (arith, le, same)))))
+
+pub no_room : {T E : Type 0} (r : Result T E) (e : E) (m n k : ℕ) → r ≡ Err e → (IsErr r → m ≤ n) → n ≡ k → nat_le m k ≡ true
+no_room r e m n k is full same = let le = full (subst IsErr (sym is) refl) in grind (arith, nat_tests, le, same)

@@ -30,7 +30,7 @@ invariant_of-result c =
     let lsb = signed_lsb c.max_pic_order_cnt_lsb.result c.args.sps.now.log2_max_pic_order_cnt_lsb_minus4 c.args.sps.now.order_count_bits c.max_pic_order_cnt_lsb.ensures.value in
     let w = any_slice (options_of c.args.options) c.args.slice.now c.args.sps.now default_pps in
     let told = c.in_ok-picture.ensures.told (context_of c.args.next.now) w (record { first_in_bitstream = refl; first_after_end = refl; prev_tid0_count = ap tid0_count (sym c.as_ref.ensures.value) })
-        (any_first_slice (options_of c.args.options) c.args.slice.now c.args.sps.now default_pps _ (rw c.nalu.ensures at (c.header.ensures.parsed ∙ ap Ok c.header.ensures.value)) lsb) in
+    (any_first_slice (options_of c.args.options) c.args.slice.now c.args.sps.now default_pps _ (rw c.nalu.ensures at (c.header.ensures.parsed ∙ ap Ok c.header.ensures.value)) lsb) in
     record { lsb = from_lsb _ _ told.told.pic_order_cnt_lsb; prior = prior_starts (context_of c.args.next.now) w _ _ told.told.no_output_of_prior_pics told.told.starts_sequence }
 
 pub returns-clause-head : goal.returns-clause-head
@@ -38,7 +38,7 @@ returns-clause-head c pps =
     let lsb = signed_lsb c.max_pic_order_cnt_lsb.result c.args.sps.now.log2_max_pic_order_cnt_lsb_minus4 c.args.sps.now.order_count_bits c.max_pic_order_cnt_lsb.ensures.value in
     let w = slice_of c.args.options c.args.slice.now c.args.sps.now pps in
     let told = c.in_ok-picture.ensures.told (context_of c.args.next.now) w (record { first_in_bitstream = refl; first_after_end = refl; prev_tid0_count = ap tid0_count (sym c.as_ref.ensures.value) })
-        (is_first_slice c.args.options c.args.slice.now c.args.sps.now pps _ (rw c.nalu.ensures at (c.header.ensures.parsed ∙ ap Ok c.header.ensures.value)) lsb) in
+    (is_first_slice c.args.options c.args.slice.now c.args.sps.now pps _ (rw c.nalu.ensures at (c.header.ensures.parsed ∙ ap Ok c.header.ensures.value)) lsb) in
     let type_is = c.nalu_type-nalu_type.ensures ∙ ap (λ h. h.nal_unit_type) c.header.ensures.value ∙ ap (λ u. u.header.nal_unit_type) c.nalu.ensures ∙ sym (slice_type c.args.options c.args.slice.now c.args.sps.now pps) in
     same_head (context_of c.args.next.now) w _ _ c.in_ok-picture.picture _ _ _ _ told refl (c.is_skipped.ensures ∙ ap (λ t. is_rasl t && c.args.next.now.latest_irap_no_rasl) type_is) c.latest_irap_no_rasl.ensures
     (ap format_of c.into.ensures ∙ sym (slice_format c.args.options c.args.slice.now c.args.sps.now pps)) (c.of.ensures ∙ sym (slice_limits c.args.options c.args.slice.now c.args.sps.now pps))

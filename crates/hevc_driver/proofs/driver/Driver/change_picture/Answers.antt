@@ -1,6 +1,20 @@
-use Rattle.std.proofs.Common.{refl, ◌≡◌, ap}
-use Rattle.hevc_walk_units.specs.Units.{Standing}
+use Rattle.std.proofs.Common.{refl, ◌≡◌, ap, sym, subst, inl, inr}
+use Rattle.hevc_walk_units.specs.Units.{Standing, finish_current}
+use Rattle.hevc_driver.specs.Slices.{slice_of}
+use Rattle.hevc_driver.specs.Standings.{standing, traces}
+use Rattle.hevc_driver.specs.Takes.{Begins}
 use Rattle.hevc_driver.proofs.driver.Driver.change_picture.Goals as goal
 
 pub begin-requires-clause-none : goal.begin-requires-clause-none
 begin-requires-clause-none g c = ap (λ (s : Standing). s.current) (c.in_ok-finish.ensures.part c.args.timestamp).1.next
+
+pub returns-clause-part : goal.returns-clause-part
+returns-clause-part g c =
+    let f = c.in_ok-finish.ensures.part c.args.timestamp in
+    inl (record {
+      mid = traces (g.B.StatelessH265DecoderBackend.log c.finish.new.self.backend) c.finish.new.self.walk;
+      room = f.0;
+      finishes = f.1.does;
+      begins = subst (λ (s : Standing). Begins c.begin.result c.args.timestamp (traces (g.B.StatelessH265DecoderBackend.log c.finish.new.self.backend) c.finish.new.self.walk) (traces (g.B.StatelessH265DecoderBackend.log c.begin.new.self.backend) c.begin.new.self.walk)
+          (slice_of c.args.options c.args.slice.now c.args.sps.now c.args.pps.now) s (standing c.begin.new.self.walk)) f.1.next c.begin.ensures.part;
+    })

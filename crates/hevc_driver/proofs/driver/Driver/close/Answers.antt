@@ -1,5 +1,8 @@
-use Rattle.std.proofs.Common.{refl, ◌≡◌, ap, sym, ◌∙◌}
+use Rattle.std.proofs.Common.{refl, ◌≡◌, ap, sym, ◌∙◌, arith}
+use Rattle.hevc_walk_units.specs.Units.{Standing}
+use Rattle.hevc_driver.specs.declared.head.Next.{Next}
 use Rattle.hevc_driver.proofs.Closing.{close_refused, close_done}
+use Rattle.hevc_driver.proofs.Soundness.{left_sound}
 use Rattle.hevc_driver.proofs.driver.Driver.close.Goals as goal
 
 pub returns-in_err-finish-clause-part : goal.returns-in_err-finish-clause-part
@@ -7,3 +10,8 @@ returns-in_err-finish-clause-part g c t = close_refused _ _ t _ _ _ _ c.from_res
 
 pub returns-clause-part : goal.returns-clause-part
 returns-clause-part g c t = close_done t _ _ _ _ _ _ (c.in_ok-finish.ensures.part t) (c.output_all.ensures.part _ t)
+
+pub returns-clause-sound : goal.returns-clause-sound
+returns-clause-sound g c =
+    let number = ap (λ (n : Next). n.number) c.output_all.ensures.next in
+    left_sound _ _ _ c.in_ok-finish.ensures.sound (ap (λ (s : Standing). s.current) (c.in_ok-finish.ensures.part 0).1.next) c.output_all.ensures.leaves (omega (arith, number))

@@ -9,7 +9,7 @@ use Rattle.hevc_driver.proofs.driver.Driver.finish.Goals as goal
 pub returns-in-Opened-clause-part : goal.returns-in-Opened-clause-part
 returns-in-Opened-clause-part g c t =
     subst (λ (v : Current). Finishes c.store.result t (traces (g.B.StatelessH265DecoderBackend.log c.args.self.now.backend) c.args.self.now.walk) (traces (g.B.StatelessH265DecoderBackend.log c.store.new.self.backend) c.store.new.self.walk)
-        (record (standing c.args.self.now.walk) { current = v }) (standing c.store.new.self.walk))
+    (record (standing c.args.self.now.walk) { current = v }) (standing c.store.new.self.walk))
     (sym (ap current_of (sym c.replace.ensures.value ∙ c.in-Opened.is))) (c.store.ensures.part t)
 
 pub returns-in-Skipped-clause-part : goal.returns-in-Skipped-clause-part

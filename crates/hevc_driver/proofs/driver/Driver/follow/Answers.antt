@@ -9,7 +9,7 @@ use Rattle.hevc_driver.proofs.driver.Driver.follow.Goals as goal
 pub returns-in-Opened-clause-part : goal.returns-in-Opened-clause-part
 returns-in-Opened-clause-part g c t o =
     subst (λ (v : Current). Follows c.continue_with.result t (traces (g.B.StatelessH265DecoderBackend.log c.args.self.now.backend) c.args.self.now.walk) (traces (g.B.StatelessH265DecoderBackend.log c.continue_with.new.self.backend) c.continue_with.new.self.walk)
-        (slice_of o c.args.slice.now c.args.sps.now c.args.pps.now) (record (standing c.args.self.now.walk) { current = v }) (standing c.continue_with.new.self.walk))
+    (slice_of o c.args.slice.now c.args.sps.now c.args.pps.now) (record (standing c.args.self.now.walk) { current = v }) (standing c.continue_with.new.self.walk))
     (sym (ap current_of (sym c.replace.ensures.value ∙ c.in-Opened.is))) (c.continue_with.ensures.part t o)
 
 pub returns-in-Skipped-clause-part : goal.returns-in-Skipped-clause-part

@@ -1,0 +1,94 @@
+use Rattle.std.proofs.Common.{refl, ◌≡◌, sym, ap, ◌∙◌, subst, false, [], ◌∷◌}
+use Rattle.hevc_types_c.specs.Sps.{plain_sps}
+use Rattle.hevc_views.specs.Sequences.{format_of_set}
+use Rattle.hevc_walk.specs.Walk as walk
+use Rattle.hevc_refs.specs.Sets.{plain_set}
+use Rattle.hevc_backend.specs.Calls.{new_picture_call, begin_picture_call, decode_slice_call}
+use Rattle.hevc_backend.proofs.ToldLaws.{told_call, told_same}
+use Rattle.hevc_backend.proofs.NamedLaws.{list0_among, list1_among}
+use Rattle.hevc_driver.specs.Does.{Does}
+use Rattle.hevc_driver.specs.Heads.{head_of}
+use Rattle.hevc_driver.specs.Slices.{slice_of}
+use Rattle.hevc_driver.specs.Standings.{standing, traces}
+use Rattle.hevc_driver.specs.Moments.{new_call, begin_call}
+use Rattle.hevc_driver.proofs.Doing.{runs_stop, does_call, does_then, stops_at, stops_then, keeps_all, keeps_more}
+use Rattle.hevc_driver.proofs.SliceViews.{slice_made}
+use Rattle.hevc_driver.proofs.Soundness.{accepted_sequence, fits_none, sound_told}
+use Rattle.hevc_driver.proofs.driver.Driver.hand_over.Goals as goal
+
+pub returns-in_err-picture-clause-part : goal.returns-in_err-picture-clause-part
+returns-in_err-picture-clause-part g c o =
+    runs_stop _ _ _ _ _ _ _ _ c.from_residual.ensures.1 (stops_at _ _ _ (new_call (head_of c.args.head.now)) _ _ c.in_err-picture.ensures.log refl (keeps_all _ _ refl) (tt, refl))
+
+pub begin_picture-requires-clause-told : goal.begin_picture-requires-clause-told
+begin_picture-requires-clause-told g c =
+    told_call (new_picture_call c.args.head.now.number c.args.head.now.picture c.args.timestamp) c.in_ok-picture.ensures.log c.requires.sound.told (λ t h. record { handles = h.handles; sequence = accepted_sequence _ _ _ c.requires.accepted h.sequence; picture = refl })
+
+pub begin_picture-requires-clause-begun : goal.begin_picture-requires-clause-begun
+begin_picture-requires-clause-begun g c = told_call (new_picture_call c.args.head.now.number c.args.head.now.picture c.args.timestamp) c.in_ok-picture.ensures.log c.requires.sound.told (λ t h. refl)
+
+pub returns-in_err-begin_picture-clause-sound : goal.returns-in_err-begin_picture-clause-sound
+returns-in_err-begin_picture-clause-sound g c =
+    sound_told _ _ _ c.requires.sound (told_same c.in_err-begin_picture.ensures.log (told_call (new_picture_call c.args.head.now.number c.args.head.now.picture c.args.timestamp) c.in_ok-picture.ensures.log c.requires.sound.told (λ t h. fits_none _ t _ c.requires.none refl refl h)) (λ t h. h))
+
+pub returns-in_err-begin_picture-clause-part : goal.returns-in_err-begin_picture-clause-part
+returns-in_err-begin_picture-clause-part g c o =
+    let p = head_of c.args.head.now in
+    runs_stop _ _ _ _ _ _ _ _ c.from_residual-in_err-begin_picture.ensures.1
+    (stops_then _ _ (traces (g.B.StatelessH265DecoderBackend.log c.new_picture.new.self) c.args.self.now.walk) _ (walk.Called (new_call p) ∷ []) _ _
+    (does_call _ _ _ (new_picture_call c.args.head.now.number c.args.head.now.picture c.args.timestamp) c.in_ok-picture.ensures.log refl (keeps_more _ _ _ refl) refl)
+    (stops_at _ _ _ (begin_call p (plain_set c.args.set)) _ _ c.in_err-begin_picture.ensures.log refl (keeps_all _ _ refl) (tt, refl)))
+
+pub decode_slice-requires-clause-list0 : goal.decode_slice-requires-clause-list0
+decode_slice-requires-clause-list0 g c = list0_among _ c.args.set (slice_of (record { handle_cra_as_bla = false; highest_tid = 6 }) c.args.slice.now c.args.sps.now c.args.pps.now) _ (c.reference_lists-lists.ensures.list0 (record { handle_cra_as_bla = false; highest_tid = 6 }) c.args.sps.now) c.requires.newest.references
+
+pub decode_slice-requires-clause-list1 : goal.decode_slice-requires-clause-list1
+decode_slice-requires-clause-list1 g c = list1_among _ c.args.set (slice_of (record { handle_cra_as_bla = false; highest_tid = 6 }) c.args.slice.now c.args.sps.now c.args.pps.now) _ (c.reference_lists-lists.ensures.list1 (record { handle_cra_as_bla = false; highest_tid = 6 }) c.args.sps.now) c.requires.newest.references
+
+pub decode_slice-requires-clause-told : goal.decode_slice-requires-clause-told
+decode_slice-requires-clause-told g c =
+    told_call (begin_picture_call c.args.head.now.number c.args.set) c.in_ok-begin_picture.ensures.log
+    (told_call (new_picture_call c.args.head.now.number c.args.head.now.picture c.args.timestamp) c.in_ok-picture.ensures.log c.requires.sound.told (λ t h. record { handles = h.handles; sequence = accepted_sequence _ _ _ c.requires.accepted h.sequence; picture = refl })) (λ t h. h)
+
+pub returns-in_err-decode_slice-clause-sound : goal.returns-in_err-decode_slice-clause-sound
+returns-in_err-decode_slice-clause-sound g c =
+    sound_told _ _ _ c.requires.sound (told_same c.in_err-decode_slice.ensures.log (told_call (begin_picture_call c.args.head.now.number c.args.set) c.in_ok-begin_picture.ensures.log
+    (told_call (new_picture_call c.args.head.now.number c.args.head.now.picture c.args.timestamp) c.in_ok-picture.ensures.log c.requires.sound.told (λ t h. fits_none _ t _ c.requires.none refl refl h)) (λ t h. h)) (λ t h. h))
+
+pub returns-in_err-decode_slice-clause-part : goal.returns-in_err-decode_slice-clause-part
+returns-in_err-decode_slice-clause-part g c o =
+    let p = head_of c.args.head.now in
+    runs_stop _ _ _ _ _ _ _ _ c.from_residual-in_err-decode_slice.ensures.1
+    (stops_then _ _ (traces (g.B.StatelessH265DecoderBackend.log c.new_picture.new.self) c.args.self.now.walk) _ (walk.Called (new_call p) ∷ []) _ _
+    (does_call _ _ _ (new_picture_call c.args.head.now.number c.args.head.now.picture c.args.timestamp) c.in_ok-picture.ensures.log refl (keeps_more _ _ _ refl) refl)
+    (stops_then _ _ (traces (g.B.StatelessH265DecoderBackend.log c.begin_picture.new.self) c.args.self.now.walk) _ (walk.Called (begin_call p (plain_set c.args.set)) ∷ []) _ _
+    (does_call _ _ _ (begin_picture_call c.args.head.now.number c.args.set) c.in_ok-begin_picture.ensures.log refl (keeps_more _ _ _ refl) tt)
+    (stops_at _ _ _ (walk.slice_call p (plain_set c.args.set) (slice_of o c.args.slice.now c.args.sps.now c.args.pps.now)) [] _ c.in_err-decode_slice.ensures.log refl (keeps_all _ _ refl) (tt, refl))))
+
+pub returns-clause-part : goal.returns-clause-part
+returns-clause-part g c o =
+    let p = head_of c.args.head.now in
+    record {
+      does = does_then _ _ (traces (g.B.StatelessH265DecoderBackend.log c.new_picture.new.self) c.args.self.now.walk) _ (walk.Called (new_call p) ∷ []) _
+          (does_call _ _ _ (new_picture_call c.args.head.now.number c.args.head.now.picture c.args.timestamp) c.in_ok-picture.ensures.log refl (keeps_more _ _ _ refl) refl)
+          (does_then _ _ (traces (g.B.StatelessH265DecoderBackend.log c.begin_picture.new.self) c.args.self.now.walk) _ (walk.Called (begin_call p (plain_set c.args.set)) ∷ []) _
+          (does_call _ _ _ (begin_picture_call c.args.head.now.number c.args.set) c.in_ok-begin_picture.ensures.log refl (keeps_more _ _ _ refl) tt)
+          (subst (λ (made : walk.Call). Does c.args.timestamp (traces (g.B.StatelessH265DecoderBackend.log c.begin_picture.new.self) c.args.self.now.walk) (traces (g.B.StatelessH265DecoderBackend.log c.decode_slice.new.self) c.args.self.now.walk) (walk.Called made ∷ []))
+          (slice_made g.row.B-Handle.Denot o c.args.slice.now c.args.sps.now c.args.pps.now p (plain_set c.args.set) _ _ (c.reference_lists-lists.ensures.list0 o c.args.sps.now) (c.reference_lists-lists.ensures.list1 o c.args.sps.now))
+          (does_call c.args.timestamp (traces (g.B.StatelessH265DecoderBackend.log c.begin_picture.new.self) c.args.self.now.walk) (traces (g.B.StatelessH265DecoderBackend.log c.decode_slice.new.self) c.args.self.now.walk) (decode_slice_call c.args.head.now.number c.args.slice.now c.reference_lists-lists.result.ref_pic_list0 c.reference_lists-lists.result.ref_pic_list1) c.in_ok-decode_slice.ensures.log refl (keeps_more _ _ _ refl) tt)));
+      next = refl;
+    }
+
+pub returns-clause-sound : goal.returns-clause-sound
+returns-clause-sound g c =
+    let s = c.requires.sound in
+    let n = c.requires.newest in
+    record {
+      sized = s.sized;
+      latency = s.latency;
+      below = s.below;
+      newest = record { newer = n.newer; counted = n.counted; references = n.references; negotiated = n.negotiated };
+      told = told_call (decode_slice_call c.args.head.now.number c.args.slice.now c.reference_lists-lists.result.ref_pic_list0 c.reference_lists-lists.result.ref_pic_list1) c.in_ok-decode_slice.ensures.log
+          (told_call (begin_picture_call c.args.head.now.number c.args.set) c.in_ok-begin_picture.ensures.log
+          (told_call (new_picture_call c.args.head.now.number c.args.head.now.picture c.args.timestamp) c.in_ok-picture.ensures.log s.told (λ t h. record { handles = h.handles; sequence = h.sequence; picture = refl })) (λ t h. h)) (λ t h. h);
+    }
