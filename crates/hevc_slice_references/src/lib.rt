@@ -13,6 +13,3 @@ mod size;
 pub use reference_lists::read_reference_lists;
 pub use reference_pictures::read_reference_pictures;
 pub use size::bits_between;
-
-#[cfg(test)]
-mod tests;

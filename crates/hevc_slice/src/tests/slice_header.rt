@@ -1,21 +1,16 @@
 //! Worked headers, each in a stream of its own.
 ghost use Rattle.std.specs.Prelude.{◌<◌, length};
 
-use crate::{parse_pred_weight_table, read_slice_header};
+use super::streams::{NO_SET, P_SLICE, PICTURE_SET};
+use crate::{ParseError, parse_pred_weight_table};
 use hevc_bits::{Nalu, NaluHeader, NaluReader};
-use hevc_elements::ParseError;
+use hevc_slice_header::read_slice_header;
 use hevc_types_c::Sps;
 use hevc_types_d::{Pps, SliceHeader};
 use std::alloc::Global;
 use std::collections::BTreeMap;
 use std::process::Abort;
 use std::test::Fail;
-
-/// A P slice whose own short-term set has the picture four before it.
-const P4: &[u8] = &[0x00, 0x00, 0x01, 0x02, 0x01, 0xd2, 0x14, 0x97, 0x80];
-
-/// A short-term set that the sequence set should have, which has none.
-const NO_SET: &[u8] = &[0x00, 0x00, 0x01, 0x02, 0x01, 0xd8, 0x40, 0x80];
 
 /// An I slice of an IDR picture that names picture set 5.
 const OTHER_SET: &[u8] = &[0x00, 0x00, 0x01, 0x26, 0x01, 0x8d, 0x80];
@@ -33,9 +28,6 @@ const WITH_03: &[u8] = &[
 const LONG_OFFSET: &[u8] = &[
     0x00, 0x00, 0x01, 0x26, 0x01, 0xae, 0x81, 0x04, 0x00, 0x00, 0x03, 0x00, 0x0c, 0x80,
 ];
-
-/// A picture set.
-const PICTURE_SET: &[u8] = &[0x00, 0x00, 0x01, 0x44, 0x01, 0xc0];
 
 /// A B slice with long-term pictures, an ordered list and weights.
 const BI_PREDICTED: &[u8] = &[
@@ -155,7 +147,7 @@ fn read(alloc: Global, sps: Sps, pps: Pps, stream: &[u8]) -> Result<SliceHeader,
 
 #[test]
 fn a_p_slice_has_its_own_set(rt: HostRuntime) -> Result<(), Fail> {
-    let h = read(rt.alloc(), sequence_set(rt.alloc()), Pps::new(), P4)?;
+    let h = read(rt.alloc(), sequence_set(rt.alloc()), Pps::new(), P_SLICE)?;
     assert!(rt; h.first_slice_segment_in_pic_flag && h.type_.is_p());
     assert_eq!(rt; h.pic_order_cnt_lsb, 4);
     assert_eq!(rt; h.num_pic_total_curr, 1);
@@ -186,7 +178,7 @@ fn refusals_name_the_row_or_the_set(rt: HostRuntime) {
     let mut pps = Pps::new();
     pps.seq_parameter_set_id = 3;
     assert_eq!(rt;
-        read(alloc, sequence_set(alloc), pps, P4).err(),
+        read(alloc, sequence_set(alloc), pps, P_SLICE).err(),
         Some(ParseError::MissingPps(0))
     );
 }
