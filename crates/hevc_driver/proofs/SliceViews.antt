@@ -37,8 +37,8 @@ use Rattle.hevc_stream.specs.Slices.{coded_slice}
 use Rattle.hevc_pictures.specs.NewPicture.{IsFirstSlice}
 use Rattle.hevc_refs.specs.Lists.{HasHeader}
 use Rattle.hevc_refs.specs.Marking.{HasMembers}
-use Rattle.hevc_driver.specs.declared.options.Options.{Options}
-use Rattle.hevc_driver.specs.Options.{options_of}
+use Rattle.hevc_options.specs.declared.Options.{Options}
+use Rattle.hevc_options.specs.Options.{options_of}
 use Rattle.hevc_driver.specs.Slices.{slice_of, kept_of}
 
 pub has_header : (o : Options) (s : Slice) (sps : Sps) (pps : Pps) → HasHeader (slice_of o s sps pps) s.header (plain_pps pps).scc_extension.curr_pic_ref_enabled_flag

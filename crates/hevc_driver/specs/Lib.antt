@@ -1,4 +1,3 @@
-pub mod Options
 pub mod Heads
 pub mod Slices
 pub mod Errors

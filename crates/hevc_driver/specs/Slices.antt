@@ -11,8 +11,8 @@ use Rattle.hevc_walk.specs.Meanings.{Slice}
 use Rattle.hevc_walk.specs.DependentSlices.{KeptHeader}
 use Rattle.hevc_views.specs.Headers.{slice_header_of}
 use Rattle.hevc_stream.specs.Slices.{coded_slice}
-use Rattle.hevc_driver.specs.declared.options.Options.{Options}
-use Rattle.hevc_driver.specs.Options.{options_of}
+use Rattle.hevc_options.specs.declared.Options.{Options}
+use Rattle.hevc_options.specs.Options.{options_of}
 
 unfoldable pub slice_of : Options → code.Slice → Sps → Pps → Slice
 slice_of options slice sps pps = coded_slice (options_of options) slice.nalu.header (bytes_of slice.nalu) (plain_slice_header slice.header) (record { sps = plain_sps sps; pps = plain_pps pps })

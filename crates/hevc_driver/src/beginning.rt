@@ -11,9 +11,9 @@ ghost use Rattle.hevc_driver.specs.Heads.{head_of, context_of, tid0_count};
 ghost use Rattle.hevc_driver.specs.Slices.{slice_of};
 
 use crate::head::{Head, Next};
-use crate::options::Options;
 use hevc_bits::NaluType;
 use hevc_dpb::{Limits, PictureData};
+use hevc_options::Options;
 use hevc_pictures::PocOutOfRange;
 use hevc_types_c::Sps;
 use hevc_types_d::Slice;

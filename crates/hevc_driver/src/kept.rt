@@ -3,7 +3,7 @@ ghost use Rattle.std.specs.Prelude.{◌≡◌, ◌==◌, ◌&&◌, nat_le, Optio
 ghost use Rattle.hevc_types_c.specs.declared.sps.Sps.{Sps};
 ghost use Rattle.hevc_types_d.specs.declared.pps.Pps.{Pps};
 ghost use Rattle.hevc_walk.specs.DependentSlices.{KeptHeader, whole_slice, kept_header};
-ghost use Rattle.hevc_driver.specs.declared.options.Options.{Options};
+ghost use Rattle.hevc_options.specs.declared.Options.{Options};
 ghost use Rattle.hevc_driver.specs.Slices.{slice_of, kept_of};
 
 use hevc_types_c::Sps;

@@ -14,8 +14,8 @@ ghost use Rattle.hevc_driver.specs.Takes.{Begins, Negotiates, IsNewSequence};
 
 use crate::decode_error::DecodeError;
 use crate::driver::Driver;
-use crate::options::Options;
 use hevc_backend::{NegotiationInfo, StatelessH265DecoderBackend};
+use hevc_options::Options;
 use hevc_types_c::Sps;
 use hevc_types_d::{Pps, Slice};
 

@@ -12,7 +12,7 @@ ghost use Rattle.hevc_dpb.specs.Views.{buffer_of};
 ghost use Rattle.hevc_refs.specs.Sets.{plain_set};
 ghost use Rattle.hevc_refs.specs.Lists.{places_of, plain_places};
 ghost use Rattle.hevc_refs.specs.Marking.{KeepsAllButMarks};
-ghost use Rattle.hevc_driver.specs.declared.options.Options.{Options};
+ghost use Rattle.hevc_options.specs.declared.Options.{Options};
 ghost use Rattle.hevc_driver.specs.Heads.{head_of};
 ghost use Rattle.hevc_driver.specs.Slices.{slice_of};
 

@@ -14,15 +14,15 @@ ghost use Rattle.hevc_driver.specs.Sound.{IsSound, IsNewest, IsLatest, HasRoom, 
 ghost use Rattle.hevc_driver.specs.Takes.{Takes, Changes, Follows, ChecksFormat};
 ghost use Rattle.hevc_types_c.specs.declared.sps.Sps as code_sps;
 ghost use Rattle.hevc_types_d.specs.declared.pps.Pps as code_pps;
-ghost use Rattle.hevc_driver.specs.declared.options.Options as code_options;
+ghost use Rattle.hevc_options.specs.declared.Options as code_options;
 
 use crate::current::{Current, Open};
 use crate::decode_error::DecodeError;
 use crate::driver::Driver;
 use crate::kept::{complete, keep};
-use crate::options::Options;
 use crate::references::reference_lists;
 use hevc_backend::{NegotiationInfo, StatelessH265DecoderBackend};
+use hevc_options::Options;
 use hevc_types_c::Sps;
 use hevc_types_d::{Pps, Slice};
 use std::mem::replace;

@@ -4,7 +4,7 @@ use Rattle.hevc_spec.specs.Table.{Reading}
 use Rattle.hevc_elements.specs.declared.parse_error.ParseError.{ParseError}
 use Rattle.hevc_elements.specs.declared.parse_error.ParseError.TheVariants.{WrongNaluType, OutOfBits, OutOfRange, MissingSps, MissingPps, NoMemory}
 use Rattle.hevc_elements.specs.Reads.{Refuses}
-use Rattle.hevc_picture_set.specs.Kept.{NamesNoOtherSet}
+use Rattle.hevc_picture_set.specs.Answers.{NamesNoOtherSet}
 
 pub names_none : {A : Type 0} (e : ParseError) (new : Place) (reading : Reading A) → Refuses e new reading → NamesNoOtherSet e
 names_none WrongNaluType new reading h = tt

@@ -1,3 +1,3 @@
-pub mod Kept
+pub mod Answers
 pub mod Projections
 pub mod Tiling

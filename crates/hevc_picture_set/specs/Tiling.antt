@@ -3,11 +3,12 @@ use Rattle.std.specs.Prelude.{◌≡◌, ℕ, ◌+◌, ◌≤◌, ◌<◌, List,
 use Rattle.std.specs.List.{sum_by}
 use Rattle.std.specs.BTreeMap.{BTreeMap}
 use Rattle.hevc_records.specs.Pps.{PlainPps}
+use Rattle.hevc_records.specs.SetsById.{sets_by_id}
 use Rattle.hevc_records.specs.Sps.{PlainSps}
 use Rattle.hevc_tables.specs.PpsTable.{Parts}
 use Rattle.hevc_types_c.specs.declared.sps.Sps.{Sps}
+use Rattle.hevc_types_c.specs.Sps.{plain_sps}
 use Rattle.hevc_types_d.specs.declared.pps.Pps.{Pps}
-use Rattle.hevc_picture_set.specs.Kept.{kept_sets}
 
 -- the blocks of so many parts, whose sizes are less 1
 abbrev pub blocks_of : ℕ → List ℕ → ℕ
@@ -34,7 +35,7 @@ TilesCover sps pps = IsTrue pps.tiles_enabled_flag → AddUp sps pps
 
 -- So they do of the pictures of the sequence set that the set names.
 abbrev pub CoverKept : BTreeMap ℕ Sps → PlainPps → Type 0
-CoverKept sets pps = (sps : PlainSps) → kept_sets sets pps.seq_parameter_set_id ≡ Some sps → TilesCover sps pps
+CoverKept sets pps = (sps : PlainSps) → sets_by_id plain_sps sets pps.seq_parameter_set_id ≡ Some sps → TilesCover sps pps
 
 -- The sequence set that a set names and its tiles stay.
 pub record KeepsTiles (old new : Pps) : Type 0 where

@@ -11,6 +11,3 @@ mod tiles;
 mod tools;
 
 pub use picture_set::read_pps;
-
-#[cfg(test)]
-mod tests;

@@ -5,10 +5,11 @@ ghost use Rattle.hevc_bits.specs.FoundUnit.{bytes_of};
 ghost use Rattle.hevc_bits.specs.NaluType.{nalu_type_number};
 ghost use Rattle.hevc_elements.specs.Words.{bits, read, Fills, ReadsSet, MeansSet};
 ghost use Rattle.hevc_elements.specs.Naming.{ReadsNaming};
+ghost use Rattle.hevc_records.specs.SetsById.{sets_by_id};
 ghost use Rattle.hevc_tables.specs.PpsTable as table;
 ghost use Rattle.hevc_types_c.specs.Sps.{plain_sps};
 ghost use Rattle.hevc_types_d.specs.Pps.{plain_pps};
-ghost use Rattle.hevc_picture_set.specs.Kept.{kept_sets, NamesNoOtherSet};
+ghost use Rattle.hevc_picture_set.specs.Answers.{NamesNoOtherSet};
 ghost use Rattle.hevc_picture_set.specs.Tiling.{TilesCover, CoverKept};
 
 use crate::extensions::read_extensions;
@@ -45,11 +46,11 @@ pub fn read_pps(
     ensures read { nalu.now.header.nal_unit_type ≡ 34
         → ReadsSet plain_pps result
         (read (table.picture_parameter_set (nalu.now.header.nuh_temporal_id_plus1 - 1)
-        (kept_sets spses.now)) (payload (bytes_of nalu.now))) }
+        (sets_by_id plain_sps spses.now)) (payload (bytes_of nalu.now))) }
     ensures means { nalu.now.header.nal_unit_type ≡ 34
         → MeansSet plain_pps
         (table.picture_parameter_set (nalu.now.header.nuh_temporal_id_plus1 - 1)
-        (kept_sets spses.now)) result (payload (bytes_of nalu.now)) }
+        (sets_by_id plain_sps spses.now)) result (payload (bytes_of nalu.now)) }
     ensures names { IfErr result NamesNoOtherSet }
     // With tiles, the columns and the rows take all blocks of the picture.
     ensures tiles { IfOk result (λ pps. CoverKept spses.now (plain_pps pps)) }
@@ -77,7 +78,7 @@ fn read_payload(
 ) -> Result<Pps, ParseError>
     requires { length payload.now < 2 ^ 60 }
     ensures read { ReadsSet plain_pps result
-        (read (table.picture_parameter_set temporal_id (kept_sets spses.now))
+        (read (table.picture_parameter_set temporal_id (sets_by_id plain_sps spses.now))
         (payload_bits 0 payload.now)) }
     ensures names { IfErr result NamesNoOtherSet }
     ensures tiles { IfOk result (λ pps. CoverKept spses.now (plain_pps pps)) }
@@ -93,7 +94,8 @@ fn read_rows(
     spses: &BTreeMap<u8, Sps>,
 ) -> Result<Pps, ParseError>
     ensures read { ReadsNaming plain_pps result r.new
-        (read (table.picture_parameter_set temporal_id (kept_sets spses.now)) (bits r.old)) }
+        (read (table.picture_parameter_set temporal_id (sets_by_id plain_sps spses.now))
+        (bits r.old)) }
     ensures names { IfErr result NamesNoOtherSet }
     ensures tiles { IfOk result (λ pps. CoverKept spses.now (plain_pps pps)) }
 {

@@ -12,6 +12,3 @@ mod sub_layers;
 
 pub use conformance::{conforms_to, has_range_extensions};
 pub use profile_tier_level::read_profile_tier_level;
-
-#[cfg(test)]
-mod tests;

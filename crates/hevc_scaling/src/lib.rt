@@ -10,6 +10,3 @@ mod size;
 
 pub use default_lists::default_scaling_lists;
 pub use scaling_list_data::read_scaling_list_data;
-
-#[cfg(test)]
-mod tests;

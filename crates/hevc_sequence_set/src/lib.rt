@@ -16,6 +16,3 @@ mod tools;
 mod usability;
 
 pub use sequence_set::read_sps;
-
-#[cfg(test)]
-mod tests;

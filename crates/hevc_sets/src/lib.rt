@@ -13,3 +13,6 @@ pub use hevc_short_term::read_short_term_set;
 pub use hevc_timing::read_hrd_parameters;
 pub use hevc_usability::read_vui_parameters;
 pub use hevc_video_set::read_vps;
+
+#[cfg(test)]
+mod tests;

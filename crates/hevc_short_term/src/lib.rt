@@ -13,6 +13,3 @@ mod short_term_set;
 mod sides;
 
 pub use short_term_set::read_short_term_set;
-
-#[cfg(test)]
-mod tests;

@@ -5,11 +5,11 @@ use Rattle.std.specs.Prelude.{option_map, cond, is_some, IfSome, IsSome, OnOk, O
 use Rattle.std.specs.Ordering.{nat_cmp}
 use Rattle.std.specs.Map.{lookup}
 use Rattle.std.specs.BTreeMap.{BTreeMap, get, is_at, Updates, IsUnchanged, btree_map_len}
+use Rattle.hevc_records.specs.SetsById.{sets_by_id}
 use Rattle.hevc_stream.specs.Kept.{with_set}
 use Rattle.hevc_types_c.specs.declared.sps.Sps.{Sps}
 use Rattle.hevc_types_d.specs.declared.pps.Pps.{Pps}
 use Rattle.hevc_slice.specs.OwnIds.{HasOwnIds, HasNamedSets}
-use Rattle.hevc_slice.specs.Kept.{found}
 use mathlib.Core.Path.{fun_ext}
 
 same_key : (id k : ℕ) → is_at (nat_cmp id) k ≡ (k == id)
@@ -24,7 +24,7 @@ module _ {X : Type 0} (x : X) where
   by_test view false o = refl
 
   -- a map that has x at its id finds it there
-  pub kept_behind : {Y : Type 0} (view : X → Y) (old new : BTreeMap ℕ X) (id : ℕ) → Updates nat_cmp old new id (Some x) → found view new ≡ with_set id (view x) (found view old)
+  pub kept_behind : {Y : Type 0} (view : X → Y) (old new : BTreeMap ℕ X) (id : ℕ) → Updates nat_cmp old new id (Some x) → sets_by_id view new ≡ with_set id (view x) (sets_by_id view old)
   kept_behind view old new id updates = fun_ext (λ k.
       ap (option_map view) (updates.0 k) ∙ by_test view (is_at (nat_cmp id) k) (get nat_cmp old k) ∙ ap (λ (b : Bool). if b then Some (view x) else option_map view (get nat_cmp old k)) (same_key id k))
 

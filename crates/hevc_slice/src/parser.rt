@@ -9,14 +9,16 @@ ghost use Rattle.hevc_elements.specs.Words.{read, ReadsSet, MeansSet, NamesNoSet
 ghost use Rattle.hevc_tables.specs.VpsTable.{video_parameter_set};
 ghost use Rattle.hevc_tables.specs.SpsTable.{sequence_parameter_set};
 ghost use Rattle.hevc_tables.specs.PpsTable.{picture_parameter_set};
+ghost use Rattle.hevc_short_term.specs.Predictions.{IsInOrder};
 ghost use Rattle.hevc_stream.specs.Kept.{none_kept, with_video_set, with_sequence_set, with_picture_set};
 ghost use Rattle.hevc_types_b.specs.Vps.{plain_vps};
 ghost use Rattle.hevc_types_c.specs.Sps.{plain_sps};
 ghost use Rattle.hevc_types_d.specs.Pps.{plain_pps};
 ghost use Rattle.hevc_types_d.specs.SliceHeader.{plain_slice_header};
 ghost use Rattle.hevc_slice_header.specs.Answers.{NamesNoSequenceSet};
+ghost use Rattle.hevc_slice_header.specs.CurrentSet.{HasCurrentSet};
 ghost use Rattle.hevc_slice_header.specs.Lists.{HasLists};
-ghost use Rattle.hevc_slice.specs.Slices.{slice_table};
+ghost use Rattle.hevc_slice.specs.Slices.{active_of, slice_table};
 ghost use Rattle.hevc_slice.specs.OwnIds.{HasOwnIds, HasOwnIds-prop, HasNamedSets, HasNamedSets-prop};
 
 use hevc_bits::{Nalu, NaluHeader};
@@ -223,7 +225,16 @@ impl Parser {
             (slice_table (kept_by self.now) nalu.entry) result (payload (bytes_of nalu.entry)) }
         ensures names { IfErr result NamesNoSequenceSet }
         ensures unit { IfOk result (λ slice. slice.nalu ≡ nalu.entry) }
-        // Each list whose order is told has an entry for each active place, each below NumPicTotalCurr.
+        // Of the header's own short-term set negatives fall, positives rise, and none is 0 (7.4.8).
+        ensures predictions { IfOk result
+            (λ slice. IsInOrder slice.header.short_term_ref_pic_set) }
+        // CurrRpsIdx is at most the number of the sequence set's short-term sets, and that number
+        // exactly where the header names none of them.
+        ensures current { IfOk result
+            (λ slice. HasCurrentSet (active_of (kept_by self.now))
+            (plain_slice_header slice.header)) }
+        // Each list whose order is told has an entry for each active place, each below
+        // NumPicTotalCurr.
         ensures lists { IfOk result (λ slice. HasLists (plain_slice_header slice.header)) }
     {
         let header = read_slice_header(self.alloc, &nalu, &self.sequence_sets, &self.picture_sets)?;

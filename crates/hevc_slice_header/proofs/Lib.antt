@@ -4,3 +4,4 @@ pub mod Means
 pub mod PictureSizes
 pub mod PartSizes
 pub mod HeaderSize
+pub mod CurrentSets

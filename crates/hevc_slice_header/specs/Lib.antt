@@ -1,4 +1,5 @@
 pub mod Answers
+pub mod CurrentSet
 pub mod Kept
 pub mod Lists
 pub mod Weights

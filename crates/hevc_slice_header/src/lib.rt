@@ -14,6 +14,3 @@ mod slice_header;
 pub use prediction::parse_pred_weight_table;
 pub use segment::slice_header_set_defaults;
 pub use slice_header::read_slice_header;
-
-#[cfg(test)]
-mod tests;

@@ -3,7 +3,7 @@ ghost use Rattle.std.specs.Prelude.{◌≡◌, OnErr};
 ghost use Rattle.hevc_elements.specs.Words.{bits, IsAhead, read, when, Reads, Means, Fills};
 ghost use Rattle.hevc_records.specs.PredWeightTable.{default_pred_weight_table};
 ghost use Rattle.hevc_tables.specs.SliceHeaderTable as table;
-ghost use Rattle.hevc_tables.specs.SliceTypes.{is_b as is_b_type, is_i as is_i_type};
+ghost use Rattle.hevc_tables.specs.SliceTypes.{is_i as is_i_type};
 ghost use Rattle.hevc_slice_header.specs.Weights.{weights_of};
 ghost use Rattle.hevc_types_b.specs.PredWeightTable.{plain_pred_weight_table};
 ghost use Rattle.hevc_types_c.specs.Sps.{plain_sps};
@@ -14,7 +14,7 @@ use hevc_bits::NaluReader;
 use hevc_elements::ParseError;
 use hevc_elements::rows::{flag_if, flag_or, ue_u8, ue_u8_if};
 use hevc_slice_parts::read_pred_weight_table;
-use hevc_slice_references::read_reference_lists;
+use hevc_slice_references::{is_b, read_reference_lists};
 use hevc_spec::Row;
 use hevc_types_b::PredWeightTable;
 use hevc_types_c::Sps;
@@ -50,13 +50,6 @@ fn read_motion(r: &mut NaluReader<'_>, pps: &Pps, h: &mut SliceHeader) -> Result
     let last = last_collocated(h);
     h.collocated_ref_idx = ue_u8_if(r, from_other && last != 0, Row(14, 31), 0, last)?;
     Ok(())
-}
-
-/// Whether the slice is a B slice.
-fn is_b(h: &SliceHeader) -> bool
-    ensures { result ≡ is_b_type (plain_slice_header h.now).type_ }
-{
-    h.type_.number() == 0
 }
 
 /// Whether the slice is an I slice.

@@ -6,10 +6,12 @@ ghost use Rattle.hevc_bits.specs.FoundUnit.{bytes_of};
 ghost use Rattle.hevc_bits.specs.NaluType.{nalu_type_number};
 ghost use Rattle.hevc_elements.specs.Words.{bits, IsAhead, read, Fills, FillsGrowing, ReadsSet, MeansSet};
 ghost use Rattle.hevc_tables.specs.SliceHeaderTable as table;
+ghost use Rattle.hevc_short_term.specs.Predictions.{IsInOrder};
 ghost use Rattle.hevc_types_c.specs.Sps.{plain_sps};
 ghost use Rattle.hevc_types_d.specs.Pps.{plain_pps};
 ghost use Rattle.hevc_types_d.specs.SliceHeader.{plain_slice_header};
 ghost use Rattle.hevc_slice_header.specs.Answers.{ReadsHeader, NamesNoSequenceSet};
+ghost use Rattle.hevc_slice_header.specs.CurrentSet.{HasCurrentSet};
 ghost use Rattle.hevc_slice_header.specs.Kept.{kept_active_sets};
 ghost use Rattle.hevc_slice_header.specs.Lists.{HasLists};
 
@@ -34,7 +36,7 @@ use std::collections::BTreeMap;
 /// Errors: `WrongNaluType` first, where the unit is no slice (types 0 to 9 and 16 to 21); `OutOfBits` where the payload ends within
 /// an element; `OutOfRange` with table and row of the first element that isn't allowed; behind row 3, `MissingPps` where none of
 /// the picture sets has the id that it names, with a sequence set that is kept; `NoMemory`.
-#[tactic(auto, using(hevc_elements::proofs::SetMeaning::set_meanings))]
+#[tactic(auto, using(hevc_elements::proofs::SetMeaning::set_meanings, crate::proofs::CurrentSets::in_order))]
 pub fn read_slice_header(
     alloc: Global,
     nalu: &Nalu<'_, NaluHeader>,
@@ -53,6 +55,12 @@ pub fn read_slice_header(
         (table.slice_segment_header nalu.now.header.nal_unit_type (drop 2 (bytes_of nalu.now))
         (kept_active_sets ppses.now spses.now)) result (payload (bytes_of nalu.now)) }
     ensures names { IfErr result NamesNoSequenceSet }
+    // Of the header's own short-term set negatives fall, positives rise, and none is 0 (7.4.8).
+    ensures predictions { IfOk result (λ h. IsInOrder h.short_term_ref_pic_set) }
+    // CurrRpsIdx is at most the number of the sequence set's short-term sets, and that number
+    // exactly where the header names none of them.
+    ensures current { IfOk result (λ h. HasCurrentSet
+        (kept_active_sets ppses.now spses.now) (plain_slice_header h)) }
     // Each list whose order is told has an entry for each active place, each below NumPicTotalCurr.
     ensures lists { IfOk result (λ h. HasLists (plain_slice_header h)) }
 {
@@ -85,6 +93,8 @@ fn read_payload(
         (read (table.slice_segment_header (nalu_type_number nalu_type) payload.now
         (kept_active_sets ppses.now spses.now)) (payload_bits 0 payload.now)) }
     ensures names { IfErr result NamesNoSequenceSet }
+    ensures current { IfOk result (λ h. HasCurrentSet
+        (kept_active_sets ppses.now spses.now) (plain_slice_header h)) }
     ensures lists { IfOk result (λ h. HasLists (plain_slice_header h)) }
 {
     let mut r = NaluReader::new(payload);
@@ -129,6 +139,8 @@ fn read_aligned(
     ensures moves { IsAhead r.old r.new }
     ensures few { IfOk result (λ _. length (bits r.old) ≤ 2 ^ 31 + 8 + length (bits r.new)) }
     ensures names { IfErr result NamesNoSequenceSet }
+    ensures current { IfOk result (λ h. HasCurrentSet
+        (kept_active_sets ppses.now spses.now) (plain_slice_header h)) }
     ensures lists { IfOk result (λ h. HasLists (plain_slice_header h)) }
 {
     let h = read_elements(alloc, r, nalu_type, spses, ppses)?;
@@ -153,6 +165,8 @@ fn read_elements(
     ensures moves { IsAhead r.old r.new }
     ensures few { IfOk result (λ _. length (bits r.old) ≤ 2 ^ 31 + length (bits r.new)) }
     ensures names { IfErr result NamesNoSequenceSet }
+    ensures current { IfOk result (λ h. HasCurrentSet
+        (kept_active_sets ppses.now spses.now) (plain_slice_header h)) }
     ensures lists { IfOk result (λ h. HasLists (plain_slice_header h)) }
 {
     let mut h = SliceHeader::new(alloc);

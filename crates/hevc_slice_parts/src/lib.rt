@@ -10,6 +10,3 @@ mod weighted_prediction;
 pub use list_modification::read_ref_pic_list_modification;
 pub use logarithm::ceil_log2;
 pub use weighted_prediction::read_pred_weight_table;
-
-#[cfg(test)]
-mod tests;

@@ -50,8 +50,8 @@ fn read_own(r: &mut NaluReader<'_>, h: &mut SliceHeader) -> Result<(), ParseErro
     Ok(())
 }
 
-/// Whether the slice is a B slice.
-pub(crate) fn is_b(h: &SliceHeader) -> bool
+/// Whether the slice is a B slice (Table 7-7), which has a list 1.
+pub fn is_b(h: &SliceHeader) -> bool
     ensures { result ≡ is_b_type (plain_slice_header h.now).type_ }
 {
     h.type_.number() == 0

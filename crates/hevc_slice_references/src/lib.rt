@@ -10,9 +10,7 @@ mod reference_pictures;
 mod short_term;
 mod size;
 
+pub use active_counts::is_b;
 pub use reference_lists::read_reference_lists;
 pub use reference_pictures::read_reference_pictures;
 pub use size::bits_between;
-
-#[cfg(test)]
-mod tests;

@@ -7,6 +7,3 @@ mod structures;
 mod video_set;
 
 pub use video_set::read_vps;
-
-#[cfg(test)]
-mod tests;

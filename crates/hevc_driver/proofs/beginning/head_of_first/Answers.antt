@@ -5,7 +5,7 @@ use Rattle.hevc_spec.specs.UnitTypes.{is_rasl}
 use Rattle.hevc_walk.specs.Pictures.{head, order_count_in_range}
 use Rattle.hevc_backend.specs.Negotiation.{format_of}
 use Rattle.hevc_driver.specs.Heads.{head_of, context_of, tid0_count}
-use Rattle.hevc_driver.specs.Options.{options_of}
+use Rattle.hevc_options.specs.Options.{options_of}
 use Rattle.hevc_driver.specs.Slices.{slice_of}
 use Rattle.hevc_driver.proofs.HeadViews.{same_head, prior_starts, not_refused, refused_as, from_lsb}
 use Rattle.hevc_driver.proofs.SliceViews.{is_first_slice, any_first_slice, any_slice, signed_lsb, slice_type, slice_format, slice_limits}

@@ -1,30 +1,32 @@
-use Rattle.std.proofs.Common.{sym, subst, arith}
-use Rattle.hevc_records.specs.SliceHeader.{PlainSliceSegmentHeader}
+use Rattle.std.proofs.Common.{sym, arith}
 use Rattle.hevc_bits.specs.NaluType.{nalu_type_number}
 use Rattle.hevc_spec.specs.Payload.{bits}
 use Rattle.hevc_types_c.specs.Sps.{plain_sps}
 use Rattle.hevc_types_d.specs.Pps.{plain_pps}
 use Rattle.hevc_types_d.specs.SliceHeader.{plain_slice_header}
-use Rattle.hevc_slice_header.specs.Lists.{HasLists}
-use Rattle.hevc_slice_header.proofs.HeaderSize.{are_small, default_lists, beginning_takes, header_takes}
+use Rattle.hevc_slice_header.specs.Kept.{kept_active_sets}
+use Rattle.hevc_slice_header.proofs.CurrentSets.{active_found, named_current}
+use Rattle.hevc_slice_header.proofs.HeaderSize.{are_small, rows_take}
 use Rattle.hevc_slice_header.proofs.slice_header.read_elements.Goals as goal
 
 pub returns-clause-few : goal.returns-clause-few
 returns-clause-few c =
-    let t = nalu_type_number c.args.nalu_type in
     let sps = c.in-Some-get.sps.now in
     let pps = c.in-Some.pps.now in
-    let new : HasLists (plain_slice_header c.new-h.result) = subst (λ (x : PlainSliceSegmentHeader). HasLists x) (sym c.new-h.ensures) default_lists in
-    let one = (beginning_takes t (plain_slice_header c.new-h.result) new).taken (bits c.args.r.now) (plain_slice_header c.read_beginning.new.h) (bits c.read_beginning.new.r) c.in_ok-read_beginning.ensures.reads in
-    let two = (header_takes (plain_sps sps) (plain_pps pps) (are_small sps pps c.has_few_extra_bits.ensures) t (plain_slice_header c.read_beginning.new.h) one.1).taken (bits c.read_beginning.new.r) (plain_slice_header c.read_behind_sets.new.h) (bits c.read_behind_sets.new.r) c.in_ok-read_behind_sets.ensures.reads in
-    grind (arith, one.0, two.0)
+    let taken = rows_take (nalu_type_number c.args.nalu_type) (plain_sps sps) (plain_pps pps) (are_small sps pps c.has_few_extra_bits.ensures) (plain_slice_header c.new-h.result) (plain_slice_header c.read_beginning.new.h) (plain_slice_header c.read_behind_sets.new.h) (bits c.args.r.now) (bits c.read_beginning.new.r) (bits c.read_behind_sets.new.r) c.new-h.ensures c.in_ok-read_beginning.ensures.reads c.in_ok-read_behind_sets.ensures.reads in
+    grind (arith, taken.0)
 
 pub returns-clause-lists : goal.returns-clause-lists
 returns-clause-lists c =
-    let t = nalu_type_number c.args.nalu_type in
     let sps = c.in-Some-get.sps.now in
     let pps = c.in-Some.pps.now in
-    let new : HasLists (plain_slice_header c.new-h.result) = subst (λ (x : PlainSliceSegmentHeader). HasLists x) (sym c.new-h.ensures) default_lists in
-    let one = (beginning_takes t (plain_slice_header c.new-h.result) new).taken (bits c.args.r.now) (plain_slice_header c.read_beginning.new.h) (bits c.read_beginning.new.r) c.in_ok-read_beginning.ensures.reads in
-    let two = (header_takes (plain_sps sps) (plain_pps pps) (are_small sps pps c.has_few_extra_bits.ensures) t (plain_slice_header c.read_beginning.new.h) one.1).taken (bits c.read_beginning.new.r) (plain_slice_header c.read_behind_sets.new.h) (bits c.read_behind_sets.new.r) c.in_ok-read_behind_sets.ensures.reads in
-    two.1
+    let taken = rows_take (nalu_type_number c.args.nalu_type) (plain_sps sps) (plain_pps pps) (are_small sps pps c.has_few_extra_bits.ensures) (plain_slice_header c.new-h.result) (plain_slice_header c.read_beginning.new.h) (plain_slice_header c.read_behind_sets.new.h) (bits c.args.r.now) (bits c.read_beginning.new.r) (bits c.read_behind_sets.new.r) c.new-h.ensures c.in_ok-read_beginning.ensures.reads c.in_ok-read_behind_sets.ensures.reads in
+    taken.1.0
+
+pub returns-clause-current : goal.returns-clause-current
+returns-clause-current c =
+    let sps = c.in-Some-get.sps.now in
+    let pps = c.in-Some.pps.now in
+    let h = plain_slice_header c.read_beginning.new.h in
+    let taken = rows_take (nalu_type_number c.args.nalu_type) (plain_sps sps) (plain_pps pps) (are_small sps pps c.has_few_extra_bits.ensures) (plain_slice_header c.new-h.result) h (plain_slice_header c.read_behind_sets.new.h) (bits c.args.r.now) (bits c.read_beginning.new.r) (bits c.read_behind_sets.new.r) c.new-h.ensures c.in_ok-read_beginning.ensures.reads c.in_ok-read_behind_sets.ensures.reads in
+    named_current (kept_active_sets c.args.ppses.now c.args.spses.now) (record { sps = plain_sps sps; pps = plain_pps pps }) h.pic_parameter_set_id (plain_slice_header c.read_behind_sets.new.h) (active_found c.args.ppses.now c.args.spses.now h.pic_parameter_set_id pps sps (sym c.in-Some.ensures.value) (sym c.in-Some-get.ensures.value)) taken.1.1

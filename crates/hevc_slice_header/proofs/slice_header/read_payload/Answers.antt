@@ -6,6 +6,7 @@ use Rattle.hevc_spec.specs.Table.{gives}
 use Rattle.hevc_tables.specs.SliceHeaderTable.{with_sizes}
 use Rattle.hevc_types_d.specs.SliceHeader.{plain_slice_header}
 use Rattle.hevc_slice_header.specs.Kept.{kept_active_sets}
+use Rattle.hevc_slice_header.proofs.CurrentSets.{sized_current}
 use Rattle.hevc_slice_header.proofs.Answered.{header_refused, header_read}
 use Rattle.hevc_slice_header.proofs.slice_header.read_payload.Goals as goal
 
@@ -23,3 +24,7 @@ returns-in-Ok-clause-read c =
     let sized = c.set_sizes.ensures.set in
     let same : with_sizes c.args.payload.now (plain_slice_header c.in-Ok.h) (length (bits c.new-r.result) - length rest) ≡ plain_slice_header c.set_sizes.new.h = cc in
     (rest, rw (← c.new-r.ensures.payload) (all ∙ ap (λ (x : PlainSliceSegmentHeader). gives x rest) same))
+
+pub returns-in-Ok-clause-current : goal.returns-in-Ok-clause-current
+returns-in-Ok-clause-current c =
+    sized_current (kept_active_sets c.args.ppses.now c.args.spses.now) c.args.payload.now c.bits_between.result (plain_slice_header c.in-Ok.h) (plain_slice_header c.set_sizes.new.h) c.set_sizes.ensures.set c.in-Ok.ensures.current

@@ -1,7 +1,6 @@
 //! Worked scaling lists, and the values that 7.3.4 and 7.4.5 give for their bits.
-use crate::{default_scaling_lists, read_scaling_list_data};
+use crate::{ParseError, default_scaling_lists, read_scaling_list_data};
 use hevc_bits::NaluReader;
-use hevc_elements::ParseError;
 use hevc_types_a::ScalingLists;
 
 /// Each kind of matrix at each size. `1 x y ..` is a matrix with coded entries and its differences, `0 d` one that is copied:

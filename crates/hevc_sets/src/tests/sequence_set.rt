@@ -1,22 +1,13 @@
 //! Worked sets, each in a stream of its own.
 ghost use Rattle.std.specs.Prelude.{◌<◌, length};
 
-use crate::read_sps;
+use super::streams::{PICTURE_SET, SEQUENCE_SET};
+use crate::{ParseError, read_sps};
 use hevc_bits::{Nalu, NaluHeader};
-use hevc_elements::ParseError;
 use hevc_types_c::Sps;
 use std::alloc::Global;
 use std::process::Abort;
 use std::test::Fail;
-
-/// The set of a usual encoder: 16x16 luma samples, one sub-layer.
-const PLAIN: &[u8] = &[
-    0x00, 0x00, 0x01, 0x42, 0x01, 0x01, 0x01, 0x60, 0x00, 0x00, 0x03, 0x00, 0x90, 0x00, 0x00, 0x03,
-    0x00, 0x00, 0x03, 0x00, 0x3c, 0xa0, 0x88, 0x45, 0xe5, 0x5a, 0xbc, 0x20, 0x80,
-];
-
-/// A picture parameter set.
-const PICTURE_SET: &[u8] = &[0x00, 0x00, 0x01, 0x44, 0x01, 0xc0, 0x71, 0x80, 0x12];
 
 /// Row 2: eight sub-layers.
 const MANY_SUB_LAYERS: &[u8] = &[0x00, 0x00, 0x01, 0x42, 0x01, 0x0f, 0x80];
@@ -110,7 +101,7 @@ fn refusal(alloc: Global, stream: &[u8]) -> Option<ParseError>
 
 #[test]
 fn a_usual_set(rt: HostRuntime) -> Result<(), Fail> {
-    let sps = read(rt.alloc(), PLAIN)?;
+    let sps = read(rt.alloc(), SEQUENCE_SET)?;
     assert_eq!(rt; sps.ctb_size_y, 16);
     assert_eq!(rt; sps.pic_size_in_ctbs_y, 1);
     assert_eq!(rt; sps.max_tb_log2_size_y, 4);
@@ -189,7 +180,10 @@ fn refusals_name_their_rows(rt: HostRuntime) {
     assert_eq!(rt; refusal(alloc, LARGE_TRANSFORMS), at(5, 24));
     assert_eq!(rt; refusal(alloc, THREE_DIMENSIONS), at(5, 46));
     assert_eq!(rt; refusal(alloc, NO_PREDICTOR), at(10, 5));
-    assert_eq!(rt; refusal(alloc, &PLAIN[..25]), Some(ParseError::OutOfBits));
+    assert_eq!(rt;
+        refusal(alloc, &SEQUENCE_SET[..25]),
+        Some(ParseError::OutOfBits)
+    );
     assert_eq!(rt;
         refusal(alloc, PICTURE_SET),
         Some(ParseError::WrongNaluType)

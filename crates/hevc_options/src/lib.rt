@@ -1,4 +1,6 @@
-//! What may be set for decoding.
+//! What may be set for decoding by external means (8.1.2, 8.1.3).
+#![tactic(auto)]
+
 ghost use Rattle.std.specs.Prelude.{◌≡◌};
 ghost use Rattle.hevc_stream.specs.Options.{default_options};
 
@@ -12,7 +14,7 @@ pub struct Options {
 }
 
 impl Options {
-    ghost use Rattle.hevc_driver.specs.Options.{options_of};
+    ghost use Rattle.hevc_options.specs.Options.{options_of};
 
     /// CRA pictures are handled as such, and all sub-layers are wanted.
     pub fn new() -> Options

@@ -1,9 +1,9 @@
 //! Worked rows.
 ghost use Rattle.std.specs.Prelude.{◌<◌, length};
 
-use crate::{bits_between, read_reference_lists, read_reference_pictures};
+use crate::ParseError;
 use hevc_bits::NaluReader;
-use hevc_elements::ParseError;
+use hevc_slice_references::{bits_between, read_reference_lists, read_reference_pictures};
 use hevc_types_a::{Items, ShortTermRefPicSet};
 use hevc_types_c::Sps;
 use hevc_types_d::{Pps, SliceHeader};

@@ -1,7 +1,6 @@
 //! Worked sets, and the values that 7.3.7 and 7.4.8 give for their bits.
-use crate::read_short_term_set;
+use crate::{ParseError, read_short_term_set};
 use hevc_bits::NaluReader;
-use hevc_elements::ParseError;
 use hevc_types_a::ShortTermRefPicSet;
 
 /// Sixteen members before the picture: 000010001 | 1 | sixteen times 1 1.

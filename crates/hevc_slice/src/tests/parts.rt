@@ -1,9 +1,9 @@
 //! Worked parts.
 ghost use Rattle.std.specs.Prelude.{◌<◌, length};
 
-use crate::{ceil_log2, read_pred_weight_table, read_ref_pic_list_modification};
+use crate::ParseError;
 use hevc_bits::NaluReader;
-use hevc_elements::ParseError;
+use hevc_slice_parts::{ceil_log2, read_pred_weight_table, read_ref_pic_list_modification};
 use hevc_types_c::Sps;
 use std::alloc::Global;
 

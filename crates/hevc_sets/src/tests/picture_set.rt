@@ -1,19 +1,15 @@
 //! Worked sets, each in a stream of its own.
 ghost use Rattle.std.specs.Prelude.{◌<◌, length};
 
-use crate::read_pps;
+use super::streams::{PICTURE_SET, SEQUENCE_SET};
+use crate::{ParseError, default_scaling_lists, read_pps};
 use hevc_bits::{Nalu, NaluHeader};
-use hevc_elements::ParseError;
-use hevc_scaling::default_scaling_lists;
 use hevc_types_c::Sps;
 use hevc_types_d::Pps;
 use std::alloc::Global;
 use std::collections::BTreeMap;
 use std::process::Abort;
 use std::test::Fail;
-
-/// The set of a usual encoder.
-const PLAIN: &[u8] = &[0x00, 0x00, 0x01, 0x44, 0x01, 0xc0, 0x71, 0x80, 0x12];
 
 /// Three columns that are spread evenly.
 const EVEN: &[u8] = &[0x00, 0x00, 0x01, 0x44, 0x01, 0xc0, 0x71, 0x84, 0xf8, 0x48];
@@ -83,9 +79,6 @@ const FILTERED: &[u8] = &[
     0x00, 0x00, 0x01, 0x44, 0x01, 0xc0, 0x71, 0x81, 0xc3, 0x46, 0x2a, 0x80,
 ];
 
-/// A sequence parameter set.
-const SEQUENCE_SET: &[u8] = &[0x00, 0x00, 0x01, 0x42, 0x01, 0x01];
-
 /// A sequence set of ten blocks of 8x8 luma samples side by side, of 12 bits of luma, with up to six palette predictors.
 fn ten_blocks(alloc: Global) -> Sps {
     let mut sps = Sps::new(alloc);
@@ -140,7 +133,7 @@ fn refusal(alloc: Global, stream: &[u8]) -> Option<ParseError>
 
 #[test]
 fn a_usual_set(rt: HostRuntime) -> Result<(), Fail> {
-    let pps = read(rt.alloc(), Sps::new(rt.alloc()), PLAIN)?;
+    let pps = read(rt.alloc(), Sps::new(rt.alloc()), PICTURE_SET)?;
     assert!(rt; !pps.tiles_enabled_flag && pps.uniform_spacing_flag);
     assert_eq!(rt; pps.column_width_minus1, [0; 20]);
     assert_eq!(rt; pps.temporal_id, 0);
@@ -221,7 +214,10 @@ fn refusals_name_their_rows(rt: HostRuntime) -> Result<(), Fail> {
     assert_eq!(rt; refusal(alloc, SCALED_OFFSETS), at(12, 6));
     assert_eq!(rt; refusal(alloc, MANY_PREDICTORS), at(13, 7));
     assert_eq!(rt; refusal(alloc, OTHER_DEPTH), at(13, 9));
-    assert_eq!(rt; refusal(alloc, &PLAIN[..6]), Some(ParseError::OutOfBits));
+    assert_eq!(rt;
+        refusal(alloc, &PICTURE_SET[..6]),
+        Some(ParseError::OutOfBits)
+    );
     assert_eq!(rt;
         refusal(alloc, SEQUENCE_SET),
         Some(ParseError::WrongNaluType)
@@ -244,7 +240,7 @@ fn quantisers_by_the_depth_of_luma(rt: HostRuntime) -> Result<(), Fail> {
 fn a_sequence_set_that_is_not_kept(rt: HostRuntime) {
     let spses = BTreeMap::new(rt.alloc());
     assert_eq!(rt;
-        read_with(rt.alloc(), &spses, PLAIN).err(),
+        read_with(rt.alloc(), &spses, PICTURE_SET).err(),
         Some(ParseError::MissingSps(0))
     );
 }

@@ -1,21 +1,16 @@
 //! Worked headers, each in a stream of its own.
 ghost use Rattle.std.specs.Prelude.{◌<◌, length};
 
-use crate::{parse_pred_weight_table, read_slice_header};
+use super::streams::{NO_SET, P_SLICE, PICTURE_SET};
+use crate::{ParseError, parse_pred_weight_table};
 use hevc_bits::{Nalu, NaluHeader, NaluReader};
-use hevc_elements::ParseError;
+use hevc_slice_header::read_slice_header;
 use hevc_types_c::Sps;
 use hevc_types_d::{Pps, SliceHeader};
 use std::alloc::Global;
 use std::collections::BTreeMap;
 use std::process::Abort;
 use std::test::Fail;
-
-/// A P slice whose own short-term set has the picture four before it.
-const P4: &[u8] = &[0x00, 0x00, 0x01, 0x02, 0x01, 0xd2, 0x14, 0x97, 0x80];
-
-/// A short-term set that the sequence set should have, which has none.
-const NO_SET: &[u8] = &[0x00, 0x00, 0x01, 0x02, 0x01, 0xd8, 0x40, 0x80];
 
 /// An I slice of an IDR picture that names picture set 5.
 const OTHER_SET: &[u8] = &[0x00, 0x00, 0x01, 0x26, 0x01, 0x8d, 0x80];
@@ -34,13 +29,22 @@ const LONG_OFFSET: &[u8] = &[
     0x00, 0x00, 0x01, 0x26, 0x01, 0xae, 0x81, 0x04, 0x00, 0x00, 0x03, 0x00, 0x0c, 0x80,
 ];
 
-/// A picture set.
-const PICTURE_SET: &[u8] = &[0x00, 0x00, 0x01, 0x44, 0x01, 0xc0];
-
 /// A B slice with long-term pictures, an ordered list and weights.
 const BI_PREDICTED: &[u8] = &[
     0x00, 0x00, 0x01, 0x02, 0x01, 0xf0, 0x49, 0x74, 0xd3, 0x3e, 0xc4, 0xda, 0xe2, 0xcb, 0x02, 0x19,
     0x19, 0xe0, 0x80,
+];
+
+/// A P slice with two long-term pictures of its own and one of the sequence set's, an ordered list and weights:
+///
+/// - rows 1 to 11: 1 | 1 | 010 | 1001 | 0; row 12: 011 010, 1 1, 011 0, 010 1
+/// - rows 14 and 15: 010 011; rows 16 to 20: 0 1 00110, 0111 1 1 010, 1100 0 1 00100; row 21: 1
+/// - rows 24 and 25: 1 00100; row 27: 1, 10 00 11 01; row 29: 1; row 31: 011
+/// - row 32: 011 011, 0101, 1001; of place 0 010 011 1 00100, of place 1 00101 00110, of place 3 1 00111 011 1 00100 00101
+/// - rows 33 and 35: 010 00100; row 53: 1
+const PREDICTED: &[u8] = &[
+    0x00, 0x00, 0x01, 0x02, 0x01, 0xd4, 0x9a, 0xd9, 0x53, 0x4c, 0xfa, 0xc4, 0x99, 0x31, 0xb6, 0xda,
+    0xca, 0x72, 0x14, 0xd3, 0xb9, 0x0a, 0x89, 0x80,
 ];
 
 /// An I slice with 439 entry points.
@@ -131,6 +135,14 @@ fn weighted_set() -> Pps {
     pps
 }
 
+/// One whose P slices have weights in place of its B slices.
+fn weighted_p_set() -> Pps {
+    let mut pps = weighted_set();
+    pps.weighted_bipred_flag = false;
+    pps.weighted_pred_flag = true;
+    pps
+}
+
 /// A picture set whose slices have an entry point for each row of blocks.
 fn wavefront_set() -> Pps {
     let mut pps = Pps::new();
@@ -155,7 +167,7 @@ fn read(alloc: Global, sps: Sps, pps: Pps, stream: &[u8]) -> Result<SliceHeader,
 
 #[test]
 fn a_p_slice_has_its_own_set(rt: HostRuntime) -> Result<(), Fail> {
-    let h = read(rt.alloc(), sequence_set(rt.alloc()), Pps::new(), P4)?;
+    let h = read(rt.alloc(), sequence_set(rt.alloc()), Pps::new(), P_SLICE)?;
     assert!(rt; h.first_slice_segment_in_pic_flag && h.type_.is_p());
     assert_eq!(rt; h.pic_order_cnt_lsb, 4);
     assert_eq!(rt; h.num_pic_total_curr, 1);
@@ -186,7 +198,7 @@ fn refusals_name_the_row_or_the_set(rt: HostRuntime) {
     let mut pps = Pps::new();
     pps.seq_parameter_set_id = 3;
     assert_eq!(rt;
-        read(alloc, sequence_set(alloc), pps, P4).err(),
+        read(alloc, sequence_set(alloc), pps, P_SLICE).err(),
         Some(ParseError::MissingPps(0))
     );
 }
@@ -224,6 +236,84 @@ fn a_b_slice_has_pictures_lists_and_weights(rt: HostRuntime) -> Result<(), Fail>
     assert_eq!(rt; h.qp_delta, -3);
     assert_eq!(rt; h.header_bit_size, 120);
     Ok(())
+}
+
+#[test]
+fn a_p_slice_has_pictures_a_list_and_weights(rt: HostRuntime) -> Result<(), Fail> {
+    let h = read(
+        rt.alloc(),
+        referring_set(rt.alloc()),
+        weighted_p_set(),
+        PREDICTED,
+    )?;
+    assert!(rt; h.type_.is_p() && h.temporal_mvp_enabled_flag);
+    has_pictures(&rt, &h);
+    has_list(&rt, &h);
+    has_weights(&rt, &h);
+    assert_eq!(rt; h.five_minus_max_num_merge_cand, 1);
+    assert_eq!(rt; h.qp_delta, 2);
+    assert_eq!(rt; h.header_bit_size, 160);
+    assert_eq!(rt; h.n_emulation_prevention_bytes, 0);
+    Ok(())
+}
+
+/// The order count and the pictures of `PREDICTED`.
+fn has_pictures(rt: &impl Abort, h: &SliceHeader) {
+    assert_eq!(rt; h.pic_order_cnt_lsb, 9);
+    let set = &h.short_term_ref_pic_set;
+    assert_eq!(rt; (set.num_negative_pics, set.num_positive_pics), (2, 1));
+    let before = set.delta_poc_s0;
+    let after = set.delta_poc_s1;
+    assert_eq!(rt; (before[0], before[1], after[0]), (-1, -4, 2));
+    let used = set.used_by_curr_pic_s0;
+    assert!(rt; used[0] && !used[1] && set.used_by_curr_pic_s1[0]);
+    assert_eq!(rt; h.st_rps_bits, 16);
+    assert_eq!(rt; (h.num_long_term_sps, h.num_long_term_pics), (1, 2));
+    let lsbs = h.poc_lsb_lt;
+    assert_eq!(rt; (lsbs[0], lsbs[1], lsbs[2]), (3, 7, 12));
+    let used = h.used_by_curr_pic_lt;
+    assert!(rt; used[0] && used[1] && !used[2]);
+    let cycles = h.delta_poc_msb_cycle_lt;
+    assert_eq!(rt; (cycles[0], cycles[1], cycles[2]), (5, 1, 4));
+    assert_eq!(rt; h.num_pic_total_curr, 4);
+}
+
+/// Its one list, of four places.
+fn has_list(rt: &impl Abort, h: &SliceHeader) {
+    assert_eq!(rt;
+        (
+            h.num_ref_idx_l0_active_minus1,
+            h.num_ref_idx_l1_active_minus1
+        ),
+        (3, 0)
+    );
+    let m = &h.ref_pic_list_modification;
+    assert_eq!(rt; m.list_entry_l0(), [2, 0, 3, 1].as_slice());
+    assert!(rt; !m.ref_pic_list_modification_flag_l1);
+    assert!(rt; h.cabac_init_flag && !h.mvd_l1_zero_flag && h.collocated_from_l0_flag);
+    assert_eq!(rt; h.collocated_ref_idx, 2);
+}
+
+/// Its weights.
+fn has_weights(rt: &impl Abort, h: &SliceHeader) {
+    let t = &h.pred_weight_table;
+    assert_eq!(rt;
+        (t.luma_log2_weight_denom(), t.chroma_log2_weight_denom()),
+        (2, 1)
+    );
+    let luma = t.luma_weight_l0_flag();
+    assert!(rt; !luma[0] && luma[1] && !luma[2] && luma[3]);
+    let weights = t.delta_luma_weight_l0();
+    assert_eq!(rt; (weights[1], weights[3]), (-2, 0));
+    let offsets = t.luma_offset_l0();
+    assert_eq!(rt; (offsets[1], offsets[3]), (3, -3));
+    let chroma = t.chroma_weight_l0_flag();
+    assert!(rt; chroma[0] && !chroma[1] && !chroma[2] && chroma[3]);
+    let weights = t.delta_chroma_weight_l0();
+    assert!(rt; weights[0] == [1, 0] && weights[3] == [-1, 2]);
+    let offsets = t.delta_chroma_offset_l0();
+    assert!(rt; offsets[0] == [-1, 2] && offsets[3] == [0, -2]);
+    assert_eq!(rt; t.luma_weight_l1_flag(), [false; 15]);
 }
 
 #[test]

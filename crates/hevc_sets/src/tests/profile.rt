@@ -1,7 +1,6 @@
 //! Worked structures, and the values that 7.3.3 gives for their bits.
-use crate::read_profile_tier_level;
+use crate::{ParseError, read_profile_tier_level};
 use hevc_bits::NaluReader;
-use hevc_elements::ParseError;
 use hevc_types_a::{Level, ProfileTierLevel};
 
 /// A stream of the range extensions' profile with a sub-layer of the Main 10 profile below its highest; a byte more stands behind it:

@@ -1,23 +1,14 @@
 //! Worked sets, each in a stream of its own.
 ghost use Rattle.std.specs.Prelude.{◌<◌, length};
 
-use crate::read_vps;
+use super::streams::{PICTURE_SET, VIDEO_SET};
+use crate::{ParseError, read_vps};
 use hevc_bits::{Nalu, NaluHeader};
-use hevc_elements::ParseError;
 use hevc_types_a::Level;
 use hevc_types_b::Vps;
 use std::alloc::Global;
 use std::process::Abort;
 use std::test::Fail;
-
-/// The set of a usual encoder: one sub-layer, no timing.
-const PLAIN: &[u8] = &[
-    0x00, 0x00, 0x01, 0x40, 0x01, 0x0c, 0x01, 0xff, 0xff, 0x01, 0x60, 0x00, 0x00, 0x03, 0x00, 0x90,
-    0x00, 0x00, 0x03, 0x00, 0x00, 0x03, 0x00, 0x3c, 0x95, 0x40, 0x90,
-];
-
-/// A picture parameter set.
-const PICTURE_SET: &[u8] = &[0x00, 0x00, 0x01, 0x44, 0x01, 0xc0, 0x71, 0x80, 0x12];
 
 /// Rows 1 to 25 of table 1: two sub-layers of their own numbers, three layer sets of two layers, a clock, and three structures of
 /// timing, of which the second has the common elements of the first.
@@ -76,7 +67,7 @@ fn refusal(alloc: Global, stream: &[u8]) -> Option<ParseError>
 
 #[test]
 fn a_usual_set(rt: HostRuntime) -> Result<(), Fail> {
-    let vps = read(rt.alloc(), PLAIN)?;
+    let vps = read(rt.alloc(), VIDEO_SET)?;
     assert_eq!(rt; vps.video_parameter_set_id, 0);
     assert_eq!(rt; vps.max_sub_layers_minus1, 0);
     assert_eq!(rt; vps.max_dec_pic_buffering_minus1, [4, 0, 0, 0, 0, 0, 0]);
@@ -134,7 +125,10 @@ fn refusals_name_their_rows(rt: HostRuntime) {
     assert_eq!(rt; refusal(alloc, FALLING), at(12));
     assert_eq!(rt; refusal(alloc, FALLING_REORDERING), at(13));
     assert_eq!(rt; refusal(alloc, TOO_MANY), at(21));
-    assert_eq!(rt; refusal(alloc, &PLAIN[..20]), Some(ParseError::OutOfBits));
+    assert_eq!(rt;
+        refusal(alloc, &VIDEO_SET[..20]),
+        Some(ParseError::OutOfBits)
+    );
     assert_eq!(rt;
         refusal(alloc, PICTURE_SET),
         Some(ParseError::WrongNaluType)
