@@ -16,6 +16,7 @@ use std::alloc::{AllocError, Global};
 use std::collections::VecDeque;
 
 /// A backend, and what stands between two calls of it.
+#[derive(Drop)]
 pub struct Driver<B: StatelessH265DecoderBackend> {
     pub backend: B,
     pub walk: Walk<B::Handle, B::Picture>,
