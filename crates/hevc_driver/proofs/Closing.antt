@@ -1,5 +1,5 @@
 -- The picture whose slices came is over, and all that waits is output.
-use Rattle.std.proofs.Common.{◌≡◌, ◌⊎◌, inl, inr, ℕ, List, [], ◌∷◌, ◌++◌, refl, sym, ◌∙◌, ap, subst, Result, Ok, Err, Bool, true, false}
+use Rattle.std.proofs.Common.{◌≡◌, ℕ, ◌++◌, refl, ap, Result, Err, false}
 use Rattle.std.specs.Result.{IsErrAnd}
 use Rattle.std.proofs.lemmas.Result.{err_from_is_err_and}
 use Rattle.hevc_walk.specs.Buffer.{draining}
@@ -8,9 +8,9 @@ use Rattle.hevc_walk.specs.Walk.{Event, Called, Part, output_by}
 use Rattle.hevc_walk_units.specs.Units.{Standing, on_store, finish_current, is_full_now}
 use Rattle.hevc_driver.specs.declared.decode_error.DecodeError.{DecodeError}
 use Rattle.hevc_driver.specs.declared.decode_error.DecodeError.TheVariants as errors
-use Rattle.hevc_driver.specs.Does.{Traces, Does, Stops, Completes}
+use Rattle.hevc_driver.specs.Does.{Traces, Stops, Completes}
 use Rattle.hevc_driver.specs.Moments.{closes, given_up}
-use Rattle.hevc_driver.specs.Takes.{Fills, Finishes, LeftUnsubmitted, Closes}
+use Rattle.hevc_driver.specs.Takes.{Finishes, LeftUnsubmitted, Closes}
 use Rattle.hevc_driver.proofs.Doing.{completes_then, stops_as, stops_more}
 
 pub close_refused : {H T : Type 0} (r : Result T DecodeError) (e : DecodeError) (t : ℕ) (a b : Traces H) (s st : Standing) → IsErrAnd r (λ y. y ≡ e) → Finishes {H = H} {T = T} (Err e) t a b s st → Closes r t a b s st

@@ -1,21 +1,19 @@
 -- A later slice of the current picture.
-use Rattle.std.proofs.Common.{◌≡◌, ◌⊎◌, inl, inr, ℕ, List, [], ◌∷◌, ◌++◌, refl, sym, ◌∙◌, ap, subst, Option, Some, None, Result, Ok, Err, Bool, true, false, if◌then◌else◌}
+use Rattle.std.proofs.Common.{◌≡◌, ℕ, [], ◌∷◌, sym, ◌∙◌, ap, subst, Option, None, Result, Err, Bool, true, if◌then◌else◌}
 use Rattle.std.specs.Prelude.{is_some}
 use Rattle.std.specs.Result.{IsErrAnd}
 use Rattle.std.proofs.lemmas.Result.{err_from_is_err_and}
 use Rattle.hevc_backend.specs.declared.error.BackendError.{BackendError}
 use Rattle.hevc_backend.specs.declared.error.BackendError.TheVariants.{Failed, NoMemory}
 use Rattle.hevc_backend.specs.declared.call.Call.{Call}
-use Rattle.hevc_backend.specs.declared.call.Call.TheVariants as code
 use Rattle.hevc_backend.specs.Trait.{logged}
 use Rattle.hevc_walk.specs.Meanings.{Slice}
 use Rattle.hevc_walk.specs.Pictures.{Head}
 use Rattle.hevc_walk.specs.ReferenceSets.{RefPicSet}
-use Rattle.hevc_walk.specs.ReferenceLists.{ref_pic_list0, ref_pic_list1}
 use Rattle.hevc_walk.specs.Walk as walk
 use Rattle.hevc_walk.specs.Walk.{Event, Called, Part, nothing, call, slice_call, is_decoded}
 use Rattle.hevc_walk.specs.Refusals.{Cause}
-use Rattle.hevc_walk_units.specs.Units.{Standing, Current, NoPicture, SkippedPicture, OpenPicture, later_slice, decode_slice, changed_by, refusal_of_later}
+use Rattle.hevc_walk_units.specs.Units.{Standing, Current, OpenPicture, later_slice, decode_slice, changed_by, refusal_of_later}
 use Rattle.hevc_driver.specs.declared.decode_error.DecodeError.{DecodeError}
 use Rattle.hevc_driver.specs.Errors.{backend_error}
 use Rattle.hevc_driver.specs.Does.{Traces, Does, Stops, Completes}

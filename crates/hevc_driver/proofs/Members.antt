@@ -1,5 +1,5 @@
 -- Members of joined lists.
-use Rattle.std.proofs.Common.{◌≡◌, ◌⊎◌, inl, inr, ⊎_elim, List, [], ◌∷◌, ◌++◌, subst, arith}
+use Rattle.std.proofs.Common.{◌⊎◌, inl, inr, ⊎_elim, List, [], ◌∷◌, ◌++◌, subst, arith}
 use Rattle.std.specs.Prelude.{Contains}
 use Rattle.hevc_dpb.proofs.Members.{contains_first, contains_later, contains_cases}
 

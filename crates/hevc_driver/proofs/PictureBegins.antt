@@ -1,11 +1,8 @@
 -- A picture begins.
-use Rattle.std.proofs.Common.{◌≡◌, ℕ, ℤ, arith, List, [], ◌∷◌, ◌++◌, map, length, refl, sym, ◌∙◌, ap, subst, append_assoc, Option, Some, None, Result, Ok, Err, Bool, true, false, not, ◌&&◌, if◌then◌else◌}
+use Rattle.std.proofs.Common.{◌≡◌, ℕ, arith, List, [], ◌∷◌, ◌++◌, map, refl, sym, ◌∙◌, ap, subst, append_assoc, Some, None, Result, Ok, Err, Bool, true, false, not, ◌&&◌, if◌then◌else◌}
 use Rattle.std.specs.Result.{IsErrAnd}
 use Rattle.std.proofs.lemmas.Result.{err_from_is_err_and}
 use Rattle.hevc_dpb.specs.declared.dpb.Dpb.{Dpb}
-use Rattle.hevc_backend.specs.declared.call.Call.{Call}
-use Rattle.hevc_backend.specs.declared.call.Call.TheVariants as code
-use Rattle.hevc_backend.specs.Trait.{logged}
 use Rattle.hevc_dpb.specs.Entries.{tickets}
 use Rattle.hevc_dpb.specs.Views.{stored_entries, buffer_of}
 use Rattle.std.specs.declared.collections.VecDeque.{VecDeque}
@@ -13,23 +10,20 @@ use Rattle.hevc_dpb.specs.Entries.{IsPartOf}
 use Rattle.hevc_bumping.specs.declared.frame.Frame.{Frame}
 use Rattle.hevc_bumping.specs.Bumps.{Bumps}
 use Rattle.std.specs.Prelude.{Contains}
-use Rattle.hevc_driver.specs.Calls.{submissions}
 use Rattle.hevc_walk.specs.Meanings.{Format, Slice}
 use Rattle.hevc_walk.specs.Pictures.{Head, Context, head, order_count_in_range}
 use Rattle.hevc_walk.specs.Refusals.{PocOutOfRange, refusal_of_picture}
-use Rattle.hevc_walk.specs.Buffer.{Buffer, Bumped, bumping, draining, needs_bumping}
+use Rattle.hevc_walk.specs.Buffer.{Buffer, bumping, draining, needs_bumping}
 use Rattle.hevc_walk.specs.ReferenceSets.{RefPicSet, reference_set, with_marks}
-use Rattle.hevc_walk.specs.ReferenceLists.{ref_pic_list0, ref_pic_list1}
 use Rattle.hevc_walk.specs.Walk as walk
 use Rattle.hevc_walk.specs.Walk.{Event, Called, Output, Part, ◌>>=◌, nothing, call, output_of, make_room, needed_entries, is_decoded, Store, output_by, open_sequence, begin_picture, start_decoding, is_accepted, change_format}
 use Rattle.hevc_walk_units.specs.Units.{Standing, Current, NoPicture, SkippedPicture, OpenPicture, on_store, context_behind, current_of, decode_current, open_picture, decode_slice, begin_slice}
 use Rattle.hevc_driver.specs.declared.decode_error.DecodeError.{DecodeError}
 use Rattle.hevc_driver.specs.declared.decode_error.DecodeError.TheVariants as errors
-use Rattle.hevc_driver.specs.Calls.{call_of, IsTimed}
 use Rattle.hevc_driver.specs.Moments.{given_up, drained, renegotiates, starts, enters, hands_over, room_of, new_call, begin_call}
-use Rattle.hevc_driver.specs.Does.{Traces, Does, Stops, StopsBy, Completes, Runs}
+use Rattle.hevc_driver.specs.Does.{Traces, Stops, StopsBy, Completes, Runs}
 use Rattle.hevc_driver.specs.Takes.{LeftStarted, Starts, IsNewSequence, LeftBegun, Begins}
-use Rattle.hevc_driver.proofs.Doing.{runs_behind, does_nothing, does_call, does_bump, does_then, stops_at, stops_then, stops_more, stops_as, keeps_all, keeps_more}
+use Rattle.hevc_driver.proofs.Doing.{runs_behind, does_nothing, does_bump, does_then, stops_more, stops_as, keeps_all}
 use Rattle.hevc_driver.proofs.Storing.{not_skipped}
 
 -- the standing with another buffer

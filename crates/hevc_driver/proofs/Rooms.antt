@@ -1,10 +1,10 @@
 -- What a reference picture set names is stored behind the marks that it leaves, and behind the pictures that leave (8.3.2, C.5.2.2).
-use Rattle.std.proofs.Common.{◌≡◌, ℕ, suc, length, Bool, true, false, not, ◌||◌, ◌&&◌, ◌==◌, List, [], ◌∷◌, ◌++◌, map, filter, refl, sym, ap, ◌∙◌, subst, Option, Some, None, if◌then◌else◌}
+use Rattle.std.proofs.Common.{◌≡◌, ℕ, suc, length, Bool, true, false, not, ◌||◌, ◌&&◌, ◌==◌, List, [], ◌∷◌, ◌++◌, map, filter, refl, sym, ap, ◌∙◌, subst, Option, None, if◌then◌else◌}
 use Rattle.hevc_spec.specs.UnitTypes.{is_idr}
 use Rattle.hevc_walk.specs.Meanings.{Slice, ShortTermMember, LongTermMember, ShortTermRefPicSet}
 use Rattle.hevc_walk.specs.Pictures.{Head}
 use Rattle.hevc_walk.specs.Buffer.{Buffer, Entry, is_reference, is_needed, left_of, has_number, after_output, due_outputs, needs_bumping, in_output_order, placed}
-use Rattle.hevc_walk.specs.ReferenceSets.{RefPicSet, no_references, names, all_members, first_number, reference_set, references_before, unmarked, long_term_entry, long_term_if, short_term_entry, short_term_set, with_long_term, with_marks, five_lists, is_curr_short_term, is_curr_long_term}
+use Rattle.hevc_walk.specs.ReferenceSets.{RefPicSet, no_references, names, all_members, reference_set, references_before, unmarked, long_term_entry, long_term_if, short_term_entry, short_term_set, with_long_term, five_lists, is_curr_short_term, is_curr_long_term}
 use Rattle.hevc_walk.specs.Walk.{Store, make_room, needed_entries}
 use Rattle.hevc_dpb.specs.declared.entry.DpbEntry.{DpbEntry}
 use Rattle.hevc_dpb.specs.Entries as dpb

@@ -1,12 +1,11 @@
 -- What slices stand for.
-use Rattle.std.proofs.Common.{◌≡◌, ℕ, ℤ, length, ◌&&◌, Some, None, to_z, of_z, w32, pos, zero, suc, ◌+◌, ◌-◌, ◌<◌, ◌≤◌, ◌^◌, ◌==◌, Bool, true, false, List, [], ◌∷◌, map, get_or, refl, sym, ap, ◌∙◌, subst, arith, if◌then◌else◌, Result, Ok, Err}
+use Rattle.std.proofs.Common.{◌≡◌, ℕ, ℤ, length, ◌&&◌, Some, None, to_z, of_z, w32, pos, zero, suc, ◌+◌, ◌≤◌, ◌^◌, ◌==◌, Bool, true, false, List, [], ◌∷◌, map, get_or, refl, sym, ap, ◌∙◌, subst, arith, if◌then◌else◌, Result, Ok, Err}
 use Rattle.std.specs.Prelude.{nat_le, IsErr, OnOk, is_ok}
 use Rattle.std.proofs.lemmas.Bool.Decides.{nat_tests}
 use Rattle.std.proofs.lemmas.Int.{ints}
 use Rattle.hevc_pictures.proofs.Powers.{power_most}
 use Rattle.hevc_spec.specs.UnitHeader.{UnitHeader, HeaderFault, unit_header, checked_header, header_fields}
-use Rattle.hevc_records.specs.Pps.{PlainPps, default_pps}
-use Rattle.hevc_records.specs.ShortTermRefPicSet.{PlainShortTermRefPicSet}
+use Rattle.hevc_records.specs.Pps.{PlainPps}
 use Rattle.hevc_bits.specs.FoundUnit.{FoundUnit, bytes_of}
 use Rattle.hevc_bits.specs.ParsedHeader.{parsed_header, answer_of}
 use Rattle.hevc_types_a.specs.declared.short_term_ref_pic_set.ShortTermRefPicSet.{ShortTermRefPicSet}

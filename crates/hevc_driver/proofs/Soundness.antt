@@ -24,7 +24,6 @@ use Rattle.hevc_dpb.specs.declared.entry.DpbEntry.{DpbEntry}
 use Rattle.hevc_dpb.specs.Entries.{IsPartOf, numbers, ticket, tickets}
 use Rattle.hevc_dpb.specs.Plain.{HaveLatency}
 use Rattle.hevc_dpb.specs.Views.{stored_entries, max_num_pics_of, buffer_of}
-use Rattle.hevc_refs.specs.declared.ref_pic_set.RefPicSet.{RefPicSet}
 use Rattle.hevc_backend.specs.declared.call.Call.{Call}
 use Rattle.hevc_backend.specs.declared.negotiation.NegotiationInfo.{NegotiationInfo}
 use Rattle.hevc_backend.specs.Negotiation.{format_of}
@@ -35,7 +34,7 @@ use Rattle.hevc_driver.specs.declared.current.Current.{Current}
 use Rattle.hevc_driver.specs.declared.current.Current.TheVariants.{NoPicture, Skipped, Opened}
 use Rattle.hevc_driver.specs.declared.walk.Walk.{Walk}
 use Rattle.hevc_driver.specs.Standings.{current_of}
-use Rattle.hevc_driver.specs.Sound.{AreBelow, IsAccepted, IsLatest, Fits, IsNewest, IsOpenNewest, IsSound, Leaves}
+use Rattle.hevc_driver.specs.Sound.{AreBelow, IsAccepted, IsLatest, Fits, IsOpenNewest, IsSound, Leaves}
 
 -- ---- no picture is open
 

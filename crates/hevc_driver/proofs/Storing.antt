@@ -1,5 +1,5 @@
 -- A picture is over.
-use Rattle.std.proofs.Common.{◌≡◌, ℕ, ℤ, ◌≤◌, arith, List, [], ◌∷◌, ◌++◌, map, length, refl, sym, ◌∙◌, ap, subst, Option, Some, None, Result, Ok, Err, Bool, true, false, not, ◌&&◌}
+use Rattle.std.proofs.Common.{◌≡◌, ℕ, ◌≤◌, arith, [], ◌∷◌, ◌++◌, map, length, refl, sym, ◌∙◌, ap, subst, Some, None, Result, Ok, Err, Bool, true, false, not, ◌&&◌}
 use Rattle.std.specs.Prelude.{nat_le, IsErr}
 use Rattle.std.proofs.lemmas.Bool.Decides.{nat_tests}
 use Rattle.std.specs.Result.{IsErrAnd}
@@ -7,30 +7,26 @@ use Rattle.std.proofs.lemmas.Result.{err_from_is_err_and}
 use Rattle.hevc_backend.specs.declared.error.BackendError.{BackendError}
 use Rattle.hevc_backend.specs.declared.error.BackendError.TheVariants.{Failed, NoMemory}
 use Rattle.hevc_dpb.specs.declared.dpb.Dpb.{Dpb}
-use Rattle.hevc_backend.specs.declared.call.Call.{Call}
 use Rattle.hevc_backend.specs.declared.call.Call.TheVariants as code
 use Rattle.hevc_backend.specs.Trait.{logged}
-use Rattle.std.specs.Prelude.{Contains}
 use Rattle.hevc_dpb.specs.Entries.{tickets}
 use Rattle.hevc_dpb.specs.Views.{stored_entries, buffer_of}
 use Rattle.std.specs.declared.collections.VecDeque.{VecDeque}
-use Rattle.hevc_dpb.specs.Entries.{IsPartOf}
 use Rattle.hevc_bumping.specs.declared.frame.Frame.{Frame}
 use Rattle.hevc_bumping.specs.Bumps.{Bumps}
-use Rattle.hevc_walk.specs.Meanings.{Format}
 use Rattle.hevc_walk.specs.Pictures.{Head, order_count_in_range}
-use Rattle.hevc_walk.specs.Buffer.{Buffer, Bumped, bumping, needs_additional_bumping, with_stored}
+use Rattle.hevc_walk.specs.Buffer.{Buffer, bumping, needs_additional_bumping, with_stored}
 use Rattle.hevc_walk.specs.ReferenceSets.{RefPicSet}
 use Rattle.hevc_walk.specs.Walk as walk
 use Rattle.hevc_walk.specs.Walk.{Event, Called, Output, Part, output_of, finish, store_picture, is_decoded, is_full, accepted_size, Store}
-use Rattle.hevc_walk_units.specs.Units.{Standing, NoPicture, SkippedPicture, OpenPicture, Current, open_head, finish_current, tid0_behind, is_full_now}
+use Rattle.hevc_walk_units.specs.Units.{Standing, NoPicture, OpenPicture, Current, open_head, finish_current, tid0_behind, is_full_now}
 use Rattle.hevc_driver.specs.declared.decode_error.DecodeError.{DecodeError}
 use Rattle.hevc_driver.specs.declared.decode_error.DecodeError.TheVariants as errors
 use Rattle.hevc_driver.specs.Errors.{backend_error}
-use Rattle.hevc_driver.specs.Does.{Traces, Does, Stops, Completes}
-use Rattle.hevc_driver.specs.Moments.{given_up, not_stored}
-use Rattle.hevc_driver.specs.Takes.{Fills, Finishes, LeftUnsubmitted}
-use Rattle.hevc_driver.proofs.Doing.{does_nothing, does_call, does_bump, does_then, stops_at, stops_as, keeps_all, keeps_more}
+use Rattle.hevc_driver.specs.Does.{Traces, Stops, Completes}
+use Rattle.hevc_driver.specs.Moments.{given_up}
+use Rattle.hevc_driver.specs.Takes.{Finishes, LeftUnsubmitted}
+use Rattle.hevc_driver.proofs.Doing.{does_nothing, does_call, does_bump, does_then, stops_at, keeps_all, keeps_more}
 
 both_true : (a b : Bool) → a && not b ≡ true → b ≡ false
 both_true a true e = absurd (cc (sym e ∙ false_there a))

@@ -1,20 +1,20 @@
 -- A slice as a whole.
-use Rattle.std.proofs.Common.{◌≡◌, ◌⊎◌, inl, inr, ℕ, List, [], ◌∷◌, ◌++◌, refl, sym, ◌∙◌, ap, subst, append_assoc, Option, Some, None, Result, Ok, Err, Bool, true, false, not, ◌&&◌, if◌then◌else◌}
+use Rattle.std.proofs.Common.{◌≡◌, inl, inr, ℕ, [], ◌++◌, refl, sym, ◌∙◌, ap, subst, Option, Some, None, Result, Ok, Err, Bool, true, false, not, ◌&&◌, if◌then◌else◌}
 use Rattle.std.specs.Prelude.{is_some}
 use Rattle.std.proofs.lemmas.List.{append-nil}
 use Rattle.hevc_walk.specs.Meanings.{Format, Slice, Meaning, CodedSlice}
 use Rattle.hevc_walk.specs.DependentSlices.{whole_slice}
-use Rattle.hevc_walk.specs.Pictures.{Head, head, order_count_in_range}
+use Rattle.hevc_walk.specs.Pictures.{Head, head}
 use Rattle.hevc_walk.specs.Walk as walk
 use Rattle.hevc_walk.specs.Walk.{Event, Called, Part, ◌>>=◌, nothing, call, slice_call, Store, is_decoded, is_accepted, finish, store_picture, change_format, begin_picture}
 use Rattle.hevc_walk.specs.Refusals.{Cause, NoIndependentSlice, PocOutOfRange, ChangedMidPicture, refusal_of_picture}
-use Rattle.hevc_walk_units.specs.Units.{Standing, Current, NoPicture, SkippedPicture, OpenPicture, on_store, finish_current, open_head, begin_slice, first_slice, later_slice, slice_part, whole_part, decode_slice, decode_current, begins_picture, refusal_of_later, refusal_of_slice, refusal_of_whole, refusal_at, is_full_now, is_full_at, fills_by}
+use Rattle.hevc_walk_units.specs.Units.{Standing, Current, NoPicture, SkippedPicture, OpenPicture, on_store, finish_current, open_head, begin_slice, first_slice, later_slice, whole_part, decode_slice, decode_current, begins_picture, refusal_of_later, refusal_of_whole, refusal_at, is_full_now, is_full_at, fills_by}
 use Rattle.hevc_driver.specs.declared.decode_error.DecodeError.{DecodeError}
 use Rattle.hevc_driver.specs.declared.decode_error.DecodeError.TheVariants as errors
 use Rattle.hevc_backend.specs.Negotiation.{format_of}
 use Rattle.hevc_driver.specs.Does.{Traces, Does, Stops, Completes}
-use Rattle.hevc_driver.specs.Moments.{given_up, with_kept, starts, begins_at, begins_by, negotiates, negotiates_by, opening, opening_by, step_part, left_at, left_by, drained}
-use Rattle.hevc_driver.specs.Takes.{Goes, Opens, Fills, Halts, Spends, Refuses, Stays, Takes, Follows, Changes, BeginsBehind, IsRefused, Finishes, Begins, LeftStarted, LeftBegun, LeftUnsubmitted, Changed}
+use Rattle.hevc_driver.specs.Moments.{given_up, with_kept, begins_at, begins_by, negotiates, negotiates_by, opening, opening_by, step_part, left_at}
+use Rattle.hevc_driver.specs.Takes.{Fills, Halts, Refuses, Takes, Follows, Changes, IsRefused, Finishes, Begins, LeftStarted, LeftBegun, LeftUnsubmitted, Changed}
 use Rattle.hevc_driver.proofs.Doing.{does_nothing, does_then, stops_as, stops_then, stops_more, keeps_all}
 use Rattle.hevc_driver.proofs.PictureBegins.{begin_accepted, starts_nothing}
 

@@ -1,5 +1,5 @@
 -- What answers tell of the backend.
-use Rattle.std.specs.Prelude.{ℕ, ◌≡◌, Result, Ok, Err}
+use Rattle.std.specs.Prelude.{◌≡◌, Result, Ok, Err}
 use Rattle.hevc_backend.specs.Trait.{Counts, Counted}
 use Rattle.hevc_driver.specs.declared.decode_error.DecodeError.{DecodeError}
 use Rattle.hevc_driver.specs.declared.decode_error.DecodeError.TheVariants.{Backend, NotEnoughOutputBuffers}

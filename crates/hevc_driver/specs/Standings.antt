@@ -1,5 +1,5 @@
 -- What stands between two calls, as the walk over units has it.
-use Rattle.std.specs.Prelude.{ℕ, List, option_map, Option}
+use Rattle.std.specs.Prelude.{List, option_map, Option}
 use Rattle.hevc_walk_units.specs.Units as units
 use Rattle.hevc_walk_units.specs.Units.{Standing}
 use Rattle.hevc_dpb.specs.Entries.{tickets}

@@ -1,5 +1,5 @@
 -- What the driver does with a unit, by its answer.
-use Rattle.std.specs.Prelude.{◌≡◌, Bool, ◌⊎◌, ℕ, ◌+◌, ◌-◌, ◌^◌, true, false, List, [], ◌∷◌, Option, Some, None, Result, Ok, Err}
+use Rattle.std.specs.Prelude.{◌≡◌, ◌⊎◌, ℕ, ◌-◌, ◌^◌, true, false, List, [], ◌∷◌, Option, Some, None, Result, Ok, Err}
 use Rattle.hevc_walk.specs.Meanings.{Format, Slice, Meaning}
 use Rattle.hevc_walk.specs.Pictures.{head}
 use Rattle.hevc_walk.specs.Walk as walk

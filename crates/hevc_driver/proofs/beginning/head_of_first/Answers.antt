@@ -1,10 +1,8 @@
-use Rattle.std.proofs.Common.{◌≡◌, Bool, true, false, ◌&&◌, refl, ap, sym, ◌∙◌, subst, Ok, Some}
+use Rattle.std.proofs.Common.{◌&&◌, refl, ap, sym, ◌∙◌, Ok}
 use Rattle.hevc_records.specs.Pps.{default_pps}
-use Rattle.hevc_bits.specs.NaluType.{nalu_type_number}
 use Rattle.hevc_spec.specs.UnitTypes.{is_rasl}
-use Rattle.hevc_walk.specs.Pictures.{head, order_count_in_range}
 use Rattle.hevc_backend.specs.Negotiation.{format_of}
-use Rattle.hevc_driver.specs.Heads.{head_of, context_of, tid0_count}
+use Rattle.hevc_driver.specs.Heads.{context_of, tid0_count}
 use Rattle.hevc_options.specs.Options.{options_of}
 use Rattle.hevc_driver.specs.Slices.{slice_of}
 use Rattle.hevc_driver.proofs.HeadViews.{same_head, prior_starts, not_refused, refused_as, from_lsb}

@@ -1,4 +1,4 @@
-use Rattle.std.proofs.Common.{◌≡◌, refl, ap, sym, ◌∙◌, true, if◌then◌else◌, Bool, Some, None}
+use Rattle.std.proofs.Common.{◌≡◌, ap, sym, ◌∙◌, true, if◌then◌else◌, Bool, Some, None}
 use Rattle.std.specs.Prelude.{option_map, Option, IsErr}
 use Rattle.hevc_records.specs.SliceHeader.{completed_header}
 use Rattle.hevc_types_d.specs.declared.slice_header.SliceHeader.{SliceHeader}

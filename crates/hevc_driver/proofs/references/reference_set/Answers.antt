@@ -1,6 +1,5 @@
-use Rattle.std.proofs.Common.{◌≡◌, ◌+◌, ◌^◌, pos, to_z, of_z, w32, true, refl, ap, sym, ◌∙◌, subst}
+use Rattle.std.proofs.Common.{ap, ◌∙◌}
 use Rattle.hevc_records.specs.Pps.{default_pps}
-use Rattle.hevc_types_c.specs.Sps.{plain_sps}
 use Rattle.hevc_stream.specs.Options.{default_options}
 use Rattle.hevc_walk.specs.ReferenceSets.{names, all_members}
 use Rattle.hevc_dpb.specs.Views.{buffer_of}

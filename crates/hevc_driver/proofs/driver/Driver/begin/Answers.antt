@@ -1,4 +1,4 @@
-use Rattle.std.proofs.Common.{refl, ◌≡◌, ap, arith, sym, ◌∙◌, subst}
+use Rattle.std.proofs.Common.{◌≡◌, ap, sym, ◌∙◌, subst}
 use Rattle.std.specs.Prelude.{option_map, Option, List}
 use Rattle.hevc_backend.specs.declared.call.Call.{Call}
 use Rattle.hevc_backend.specs.Trait.{Counts}
@@ -6,8 +6,6 @@ use Rattle.hevc_driver.specs.Answers.{CountsErrors}
 use Rattle.hevc_driver.specs.Does.{Completes, StopsBy}
 use Rattle.hevc_driver.specs.Moments.{renegotiates, drained}
 use Rattle.hevc_driver.specs.Takes.{Begins, IsNewSequence}
-use Rattle.hevc_types_c.specs.Sps.{plain_sps}
-use Rattle.hevc_views.specs.Sequences.{format_of_set}
 use Rattle.hevc_walk.specs.Meanings.{Format}
 use Rattle.hevc_walk.specs.Walk.{is_accepted}
 use Rattle.hevc_backend.specs.Negotiation.{format_of}

@@ -1,5 +1,5 @@
-use Rattle.std.proofs.Common.{refl, ◌≡◌, ap, sym, subst, inl, inr}
-use Rattle.hevc_walk_units.specs.Units.{Standing, finish_current}
+use Rattle.std.proofs.Common.{ap, subst, inl}
+use Rattle.hevc_walk_units.specs.Units.{Standing}
 use Rattle.hevc_driver.specs.Slices.{slice_of}
 use Rattle.hevc_driver.specs.Standings.{standing, traces}
 use Rattle.hevc_driver.specs.Takes.{Begins}

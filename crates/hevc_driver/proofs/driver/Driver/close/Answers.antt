@@ -1,4 +1,4 @@
-use Rattle.std.proofs.Common.{refl, ◌≡◌, ap, sym, ◌∙◌, arith}
+use Rattle.std.proofs.Common.{ap, arith}
 use Rattle.hevc_walk_units.specs.Units.{Standing}
 use Rattle.hevc_driver.specs.declared.head.Next.{Next}
 use Rattle.hevc_driver.proofs.Closing.{close_refused, close_done}

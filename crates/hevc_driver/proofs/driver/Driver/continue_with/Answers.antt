@@ -1,4 +1,4 @@
-use Rattle.std.proofs.Common.{refl, ◌≡◌, ap, sym, ◌∙◌, subst, false, Some, None}
+use Rattle.std.proofs.Common.{refl, ap, sym, ◌∙◌, subst, false}
 use Rattle.std.specs.Prelude.{option_map}
 use Rattle.hevc_types_c.specs.Sps.{plain_sps}
 use Rattle.hevc_views.specs.Sequences.{format_of_set}
@@ -13,7 +13,7 @@ use Rattle.hevc_driver.specs.Heads.{head_of}
 use Rattle.hevc_driver.specs.Slices.{slice_of}
 use Rattle.hevc_backend.specs.Told.{BegunPicture}
 use Rattle.hevc_driver.specs.Takes.{Changed}
-use Rattle.hevc_driver.specs.Standings.{standing, traces}
+use Rattle.hevc_driver.specs.Standings.{standing}
 use Rattle.hevc_driver.proofs.Following.{followed, follow_stops, follow_changed}
 use Rattle.hevc_driver.proofs.SliceViews.{slice_format, slice_made}
 use Rattle.hevc_driver.proofs.Soundness.{both_told, accepted_sequence, unchanged_accepted}

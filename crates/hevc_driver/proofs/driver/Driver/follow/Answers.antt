@@ -1,4 +1,4 @@
-use Rattle.std.proofs.Common.{subst, refl, ◌≡◌, sym, ap, ◌∙◌}
+use Rattle.std.proofs.Common.{subst, refl, sym, ap, ◌∙◌}
 use Rattle.hevc_walk_units.specs.Units.{Current, NoPicture, SkippedPicture}
 use Rattle.hevc_driver.specs.Slices.{slice_of}
 use Rattle.hevc_driver.specs.Standings.{standing, traces, current_of}

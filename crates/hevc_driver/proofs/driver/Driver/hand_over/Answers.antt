@@ -1,6 +1,4 @@
-use Rattle.std.proofs.Common.{refl, ◌≡◌, sym, ap, ◌∙◌, subst, false, [], ◌∷◌}
-use Rattle.hevc_types_c.specs.Sps.{plain_sps}
-use Rattle.hevc_views.specs.Sequences.{format_of_set}
+use Rattle.std.proofs.Common.{refl, subst, false, [], ◌∷◌}
 use Rattle.hevc_walk.specs.Walk as walk
 use Rattle.hevc_refs.specs.Sets.{plain_set}
 use Rattle.hevc_backend.specs.Calls.{new_picture_call, begin_picture_call, decode_slice_call}
@@ -9,7 +7,7 @@ use Rattle.hevc_backend.proofs.NamedLaws.{list0_among, list1_among}
 use Rattle.hevc_driver.specs.Does.{Does}
 use Rattle.hevc_driver.specs.Heads.{head_of}
 use Rattle.hevc_driver.specs.Slices.{slice_of}
-use Rattle.hevc_driver.specs.Standings.{standing, traces}
+use Rattle.hevc_driver.specs.Standings.{traces}
 use Rattle.hevc_driver.specs.Moments.{new_call, begin_call}
 use Rattle.hevc_driver.proofs.Doing.{runs_stop, does_call, does_then, stops_at, stops_then, keeps_all, keeps_more}
 use Rattle.hevc_driver.proofs.SliceViews.{slice_made}

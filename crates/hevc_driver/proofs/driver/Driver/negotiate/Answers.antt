@@ -1,4 +1,4 @@
-use Rattle.std.proofs.Common.{refl, ◌≡◌, sym, ap, ◌∙◌, arith, []}
+use Rattle.std.proofs.Common.{ap, ◌∙◌, arith}
 use Rattle.hevc_types_c.specs.Sps.{plain_sps}
 use Rattle.hevc_views.specs.Sequences.{format_of_set}
 use Rattle.hevc_walk.specs.Buffer.{draining}

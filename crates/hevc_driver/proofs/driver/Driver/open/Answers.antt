@@ -1,9 +1,9 @@
-use Rattle.std.proofs.Common.{refl, ◌≡◌, arith, ap, ◌∙◌}
+use Rattle.std.proofs.Common.{arith, ap, ◌∙◌}
 use Rattle.std.specs.Prelude.{is_some}
 use Rattle.hevc_refs.specs.Sets.{plain_set}
 use Rattle.hevc_driver.specs.Heads.{head_of}
 use Rattle.hevc_driver.specs.Slices.{slice_of}
-use Rattle.hevc_driver.specs.Standings.{standing, traces}
+use Rattle.hevc_driver.specs.Standings.{standing}
 use Rattle.hevc_driver.proofs.PictureBegins.{opened}
 use Rattle.hevc_driver.proofs.Soundness.{below_part, is_negotiated, left_sound}
 use Rattle.hevc_driver.proofs.driver.Driver.open.Goals as goal

@@ -1,13 +1,11 @@
-use Rattle.std.proofs.Common.{refl, ◌≡◌, sym, ap, ◌∙◌, subst, arith, [], Some}
+use Rattle.std.proofs.Common.{refl, sym, ap, ◌∙◌, subst, arith, [], Some}
 use Rattle.hevc_types_c.specs.Sps.{plain_sps}
 use Rattle.hevc_views.specs.Sequences.{format_of_set}
 use Rattle.hevc_walk.specs.Buffer.{Buffer}
 use Rattle.hevc_walk.specs.Meanings.{Format}
 use Rattle.hevc_walk.specs.Walk as walk
-use Rattle.hevc_walk_units.specs.Units.{Standing}
 use Rattle.hevc_dpb.specs.Plain.{HaveLatency, plain_entries}
 use Rattle.hevc_dpb.specs.Entries.{tickets}
-use Rattle.hevc_dpb.specs.Views.{stored_entries}
 use Rattle.hevc_backend.specs.Calls.{new_sequence_call}
 use Rattle.hevc_backend.specs.Negotiation.{format_of}
 use Rattle.hevc_backend.proofs.ToldLaws.{told_call}

@@ -1,4 +1,4 @@
-use Rattle.std.proofs.Common.{refl, arith, sym, ◌∙◌, ap}
+use Rattle.std.proofs.Common.{refl, arith, ap}
 use Rattle.std.proofs.lemmas.List.{length-map}
 use Rattle.hevc_dpb.specs.Plain.{plain_entry, plain_entries}
 use Rattle.hevc_dpb.specs.Views.{stored_entries, buffer_of}

@@ -1,12 +1,12 @@
-use Rattle.std.proofs.Common.{refl, ◌≡◌, ap, arith, sym, ◌∙◌}
+use Rattle.std.proofs.Common.{refl, ap, arith}
 use Rattle.hevc_walk.specs.Pictures.{Context}
-use Rattle.hevc_walk_units.specs.Units.{Current, SkippedPicture}
+use Rattle.hevc_walk_units.specs.Units.{SkippedPicture}
 use Rattle.hevc_backend.proofs.ToldLaws.{told_same}
 use Rattle.hevc_driver.specs.Heads.{head_of}
 use Rattle.hevc_driver.specs.Slices.{slice_of}
-use Rattle.hevc_driver.specs.Standings.{standing, traces}
+use Rattle.hevc_driver.specs.Standings.{standing}
 use Rattle.hevc_driver.proofs.HeadViews.{decoded_is}
-use Rattle.hevc_driver.proofs.PictureBegins.{starts_at, skips_at, out_of_range, head_number}
+use Rattle.hevc_driver.proofs.PictureBegins.{skips_at, head_number}
 use Rattle.hevc_driver.proofs.Soundness.{below_part}
 use Rattle.hevc_driver.proofs.driver.Driver.start.Goals as goal
 

@@ -1,7 +1,7 @@
-use Rattle.std.proofs.Common.{refl, ◌≡◌, sym, ap, ◌∙◌, arith, length, subst, [], ◌∷◌}
+use Rattle.std.proofs.Common.{refl, sym, ap, ◌∙◌, arith}
 use Rattle.std.proofs.lemmas.List.{length-map}
 use Rattle.hevc_dpb.specs.Entries.{tickets}
-use Rattle.hevc_dpb.specs.Plain.{plain_entry, plain_entries}
+use Rattle.hevc_dpb.specs.Plain.{plain_entry}
 use Rattle.hevc_dpb.specs.Views.{stored_entries, buffer_of, max_num_pics_of}
 use Rattle.hevc_dpb.proofs.Members.{contains_later}
 use Rattle.hevc_bumping.specs.Bumps.{num_waiting}

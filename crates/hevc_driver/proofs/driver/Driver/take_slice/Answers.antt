@@ -1,7 +1,6 @@
-use Rattle.std.proofs.Common.{refl, ◌≡◌, ap, sym, ◌∙◌, subst, Option, Some, None, Bool, if◌then◌else◌}
-use Rattle.std.specs.Prelude.{option_map}
+use Rattle.std.proofs.Common.{refl, ap, sym, ◌∙◌, subst, Option, Some, None, Bool, if◌then◌else◌}
 use Rattle.hevc_walk.specs.DependentSlices.{KeptHeader}
-use Rattle.hevc_driver.specs.Slices.{slice_of, kept_of}
+use Rattle.hevc_driver.specs.Slices.{slice_of}
 use Rattle.hevc_driver.specs.Standings.{standing, traces}
 use Rattle.hevc_driver.specs.Takes.{Changes, Follows}
 use Rattle.hevc_driver.proofs.Taking.{takes_later, takes_first, lacks}

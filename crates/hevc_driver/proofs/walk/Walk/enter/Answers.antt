@@ -1,12 +1,9 @@
-use Rattle.std.proofs.Common.{◌≡◌, refl, ap, sym, ◌∙◌, subst, arith, true, length, None}
+use Rattle.std.proofs.Common.{ap, sym, ◌∙◌, subst, arith, None}
 use Rattle.std.specs.Prelude.{Contains}
 use Rattle.hevc_dpb.specs.Entries.{tickets}
-use Rattle.hevc_dpb.specs.Plain.{plain_entries}
 use Rattle.hevc_dpb.specs.Views.{stored_entries, buffer_of}
-use Rattle.hevc_walk.specs.Buffer.{Buffer}
 use Rattle.hevc_walk_marks.specs.Marked.{has_reference}
 use Rattle.hevc_walk_units.specs.Units.{Standing}
-use Rattle.hevc_bumping.specs.Bumps.{num_waiting}
 use Rattle.hevc_backend.proofs.NamedLaws.{set_among}
 use Rattle.hevc_driver.specs.Heads.{head_of, context_of}
 use Rattle.hevc_driver.specs.Slices.{slice_of}

@@ -1,9 +1,8 @@
-use Rattle.std.proofs.Common.{refl, ◌≡◌, sym, ap, ◌∙◌, length, arith}
+use Rattle.std.proofs.Common.{refl, sym, ap, ◌∙◌, length, arith}
 use Rattle.hevc_dpb.specs.Plain.{plain_entries}
 use Rattle.hevc_dpb.specs.Entries.{tickets}
 use Rattle.hevc_dpb.specs.Views.{buffer_of}
 use Rattle.hevc_dpb.proofs.Sublists.{sublist_part}
-use Rattle.hevc_walk.specs.Buffer.{in_output_order}
 use Rattle.hevc_bumping.specs.Bumps.{num_waiting}
 use Rattle.hevc_driver.specs.Heads.{head_of}
 use Rattle.hevc_driver.specs.Standings.{standing}

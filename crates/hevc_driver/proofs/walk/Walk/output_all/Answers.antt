@@ -1,5 +1,4 @@
-use Rattle.std.proofs.Common.{refl, ◌≡◌, ap, sym, ◌∙◌, arith}
-use Rattle.hevc_dpb.specs.Views.{buffer_of}
+use Rattle.std.proofs.Common.{refl}
 use Rattle.hevc_driver.specs.Standings.{standing}
 use Rattle.hevc_driver.proofs.PictureBegins.{drains_first}
 use Rattle.hevc_driver.proofs.walk.Walk.output_all.Goals as goal
