@@ -205,7 +205,8 @@ impl StatelessH265DecoderBackend for Backend {
     ) -> Result<(), BackendError>
         ensures planned { is_failed result ≡ fails_next self.old }
         ensures faultless { IsFaultless self.old → IsFaultless self.new × HasNoFault result }
-        ensures recorded { self.new ≡ behind (λ _. begin_picture_call number rps.now) self.old result }
+        ensures recorded { self.new
+            ≡ behind (λ _. begin_picture_call number rps.now) self.old result }
     {
         self.count_call()?;
         let alloc = self.alloc;
