@@ -7,6 +7,7 @@ use hevc_types_d::{Pps, Slice};
 use std::alloc::Global;
 
 /// What a picture begins with.
+#[derive(Drop)]
 pub(crate) struct First<'a> {
     pub number: u64,
     pub picture: PictureData,
