@@ -108,3 +108,7 @@ left_by cause u s = s
 -- behind the last unit; a format that was awaited is forgotten
 abbrev pub closes : Standing → Part Standing
 closes s = finish_current s >>= on_store (output_by draining)
+
+-- a format that was accepted, or is awaited, is forgotten
+abbrev pub forgotten : Standing → Standing
+forgotten s = record s { store = record s.store { accepted = None } }

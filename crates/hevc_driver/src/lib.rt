@@ -6,6 +6,7 @@ mod beginning;
 mod current;
 mod decode_error;
 mod driver;
+mod ends;
 mod finish;
 mod head;
 mod kept;

@@ -1,0 +1,52 @@
+//! Ends of sequences and of bitstreams, and a format that is forgotten.
+ghost use Rattle.std.specs.Prelude.{◌≡◌, None};
+ghost use Rattle.hevc_walk.specs.Meanings.{EndOfSequence, EndOfBitstream};
+ghost use Rattle.hevc_walk_units.specs.Units.{NoPicture};
+ghost use Rattle.hevc_driver.specs.Moments.{step_part, forgotten};
+ghost use Rattle.hevc_driver.specs.Standings.{standing, traces, current_of};
+ghost use Rattle.hevc_driver.specs.Sound.{IsSound};
+
+use crate::driver::Driver;
+use hevc_backend::StatelessH265DecoderBackend;
+
+impl<B: StatelessH265DecoderBackend> Driver<B> {
+    /// The next picture is the first one behind an end of sequence (7.4.2.4.4).
+    pub fn end_sequence(&mut self)
+        requires sound { IsSound (B.log self.old.backend) self.old.walk }
+        ensures sound { IsSound (B.log self.new.backend) self.new.walk }
+        ensures standing { standing self.new.walk
+            ≡ (step_part EndOfSequence (standing self.old.walk)).next }
+        ensures traces { traces (B.log self.new.backend) self.new.walk
+            ≡ traces (B.log self.old.backend) self.old.walk }
+        ensures backend { self.new.backend ≡ self.old.backend }
+    {
+        self.walk.next.first_picture_after_eos = true;
+    }
+
+    /// The next picture is the first one in the bitstream, behind an end of the one before (7.4.2.4.4).
+    pub fn end_bitstream(&mut self)
+        requires sound { IsSound (B.log self.old.backend) self.old.walk }
+        ensures sound { IsSound (B.log self.new.backend) self.new.walk }
+        ensures standing { standing self.new.walk
+            ≡ (step_part EndOfBitstream (standing self.old.walk)).next }
+        ensures traces { traces (B.log self.new.backend) self.new.walk
+            ≡ traces (B.log self.old.backend) self.old.walk }
+        ensures backend { self.new.backend ≡ self.old.backend }
+    {
+        self.walk.next.first_picture_in_bitstream = true;
+    }
+
+    /// No format is accepted any more: the next picture negotiates one.
+    pub fn forget_format(&mut self)
+        requires none { current_of self.old.walk.current ≡ NoPicture }
+        requires sound { IsSound (B.log self.old.backend) self.old.walk }
+        ensures sound { IsSound (B.log self.new.backend) self.new.walk }
+        ensures standing { standing self.new.walk ≡ forgotten (standing self.old.walk) }
+        ensures traces { traces (B.log self.new.backend) self.new.walk
+            ≡ traces (B.log self.old.backend) self.old.walk }
+        ensures backend { self.new.backend ≡ self.old.backend }
+    {
+        self.walk.accepted = None;
+        self.walk.dpb.set_max_num_pics(0);
+    }
+}
