@@ -4,7 +4,7 @@ use Rattle.hevc_dpb.specs.Entries.{tickets}
 use Rattle.hevc_dpb.specs.Views.{stored_entries, buffer_of}
 use Rattle.hevc_walk_marks.specs.Marked.{has_reference}
 use Rattle.hevc_walk_units.specs.Units.{Standing}
-use Rattle.hevc_backend.proofs.NamedLaws.{set_among}
+use Rattle.hevc_backend.proofs.NamedLaws.{set_among, set_stored}
 use Rattle.hevc_driver.specs.Heads.{head_of, context_of}
 use Rattle.hevc_driver.specs.Slices.{slice_of}
 use Rattle.hevc_driver.specs.Standings.{standing}
@@ -19,9 +19,9 @@ returns-clause-part g c log t o pps =
 
 pub returns-clause-references : goal.returns-clause-references
 returns-clause-references g c =
-    set_among c.reference_set-set.result (stored_entries c.make_room.new.self.dpb) (λ n h.
+    set_stored c.reference_set-set.result (stored_entries c.make_room.new.self.dpb) (set_among c.reference_set-set.result (stored_entries c.make_room.new.self.dpb) (λ n h.
     ap (λ (s : Standing). has_reference n s.store.buffer) (c.make_room.ensures.part None 0).next
-    ∙ reference_stays (head_of c.args.head.now) (record (standing c.args.self.now).store { buffer = buffer_of c.reference_set-set.new.dpb }) n c.args.head.now.prior (λ begins. absurd (cc (sym (c.reference_set-set.ensures.nothing n begins) ∙ h))) (c.reference_set-set.ensures.named n h))
+    ∙ reference_stays (head_of c.args.head.now) (record (standing c.args.self.now).store { buffer = buffer_of c.reference_set-set.new.dpb }) n c.args.head.now.prior (λ begins. absurd (cc (sym (c.reference_set-set.ensures.nothing n begins) ∙ h))) (c.reference_set-set.ensures.named n h)))
 
 pub make_room-requires-clause-room : goal.make_room-requires-clause-room
 make_room-requires-clause-room g c =
