@@ -36,6 +36,7 @@ fn what_is_due_is_output_in_order(rt: HostRuntime) -> Result<(), Fail> {
         (9, 90, 2)
     );
     assert_eq!(rt; dpb.len(), 3);
+    queue.reserve(16)?;
     bump_for_room(&mut dpb, &limits, &mut queue);
     assert_eq!(rt; queue.len(), 1);
     assert_eq!(rt; queue.pop_front().ok_or("none")?.number, 7);

@@ -3,17 +3,8 @@ mod streams;
 use crate::{DecodeError, Driver};
 use hevc_backend::{Backend, Call};
 use hevc_types_c::Sps;
-use std::alloc::Global;
 use std::test::Fail;
-use streams::{IDR, TRAILING, close, give, slice, start};
-
-/// A sequence set of other sizes.
-fn other_format(alloc: Global) -> Sps {
-    let mut sps = Sps::new(alloc);
-    sps.pic_width_in_luma_samples = 16;
-    sps.pic_height_in_luma_samples = 16;
-    sps
-}
+use streams::{IDR, close, give, slice, start};
 
 /// The number of pictures that came out, and the number of the last one.
 fn outputs(driver: &Driver<Backend>) -> (usize, Option<u64>) {
@@ -55,22 +46,6 @@ fn a_picture_is_begun_decoded_submitted_and_output(rt: HostRuntime) -> Result<()
         )
     );
     assert!(rt; outputs(&driver) == (1, Some(0)));
-    Ok(())
-}
-
-#[test]
-fn another_format_is_negotiated_behind_what_waits(rt: HostRuntime) -> Result<(), Fail> {
-    let alloc = rt.alloc();
-    let mut driver = Driver::new(alloc, Backend::new(alloc));
-    let (sps, other) = (Sps::new(alloc), other_format(alloc));
-    let mut idr = slice(alloc, IDR).ok_or("no unit")?;
-    assert!(rt; start(&mut driver, &sps) == Ok(()));
-    assert!(rt; give(&mut driver, 0, &mut idr, &sps) == Ok(()));
-    assert!(rt; give(&mut driver, 1, &mut idr, &other) == Err(DecodeError::CheckEvents));
-    assert!(rt; outputs(&driver) == (1, Some(0)));
-    assert_eq!(rt; driver.backend.calls().len(), 6);
-    assert!(rt; give(&mut driver, 1, &mut idr, &other) == Ok(()));
-    assert_eq!(rt; driver.backend.calls().len(), 9);
     Ok(())
 }
 
@@ -121,23 +96,5 @@ fn a_dependent_slice_needs_an_independent_one(rt: HostRuntime) -> Result<(), Fai
     assert!(rt; give(&mut driver, 0, &mut idr, &sps) == Ok(()));
     assert!(rt; give(&mut driver, 0, &mut dependent, &sps) == Ok(()));
     assert_eq!(rt; driver.backend.calls().len(), 5);
-    Ok(())
-}
-
-#[test]
-fn a_format_that_changes_in_mid_picture_is_refused(rt: HostRuntime) -> Result<(), Fail> {
-    let alloc = rt.alloc();
-    let mut driver = Driver::new(alloc, Backend::new(alloc));
-    let (sps, other) = (Sps::new(alloc), other_format(alloc));
-    let mut idr = slice(alloc, IDR).ok_or("no unit")?;
-    let mut later = slice(alloc, TRAILING).ok_or("no unit")?;
-    later.header.first_slice_segment_in_pic_flag = false;
-    assert!(rt; start(&mut driver, &sps) == Ok(()));
-    assert!(rt; give(&mut driver, 0, &mut idr, &sps) == Ok(()));
-    let (accepted, named) = ((&sps).into(), (&other).into());
-    let changed = Err(DecodeError::ChangedMidPicture { accepted, named });
-    assert!(rt; give(&mut driver, 0, &mut later, &other) == changed);
-    assert!(rt; close(&mut driver) == Ok(()));
-    assert!(rt; outputs(&driver) == (0, None));
     Ok(())
 }

@@ -13,9 +13,6 @@ use std::alloc::Global;
 /// A slice of an IDR picture behind its start code.
 pub(crate) const IDR: &[u8] = &[0, 0, 1, 38, 1, 175, 128];
 
-/// A slice of a trailing picture behind its start code.
-pub(crate) const TRAILING: &[u8] = &[0, 0, 1, 2, 1, 208, 128];
-
 /// The first slice of a picture, in the first unit of the stream.
 pub(crate) fn slice(alloc: Global, stream: &[u8]) -> Option<Slice<'_>> {
     let mut position = 0;
