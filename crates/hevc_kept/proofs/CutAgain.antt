@@ -1,5 +1,5 @@
 -- A unit that was cut out of a stream is cut out again behind a start code of its own.
-use Rattle.std.proofs.Common.{◌≡◌, ℕ, ◌+◌, ◌/◌, ◌%◌, ◌≤◌, ◌<◌, ◌^◌, Bool, true, false, List, [], ◌∷◌, ◌++◌, Result, Ok, Err, refl, ap, sym, subst, ◌∙◌, arith, if◌then◌else◌, ◌==◌, drop, take, length, length-take, length-drop}
+use Rattle.std.proofs.Common.{◌≡◌, ℕ, ◌+◌, ◌/◌, ◌%◌, ◌≤◌, ◌<◌, ◌^◌, Bool, true, false, List, [], ◌∷◌, ◌++◌, Result, Ok, Err, refl, ap, sym, subst, ◌∙◌, arith, if◌then◌else◌, ◌==◌, drop, length, length-take, length-drop}
 use Rattle.std.proofs.lemmas.Bool.Decides.{nat_tests}
 use Rattle.std.specs.Prelude.{◌&&◌, nat_le}
 use Rattle.hevc_spec.specs.UnitTypes.{is_end}
@@ -176,6 +176,10 @@ cut_again place stream u us h cut parsed typed =
     let all : kept_bytes cutted ≡ cutted = whole cutted h (ap unit_header (sym found.1) ∙ parsed) typed in
     let same : u.bytes ≡ cutted = found.1 ∙ all in
     rw same (one_unit cutted (trimmed_has_none (before_start_code found.0) (before_has_none found.0)) (trimmed_twice (before_start_code found.0)) all)
+
+-- a unit that was found from a place on is one of its stream's
+pub cut_out : (unit : FoundUnit UnitHeader) (place : ℕ) (stream : List ℕ) (others : List NalUnit) → unit.stream ≡ stream → units_from kept_bytes place stream ≡ unit_of unit ∷ others → IsCutOut unit
+cut_out unit place stream others same first = (place, others, ap (units_from kept_bytes place) same ∙ first)
 
 -- the bytes of a picture set behind a start code are its stream
 pub picture_set_stream : (unit : FoundUnit UnitHeader) (items : List ℕ) → items ≡ 0 ∷ 0 ∷ 1 ∷ bytes_of unit → IsCutOut unit → unit_header (bytes_of unit) ≡ Ok unit.header → unit.header.nal_unit_type ≡ 34 → length unit.stream < 2 ^ 60

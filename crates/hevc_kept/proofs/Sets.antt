@@ -17,10 +17,10 @@ use Rattle.hevc_elements.specs.declared.parse_error.ParseError.{ParseError}
 use Rattle.hevc_elements.specs.declared.parse_error.ParseError.TheVariants as errors
 use Rattle.hevc_elements.specs.Sets.{RefusesSet, NamesNoSet}
 use Rattle.hevc_stream.specs.Options.{Options}
-use Rattle.hevc_stream.specs.Kept.{Kept, with_video_set, with_sequence_set, with_picture_set}
+use Rattle.hevc_stream.specs.Kept.{Kept, with_video_set, with_sequence_set}
 use Rattle.hevc_stream.specs.Slices.{temporal_id}
-use Rattle.hevc_stream.specs.Contents.{Content, video_set, sequence_set, picture_set, unread_picture_set, content_read, picture_set_read, content}
-use Rattle.hevc_stream.specs.Stream.{with_picture_set_unit, with_waited, with_content, kept_behind}
+use Rattle.hevc_stream.specs.Contents.{Content, video_set, sequence_set, content_read, picture_set_read, content}
+use Rattle.hevc_stream.specs.Stream.{with_picture_set_unit, with_waited, with_all_waited, with_content, kept_behind}
 use Rattle.hevc_stream_laws.proofs.ByType.{of_video_set, of_sequence_set, of_picture_set}
 use Rattle.hevc_slice.specs.declared.parser.Parser.{Parser}
 use Rattle.hevc_slice.specs.Kept.{kept_by}
@@ -68,6 +68,11 @@ module _ (options : Options) (bytes : List ℕ) (header : UnitHeader) (parsed : 
       → new ≡ with_sequence_set set old → KeepsSequenceSet options bytes (Ok set.seq_parameter_set_id) (waited_by waiting old) (waited_by waiting new)
   sequence_set_kept waiting old new set reading typed kept =
       (set, of_sequence_set options (waited_by waiting old) bytes header parsed wanted typed ∙ ap (content_read sequence_set) reading.1, refl, ap (waited_by waiting) kept)
+
+  -- the sequence set is kept, and then all units that wait are tried once more
+  pub behind_sequence_set : (old : Kept) (set : PlainSps) → content options old bytes ≡ sequence_set set → kept_behind options old bytes ≡ with_all_waited options (with_sequence_set set old)
+  unfolding kept_behind
+  behind_sequence_set old set is = ap (λ (c : Content). with_content options bytes c old) is
 
   pub sequence_set_refused : (waiting : List (List ℕ)) (old new : Kept) (e : ParseError) → header.nal_unit_type ≡ 33 → RefusesSet e (read sequence_parameter_set (payload bytes)) → NamesNoSet e → new ≡ old
       → Refuses options bytes e (waited_by waiting old) (waited_by waiting new)

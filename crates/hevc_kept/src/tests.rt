@@ -25,11 +25,13 @@ const LATER_SET: &[u8] = &[0x00, 0x00, 0x01, 0x44, 0x01, 0xe0, 0x71, 0x80, 0x12]
 const BROKEN_SET: &[u8] = &[0x00, 0x00, 0x01, 0x44, 0x01, 0xc0];
 
 /// Takes the first unit of a stream.
-fn take(sets: &mut KeptSets, stream: &[u8]) -> Result<(), Fail>
+fn take(sets: &mut KeptSets, stream: &[u8]) -> Result<(), &'static str>
     requires { length stream.now < 1000 }
 {
     let mut position = 0;
-    let unit = Nalu::<NaluHeader>::next(stream, &mut position).or(Err("no unit"))?;
+    let Ok(unit) = Nalu::<NaluHeader>::next(stream, &mut position) else {
+        return Err("no unit");
+    };
     if unit.header().temporal_id_plus1() - 1 > sets.options().highest_tid {
         return Ok(());
     }

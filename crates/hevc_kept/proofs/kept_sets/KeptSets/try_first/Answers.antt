@@ -1,6 +1,5 @@
-use Rattle.std.proofs.Common.{◌≡◌, ◌≤◌, ℕ, true, false, List, ◌++◌, ◌∷◌, [], ap, sym, subst, ◌∙◌}
+use Rattle.std.proofs.Common.{ℕ, List, ap, subst, ◌∙◌}
 use Rattle.std.specs.declared.alloc.AllocError.{AllocError}
-use Rattle.hevc_stream.specs.Slices.{temporal_id}
 use Rattle.hevc_slice.specs.Kept.{kept_by}
 use Rattle.hevc_kept.specs.Kept.{options_in}
 use Rattle.hevc_kept.specs.Takes.{ReadsPictureSet}

@@ -1,4 +1,4 @@
-use Rattle.std.proofs.Common.{◌≡◌, ◌∷◌, List, ℕ, ap, ◌∙◌, ◌++◌, rules}
+use Rattle.std.proofs.Common.{◌≡◌, ◌∷◌, rules}
 use Rattle.hevc_bits.specs.FoundUnit.{bytes_of}
 use Rattle.hevc_kept.proofs.CutAgain.{has_header, picture_set_stream}
 use Rattle.hevc_kept.proofs.waiting_unit.WaitingUnit.copy_of.Goals as goal
