@@ -1,12 +1,12 @@
 -- Units that wait are tried once more, one behind the other.
-use Rattle.std.proofs.Common.{◌≡◌, ℕ, suc, ◌<◌, ◌≤◌, List, [], ◌∷◌, ◌++◌, length, take, drop, refl, ap, sym, ◌∙◌, arith}
+use Rattle.std.proofs.Common.{◌≡◌, ℕ, suc, List, [], ◌∷◌, ◌++◌, length, refl, ap, sym, ◌∙◌, arith}
 use Rattle.std.specs.Prelude.{fold}
 use Rattle.std.proofs.lemmas.List.Sums.{fold_push}
 use Rattle.hevc_stream.specs.Options.{Options}
 use Rattle.hevc_stream.specs.Kept.{Kept}
 use Rattle.hevc_stream.specs.Contents.{Content, refused, video_set, sequence_set, picture_set, unread_picture_set, slice, end_of_sequence, end_of_bitstream, nothing, content}
-use Rattle.hevc_stream.specs.Stream.{with_picture_set_unit, with_waited, with_all_waited}
-use Rattle.hevc_kept.specs.Takes.{StopsReading, first_waited}
+use Rattle.hevc_stream.specs.Stream.{with_picture_set_unit, with_waited}
+use Rattle.hevc_kept.specs.Takes.{first_waited}
 
 append_nil : {A : Type 0} (xs : List A) → xs ++ [] ≡ xs
 append_nil [] = refl
@@ -15,14 +15,6 @@ append_nil (x ∷ xs) = ap (λ ys. x ∷ ys) (append_nil xs)
 append_assoc : {A : Type 0} (xs ys zs : List A) → (xs ++ ys) ++ zs ≡ xs ++ (ys ++ zs)
 append_assoc [] ys zs = refl
 append_assoc (x ∷ xs) ys zs = ap (λ rest. x ∷ rest) (append_assoc xs ys zs)
-
-take_front : {A : Type 0} (xs ys : List A) → take (length xs) (xs ++ ys) ≡ xs
-take_front [] ys = refl
-take_front (x ∷ xs) ys = ap (λ rest. x ∷ rest) (take_front xs ys)
-
-drop_front : {A : Type 0} (xs ys : List A) → drop (length xs) (xs ++ ys) ≡ ys
-drop_front [] ys = refl
-drop_front (x ∷ xs) ys = drop_front xs ys
 
 -- ---- other units that wait
 
@@ -69,9 +61,6 @@ module _ (options : Options) where
       pub count : length others ≡ left
       pub stands : now ≡ waited_by (others ++ (behind tried).waiting) (behind tried)
 
-    pub started : IsUnderway old (length old.waiting)
-    started = record { tried = []; others = old.waiting; split = refl; count = refl; stands = ap (λ (ws : List (List ℕ)). waited_by ws old) (sym (append_nil old.waiting)) }
-
     one_more : (now new : Kept) (left : ℕ) (tried others : List (List ℕ)) → old.waiting ≡ tried ++ others → length others ≡ suc left → now ≡ waited_by (others ++ (behind tried).waiting) (behind tried)
         → new ≡ first_waited options now.waiting now → IsUnderway new left
     one_more now new left tried [] split count stands is = absurd (omega (arith, count))
@@ -87,36 +76,3 @@ module _ (options : Options) where
 
     pub moved_on : (now new : Kept) (more left : ℕ) → more ≡ suc left → IsUnderway now more → new ≡ first_waited options now.waiting now → IsUnderway new left
     moved_on now new more left same is by = one_more now new left is.tried is.others is.split (is.count ∙ same) is.stands by
-
-    all_tried : (now : Kept) (tried others : List (List ℕ)) → old.waiting ≡ tried ++ others → length others ≡ 0 → now ≡ waited_by (others ++ (behind tried).waiting) (behind tried) → now ≡ with_all_waited options old
-    all_tried now tried [] split count stands = stands ∙ ap behind (sym (split ∙ append_nil tried))
-    all_tried now tried (bytes ∷ others) split count stands = absurd (omega (arith, count))
-
-    pub ended : (now : Kept) → IsUnderway now 0 → now ≡ with_all_waited options old
-    ended now is = all_tried now is.tried is.others is.split is.count is.stands
-
-    pub stopped : (now new : Kept) (left : ℕ) → IsUnderway now left → new ≡ waited_by (drop left now.waiting ++ take left now.waiting) now → StopsReading options old new
-    stopped now new left is by =
-        let still = (behind is.tried).waiting in
-        let back : drop left now.waiting ≡ still = ap (λ (k : Kept). drop left k.waiting) is.stands ∙ ap (λ (n : ℕ). drop n (is.others ++ still)) (sym is.count) ∙ drop_front is.others still in
-        let front : take left now.waiting ≡ is.others = ap (λ (k : Kept). take left k.waiting) is.stands ∙ ap (λ (n : ℕ). take n (is.others ++ still)) (sym is.count) ∙ take_front is.others still in
-        (is.tried, is.others, is.split, by ∙ rw (back, front) (ap (λ (k : Kept). waited_by (still ++ is.others) k) is.stands))
-
-    has_some : (now : Kept) (left : ℕ) (tried others : List (List ℕ)) → length others ≡ left → 0 < left → now ≡ waited_by (others ++ (behind tried).waiting) (behind tried) → 0 < length now.waiting
-    has_some now left tried [] count more stands = absurd (omega (arith, count, more))
-    has_some now left tried (bytes ∷ others) count more stands =
-        let long : length now.waiting ≡ suc (length (others ++ (behind tried).waiting)) = ap (λ (k : Kept). length k.waiting) stands in
-        omega (arith, long)
-
-    pub some_left : (now : Kept) (left : ℕ) → IsUnderway now left → 0 < left → 0 < length now.waiting
-    some_left now left is more = has_some now left is.tried is.others is.count more is.stands
-
-    long_enough : (front back : List (List ℕ)) → length front ≤ length (front ++ back)
-    long_enough [] back = omega arith
-    long_enough (x ∷ front) back = let rest = long_enough front back in omega (arith, rest)
-
-    pub as_many : (now : Kept) (left : ℕ) → IsUnderway now left → left ≤ length now.waiting
-    as_many now left is =
-        let long : length now.waiting ≡ length (is.others ++ (behind is.tried).waiting) = ap (λ (k : Kept). length k.waiting) is.stands in
-        let enough = long_enough is.others (behind is.tried).waiting in
-        omega (arith, long, enough, is.count)
