@@ -80,12 +80,10 @@ impl KeptSets {
             (kept_of self.old) (kept_of self.new) }
         ensures options { options_in self.new ≡ options_in self.old }
     {
-        // Its bytes have its header.
+        // That its bytes parse to its header, `header` says.
         let _header = nalu.header();
-        match self.parser.parse_vps(nalu) {
-            Ok(_) => Ok(()),
-            Err(error) => Err(error),
-        }
+        self.parser.parse_vps(nalu)?;
+        Ok(())
     }
 
     /// Reads the sequence set of a unit, of a wanted sub-layer and a stream of less than 2^60 bytes, by table 5 (7.3.2.2.1), keeps it,
@@ -100,12 +98,9 @@ impl KeptSets {
             (kept_of self.old) (kept_of self.new) }
         ensures options { options_in self.new ≡ options_in self.old }
     {
-        // Its bytes have its header.
+        // That its bytes parse to its header, `header` says.
         let _header = nalu.header();
-        match self.parser.parse_sps(nalu) {
-            Ok(set) => Ok(set.seq_parameter_set_id),
-            Err(error) => Err(error),
-        }
+        Ok(self.parser.parse_sps(nalu)?.seq_parameter_set_id)
     }
 
     /// Tries all units that wait once more, in their order: each is read now and its set kept, or waits on.
@@ -142,7 +137,7 @@ impl KeptSets {
         ensures stays { OnErr result (kept_of self.new ≡ kept_of self.old) }
         ensures options { options_in self.new ≡ options_in self.old }
     {
-        // Its bytes have its header.
+        // That its bytes parse to its header, `header` says.
         let _header = nalu.header();
         if !read_picture_set(&mut self.parser, nalu)? {
             let unit = WaitingUnit::copy_of(self.alloc, nalu)?;

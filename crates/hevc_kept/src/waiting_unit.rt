@@ -36,7 +36,7 @@ impl WaitingUnit {
         requires cut { IsCutOut nalu.now }
         ensures same { IfOk result (λ unit. unit ≡ bytes_of nalu.now) }
     {
-        // Its bytes have its header.
+        // That its bytes parse to its header, `header` says.
         let _header = nalu.header();
         let bytes = nalu.as_ref();
         let mut stream = Vec::with_capacity(alloc, 3 + bytes.len())?;
