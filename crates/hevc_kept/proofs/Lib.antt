@@ -1,0 +1,3 @@
+pub mod CutAgain
+pub mod Waiting
+pub mod Sets

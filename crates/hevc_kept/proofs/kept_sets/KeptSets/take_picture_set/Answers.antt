@@ -1,0 +1,30 @@
+use Rattle.std.proofs.Common.{◌≡◌, ℕ, true, false, List, ◌++◌, ◌∷◌, [], ap, sym, ◌∙◌, rules}
+use Rattle.std.specs.declared.alloc.AllocError.{AllocError}
+use Rattle.hevc_bits.specs.FoundUnit.{bytes_of}
+use Rattle.hevc_slice.specs.Kept.{kept_by}
+use Rattle.hevc_kept.specs.Kept.{kept_of, options_in}
+use Rattle.hevc_kept.proofs.CutAgain.{has_header}
+use Rattle.hevc_kept.proofs.Waiting.{waited_by}
+use Rattle.hevc_kept.proofs.Sets.{behind_read, behind_unread, behind_picture_set}
+use Rattle.hevc_kept.proofs.kept_sets.KeptSets.take_picture_set.Goals as goal
+
+pub returns-in_ok-push_back-clause-behind : goal.returns-in_ok-push_back-clause-behind
+returns-in_ok-push_back-clause-behind c =
+    let options = options_in c.args.self.now in
+    let bytes = bytes_of c.args.nalu.now in
+    let header = has_header bytes c.args.nalu.now.header c.header-header.result.now c.header-header.ensures.parsed c.header-header.ensures.value in
+    let new = kept_by c.read_picture_set.new.parser in
+    let unread : c.in_ok-read_picture_set.field-0 ≡ false = search rules in
+    let items : c.push_back.new.self.items ≡ c.args.self.now.waiting.items ++ bytes ∷ [] = c.in_ok-push_back.ensures.items ∙ ap (λ (u : List ℕ). c.args.self.now.waiting.items ++ u ∷ []) c.in_ok-unit.ensures.same in
+    ap (λ (ws : List (List ℕ)). waited_by ws new) items
+    ∙ behind_unread options bytes c.args.nalu.now.header header c.requires.wanted c.requires.typed AllocError c.in_ok-read_picture_set.field-0 c.args.self.now.waiting.items (kept_by c.args.self.now.parser) new unread c.in_ok-read_picture_set.ensures
+    ∙ sym (behind_picture_set options bytes c.args.nalu.now.header header c.requires.wanted c.requires.typed (kept_of c.args.self.now))
+
+pub returns-else-not-branch-clause-behind : goal.returns-else-not-branch-clause-behind
+returns-else-not-branch-clause-behind c =
+    let options = options_in c.args.self.now in
+    let bytes = bytes_of c.args.nalu.now in
+    let header = has_header bytes c.args.nalu.now.header c.header-header.result.now c.header-header.ensures.parsed c.header-header.ensures.value in
+    let is_read : c.in_ok-read_picture_set.field-0 ≡ true = search rules in
+    behind_read options bytes c.args.nalu.now.header header c.requires.wanted c.requires.typed AllocError c.in_ok-read_picture_set.field-0 c.args.self.now.waiting.items (kept_by c.args.self.now.parser) (kept_by c.read_picture_set.new.parser) is_read c.in_ok-read_picture_set.ensures
+    ∙ sym (behind_picture_set options bytes c.args.nalu.now.header header c.requires.wanted c.requires.typed (kept_of c.args.self.now))

@@ -1,0 +1,27 @@
+-- Units as they were cut out of a stream, and the bytes that give one again.
+use Rattle.std.specs.Prelude.{◌≡◌, ℕ, ◌<◌, ◌^◌, Bool, false, List, [], ◌∷◌, length, drop, nat_le, Result, Ok, Err}
+use Rattle.hevc_spec.specs.UnitHeader.{UnitHeader, HeaderFault, unit_header}
+use Rattle.hevc_spec.specs.Units.{NalUnit, units, units_from, kept_bytes}
+use Rattle.hevc_bits.specs.FoundUnit.{FoundUnit, unit_of}
+use Rattle.hevc_stream.specs.Slices.{temporal_id}
+
+-- the unit is one of those of its stream (Annex B)
+abbrev pub IsCutOut : FoundUnit UnitHeader → Type 0
+IsCutOut unit = (place : ℕ) × (others : List NalUnit) × (units_from kept_bytes place unit.stream ≡ unit_of unit ∷ others)
+
+-- a stream that has one unit, of a picture set, directly behind its first three bytes
+pub record IsPictureSetStream (stream : List ℕ) : Type 0 where
+  pub one : units stream ≡ record { offset = 3; bytes = drop 3 stream } ∷ []
+  pub header : UnitHeader
+  pub parsed : unit_header (drop 3 stream) ≡ Ok header
+  pub typed : header.nal_unit_type ≡ 34
+  pub short : length stream < 2 ^ 60
+
+-- the sub-layer of a header is wanted, where those up to this one are
+abbrev pub is_wanted_header : ℕ → Result UnitHeader HeaderFault → Bool
+is_wanted_header highest_tid (Ok header) = nat_le (temporal_id header) highest_tid
+is_wanted_header highest_tid (Err fault) = false
+
+-- bytes are a unit of a wanted sub-layer (8.1.2)
+abbrev pub is_wanted : ℕ → List ℕ → Bool
+is_wanted highest_tid bytes = is_wanted_header highest_tid (unit_header bytes)

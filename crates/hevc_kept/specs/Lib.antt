@@ -1,0 +1,3 @@
+pub mod CutUnits
+pub mod Kept
+pub mod Takes
