@@ -1,0 +1,230 @@
+-- Units that are no parameter sets.
+use Rattle.std.proofs.Common.{◌≡◌, inl, ℕ, ◌≤◌, List, refl, sym, ◌∙◌, ap, subst, arith, Option, Some, None, Result, Ok, Err, Bool, true, false, not}
+use Rattle.std.specs.Prelude.{nat_le, nat_lt, drop, ◌==◌, ◌&&◌, ◌||◌, if◌then◌else◌}
+use Rattle.std.proofs.lemmas.Bool.Decides.{nat_tests}
+use Rattle.hevc_spec.specs.UnitTypes.{is_slice, is_idr}
+use Rattle.hevc_spec.specs.UnitHeader.{UnitHeader, unit_header}
+use Rattle.hevc_spec.specs.Payload.{payload}
+use Rattle.hevc_spec.specs.Table.{Reading, gives, refuses, read}
+use Rattle.hevc_records.specs.SliceHeader.{PlainSliceSegmentHeader}
+use Rattle.hevc_tables.specs.SliceHeaderTable.{ActiveSets, active_sets, slice_segment_header}
+use Rattle.hevc_walk.specs.Meanings.{UnitCause, Meaning, SequenceSet, CodedSlice, EndOfSequence, EndOfBitstream, Other, Refused}
+use Rattle.hevc_stream.specs.Options.{Options}
+use Rattle.hevc_stream.specs.Kept.{Kept}
+use Rattle.hevc_stream.specs.Slices.{temporal_id, slice_segment_meaning}
+use Rattle.hevc_stream.specs.Contents.{Content, refused, slice, end_of_sequence, end_of_bitstream, nothing, content_read, coded_content, content}
+use Rattle.hevc_stream.specs.Stream.{meaning_of, meaning, kept_behind, with_content}
+use Rattle.hevc_stream_laws.proofs.ByType.{of_end_of_sequence, of_end_of_bitstream}
+use Rattle.hevc_backend.specs.declared.call.Call.{Call}
+use Rattle.hevc_walk_units.specs.Units.{Standing}
+use Rattle.hevc_driver.specs.declared.decode_error.DecodeError.{DecodeError}
+use Rattle.hevc_driver.specs.declared.decode_error.DecodeError.TheVariants as errors
+use Rattle.hevc_driver.specs.Does.{Traces}
+use Rattle.hevc_driver.specs.Moments.{step_part}
+use Rattle.hevc_driver.specs.Takes.{Goes, Takes}
+use Rattle.hevc_driver.proofs.Doing.{does_nothing, keeps_all}
+use Rattle.hevc_stateless.specs.declared.state.State.{State}
+use Rattle.hevc_stateless.specs.declared.state.State.TheVariants.{AwaitingStreamInfo, AwaitingFormat, Decoding, Reset}
+use Rattle.hevc_stateless.specs.States.{Unit, unit_at, is_sequence_set, is_parameter_set, later_meaning, state_behind, meaning_when, meaning_in, AwaitsOrStays, is_decoding, state_at}
+use Rattle.hevc_stateless.specs.Views.{View, traces_of}
+use Rattle.hevc_stateless.specs.Steps.{Step, KeepsBehind, with_read_set}
+use Rattle.hevc_stateless.proofs.Passing.{idle_unit, moves_by}
+use Rattle.hevc_stateless.proofs.Setting.{means}
+
+-- ---- the content
+
+either : {A : Type 0} (F : Content → A) (x : A) (b : Bool) (c d : Content) → F c ≡ x → F d ≡ x → F (if b then c else d) ≡ x
+either F x true c d is other = is
+either F x false c d is other = other
+
+module _ {A : Type 0} (F : Content → A) (x : A) (idle : F nothing ≡ x) (refusing : (cause : UnitCause) → F (refused cause) ≡ x) (slicing : (g : UnitHeader) (segment : PlainSliceSegmentHeader) → F (slice g segment) ≡ x) (ending : F end_of_sequence ≡ x) (closing : F end_of_bitstream ≡ x) where
+  read_coded : (h : UnitHeader) (r : Reading PlainSliceSegmentHeader) → F (content_read (slice h) r) ≡ x
+  read_coded h (gives segment rest) = slicing h segment
+  read_coded h (refuses fault rest) = refusing _
+
+  of_coded : (k : Kept) (h : UnitHeader) (bytes : List ℕ) → F (coded_content k h bytes) ≡ x
+  of_coded k h bytes =
+      either F x (not k.has_sequence_set) nothing _ idle (either F x (is_slice h.nal_unit_type) _ _ (read_coded h (read (slice_segment_header h.nal_unit_type (drop 2 bytes) (active_sets k.sequence_sets k.picture_sets)) (payload bytes)))
+      (either F x (h.nal_unit_type == 36) _ _ ending (either F x (h.nal_unit_type == 37) _ _ closing idle)))
+
+isnt : (t n : ℕ) → is_parameter_set t ≡ false → is_parameter_set n ≡ true → (t == n) ≡ false
+isnt t n p q = by (t == n) refl
+  where
+    by : (b : Bool) → (t == n) ≡ b → b ≡ false
+    by true e = let same : t ≡ n = grind (arith, nat_tests, e) in absurd (cc (sym p ∙ ap is_parameter_set same ∙ q))
+    by false e = refl
+
+module _ (o : Options) (k : Kept) (bytes : List ℕ) (h : UnitHeader) (parsed : unit_header bytes ≡ Ok h) where
+  -- a unit of a sub-layer that isn't wanted
+  pub of_unwanted : nat_le (temporal_id h) o.highest_tid ≡ false → (kk : Kept) → content o kk bytes ≡ nothing
+  unfolding content
+  of_unwanted above kk = let t : nat_lt o.highest_tid (temporal_id h) ≡ true = grind (arith, nat_tests, above) in rw (parsed, t) refl
+
+  module _ (wanted : temporal_id h ≤ o.highest_tid) (other : is_parameter_set h.nal_unit_type ≡ false) where
+    of_other : (kk : Kept) → content o kk bytes ≡ coded_content kk h bytes
+    unfolding content
+    of_other kk = let t : nat_lt o.highest_tid (temporal_id h) ≡ false = grind (arith, nat_tests, wanted) in rw (parsed, t, isnt h.nal_unit_type 32 other refl, isnt h.nal_unit_type 33 other refl, isnt h.nal_unit_type 34 other refl) refl
+
+    -- what is kept stays
+    pub coded_keeps : {T : Type 0} (r : Result T DecodeError) → KeepsBehind r o bytes k k
+    unfolding kept_behind
+    coded_keeps (Ok v) = sym (ap (λ (c : Content). with_content o bytes c k) (of_other k) ∙ of_coded (λ (c : Content). with_content o bytes c k) k refl (λ cause. refl) (λ g segment. refl) refl refl k h bytes)
+    coded_keeps (Err errors.CheckEvents) = sym (ap (λ (c : Content). with_read_set c k) (of_other k) ∙ of_coded (λ (c : Content). with_read_set c k) k refl (λ cause. refl) (λ g segment. refl) refl refl k h bytes)
+    coded_keeps (Err errors.Backend) = sym (ap (λ (c : Content). with_read_set c k) (of_other k) ∙ of_coded (λ (c : Content). with_read_set c k) k refl (λ cause. refl) (λ g segment. refl) refl refl k h bytes)
+    coded_keeps (Err errors.NoMemory) = inl refl
+    coded_keeps (Err e) = refl
+
+    abbrev sure : Kept
+    sure = record k { has_sequence_set = true }
+
+    segment_isnt : (g : UnitHeader) (segment : PlainSliceSegmentHeader) (sets : Option ActiveSets) → is_sequence_set (slice_segment_meaning o g bytes segment sets) ≡ false
+    segment_isnt g segment (Some sets) = refl
+    segment_isnt g segment None = refl
+
+    pub coded_isnt : is_sequence_set (unit_at o k h bytes).meaning ≡ false
+    coded_isnt = ap is_sequence_set (means o k bytes h parsed wanted (coded_content sure h bytes) (of_other sure)) ∙ of_coded (λ (c : Content). is_sequence_set (meaning_of o sure bytes c)) false refl (λ cause. refl) (λ g segment. segment_isnt g segment _) refl refl sure h bytes
+
+    -- ends, and what asks for nothing
+    pub end_means : h.nal_unit_type ≡ 36 → (unit_at o k h bytes).meaning ≡ EndOfSequence
+    end_means t = means o k bytes h parsed wanted end_of_sequence (of_end_of_sequence o sure bytes h parsed wanted refl t)
+
+    pub close_means : h.nal_unit_type ≡ 37 → (unit_at o k h bytes).meaning ≡ EndOfBitstream
+    close_means t = means o k bytes h parsed wanted end_of_bitstream (of_end_of_bitstream o sure bytes h parsed wanted refl t)
+
+    pub other_means : is_slice h.nal_unit_type ≡ false → (h.nal_unit_type == 36) ≡ false → (h.nal_unit_type == 37) ≡ false → (unit_at o k h bytes).meaning ≡ Other
+    other_means s e c = means o k bytes h parsed wanted nothing (of_other sure ∙ rw (s, e, c) refl)
+
+-- ---- ends
+
+pub ends : {H : Type 0} (t : ℕ) (a : Traces H) (s : Standing) → Goes t a a EndOfSequence s (step_part EndOfSequence s).next
+ends t a s = record { accepted = refl; room = refl; goes_on = refl; completes = record { does = does_nothing t a a refl refl (keeps_all a.tickets a.tickets refl); next = refl } }
+
+pub closes : {H : Type 0} (t : ℕ) (a : Traces H) (s : Standing) → Goes t a a EndOfBitstream s (step_part EndOfBitstream s).next
+closes t a s = record { accepted = refl; room = refl; goes_on = refl; completes = record { does = does_nothing t a a refl refl (keeps_all a.tickets a.tickets refl); next = refl } }
+
+-- ---- the states
+
+reset_behind : (w i s : Bool) → w ≡ true → s ≡ false → (if w && (i || s) then Decoding else Reset) ≡ state_at i Reset
+reset_behind true true s is isnt = refl
+reset_behind true false true is isnt = absurd (cc isnt)
+reset_behind true false false is isnt = refl
+reset_behind false i s is isnt = absurd (cc is)
+
+pub coded_behind : (st : State) (u : Unit) → u.is_wanted ≡ true → is_sequence_set u.meaning ≡ false → state_behind st u ≡ state_at (is_idr u.nal_unit_type) st
+coded_behind AwaitingStreamInfo u w s = by (is_idr u.nal_unit_type)
+  where
+    by : (b : Bool) → AwaitingStreamInfo ≡ state_at b AwaitingStreamInfo
+    by true = refl
+    by false = refl
+coded_behind AwaitingFormat u w s = by (is_idr u.nal_unit_type)
+  where
+    by : (b : Bool) → AwaitingFormat ≡ state_at b AwaitingFormat
+    by true = refl
+    by false = refl
+coded_behind Decoding u w s = by (is_idr u.nal_unit_type)
+  where
+    by : (b : Bool) → Decoding ≡ state_at b Decoding
+    by true = refl
+    by false = refl
+coded_behind Reset u w s = reset_behind u.is_wanted (is_idr u.nal_unit_type) (is_sequence_set u.meaning) w s
+
+same_later : (m : Meaning) → is_sequence_set m ≡ false → later_meaning m ≡ m
+same_later (SequenceSet format) is = absurd (cc is)
+same_later (CodedSlice s) is = refl
+same_later EndOfSequence is = refl
+same_later EndOfBitstream is = refl
+same_later Other is = refl
+same_later (Refused cause) is = refl
+
+-- while nothing is waited for it means what it says
+pub coded_means : (st : State) (u : Unit) → is_decoding st ≡ true → is_sequence_set u.meaning ≡ false → meaning_when st u ≡ u.meaning
+coded_means AwaitingStreamInfo u d s = absurd (cc d)
+coded_means AwaitingFormat u d s = absurd (cc d)
+coded_means Decoding u d s = same_later u.meaning s
+coded_means Reset u d s = absurd (cc d)
+
+-- else it is passed over
+pub coded_waits : (st : State) (u : Unit) → is_decoding st ≡ false → is_parameter_set u.nal_unit_type ≡ false → meaning_when st u ≡ Other
+coded_waits AwaitingStreamInfo u d p = ap (λ (b : Bool). if b then u.meaning else Other) p
+coded_waits AwaitingFormat u d p = ap (λ (b : Bool). if b then later_meaning u.meaning else Other) p
+coded_waits Decoding u d p = absurd (cc d)
+coded_waits Reset u d p = ap (λ (b : Bool). if b then later_meaning u.meaning else Other) p
+
+-- ---- steps
+
+pub end_step : {B H : Type 0} (logs : B → Option (List (Call H))) (t : ℕ) (view now : View B H) (m : Meaning) → m ≡ EndOfSequence → now ≡ record view { standing = (step_part EndOfSequence view.standing).next }
+    → Goes t (traces_of (logs view.backend) view) (traces_of (logs now.backend) now) m view.standing now.standing
+end_step logs t view now m is same = rw same (rw is (ends t (traces_of (logs view.backend) view) view.standing))
+
+pub close_step : {B H : Type 0} (logs : B → Option (List (Call H))) (t : ℕ) (view now : View B H) (m : Meaning) → m ≡ EndOfBitstream → now ≡ record view { standing = (step_part EndOfBitstream view.standing).next }
+    → Goes t (traces_of (logs view.backend) view) (traces_of (logs now.backend) now) m view.standing now.standing
+close_step logs t view now m is same = rw same (rw is (closes t (traces_of (logs view.backend) view) view.standing))
+
+pub idle_step : {B H : Type 0} (logs : B → Option (List (Call H))) (t : ℕ) (view : View B H) (m : Meaning) → m ≡ Other → Goes t (traces_of (logs view.backend) view) (traces_of (logs view.backend) view) m view.standing view.standing
+idle_step logs t view m is = rw is (idle_unit t (traces_of (logs view.backend) view) view.standing)
+
+module _ (o : Options) (k : Kept) (bytes : List ℕ) (h : UnitHeader) (parsed : unit_header bytes ≡ Ok h) where
+  abbrev u : Unit
+  u = unit_at o k h bytes
+
+  -- ---- a sub-layer that isn't wanted
+
+  unwanted_means : nat_le (temporal_id h) o.highest_tid ≡ false → u.meaning ≡ Other
+  unfolding meaning
+  unwanted_means above = ap (meaning_of o (record k { has_sequence_set = true }) bytes) (of_unwanted o k bytes h parsed above (record k { has_sequence_set = true }))
+
+  unwanted_behind : (st : State) → nat_le (temporal_id h) o.highest_tid ≡ false → state_behind st u ≡ st
+  unwanted_behind AwaitingStreamInfo above = refl
+  unwanted_behind AwaitingFormat above = refl
+  unwanted_behind Decoding above = refl
+  unwanted_behind Reset above = ap (λ (b : Bool). if b && (is_idr h.nal_unit_type || is_sequence_set u.meaning) then Decoding else Reset) above
+
+  other_either : (b : Bool) (m : Meaning) → m ≡ Other → (if b then m else Other) ≡ Other
+  other_either true m is = is
+  other_either false m is = refl
+
+  unwanted_when : (st : State) → u.meaning ≡ Other → meaning_when st u ≡ Other
+  unwanted_when AwaitingStreamInfo is = other_either (is_parameter_set h.nal_unit_type) u.meaning is
+  unwanted_when AwaitingFormat is = other_either (is_parameter_set h.nal_unit_type) (later_meaning u.meaning) (ap later_meaning is)
+  unwanted_when Decoding is = ap later_meaning is
+  unwanted_when Reset is = other_either (is_parameter_set h.nal_unit_type) (later_meaning u.meaning) (ap later_meaning is)
+
+  unwanted_kept : nat_le (temporal_id h) o.highest_tid ≡ false → k ≡ kept_behind o k bytes
+  unfolding kept_behind
+  unwanted_kept above = sym (ap (λ (c : Content). with_content o bytes c k) (of_unwanted o k bytes h parsed above k))
+
+  pub unwanted_step : {B H T : Type 0} (value : T) (t : ℕ) (log : Option (List (Call H))) (view : View B H) → nat_le (temporal_id h) o.highest_tid ≡ false → Step (Ok value) t o h bytes (record { log = log; view = view; kept = k }) (record { log = log; view = view; kept = k })
+  unwanted_step value t log view above = record {
+    part = subst (λ (m : Meaning). Takes (Ok value) t (traces_of log view) (traces_of log view) m view.standing view.standing) (sym (ap (λ (x : State). meaning_when x u) (unwanted_behind view.state above) ∙ unwanted_when view.state (unwanted_means above))) (idle_unit t (traces_of log view) view.standing);
+    state = sym (unwanted_behind view.state above);
+    kept = unwanted_kept above;
+  }
+
+  -- ---- units that are no parameter sets
+
+  module _ (wanted : temporal_id h ≤ o.highest_tid) (other : is_parameter_set h.nal_unit_type ≡ false) where
+    behind : (st : State) → state_behind st u ≡ state_at (is_idr h.nal_unit_type) st
+    behind st = let w : nat_le (temporal_id h) o.highest_tid ≡ true = grind (arith, nat_tests, wanted) in coded_behind st u w (coded_isnt o k bytes h parsed wanted other)
+
+    pub passed_step : {B H T : Type 0} (logs : B → Option (List (Call H))) (value : T) (t : ℕ) (view now : View B H) (at : Bool) → at ≡ is_idr h.nal_unit_type → now ≡ record view { state = state_at at view.state } → is_decoding now.state ≡ false
+        → Step (Ok value) t o h bytes (record { log = logs view.backend; view = view; kept = k }) (record { log = logs now.backend; view = now; kept = k })
+    passed_step {B} {H} {T} logs value t view now at is same waits =
+        let st : now.state ≡ state_behind view.state u = ap (λ (v : View B H). v.state) same ∙ ap (λ (b : Bool). state_at b view.state) is ∙ sym (behind view.state) in
+        let m : meaning_in view.state u ≡ Other = ap (λ (x : State). meaning_when x u) (sym st) ∙ coded_waits now.state u waits other in
+        record {
+          part = rw same (subst (λ (x : Meaning). Takes (Ok value) t (traces_of (logs view.backend) view) (traces_of (logs view.backend) view) x view.standing view.standing) (sym m) (idle_unit t (traces_of (logs view.backend) view) view.standing));
+          state = st;
+          kept = coded_keeps o k bytes h parsed wanted other (Ok value);
+        }
+
+    pub taken_step : {B H T : Type 0} (logs : B → Option (List (Call H))) (r : Result T DecodeError) (t : ℕ) (view mid now : View B H) (at : Bool) (new : Kept) → at ≡ is_idr h.nal_unit_type → mid ≡ record view { state = state_at at view.state } → is_decoding mid.state ≡ true → new ≡ k
+        → Takes r t (traces_of (logs mid.backend) mid) (traces_of (logs now.backend) now) u.meaning mid.standing now.standing → AwaitsOrStays r mid.state now.state
+        → Step r t o h bytes (record { log = logs view.backend; view = view; kept = k }) (record { log = logs now.backend; view = now; kept = new })
+    taken_step {B} {H} {T} logs r t view mid now at new is same goes kept takes state =
+        let st : mid.state ≡ state_behind view.state u = ap (λ (v : View B H). v.state) same ∙ ap (λ (b : Bool). state_at b view.state) is ∙ sym (behind view.state) in
+        let m : meaning_in view.state u ≡ u.meaning = ap (λ (x : State). meaning_when x u) (sym st) ∙ coded_means mid.state u goes (coded_isnt o k bytes h parsed wanted other) in
+        record {
+          part = subst (λ (x : Meaning). Takes r t (traces_of (logs view.backend) view) (traces_of (logs now.backend) now) x view.standing now.standing) (sym m) (subst (λ (v : View B H). Takes r t (traces_of (logs v.backend) (record v { state = view.state })) (traces_of (logs now.backend) now) u.meaning v.standing now.standing) same takes);
+          state = moves_by r view.state (state_behind view.state u) now.state (subst (λ (x : State). AwaitsOrStays r x now.state) st state);
+          kept = subst (λ (x : Kept). KeepsBehind r o bytes k x) (sym kept) (coded_keeps o k bytes h parsed wanted other r);
+        }

@@ -1,0 +1,7 @@
+mod Calling
+mod Coding
+mod Flushing
+mod Passing
+mod Setting
+mod Slicing
+mod Starting

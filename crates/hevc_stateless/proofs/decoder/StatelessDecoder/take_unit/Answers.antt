@@ -1,0 +1,22 @@
+use Rattle.std.proofs.Common.{◌∙◌, ap, arith}
+use Rattle.std.proofs.lemmas.Bool.Decides.{nat_tests}
+use Rattle.hevc_bits.specs.FoundUnit.{bytes_of}
+use Rattle.hevc_spec.specs.UnitHeader.{UnitHeader}
+use Rattle.hevc_stream.specs.Options.{Options}
+use Rattle.hevc_kept.specs.Kept.{kept_of, options_in}
+use Rattle.hevc_stateless.proofs.Coding.{unwanted_step}
+use Rattle.hevc_stateless.proofs.decoder.StatelessDecoder.take_unit.Goals as goal
+
+pub returns-then-temporal_id_plus1-options-clause-step : goal.returns-then-temporal_id_plus1-options-clause-step
+returns-then-temporal_id_plus1-options-clause-step g c =
+    unwanted_step (options_in c.args.self.now.kept) (kept_of c.args.self.now.kept) (bytes_of c.args.nalu) c.args.nalu.header c.requires.parsed tt c.args.timestamp (g.B.StatelessH265DecoderBackend.log c.args.self.now.session.backend) c.args.self.now.session
+    (let above = c.if-temporal_id_plus1-options.true in let most = ap (λ (x : Options). x.highest_tid) c.options.ensures in let told = c.temporal_id_plus1.ensures.value ∙ ap (λ (x : UnitHeader). x.nuh_temporal_id_plus1) c.header-header.ensures.value in grind (arith, nat_tests, above, most, told))
+
+pub returns-in-32-clause-step : goal.returns-in-32-clause-step
+returns-in-32-clause-step g c = c.take_video_set.ensures.step c.args.timestamp
+
+pub returns-in-33-clause-step : goal.returns-in-33-clause-step
+returns-in-33-clause-step g c = c.take_sequence_set.ensures.step c.args.timestamp
+
+pub returns-in-34-clause-step : goal.returns-in-34-clause-step
+returns-in-34-clause-step g c = c.take_picture_set.ensures.step c.args.timestamp

@@ -1,0 +1,27 @@
+use Rattle.std.proofs.Common.{ap, sym, subst}
+use Rattle.hevc_types_c.specs.Sps.{plain_sps}
+use Rattle.hevc_views.specs.Sequences.{format_of_set}
+use Rattle.hevc_walk_units.specs.Units.{Standing}
+use Rattle.hevc_stateless.specs.Views.{View, IsIdleBefore, traces_of}
+use Rattle.hevc_stateless.proofs.Starting.{opens_first, first_refused, refused_stays, refused_left}
+use Rattle.hevc_stateless.proofs.session.Session.open_sequence.Goals as goal
+
+pub invariant_of-self : goal.invariant_of-self
+invariant_of-self g c = (c.open_sequence.ensures.sound, subst (λ (s : Standing). IsIdleBefore c.self.inside.state s.current) (sym (refused_left _ 0 _ _ _ _ _ (c.in_err-open_sequence.ensures.part 0))) c.self.invariant.1)
+
+pub returns-in_err-open_sequence-clause-part : goal.returns-in_err-open_sequence-clause-part
+returns-in_err-open_sequence-clause-part g c t =
+    first_refused _ _ t _ _ _ (format_of_set (plain_sps c.args.sps.now)) _ _ _ c.from_residual.ensures.1
+    (ap (λ (v : View g.row.B.Denot g.row.B-Handle.Denot). traces_of (g.B.StatelessH265DecoderBackend.log v.backend) v) c.self.view_is)
+    (ap (λ (v : View g.row.B.Denot g.row.B-Handle.Denot). v.standing) c.self.view_is)
+    (c.in_err-open_sequence.ensures.part t)
+
+pub returns-in_err-open_sequence-clause-state : goal.returns-in_err-open_sequence-clause-state
+returns-in_err-open_sequence-clause-state g c = refused_stays _ _ 0 _ _ (format_of_set (plain_sps c.args.sps.now)) _ _ _ _ c.from_residual.ensures.1 (c.in_err-open_sequence.ensures.part 0) (ap (λ (v : View g.row.B.Denot g.row.B-Handle.Denot). v.state) c.self.view_is)
+
+pub returns-clause-part : goal.returns-clause-part
+returns-clause-part g c t =
+    opens_first t _ _ _ (format_of_set (plain_sps c.args.sps.now)) _ _ _
+    (ap (λ (v : View g.row.B.Denot g.row.B-Handle.Denot). traces_of (g.B.StatelessH265DecoderBackend.log v.backend) v) c.self.view_is)
+    (ap (λ (v : View g.row.B.Denot g.row.B-Handle.Denot). v.standing) c.self.view_is)
+    (c.in_ok-open_sequence.ensures.part t)

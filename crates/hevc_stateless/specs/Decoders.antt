@@ -1,0 +1,25 @@
+-- What contracts see of a decoder.
+use Rattle.std.specs.Prelude.{List, Option}
+use Rattle.hevc_stream.specs.Kept.{Kept}
+use Rattle.hevc_stream.specs.Options.{Options}
+use Rattle.hevc_kept.specs.Kept.{kept_of, options_in}
+use Rattle.hevc_backend.specs.declared.call.Call.{Call}
+use Rattle.hevc_stateless.specs.declared.decoder.StatelessDecoder.{StatelessDecoder}
+use Rattle.hevc_stateless.specs.Views.{View}
+use Rattle.hevc_stateless.specs.Steps.{Seen, seen}
+
+-- its backend, its state, and what the pictures so far mean
+abbrev pub view_of : {B H P : Type 0} → StatelessDecoder B H P → View B H
+view_of d = d.session
+
+-- the parameter sets that it keeps, and the units that wait
+abbrev pub kept_in : {B H P : Type 0} → StatelessDecoder B H P → Kept
+kept_in d = kept_of d.kept
+
+-- what is set for decoding
+abbrev pub set_for : {B H P : Type 0} → StatelessDecoder B H P → Options
+set_for d = options_in d.kept
+
+-- all of it, where backends tell these logs
+abbrev pub seen_by : {B H P : Type 0} → (B → Option (List (Call H))) → StatelessDecoder B H P → Seen B H
+seen_by logs d = seen (logs d.session.backend) d.session d.kept

@@ -1,0 +1,7 @@
+pub mod Decoders
+pub mod Events
+pub mod Flushes
+pub mod Refusals
+pub mod States
+pub mod Steps
+pub mod Views

@@ -1,0 +1,71 @@
+-- What a call of `decode` does.
+use Rattle.std.specs.Prelude.{◌≡◌, ◌⊎◌, ℕ, ◌+◌, List, [], ◌∷◌, length, Option, Result, Ok, Err, IfOk}
+use Rattle.hevc_spec.specs.Units.{NalUnit}
+use Rattle.hevc_spec.specs.UnitHeader.{UnitHeader, HeaderFault, unit_header}
+use Rattle.hevc_stream.specs.Options.{Options}
+use Rattle.hevc_stream.specs.Kept.{Kept, with_sequence_set}
+use Rattle.hevc_stream.specs.Contents.{Content, sequence_set, header_cause, content}
+use Rattle.hevc_stream.specs.Stream.{kept_behind}
+use Rattle.hevc_kept.specs.declared.kept_sets.KeptSets.{KeptSets}
+use Rattle.hevc_kept.specs.Kept.{kept_of}
+use Rattle.hevc_kept.specs.Takes.{StopsReading}
+use Rattle.hevc_backend.specs.declared.call.Call.{Call}
+use Rattle.hevc_driver.specs.declared.decode_error.DecodeError.{DecodeError}
+use Rattle.hevc_driver.specs.declared.decode_error.DecodeError.TheVariants as errors
+use Rattle.hevc_driver.specs.Errors.{cause_error}
+use Rattle.hevc_driver.specs.Takes.{Takes}
+use Rattle.hevc_stateless.specs.declared.state.State.{State}
+use Rattle.hevc_stateless.specs.declared.state.State.TheVariants.{AwaitingFormat}
+use Rattle.hevc_stateless.specs.States.{unit_at, meaning_in, Moves}
+use Rattle.hevc_stateless.specs.Views.{View, traces_of}
+
+-- a sequence set that was read is kept
+abbrev pub with_read_set : Content → Kept → Kept
+with_read_set (sequence_set set) kept = with_sequence_set set kept
+with_read_set other kept = kept
+
+-- What is kept behind a unit by the answer to it. A sequence set stays kept where its format is refused or awaited, and where memory
+-- is wanted as the units that wait are read.
+abbrev pub KeepsBehind : {T : Type 0} → Result T DecodeError → Options → List ℕ → Kept → Kept → Type 0
+KeepsBehind (Ok value) options bytes old new = new ≡ kept_behind options old bytes
+KeepsBehind (Err errors.CheckEvents) options bytes old new = new ≡ with_read_set (content options old bytes) old
+KeepsBehind (Err errors.Backend) options bytes old new = new ≡ with_read_set (content options old bytes) old
+KeepsBehind (Err errors.NoMemory) options bytes old new = (new ≡ old) ⊎ ((new ≡ with_read_set (content options old bytes) old) ⊎ StopsReading options (with_read_set (content options old bytes) old) new)
+KeepsBehind (Err error) options bytes old new = new ≡ old
+
+-- What a decoder is seen by: its backend's log, its view and what it keeps.
+pub record Seen (B H : Type 0) : Type 0 where
+  pub log : Option (List (Call H))
+  pub view : View B H
+  pub kept : Kept
+
+abbrev pub seen : {B H : Type 0} → Option (List (Call H)) → View B H → KeptSets → Seen B H
+seen log view sets = record { log = log; view = view; kept = kept_of sets }
+
+-- the errors of a parameter set's unit
+abbrev pub IsOfSet : DecodeError → Type 0
+IsOfSet errors.OutOfBits = Unit {0}
+IsOfSet (errors.OutOfRange table row) = Unit {0}
+IsOfSet errors.NoMemory = Unit {0}
+IsOfSet error = ⊥
+
+-- A unit of this header and these bytes was taken, while no format is awaited.
+pub record Step {B H T : Type 0} (result : Result T DecodeError) (timestamp : ℕ) (options : Options) (header : UnitHeader) (bytes : List ℕ) (old new : Seen B H) : Type 0 where
+  pub part : Takes result timestamp (traces_of old.log old.view) (traces_of new.log new.view) (meaning_in old.view.state (unit_at options old.kept header bytes)) old.view.standing new.view.standing
+  pub state : Moves old.view.state (unit_at options old.kept header bytes) result new.view.state
+  pub kept : KeepsBehind result options bytes old.kept new.kept
+
+-- a format that is awaited comes before the unit
+abbrev pub StepsIn : {B H T : Type 0} → State → Result T DecodeError → ℕ → Options → UnitHeader → List ℕ → Seen B H → Seen B H → Type 0
+StepsIn AwaitingFormat result timestamp options header bytes old new = (result ≡ Err errors.CheckEvents) × (new ≡ old)
+StepsIn state result timestamp options header bytes old new = Step result timestamp options header bytes old new
+
+-- a header that is refused comes before all else (7.3.1.2)
+abbrev pub StepsBehind : {B H T : Type 0} → Result UnitHeader HeaderFault → Result T DecodeError → ℕ → Options → List ℕ → Seen B H → Seen B H → Type 0
+StepsBehind (Err fault) result timestamp options bytes old new = (result ≡ Err (cause_error (header_cause fault))) × (new ≡ old)
+StepsBehind (Ok header) result timestamp options bytes old new = StepsIn old.view.state result timestamp options header bytes old new
+
+-- The first of these units was taken, and the answer is the place behind it; or there is none.
+abbrev pub TakesFirst : {B H : Type 0} → List NalUnit → Result ℕ DecodeError → ℕ → Options → Seen B H → Seen B H → Type 0
+TakesFirst [] result timestamp options old new = (result ≡ Err errors.NoNal) × (new ≡ old)
+TakesFirst (u ∷ us) result timestamp options old new = StepsBehind (unit_header u.bytes) result timestamp options u.bytes old new × IfOk result (λ place. place ≡ u.offset + length u.bytes)

@@ -1,0 +1,38 @@
+-- What contracts see of a stream that is being decoded.
+use Rattle.std.specs.Prelude.{◌≡◌, ℕ, List, [], ◌∷◌, Option, Some, None}
+use Rattle.hevc_walk_units.specs.Units as units
+use Rattle.hevc_walk_units.specs.Units.{Standing, at_first}
+use Rattle.hevc_bumping.specs.declared.frame.Frame.{Frame}
+use Rattle.hevc_backend.specs.declared.call.Call.{Call}
+use Rattle.hevc_driver.specs.Does.{Traces}
+use Rattle.hevc_stateless.specs.declared.state.State.{State}
+use Rattle.hevc_stateless.specs.declared.state.State.TheVariants.{AwaitingStreamInfo}
+
+pub record View (B H : Type 0) : Type 0 where
+  pub backend : B
+  -- what is waited for
+  pub state : State
+  -- what the pictures so far mean for those to come; a format that is awaited counts as accepted
+  pub standing : Standing
+  -- the pictures that came out and weren't taken yet
+  pub queue : List (Frame H)
+  -- the numbers of the stored pictures, with their handles
+  pub tickets : List (ℕ × H)
+
+-- at the beginning of a stream
+abbrev pub at_beginning : {B H : Type 0} → B → View B H
+at_beginning backend = record { backend = backend; state = AwaitingStreamInfo; standing = at_first; queue = []; tickets = [] }
+
+-- all that decoding may change, where the backend tells this log
+abbrev pub traces_of : {B H : Type 0} → Option (List (Call H)) → View B H → Traces H
+traces_of log v = record { log = log; queue = v.queue; tickets = v.tickets }
+
+-- before the first sequence set no picture is open
+abbrev pub IsIdleBefore : State → units.Current → Type 0
+IsIdleBefore AwaitingStreamInfo current = current ≡ units.NoPicture
+IsIdleBefore state current = Unit {0}
+
+-- the front of the queue leaves it
+abbrev pub PopsFrame : {H : Type 0} → Option (Frame H) → List (Frame H) → List (Frame H) → Type 0
+PopsFrame (Some frame) before now = before ≡ frame ∷ now
+PopsFrame None before now = (before ≡ []) × (now ≡ [])

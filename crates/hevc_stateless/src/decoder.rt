@@ -1,0 +1,172 @@
+//! The decoder and its calls.
+ghost use Rattle.std.specs.Prelude.{◌≡◌, ◌<◌, ◌^◌, ℕ, length, [], option_map, OnOk, OnErr};
+ghost use Rattle.hevc_spec.specs.Units.{units};
+ghost use Rattle.hevc_stream.specs.Kept.{none_kept};
+ghost use Rattle.hevc_stream.specs.Options.{default_options};
+ghost use Rattle.hevc_options.specs.Options.{options_of};
+ghost use Rattle.hevc_driver.specs.Answers.{CountsErrors, KeepsFaultless};
+ghost use Rattle.hevc_stateless.specs.declared.state.State.TheVariants.{AwaitingFormat, Decoding, Reset};
+ghost use Rattle.hevc_stateless.specs.States.{is_awaited};
+ghost use Rattle.hevc_stateless.specs.Events.{TellsNext};
+ghost use Rattle.hevc_stateless.specs.Flushes.{Flushes};
+ghost use Rattle.hevc_stateless.specs.Steps.{TakesFirst};
+ghost use Rattle.hevc_stateless.specs.Views.{at_beginning, traces_of};
+ghost use Rattle.hevc_stateless.specs.Decoders.{view_of, kept_in, set_for, seen_by};
+
+use crate::event::DecoderEvent;
+use crate::session::Session;
+use hevc_backend::{Backend, StreamInfo};
+use hevc_bits::Nalu;
+use hevc_driver::{DecodeError, Options, StatelessH265DecoderBackend};
+use hevc_kept::KeptSets;
+use std::alloc::Global;
+
+/// The decoder of a stream, which is given unit by unit.
+///
+/// It keeps parameter sets (7.4.2.4.2), begins and finishes pictures over a backend (8.1.3), and puts each picture that is output into a
+/// queue at the moment that the bumping process asks for (C.5.2).
+#[derive(Drop)]
+pub struct StatelessDecoder<B: StatelessH265DecoderBackend> {
+    pub(crate) session: Session<B>,
+    pub(crate) kept: KeptSets,
+}
+
+impl<B: StatelessH265DecoderBackend> StatelessDecoder<B> {
+    /// A decoder at the beginning of a stream: CRA pictures are handled as such, and all sub-layers are wanted.
+    pub fn new(alloc: Global, backend: B) -> StatelessDecoder<B>
+        ensures view { view_of result ≡ at_beginning backend }
+        ensures kept { kept_in result ≡ none_kept }
+        ensures options { set_for result ≡ default_options }
+    {
+        StatelessDecoder::new_with(alloc, backend, Options::new())
+    }
+
+    /// A decoder at the beginning of a stream, with what is set for decoding by external means (8.1.2, 8.1.3).
+    pub fn new_with(alloc: Global, backend: B, options: Options) -> StatelessDecoder<B>
+        ensures view { view_of result ≡ at_beginning backend }
+        ensures kept { kept_in result ≡ none_kept }
+        ensures options { set_for result ≡ options_of options }
+    {
+        StatelessDecoder {
+            session: Session::new(alloc, backend),
+            kept: KeptSets::new(alloc, options),
+        }
+    }
+
+    /// Takes the first unit of the input, of less than 2^60 bytes, with the time at which its picture is to be shown, in the caller's
+    /// unit. The answer is the place behind the unit, in bytes.
+    ///
+    /// Errors: `NoNal`, there is none; those of the unit's header; `CheckEvents`, a format is awaited, from here on where the unit opened
+    /// its negotiation, and the unit is to be given once more when it is accepted; else those of the unit. `DecodeError` names each.
+    pub fn decode(&mut self, timestamp: u64, bitstream: &[u8]) -> Result<usize, DecodeError>
+        requires short { length bitstream.now < 2 ^ 60 }
+        ensures cause { CountsErrors (B.counts (view_of self.old).backend)
+            (B.counts (view_of self.new).backend) result }
+        ensures faultless { KeepsFaultless (B.is_faultless (view_of self.old).backend)
+            (B.is_faultless (view_of self.new).backend) result }
+        ensures takes { TakesFirst (units bitstream.now) result timestamp (set_for self.old)
+            (seen_by B.log self.old) (seen_by B.log self.new) }
+        ensures options { set_for self.new ≡ set_for self.old }
+    {
+        let mut position = 0;
+        let nalu = Nalu::next(bitstream, &mut position)?;
+        if self.awaiting_format() {
+            return Err(DecodeError::CheckEvents);
+        }
+        let behind = nalu.offset() + nalu.size();
+        self.take_unit(timestamp, nalu)?;
+        Ok(behind)
+    }
+
+    /// The stream ends, or is left: the open picture is over, and all that waits comes out. Behind it an IDR picture or a sequence
+    /// parameter set is waited for. A format that is awaited is forgotten, and the next picture negotiates again.
+    ///
+    /// Errors: `NoMemory`, `Backend`, `DpbFull`. The state and the stored pictures stay; where a call of the backend was refused the
+    /// open picture is given up, and a second call goes on.
+    pub fn flush(&mut self) -> Result<(), DecodeError>
+        ensures cause { CountsErrors (B.counts (view_of self.old).backend)
+            (B.counts (view_of self.new).backend) result }
+        ensures faultless { KeepsFaultless (B.is_faultless (view_of self.old).backend)
+            (B.is_faultless (view_of self.new).backend) result }
+        ensures flushes { (timestamp : ℕ) → Flushes result timestamp
+            (traces_of (B.log (view_of self.old).backend) (view_of self.old))
+            (traces_of (B.log (view_of self.new).backend) (view_of self.new))
+            (view_of self.old).state (view_of self.old).standing (view_of self.new).standing }
+        ensures state { OnOk result ((view_of self.new).state ≡ Reset) }
+        ensures stays { OnErr result ((view_of self.new).state ≡ (view_of self.old).state) }
+        ensures kept { kept_in self.new ≡ kept_in self.old }
+        ensures options { set_for self.new ≡ set_for self.old }
+    {
+        self.session.flush()
+    }
+
+    /// The next picture that came out, which leaves the queue; else, while a format is awaited, that it is.
+    pub fn next_event(&mut self) -> Option<DecoderEvent<B::Handle>>
+        ensures event { TellsNext result (view_of self.old).state
+            (view_of self.old).queue (view_of self.new).queue }
+        ensures others { view_of self.new
+            ≡ record (view_of self.old) { queue = (view_of self.new).queue } }
+        ensures kept { kept_in self.new ≡ kept_in self.old }
+        ensures options { set_for self.new ≡ set_for self.old }
+    {
+        if let Some(frame) = self.session.next_frame() {
+            return Some(DecoderEvent::FrameReady(frame));
+        }
+        if self.awaiting_format() {
+            return Some(DecoderEvent::FormatChanged);
+        }
+        None
+    }
+
+    /// Whether a format was negotiated that isn't accepted yet.
+    pub fn awaiting_format(&self) -> bool
+        ensures { result ≡ is_awaited (view_of self.now).state }
+    {
+        self.session.awaiting_format()
+    }
+
+    /// Accepts the format that is awaited.
+    pub fn accept_format(&mut self)
+        requires awaited { (view_of self.old).state ≡ AwaitingFormat }
+        ensures view { view_of self.new ≡ record (view_of self.old) { state = Decoding } }
+        ensures kept { kept_in self.new ≡ kept_in self.old }
+        ensures options { set_for self.new ≡ set_for self.old }
+    {
+        self.session.resume();
+    }
+
+    /// What the backend tells of the sequence.
+    pub fn stream_info(&self) -> Option<&StreamInfo>
+        ensures { option_map (λ info. info.now) result ≡ B.info (view_of self.now).backend }
+    {
+        self.session.backend().stream_info()
+    }
+
+    /// The backend.
+    pub fn backend(&self) -> &B
+        ensures { result.now ≡ (view_of self.now).backend }
+    {
+        self.session.backend()
+    }
+
+    /// The backend, and nothing else of the decoder.
+    pub fn into_backend(self) -> B
+        ensures { result ≡ (view_of self).backend }
+    {
+        let StatelessDecoder { session, kept: _ } = self;
+        session.into_backend()
+    }
+}
+
+impl StatelessDecoder<Backend> {
+    ghost use Rattle.hevc_backend.specs.Recording.{planned};
+
+    /// A decoder at the beginning of a stream, over a backend that records its calls and never fails.
+    pub fn new_dummy(alloc: Global) -> StatelessDecoder<Backend>
+        ensures view { view_of result ≡ at_beginning (planned [] []) }
+        ensures kept { kept_in result ≡ none_kept }
+        ensures options { set_for result ≡ default_options }
+    {
+        StatelessDecoder::new(alloc, Backend::new(alloc))
+    }
+}

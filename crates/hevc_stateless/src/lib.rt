@@ -1,0 +1,16 @@
+//! The stateless decoder: it takes one unit after another, and tells what came of them by events.
+#![tactic(auto)]
+
+mod decoder;
+mod event;
+mod refusal;
+mod session;
+mod state;
+#[cfg(test)]
+mod tests;
+mod units;
+
+pub use decoder::StatelessDecoder;
+pub use event::DecoderEvent;
+pub use hevc_driver::{DecodeError, Frame, Options, StatelessH265DecoderBackend};
+pub use state::State;

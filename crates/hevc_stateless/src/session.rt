@@ -1,0 +1,217 @@
+//! A stream that is being decoded.
+ghost use Rattle.std.specs.Prelude.{◌≡◌, ◌∷◌, [], ℕ, None, OnOk, OnErr};
+ghost use Rattle.hevc_spec.specs.UnitTypes.{is_idr};
+ghost use Rattle.hevc_bits.specs.NaluType.{nalu_type_number};
+ghost use Rattle.hevc_types_c.specs.Sps.{plain_sps};
+ghost use Rattle.hevc_views.specs.Sequences.{format_of_set};
+ghost use Rattle.hevc_walk.specs.Meanings.{SequenceSet, CodedSlice, EndOfSequence, EndOfBitstream};
+ghost use Rattle.hevc_driver.specs.Answers.{CountsErrors, KeepsFaultless};
+ghost use Rattle.hevc_driver.specs.Moments.{step_part};
+ghost use Rattle.hevc_driver.specs.Slices.{slice_of};
+ghost use Rattle.hevc_driver.specs.Sound.{AreNamed};
+ghost use Rattle.hevc_driver.specs.Takes.{Takes};
+ghost use Rattle.hevc_stateless.specs.declared.state.State.TheVariants.{AwaitingStreamInfo, AwaitingFormat, Decoding, Reset};
+ghost use Rattle.hevc_stateless.specs.States.{AwaitsOrStays, is_awaited, awaits_stream_info, is_decoding, state_at};
+ghost use Rattle.hevc_stateless.specs.Flushes.{Flushes};
+ghost use Rattle.hevc_stateless.specs.Views.{at_beginning, traces_of, PopsFrame};
+
+use crate::state::State;
+use hevc_bits::NaluType;
+use hevc_driver::{DecodeError, Driver, Frame, Options, StatelessH265DecoderBackend};
+use hevc_types_c::Sps;
+use hevc_types_d::{Pps, Slice};
+use std::alloc::Global;
+use std::marker::Model;
+
+/// A stream that is being decoded: its pictures, and what is waited for. Between two calls its driver is sound, so that a backend is
+/// handed no reference that isn't stored, and no handle that it didn't give.
+#[derive(Drop)]
+pub struct Session<B: StatelessH265DecoderBackend> {
+    driver: Driver<B>,
+    state: State,
+}
+
+impl<B: StatelessH265DecoderBackend> Model for Session<B> {
+    ghost use Rattle.hevc_dpb.specs.Entries.{tickets};
+    ghost use Rattle.hevc_dpb.specs.Views.{stored_entries};
+    ghost use Rattle.hevc_driver.specs.Sound.{IsSound};
+    ghost use Rattle.hevc_driver.specs.Standings.{standing, current_of};
+    ghost use Rattle.hevc_stateless.specs.Views.{View, IsIdleBefore};
+
+    ghost Value = { View B B.Handle };
+
+    ghost view = { λ s. record { backend = s.driver.backend; state = s.state; standing = standing s.driver.walk; queue = s.driver.walk.queue.items; tickets = tickets (stored_entries s.driver.walk.dpb) } };
+
+    ghost invariant = { λ s. IsSound (B.log s.driver.backend) s.driver.walk × IsIdleBefore s.state (current_of s.driver.walk.current) };
+}
+
+impl<B: StatelessH265DecoderBackend> Session<B> {
+    /// At the beginning of a stream.
+    pub(crate) fn new(alloc: Global, backend: B) -> Session<B>
+        ensures { result ≡ at_beginning backend }
+    {
+        Session {
+            driver: Driver::new(alloc, backend),
+            state: State::AwaitingStreamInfo,
+        }
+    }
+
+    /// The backend.
+    pub(crate) fn backend(&self) -> &B
+        ensures { result.now ≡ self.now.backend }
+    {
+        &self.driver.backend
+    }
+
+    /// The backend, and nothing else.
+    pub(crate) fn into_backend(self) -> B
+        ensures { result ≡ self.backend }
+    {
+        let Session {
+            driver: Driver { backend, walk: _ },
+            state: _,
+        } = self;
+        backend
+    }
+
+    /// Whether the first sequence set is waited for.
+    pub(crate) fn awaiting_stream_info(&self) -> bool
+        ensures { result ≡ awaits_stream_info self.now.state }
+    {
+        matches!(self.state, State::AwaitingStreamInfo)
+    }
+
+    /// Whether nothing is waited for.
+    pub(crate) fn decoding(&self) -> bool
+        ensures { result ≡ is_decoding self.now.state }
+    {
+        matches!(self.state, State::Decoding)
+    }
+
+    /// A slice of an IDR picture ends the wait behind `flush`.
+    pub(crate) fn leave_reset(&mut self, nalu_type: NaluType)
+        ensures { self.new ≡ record self.old {
+          state = state_at (is_idr (nalu_type_number nalu_type)) self.old.state;
+        } }
+    {
+        if nalu_type.is_idr() && matches!(self.state, State::Reset) {
+            self.state = State::Decoding;
+        }
+    }
+
+    /// Whether a format was negotiated that isn't accepted yet.
+    pub(crate) fn awaiting_format(&self) -> bool
+        ensures { result ≡ is_awaited self.now.state }
+    {
+        matches!(self.state, State::AwaitingFormat)
+    }
+
+    /// Nothing is waited for any more.
+    pub(crate) fn resume(&mut self)
+        ensures { self.new ≡ record self.old { state = Decoding } }
+    {
+        self.state = State::Decoding;
+    }
+
+    /// The next picture that came out.
+    pub(crate) fn next_frame(&mut self) -> Option<Frame<B::Handle>>
+        ensures frame { PopsFrame result self.old.queue self.new.queue }
+        ensures others { self.new ≡ record self.old { queue = self.new.queue } }
+    {
+        self.driver.walk.queue.pop_front()
+    }
+
+    /// The first sequence set: its format is negotiated.
+    ///
+    /// Errors: `CheckEvents`, the format is awaited from here on; `Backend`, `NoMemory`, and nothing has changed then.
+    pub(crate) fn open_sequence(&mut self, sps: &Sps) -> Result<(), DecodeError>
+        requires first { self.old.state ≡ AwaitingStreamInfo }
+        ensures cause { CountsErrors (B.counts self.old.backend)
+            (B.counts self.new.backend) result }
+        ensures faultless { KeepsFaultless (B.is_faultless self.old.backend)
+            (B.is_faultless self.new.backend) result }
+        ensures part { (timestamp : ℕ) → Takes result timestamp
+            (traces_of (B.log self.old.backend) self.old)
+            (traces_of (B.log self.new.backend) self.new)
+            (SequenceSet (format_of_set (plain_sps sps.now)))
+            self.old.standing self.new.standing }
+        ensures state { AwaitsOrStays result self.old.state self.new.state }
+    {
+        self.driver.open_sequence(sps)?;
+        self.state = State::AwaitingFormat;
+        Err(DecodeError::CheckEvents)
+    }
+
+    /// A slice segment with the sets that it makes active.
+    ///
+    /// Errors: those of the driver; behind `CheckEvents` a format is awaited.
+    pub(crate) fn take_slice(
+        &mut self,
+        timestamp: u64,
+        options: Options,
+        slice: &mut Slice<'_>,
+        sps: &Sps,
+        pps: &Pps,
+    ) -> Result<(), DecodeError>
+        requires named { AreNamed slice.old sps.now pps.now }
+        requires decoding { self.old.state ≡ Decoding }
+        ensures cause { CountsErrors (B.counts self.old.backend)
+            (B.counts self.new.backend) result }
+        ensures faultless { KeepsFaultless (B.is_faultless self.old.backend)
+            (B.is_faultless self.new.backend) result }
+        ensures part { Takes result timestamp
+            (traces_of (B.log self.old.backend) self.old)
+            (traces_of (B.log self.new.backend) self.new)
+            (CodedSlice (slice_of options slice.old sps.now pps.now))
+            self.old.standing self.new.standing }
+        ensures state { AwaitsOrStays result self.old.state self.new.state }
+    {
+        self.driver.reserve()?;
+        let result = self.driver.take_slice(timestamp, options, slice, sps, pps);
+        if matches!(result, Err(DecodeError::CheckEvents)) {
+            self.state = State::AwaitingFormat;
+        }
+        result
+    }
+
+    /// An end of sequence.
+    pub(crate) fn end_sequence(&mut self)
+        ensures { self.new
+            ≡ record self.old { standing = (step_part EndOfSequence self.old.standing).next } }
+    {
+        self.driver.end_sequence();
+    }
+
+    /// An end of the bitstream.
+    pub(crate) fn end_bitstream(&mut self)
+        ensures { self.new
+            ≡ record self.old { standing = (step_part EndOfBitstream self.old.standing).next } }
+    {
+        self.driver.end_bitstream();
+    }
+
+    /// The open picture is over, and all that waits comes out. A format that is awaited is forgotten.
+    ///
+    /// Errors: `NoMemory`, `Backend`, `DpbFull`; where a call of the backend was refused the open picture is given up.
+    pub(crate) fn flush(&mut self) -> Result<(), DecodeError>
+        ensures cause { CountsErrors (B.counts self.old.backend)
+            (B.counts self.new.backend) result }
+        ensures faultless { KeepsFaultless (B.is_faultless self.old.backend)
+            (B.is_faultless self.new.backend) result }
+        ensures flushes { (timestamp : ℕ) → Flushes result timestamp
+            (traces_of (B.log self.old.backend) self.old)
+            (traces_of (B.log self.new.backend) self.new)
+            self.old.state self.old.standing self.new.standing }
+        ensures state { OnOk result (self.new.state ≡ Reset) }
+        ensures stays { OnErr result (self.new.state ≡ self.old.state) }
+    {
+        let awaited = self.awaiting_format();
+        self.driver.reserve()?;
+        self.driver.close()?;
+        if awaited {
+            self.driver.forget_format();
+        }
+        self.state = State::Reset;
+        Ok(())
+    }
+}

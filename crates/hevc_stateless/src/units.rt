@@ -1,0 +1,262 @@
+//! Units are taken.
+ghost use Rattle.std.specs.Prelude.{◌≡◌, ◌<◌, ◌≤◌, ◌^◌, ℕ, length, true, false, Ok, Some, IsSome, IfErr};
+ghost use Rattle.hevc_spec.specs.UnitHeader.{unit_header};
+ghost use Rattle.hevc_spec.specs.UnitTypes.{is_slice};
+ghost use Rattle.hevc_bits.specs.NaluType.{nalu_type_number};
+ghost use Rattle.hevc_bits.specs.FoundUnit.{bytes_of};
+ghost use Rattle.hevc_stream.specs.Slices.{temporal_id};
+ghost use Rattle.hevc_kept.specs.CutUnits.{IsCutOut};
+ghost use Rattle.hevc_kept.specs.Kept.{kept_of, options_in};
+ghost use Rattle.hevc_driver.specs.Answers.{CountsErrors, KeepsFaultless};
+ghost use Rattle.hevc_stateless.specs.States.{is_awaited, is_parameter_set, AwaitsOrStays, unit_at};
+ghost use Rattle.hevc_stateless.specs.Steps.{Step, seen, IsOfSet};
+ghost use Rattle.hevc_records.specs.Sps.{PlainSps};
+ghost use Rattle.hevc_views.specs.Sequences.{format_of_set};
+ghost use Rattle.hevc_walk.specs.Meanings.{SequenceSet};
+ghost use Rattle.hevc_driver.specs.declared.decode_error.DecodeError.TheVariants.{NoMemory};
+ghost use Rattle.hevc_driver.specs.Takes.{Takes};
+ghost use Rattle.hevc_stateless.specs.declared.state.State.TheVariants.{AwaitingStreamInfo, Decoding};
+ghost use Rattle.hevc_stateless.specs.Views.{traces_of};
+
+use crate::decoder::StatelessDecoder;
+use crate::refusal::refusal;
+use hevc_bits::{Nalu, NaluHeader, NaluType};
+use hevc_driver::{DecodeError, StatelessH265DecoderBackend};
+
+impl<B: StatelessH265DecoderBackend> StatelessDecoder<B> {
+    /// Takes the unit of a video set.
+    pub(crate) fn take_video_set(&mut self, nalu: &Nalu<'_, NaluHeader>) -> Result<(), DecodeError>
+        requires short { length nalu.now.stream < 2 ^ 60 }
+        requires parsed { unit_header (bytes_of nalu.now) ≡ Ok nalu.now.header }
+        requires typed { nalu.now.header.nal_unit_type ≡ 32 }
+        requires wanted { temporal_id nalu.now.header ≤ (options_in self.old.kept).highest_tid }
+        ensures same { self.new.session ≡ self.old.session }
+        ensures options { options_in self.new.kept ≡ options_in self.old.kept }
+        ensures step { (timestamp : ℕ) → Step result timestamp (options_in self.old.kept)
+            nalu.now.header (bytes_of nalu.now)
+            (seen (B.log self.old.session.backend) self.old.session self.old.kept)
+            (seen (B.log self.new.session.backend) self.new.session self.new.kept) }
+        ensures refused { IfErr result IsOfSet }
+    {
+        match self.kept.take_video_set(nalu) {
+            Ok(()) => Ok(()),
+            Err(error) => Err(refusal(error)),
+        }
+    }
+
+    /// Takes the unit of a sequence set. The first one opens a negotiation; behind a later one the units that wait are read.
+    pub(crate) fn take_sequence_set(
+        &mut self,
+        nalu: &Nalu<'_, NaluHeader>,
+    ) -> Result<(), DecodeError>
+        requires short { length nalu.now.stream < 2 ^ 60 }
+        requires parsed { unit_header (bytes_of nalu.now) ≡ Ok nalu.now.header }
+        requires typed { nalu.now.header.nal_unit_type ≡ 33 }
+        requires wanted { temporal_id nalu.now.header ≤ (options_in self.old.kept).highest_tid }
+        requires going { is_awaited self.old.session.state ≡ false }
+        ensures cause { CountsErrors (B.counts self.old.session.backend)
+            (B.counts self.new.session.backend) result }
+        ensures faultless { KeepsFaultless (B.is_faultless self.old.session.backend)
+            (B.is_faultless self.new.session.backend) result }
+        ensures options { options_in self.new.kept ≡ options_in self.old.kept }
+        ensures step { (timestamp : ℕ) → Step result timestamp (options_in self.old.kept)
+            nalu.now.header (bytes_of nalu.now)
+            (seen (B.log self.old.session.backend) self.old.session self.old.kept)
+            (seen (B.log self.new.session.backend) self.new.session self.new.kept) }
+    {
+        let id = match self.kept.keep_sequence_set(nalu) {
+            Ok(id) => id,
+            Err(error) => return Err(refusal(error)),
+        };
+        if self.session.awaiting_stream_info() {
+            return self.open_sequence(id);
+        }
+        self.session.resume();
+        self.kept.read_waiting()?;
+        Ok(())
+    }
+
+    /// The format of a sequence set that is kept is negotiated, the first one.
+    fn open_sequence(&mut self, id: u8) -> Result<(), DecodeError>
+        requires kept { IsSome ((kept_of self.old.kept).sequence_sets id) }
+        requires first { self.old.session.state ≡ AwaitingStreamInfo }
+        ensures cause { CountsErrors (B.counts self.old.session.backend)
+            (B.counts self.new.session.backend) result }
+        ensures faultless { KeepsFaultless (B.is_faultless self.old.session.backend)
+            (B.is_faultless self.new.session.backend) result }
+        ensures part { (timestamp : ℕ) (set : PlainSps)
+            → (kept_of self.old.kept).sequence_sets id ≡ Some set
+            → Takes result timestamp
+            (traces_of (B.log self.old.session.backend) self.old.session)
+            (traces_of (B.log self.new.session.backend) self.new.session)
+            (SequenceSet (format_of_set set))
+            self.old.session.standing self.new.session.standing }
+        ensures state { AwaitsOrStays result self.old.session.state self.new.session.state }
+        ensures kept { kept_of self.new.kept ≡ kept_of self.old.kept }
+        ensures options { options_in self.new.kept ≡ options_in self.old.kept }
+    {
+        let set = self.kept.parser().get_sps(id).unwrap();
+        self.session.open_sequence(set)
+    }
+
+    /// Takes the unit of a picture set. One that can't be read waits.
+    pub(crate) fn take_picture_set(
+        &mut self,
+        nalu: &Nalu<'_, NaluHeader>,
+    ) -> Result<(), DecodeError>
+        requires short { length nalu.now.stream < 2 ^ 60 }
+        requires parsed { unit_header (bytes_of nalu.now) ≡ Ok nalu.now.header }
+        requires typed { nalu.now.header.nal_unit_type ≡ 34 }
+        requires wanted { temporal_id nalu.now.header ≤ (options_in self.old.kept).highest_tid }
+        requires cut { IsCutOut nalu.now }
+        ensures same { self.new.session ≡ self.old.session }
+        ensures options { options_in self.new.kept ≡ options_in self.old.kept }
+        ensures step { (timestamp : ℕ) → Step result timestamp (options_in self.old.kept)
+            nalu.now.header (bytes_of nalu.now)
+            (seen (B.log self.old.session.backend) self.old.session self.old.kept)
+            (seen (B.log self.new.session.backend) self.new.session self.new.kept) }
+        ensures refused { IfErr result (λ e. e ≡ NoMemory) }
+    {
+        self.kept.take_picture_set(nalu)?;
+        Ok(())
+    }
+
+    /// Takes the unit of a slice segment, while nothing is waited for.
+    fn take_slice(&mut self, timestamp: u64, nalu: Nalu<'_, NaluHeader>) -> Result<(), DecodeError>
+        requires short { length nalu.stream < 2 ^ 60 }
+        requires parsed { unit_header (bytes_of nalu) ≡ Ok nalu.header }
+        requires typed { is_slice nalu.header.nal_unit_type ≡ true }
+        requires wanted { temporal_id nalu.header ≤ (options_in self.old.kept).highest_tid }
+        requires decoding { self.old.session.state ≡ Decoding }
+        ensures cause { CountsErrors (B.counts self.old.session.backend)
+            (B.counts self.new.session.backend) result }
+        ensures faultless { KeepsFaultless (B.is_faultless self.old.session.backend)
+            (B.is_faultless self.new.session.backend) result }
+        ensures kept { self.new.kept ≡ self.old.kept }
+        ensures part { Takes result timestamp
+            (traces_of (B.log self.old.session.backend) self.old.session)
+            (traces_of (B.log self.new.session.backend) self.new.session)
+            (unit_at (options_in self.old.kept) (kept_of self.old.kept) nalu.entry.header
+            (bytes_of nalu.entry)).meaning
+            self.old.session.standing self.new.session.standing }
+        ensures state { AwaitsOrStays result self.old.session.state self.new.session.state }
+    {
+        let parser = self.kept.parser();
+        let mut slice = match parser.parse_slice_header(nalu) {
+            Ok(slice) => slice,
+            Err(error) => return Err(refusal(error)),
+        };
+        let id = slice.header.pic_parameter_set_id;
+        let Some(pps) = parser.get_pps(id) else {
+            return Err(DecodeError::MissingPps(id));
+        };
+        let Some(sps) = parser.get_sps(pps.seq_parameter_set_id) else {
+            return Err(DecodeError::MissingPps(id));
+        };
+        let options = self.kept.options();
+        self.session
+            .take_slice(timestamp, options, &mut slice, sps, pps)
+    }
+
+    /// Takes a unit that is no parameter set, while nothing is waited for.
+    fn take_now(&mut self, timestamp: u64, nalu: Nalu<'_, NaluHeader>) -> Result<(), DecodeError>
+        requires short { length nalu.stream < 2 ^ 60 }
+        requires parsed { unit_header (bytes_of nalu) ≡ Ok nalu.header }
+        requires other { is_parameter_set nalu.header.nal_unit_type ≡ false }
+        requires wanted { temporal_id nalu.header ≤ (options_in self.old.kept).highest_tid }
+        requires decoding { self.old.session.state ≡ Decoding }
+        ensures cause { CountsErrors (B.counts self.old.session.backend)
+            (B.counts self.new.session.backend) result }
+        ensures faultless { KeepsFaultless (B.is_faultless self.old.session.backend)
+            (B.is_faultless self.new.session.backend) result }
+        ensures kept { self.new.kept ≡ self.old.kept }
+        ensures part { Takes result timestamp
+            (traces_of (B.log self.old.session.backend) self.old.session)
+            (traces_of (B.log self.new.session.backend) self.new.session)
+            (unit_at (options_in self.old.kept) (kept_of self.old.kept) nalu.entry.header
+            (bytes_of nalu.entry)).meaning
+            self.old.session.standing self.new.session.standing }
+        ensures state { AwaitsOrStays result self.old.session.state self.new.session.state }
+    {
+        let number = type_number(nalu.header().nalu_type());
+        if is_slice(number) {
+            return self.take_slice(timestamp, nalu);
+        }
+        if number == 36 {
+            self.session.end_sequence();
+        } else if number == 37 {
+            self.session.end_bitstream();
+        }
+        Ok(())
+    }
+
+    /// Takes a unit that is no parameter set.
+    fn take_coded(&mut self, timestamp: u64, nalu: Nalu<'_, NaluHeader>) -> Result<(), DecodeError>
+        requires short { length nalu.stream < 2 ^ 60 }
+        requires parsed { unit_header (bytes_of nalu) ≡ Ok nalu.header }
+        requires other { is_parameter_set nalu.header.nal_unit_type ≡ false }
+        requires wanted { temporal_id nalu.header ≤ (options_in self.old.kept).highest_tid }
+        requires going { is_awaited self.old.session.state ≡ false }
+        ensures cause { CountsErrors (B.counts self.old.session.backend)
+            (B.counts self.new.session.backend) result }
+        ensures faultless { KeepsFaultless (B.is_faultless self.old.session.backend)
+            (B.is_faultless self.new.session.backend) result }
+        ensures options { options_in self.new.kept ≡ options_in self.old.kept }
+        ensures step { Step result timestamp (options_in self.old.kept)
+            nalu.entry.header (bytes_of nalu.entry)
+            (seen (B.log self.old.session.backend) self.old.session self.old.kept)
+            (seen (B.log self.new.session.backend) self.new.session self.new.kept) }
+    {
+        self.session.leave_reset(nalu.header().nalu_type());
+        if !self.session.decoding() {
+            return Ok(());
+        }
+        self.take_now(timestamp, nalu)
+    }
+
+    /// Takes a unit, while no format is awaited. One of a sub-layer that isn't wanted is passed over.
+    pub(crate) fn take_unit(
+        &mut self,
+        timestamp: u64,
+        nalu: Nalu<'_, NaluHeader>,
+    ) -> Result<(), DecodeError>
+        requires short { length nalu.stream < 2 ^ 60 }
+        requires parsed { unit_header (bytes_of nalu) ≡ Ok nalu.header }
+        requires cut { IsCutOut nalu }
+        requires going { is_awaited self.old.session.state ≡ false }
+        ensures cause { CountsErrors (B.counts self.old.session.backend)
+            (B.counts self.new.session.backend) result }
+        ensures faultless { KeepsFaultless (B.is_faultless self.old.session.backend)
+            (B.is_faultless self.new.session.backend) result }
+        ensures options { options_in self.new.kept ≡ options_in self.old.kept }
+        ensures step { Step result timestamp (options_in self.old.kept)
+            nalu.entry.header (bytes_of nalu.entry)
+            (seen (B.log self.old.session.backend) self.old.session self.old.kept)
+            (seen (B.log self.new.session.backend) self.new.session self.new.kept) }
+    {
+        let header = nalu.header();
+        if header.temporal_id_plus1() - 1 > self.kept.options().highest_tid {
+            return Ok(());
+        }
+        match type_number(header.nalu_type()) {
+            32 => self.take_video_set(&nalu),
+            33 => self.take_sequence_set(&nalu),
+            34 => self.take_picture_set(&nalu),
+            _ => self.take_coded(timestamp, nalu),
+        }
+    }
+}
+
+/// The number by which a unit names its type (Table 7-1): 0 to 47.
+fn type_number(nalu_type: NaluType) -> u8
+    ensures { result ≡ nalu_type_number nalu_type }
+{
+    nalu_type as u8
+}
+
+/// Whether this is the type of a slice segment that isn't reserved: 0 to 9 and 16 to 21 (Table 7-1).
+fn is_slice(nal_unit_type: u8) -> bool
+    ensures { result ≡ is_slice nal_unit_type }
+{
+    nal_unit_type <= 9 || (16 <= nal_unit_type && nal_unit_type <= 21)
+}
