@@ -68,9 +68,9 @@ impl<B: StatelessH265DecoderBackend> Driver<B> {
         Ok(())
     }
 
-    /// The picture whose slices came is over, and all that waits is output.
+    /// The picture whose slices came is over, and all that waits is output (C.5.2.2).
     ///
-    /// Errors: `Backend`, `DpbFull`, `NoMemory`; the picture is given up then.
+    /// Errors: `Backend`, `DpbFull`, `NoMemory`; the picture is given up then, and nothing is output.
     pub fn close(&mut self) -> Result<(), DecodeError>
         requires sound { IsSound (B.log self.old.backend) self.old.walk }
         requires room { HasRoom 1 self.old.walk }

@@ -1,4 +1,4 @@
-//! Slices.
+//! A slice segment is taken: it begins a picture, or is a later one of the current picture (7.4.2.4.5).
 ghost use Rattle.std.specs.Prelude.{◌≡◌, ℕ, option_map};
 ghost use Rattle.hevc_types_c.specs.Sps.{plain_sps};
 ghost use Rattle.hevc_views.specs.Sequences.{format_of_set};
@@ -65,8 +65,13 @@ fn check_format(
 }
 
 impl<B: StatelessH265DecoderBackend> Driver<B> {
-    /// Takes a slice segment with the sets that it makes active; it is completed where it is a dependent one. Where it opens a negotiation
-    /// the answer is `CheckEvents`, and the unit is to be given once more when its format is accepted.
+    /// Takes a slice segment with the sets that it makes active; it is completed where it is a dependent one (7.4.7.1). Where it opens a
+    /// negotiation the answer is `CheckEvents`, and the unit is to be given once more when its format is accepted. `timestamp` is in the
+    /// caller's unit, and is handed to the backend with a picture that begins.
+    ///
+    /// Errors: `NoIndependentSlice`, nothing was done; `ChangedMidPicture`, the picture is given up; `DpbFull`, the picture before isn't
+    /// stored (C.5.2.3); `NotEnoughOutputBuffers`, of 1 frame, `PictureNumbersSpent` and `PocOutOfRange`, the picture before is over
+    /// and none begins; `Backend` and `NoMemory`, the picture of the refused call is given up, or nothing was done.
     pub fn take_slice(
         &mut self,
         timestamp: u64,
