@@ -1,0 +1,7 @@
+pub mod Accepting
+pub mod Again
+pub mod Keeping
+pub mod Opening
+pub mod Standing
+pub mod Repeating
+pub mod Twice

@@ -1,0 +1,46 @@
+//! What stands after each unit of a stream, and the moment of each call and output.
+#![tactic(auto)]
+
+ghost use Rattle.std.specs.Prelude.{◌≡◌, ◌∷◌, [], ℕ, List, Ok, Err};
+ghost use Rattle.hevc_spec.specs.Units.{NalUnit};
+ghost use Rattle.hevc_stream.specs.Kept.{none_kept};
+ghost use Rattle.hevc_stream.specs.Options.{Options};
+ghost use Rattle.hevc_stateless.specs.Steps.{Seen, TakesFirst};
+ghost use Rattle.hevc_stateless.specs.Views.{at_beginning};
+ghost use Rattle.hevc_moments.specs.Stands.{StandsAfter, StandsBetween, Took, Opened, TookAgain};
+ghost use Rattle.hevc_driver.specs.declared.decode_error.DecodeError.TheVariants.{CheckEvents};
+ghost use Rattle.hevc_stateless.specs.declared.state.State.TheVariants.{Decoding};
+
+/// A decoder at the beginning of a stream stands after no units.
+pub fn stands_at_the_beginning<B, H>()
+    ensures { (options : Options) (seen : Seen B H) (backend : B)
+        → seen.view ≡ at_beginning backend → seen.kept ≡ none_kept
+        → StandsAfter options [] seen }
+{}
+
+/// Where a decoder stands after some units of a stream and takes the next one, it stands after that one too. Its log grew by exactly
+/// the calls at that unit, each new picture with the timestamp given, and its queue by exactly the pictures that are output there.
+pub fn takes_the_next_unit<B, H>()
+    ensures { (timestamp : ℕ) (options : Options) (us others : List NalUnit) (u : NalUnit)
+        (old new : Seen B H) (place : ℕ) → StandsAfter options us old
+        → TakesFirst (u ∷ others) (Ok place) timestamp options old new
+        → Took timestamp options us u old new }
+{}
+
+/// Where the answer is `CheckEvents`, the unit opened a negotiation: all up to there was done, and all its outputs are in the queue.
+pub fn opens_a_negotiation<B, H>()
+    ensures { (timestamp : ℕ) (options : Options) (us others : List NalUnit) (u : NalUnit)
+        (old new : Seen B H) → StandsAfter options us old
+        → TakesFirst (u ∷ others) (Err CheckEvents) timestamp options old new
+        → Opened timestamp options us u old new }
+{}
+
+/// Where its format was accepted and the unit is given again, the decoder stands after it. Nothing is output twice, and both calls
+/// together made its calls.
+pub fn takes_the_unit_again<B, H>()
+    ensures { (timestamp : ℕ) (options : Options) (us others : List NalUnit) (u : NalUnit)
+        (old new : Seen B H) (place : ℕ) → StandsBetween options us u old
+        → old.view.state ≡ Decoding
+        → TakesFirst (u ∷ others) (Ok place) timestamp options old new
+        → TookAgain timestamp options us u old new }
+{}
