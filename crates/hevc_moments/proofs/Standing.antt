@@ -33,7 +33,7 @@ use Rattle.hevc_moments.proofs.Accepting.{stays_accepted}
 use Rattle.hevc_moments.proofs.Keeping.{meant_last, kept_last, length_meant, kept_has, set_is_same, other_is_nothing, is_coded, none_coded}
 
 -- What a unit means in a state is what it means where a decoder stands.
-record Means (x y : Meaning) (s : Standing) : Type 0 where
+pub record Means (x y : Meaning) (s : Standing) : Type 0 where
   pub part : step_part x s ≡ unit_part y s
   pub refusal : refusal_at x s ≡ refusal_at y s
   pub full : is_full_at x s ≡ is_full_at y s
@@ -75,7 +75,7 @@ module _ (o : Options) (k : Kept) (bytes : List ℕ) (h : UnitHeader) (parsed : 
   first_is None has = none_means (sym has)
   first_is (Some f) has = ap later_meaning (sure_means (sym has))
 
-  means : (a : Option Format) (s : Standing) → s.store.accepted ≡ a → is_some a ≡ k.has_sequence_set → Means (meaning_in (state_by a) u) (meaning o k bytes) s
+  pub means : (a : Option Format) (s : Standing) → s.store.accepted ≡ a → is_some a ≡ k.has_sequence_set → Means (meaning_in (state_by a) u) (meaning o k bytes) s
   means None s is has = subst (λ (x : Meaning). Means x (meaning o k bytes) s) (sym (none_means (sym has))) (record { part = first_part (meaning o k bytes) s is; refusal = refl; full = refl })
   means (Some f) s is has = subst (λ (x : Meaning). Means (later_meaning x) (meaning o k bytes) s) (sym (sure_means (sym has))) (later_part f (meaning o k bytes) s is)
 

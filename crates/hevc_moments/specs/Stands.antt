@@ -5,7 +5,7 @@ use Rattle.hevc_spec.specs.Units.{NalUnit}
 use Rattle.hevc_walk.specs.Meanings.{Format, Meaning}
 use Rattle.hevc_walk.specs.Pictures.{stream}
 use Rattle.hevc_walk.specs.Walk as walk
-use Rattle.hevc_walk.specs.Refusals.{stop}
+use Rattle.hevc_walk.specs.Refusals.{Cause, refusal, stop}
 use Rattle.hevc_walk.specs.Results.{OutputPicture, calls, outputs, calls_of_unit, outputs_of_unit}
 use Rattle.hevc_walk_units.specs.Units.{Standing}
 use Rattle.hevc_walk_joined.specs.Standings as joined
@@ -16,6 +16,9 @@ use Rattle.hevc_stream.specs.Stream.{meaning, meanings_behind, kept_behind_all}
 use Rattle.hevc_bumping.specs.declared.frame.Frame.{Frame}
 use Rattle.hevc_backend.specs.declared.call.Call.{Call}
 use Rattle.hevc_backend.specs.Trait.{logged}
+use Rattle.hevc_driver.specs.declared.decode_error.DecodeError.{DecodeError}
+use Rattle.hevc_driver.specs.declared.decode_error.DecodeError.TheVariants as errors
+use Rattle.hevc_driver.specs.Errors.{error_of}
 use Rattle.hevc_driver.specs.Calls.{call_of, IsTimed}
 use Rattle.hevc_driver.specs.Does.{call_in}
 use Rattle.hevc_driver.specs.Moments.{negotiates, opening}
@@ -113,3 +116,25 @@ pub record TookAgain {B H : Type 0} (timestamp : ℕ) (options : Options) (us : 
   pub logs : Logged timestamp old new later
   pub both : map asked (calls_of_unit (length us) (calls (meant options (us ++ u ∷ [])))) ≡ first_calls options us u ++ later
   pub queue : new.view.queue ≡ old.view.queue
+
+-- ---- a unit that is refused
+
+-- the errors of units, but for a full store
+abbrev pub IsRefusal : DecodeError → Type 0
+IsRefusal errors.TruncatedNalu = Unit {0}
+IsRefusal (errors.InvalidNaluType nal_unit_type) = Unit {0}
+IsRefusal errors.OutOfBits = Unit {0}
+IsRefusal (errors.OutOfRange table row) = Unit {0}
+IsRefusal (errors.MissingPps id) = Unit {0}
+IsRefusal errors.NoIndependentSlice = Unit {0}
+IsRefusal (errors.ChangedMidPicture accepted named) = Unit {0}
+IsRefusal errors.PocOutOfRange = Unit {0}
+IsRefusal error = ⊥
+
+-- A unit is refused as the stream's definitions refuse it, and what comes before its refusal was done.
+pub record RefusedUnit {B H : Type 0} (error : DecodeError) (timestamp : ℕ) (options : Options) (us : List NalUnit) (u : NalUnit) (old new : Seen B H) : Type 0 where
+  pub cause : Cause
+  pub refused : refusal (stream (meant options us)) (meaning options (kept_after options us) u.bytes) ≡ Some cause
+  pub named : error_of cause ≡ error
+  pub calls : Logged timestamp old new (map asked (calls_of_unit (length us) (calls (meant options (us ++ u ∷ [])))))
+  pub outputs : Queued (length us) old new (outputs_of_unit (length us) (outputs (meant options (us ++ u ∷ []))))

@@ -7,7 +7,8 @@ ghost use Rattle.hevc_stream.specs.Kept.{none_kept};
 ghost use Rattle.hevc_stream.specs.Options.{Options};
 ghost use Rattle.hevc_stateless.specs.Steps.{Seen, TakesFirst};
 ghost use Rattle.hevc_stateless.specs.Views.{at_beginning};
-ghost use Rattle.hevc_moments.specs.Stands.{StandsAfter, StandsBetween, Took, Opened, TookAgain};
+ghost use Rattle.hevc_moments.specs.Stands.{StandsAfter, StandsBetween, Took, Opened, TookAgain, IsRefusal, RefusedUnit};
+ghost use Rattle.hevc_driver.specs.declared.decode_error.DecodeError.{DecodeError};
 ghost use Rattle.hevc_driver.specs.declared.decode_error.DecodeError.TheVariants.{CheckEvents};
 ghost use Rattle.hevc_stateless.specs.declared.state.State.TheVariants.{Decoding};
 
@@ -43,4 +44,14 @@ pub fn takes_the_unit_again<B, H>()
         → old.view.state ≡ Decoding
         → TakesFirst (u ∷ others) (Ok place) timestamp options old new
         → TookAgain timestamp options us u old new }
+{}
+
+/// Where a unit is refused for what it is, the stream's definitions refuse it there for a cause of that name, and what comes before
+/// the refusal was done.
+pub fn refuses_a_unit<B, H>()
+    ensures { (error : DecodeError) (timestamp : ℕ) (options : Options)
+        (us others : List NalUnit) (u : NalUnit) (old new : Seen B H) → IsRefusal error
+        → StandsAfter options us old
+        → TakesFirst (u ∷ others) (Err error) timestamp options old new
+        → RefusedUnit error timestamp options us u old new }
 {}
