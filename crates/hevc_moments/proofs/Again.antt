@@ -12,6 +12,10 @@ use Rattle.hevc_walk.specs.Walk.{Part}
 use Rattle.hevc_walk.specs.Refusals.{Cause, refusal, first_refusal, stop}
 use Rattle.hevc_walk.specs.Results.{calls, calls_of_unit}
 use Rattle.hevc_walk_units.specs.Units.{Standing, unit_part}
+use Rattle.std.proofs.Common.{cond}
+use Rattle.hevc_walk.specs.Walk.{earlier_of}
+use Rattle.hevc_walk_units.specs.Units.{is_full_at}
+use Rattle.hevc_walk_joined.specs.Standings.{full_by}
 use Rattle.hevc_walk_joined.proofs.Moment.{moment}
 use Rattle.hevc_walk_joined.proofs.Ends.{stop-last}
 use Rattle.hevc_walk_joined.proofs.Joined.{refusal-same}
@@ -52,6 +56,15 @@ not_coded (Some f) EndOfSequence s e coded = absurd (cc e)
 not_coded (Some f) EndOfBitstream s e coded = absurd (cc e)
 not_coded (Some f) Other s e coded = absurd (cc e)
 not_coded (Some f) (Refused c) s e coded = absurd (cc e)
+
+first_full : (a : Option Format) (m : Meaning) (s : Standing) → is_full_at (first_meaning a m) s ≡ is_full_at m s
+first_full None m s = refl
+first_full (Some f) (SequenceSet g) s = refl
+first_full (Some f) (CodedSlice w) s = refl
+first_full (Some f) EndOfSequence s = refl
+first_full (Some f) EndOfBitstream s = refl
+first_full (Some f) Other s = refl
+first_full (Some f) (Refused c) s = refl
 
 module _ {B H : Type 0} (t : ℕ) (o : Options) (us : List NalUnit) (u : NalUnit) (h : UnitHeader) (old new : Seen B H) (v : ℕ) (between : StandsBetween o us u old) (decoding : old.view.state ≡ Decoding) (parsed : unit_header u.bytes ≡ Ok h) (step : Step (Ok v) t o h u.bytes old new) where
   abbrev ms : List Meaning
@@ -109,6 +122,12 @@ module _ {B H : Type 0} (t : ℕ) (o : Options) (us : List NalUnit) (u : NalUnit
   has_now : new.kept.has_sequence_set ≡ true
   has_now = ap (λ (kk : Kept). kk.has_sequence_set) step.kept ∙ kept_has o old.kept u.bytes ∙ ap (λ (b : Bool). is_sequence_set (meaning o old.kept u.bytes) || b) (ap (λ (kk : Kept). kk.has_sequence_set) between.kept ∙ again.has) ∙ or_true (is_sequence_set (meaning o old.kept u.bytes))
 
+  full_now : is_full_at y S ≡ false
+  full_now = sym (first_full a y S) ∙ between.space
+
+  room_now : full_by (stream (meant o (us ++ u ∷ []))) ≡ None
+  room_now = ap (λ (l : List Meaning). full_by (stream l)) (meant_last o none_kept us u) ∙ (moment ms y fine).full ∙ ap (λ (f : Option ℕ). earlier_of f (cond (is_full_at y S) (Some (length ms)) None)) between.room ∙ ap (λ (b : Bool). cond b (Some (length ms)) None) full_now
+
   here : {A : Type 0} (P : ℕ → List Meaning → A) → P (length us) (meant o (us ++ u ∷ [])) ≡ P (length ms) (ms ++ y ∷ [])
   here P = ap (λ (i : ℕ). P i (meant o (us ++ u ∷ []))) (sym (length_meant o none_kept us)) ∙ ap (P (length ms)) (meant_last o none_kept us u)
 
@@ -118,6 +137,7 @@ module _ {B H : Type 0} (t : ℕ) (o : Options) (us : List NalUnit) (u : NalUnit
       goes_on = ap stop (meant_last o none_kept us u) ∙ stop-last ms y between.goes_on ∙ ap (λ (c : Option Cause). first_refusal (length ms) c None) fine;
       stands = next_list;
       state_is = step.state ∙ ap (λ (x : State). state_behind x (unit_at o old.kept h u.bytes)) decoding ∙ sym (is_decoding new.view.standing.store.accepted some) ∙ ap (λ (s : Standing). state_by s.store.accepted) next_list;
+      room = room_now;
       kept = step.kept ∙ ap (λ (kk : Kept). kept_behind o kk u.bytes) between.kept ∙ again.kept ∙ sym (kept_last o none_kept us u);
       started = ap (λ (s : Standing). is_some s.store.accepted) (sym next_list) ∙ some ∙ sym has_now;
     };

@@ -31,6 +31,10 @@ pub meant_last : (o : Options) (k : Kept) (us : List NalUnit) (u : NalUnit) → 
 meant_last o k [] u = refl
 meant_last o k (v ∷ us) u = ap (λ ms. meaning o k v.bytes ∷ ms) (meant_last o (kept_behind o k v.bytes) us u)
 
+pub meant_behind : (o : Options) (k : Kept) (us vs : List NalUnit) → meanings_behind o k (us ++ vs) ≡ meanings_behind o k us ++ meanings_behind o (kept_behind_all o k us) vs
+meant_behind o k [] vs = refl
+meant_behind o k (v ∷ us) vs = ap (λ ms. meaning o k v.bytes ∷ ms) (meant_behind o (kept_behind o k v.bytes) us vs)
+
 pub kept_last : (o : Options) (k : Kept) (us : List NalUnit) (u : NalUnit) → kept_behind_all o k (us ++ u ∷ []) ≡ kept_behind o (kept_behind_all o k us) u.bytes
 kept_last o k [] u = refl
 kept_last o k (v ∷ us) u = kept_last o (kept_behind o k v.bytes) us u

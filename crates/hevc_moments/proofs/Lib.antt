@@ -1,5 +1,6 @@
 pub mod Accepting
 pub mod Again
+pub mod Ending
 pub mod Keeping
 pub mod Opening
 pub mod Refusing

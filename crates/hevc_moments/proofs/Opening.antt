@@ -67,6 +67,8 @@ module _ {B H : Type 0} (t : ℕ) (o : Options) (us : List NalUnit) (u : NalUnit
     between = record {
       goes_on = after.goes_on;
       negotiates = opens.negotiates;
+      room = after.room;
+      space = opens.room;
       stands = opens.completes.next;
       kept = step.kept ∙ ap (λ (k : Kept). with_read_set (content o k u.bytes) k) after.kept;
       started = after.started ∙ ap (λ (k : Kept). k.has_sequence_set) after.kept;

@@ -10,6 +10,9 @@ use Rattle.hevc_walk.specs.Walk.{Event, Called, Output, Part, at_unit}
 use Rattle.hevc_walk.specs.Refusals.{Cause, refusal, first_refusal, stop}
 use Rattle.hevc_walk.specs.Results.{calls, outputs, calls_in, outputs_in, calls_of_unit, outputs_of_unit}
 use Rattle.hevc_walk_units.specs.Units.{Standing, unit_part, refusal_at, is_full_at}
+use Rattle.std.proofs.Common.{cond}
+use Rattle.hevc_walk.specs.Walk.{earlier_of}
+use Rattle.hevc_walk_joined.specs.Standings.{full_by}
 use Rattle.hevc_walk_joined.proofs.Moment.{moment}
 use Rattle.hevc_walk_joined.proofs.Ends.{stop-last}
 use Rattle.hevc_walk_joined.proofs.Joined.{refusal-same}
@@ -196,6 +199,12 @@ module _ {B H : Type 0} (t : ℕ) (o : Options) (us : List NalUnit) (u : NalUnit
   next_list : new.view.standing ≡ standing_after (meant o (us ++ u ∷ []))
   next_list = next ∙ ap standing_after (sym list)
 
+  full_now : is_full_at y (standing_after ms) ≡ false
+  full_now = ap (is_full_at y) (sym after.stands) ∙ sym same.full ∙ goes.room
+
+  room_now : full_by (stream (meant o (us ++ u ∷ []))) ≡ None
+  room_now = ap (λ (l : List Meaning). full_by (stream l)) list ∙ (moment ms y fine).full ∙ ap (λ (f : Option ℕ). earlier_of f (cond (is_full_at y (standing_after ms)) (Some (length ms)) None)) after.room ∙ ap (λ (b : Bool). cond b (Some (length ms)) None) full_now
+
   here : {A : Type 0} (P : ℕ → List Meaning → A) → P (length us) (meant o (us ++ u ∷ [])) ≡ P (length ms) (ms ++ y ∷ [])
   here P = ap (λ (n : ℕ). P n (meant o (us ++ u ∷ []))) (sym (length_meant o none_kept us)) ∙ ap (P (length ms)) list
 
@@ -206,6 +215,7 @@ module _ {B H : Type 0} (t : ℕ) (o : Options) (us : List NalUnit) (u : NalUnit
       goes_on = ap stop list ∙ stop-last ms y after.goes_on ∙ ap (λ (c : Option Cause). first_refusal (length ms) c None) fine;
       stands = next_list;
       state_is = stays ∙ (together a refl).0 ∙ ap (λ (s : Standing). state_by s.store.accepted) next_list;
+      room = room_now;
       kept = step.kept ∙ ap (λ (k : Kept). kept_behind o k u.bytes) after.kept ∙ sym (kept_last o none_kept us u);
       started = ap (λ (s : Standing). is_some s.store.accepted) (sym next_list) ∙ (together a refl).1;
     };

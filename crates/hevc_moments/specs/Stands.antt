@@ -1,13 +1,13 @@
 -- When a decoder stands after some units, and what each unit more brings.
-use Rattle.std.specs.Prelude.{◌≡◌, ℕ, is_some, true, List, [], ◌∷◌, ◌++◌, map, length, Option, Some, None}
+use Rattle.std.specs.Prelude.{◌≡◌, ℕ, is_some, true, false, List, [], ◌∷◌, ◌++◌, map, length, Option, Some, None, Ok, Err}
 use Rattle.std.specs.List.{AllByRecursion, flat_map}
 use Rattle.hevc_spec.specs.Units.{NalUnit}
 use Rattle.hevc_walk.specs.Meanings.{Format, Meaning}
 use Rattle.hevc_walk.specs.Pictures.{stream}
 use Rattle.hevc_walk.specs.Walk as walk
 use Rattle.hevc_walk.specs.Refusals.{Cause, refusal, stop}
-use Rattle.hevc_walk.specs.Results.{OutputPicture, calls, outputs, calls_of_unit, outputs_of_unit}
-use Rattle.hevc_walk_units.specs.Units.{Standing}
+use Rattle.hevc_walk.specs.Results.{OutputPicture, verdict, calls, outputs, calls_of_unit, outputs_of_unit}
+use Rattle.hevc_walk_units.specs.Units.{Standing, is_full_at}
 use Rattle.hevc_walk_joined.specs.Standings as joined
 use Rattle.hevc_stream.specs.Options.{Options}
 use Rattle.hevc_stream.specs.Kept.{Kept, none_kept}
@@ -46,6 +46,8 @@ pub record StandsAfter {B H : Type 0} (options : Options) (us : List NalUnit) (s
   pub stands : seen.view.standing ≡ standing_after (meant options us)
   pub state_is : seen.view.state ≡ state_by (standing_after (meant options us)).store.accepted
   pub kept : seen.kept ≡ kept_behind_all options none_kept us
+  -- no picture was to be stored into a full buffer
+  pub room : joined.full_by (stream (meant options us)) ≡ None
   -- a format was negotiated exactly where a sequence set is kept
   pub started : is_some (standing_after (meant options us)).store.accepted ≡ seen.kept.has_sequence_set
 
@@ -97,6 +99,8 @@ first_calls options us u = flat_map call_in (opening (meant_next options us u) (
 pub record StandsBetween {B H : Type 0} (options : Options) (us : List NalUnit) (u : NalUnit) (seen : Seen B H) : Type 0 where
   pub goes_on : stop (meant options us) ≡ None
   pub negotiates : negotiates (meant_next options us u) (standing_after (meant options us)) ≡ true
+  pub room : joined.full_by (stream (meant options us)) ≡ None
+  pub space : is_full_at (meant_next options us u) (standing_after (meant options us)) ≡ false
   pub stands : seen.view.standing ≡ (opening (meant_next options us u) (standing_after (meant options us))).next
   pub kept : seen.kept ≡ with_read_set (content options (kept_after options us) u.bytes) (kept_after options us)
   -- a format was negotiated before exactly where a sequence set was kept
@@ -136,5 +140,15 @@ pub record RefusedUnit {B H : Type 0} (error : DecodeError) (timestamp : ℕ) (o
   pub cause : Cause
   pub refused : refusal (stream (meant options us)) (meaning options (kept_after options us) u.bytes) ≡ Some cause
   pub named : error_of cause ≡ error
+  -- whatever comes behind it, that is the answer to the stream
+  pub verdict : (back : List NalUnit) → verdict (meant options (us ++ u ∷ back)) ≡ Err (record { unit = length us; cause = cause })
   pub calls : Logged timestamp old new (map asked (calls_of_unit (length us) (calls (meant options (us ++ u ∷ [])))))
   pub outputs : Queued (length us) old new (outputs_of_unit (length us) (outputs (meant options (us ++ u ∷ []))))
+
+-- ---- the end
+
+-- The stream ended behind these units: the calls and outputs at its end were made, and the answer is the number of its pictures.
+pub record Ended {B H : Type 0} (timestamp : ℕ) (options : Options) (us : List NalUnit) (old new : Seen B H) : Type 0 where
+  pub verdict : verdict (meant options us) ≡ Ok old.view.standing.next.number
+  pub calls : Logged timestamp old new (map asked (calls_of_unit (length us) (calls (meant options us))))
+  pub outputs : Queued (length us) old new (outputs_of_unit (length us) (outputs (meant options us)))
