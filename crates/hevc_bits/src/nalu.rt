@@ -162,6 +162,20 @@ impl<'a, U: Header> Nalu<'a, U> {
     }
 }
 
+impl<'a, U: Header + Copy> Nalu<'a, U> {
+    /// The same unit once more. Its bytes are lent, not copied.
+    pub fn copy(&self) -> Nalu<'a, U>
+        ensures { result ≡ self.now }
+    {
+        Nalu {
+            header: self.header,
+            stream: self.stream,
+            offset: self.offset,
+            size: self.size,
+        }
+    }
+}
+
 impl<'a, U: Header> AsSlice<u8> for Nalu<'a, U> {
     ghost items = { bytes_of };
 
