@@ -36,3 +36,11 @@ trimmed_all n bytes e = rw e refl
 
 pub take-length : (n : ℕ) (bytes : List ℕ) → n ≤ length bytes → take n bytes ≡ take (length (take n bytes)) bytes
 take-length n bytes le = let e : length (take n bytes) ≡ n = grind (arith, length-take) in rw e refl
+
+-- ---- a part of a part
+
+pub take-fewer : (n m : ℕ) (bytes : List ℕ) → n ≤ m → take n (take m bytes) ≡ take n bytes
+take-fewer zero m bytes le = refl
+take-fewer (suc n) zero bytes le = absurd (omega arith)
+take-fewer (suc n) (suc m) [] le = refl
+take-fewer (suc n) (suc m) (byte ∷ bytes) le = rw (take-fewer n m bytes (omega arith)) refl

@@ -1,6 +1,6 @@
 -- A unit that was found in a stream.
-use Rattle.std.specs.Prelude.{ℕ, ◌-◌, List, take, drop, slice_index, ◌==◌, ◌&&◌, nat_le, if◌then◌else◌}
-use Rattle.hevc_spec.specs.Units.{NalUnit}
+use Rattle.std.specs.Prelude.{◌≡◌, ℕ, ◌-◌, List, ◌∷◌, take, drop, slice_index, ◌==◌, ◌&&◌, nat_le, if◌then◌else◌}
+use Rattle.hevc_spec.specs.Units.{NalUnit, units_from}
 
 -- its header, the stream in which it stands, the place of its first byte, and how many bytes it has
 pub record FoundUnit (H : Type 0) : Type 0 where
@@ -14,6 +14,10 @@ bytes_of u = take u.size (drop u.offset u.stream)
 
 abbrev pub unit_of : {H : Type 0} → FoundUnit H → NalUnit
 unit_of u = record { offset = u.offset; bytes = bytes_of u }
+
+-- it is one of the units of its stream, of whose bytes up to the next start code these are kept (Annex B)
+abbrev pub IsCutOut : {H : Type 0} → (List ℕ → List ℕ) → FoundUnit H → Type 0
+IsCutOut kept u = (place : ℕ) × (others : List NalUnit) × (units_from kept place u.stream ≡ unit_of u ∷ others)
 
 -- The start code has the zero_byte before it as its first, where there is one (B.2.1).
 abbrev pub start_code_offset : {H : Type 0} → FoundUnit H → ℕ

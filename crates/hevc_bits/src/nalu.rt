@@ -2,7 +2,7 @@
 
 ghost use Rattle.std.specs.Prelude.{◌≡◌, ◌≢◌, ◌≤◌, ◌<◌, ◌+◌, ◌-◌, ◌↔◌, ◌∷◌, [], ℕ, List, length, Ok, Err, IfOk, OnOk, IfErr, OnErr, IsErrOf, IfNone, IfSome, take, drop};
 ghost use Rattle.hevc_spec.specs.Units.{units_from, NalUnit};
-ghost use Rattle.hevc_bits.specs.FoundUnit.{FoundUnit, bytes_of, unit_of, start_code_offset};
+ghost use Rattle.hevc_bits.specs.FoundUnit.{FoundUnit, IsCutOut, bytes_of, unit_of, start_code_offset};
 ghost use Rattle.hevc_bits.specs.StartCode.{IsFirstCut};
 
 use crate::header::{Header, UnitError};
@@ -45,13 +45,13 @@ pub struct Nalu<'a, U: Header> {
 
 impl<'a, U: Header> Model for Nalu<'a, U> {
     ghost use Rattle.std.specs.Prelude.{◌≡◌, ◌≤◌, ◌+◌, Ok, length, take, drop};
-    ghost use Rattle.hevc_bits.specs.FoundUnit.{FoundUnit};
+    ghost use Rattle.hevc_bits.specs.FoundUnit.{FoundUnit, IsCutOut};
 
     ghost Value = { FoundUnit U };
 
     ghost view = { λ n. record { header = n.header; stream = n.stream.now; offset = n.offset; size = n.size } };
 
-    ghost invariant = { λ n. (3 ≤ n.offset) × (n.offset + n.size ≤ length n.stream.now) × (U.parsed (take n.size (drop n.offset n.stream.now)) ≡ Ok n.header) × (U.header_len n.header ≤ n.size) };
+    ghost invariant = { λ n. (3 ≤ n.offset) × (n.offset + n.size ≤ length n.stream.now) × (U.parsed (take n.size (drop n.offset n.stream.now)) ≡ Ok n.header) × (U.header_len n.header ≤ n.size) × IsCutOut U.kept (record { header = n.header; stream = n.stream.now; offset = n.offset; size = n.size }) };
 }
 
 impl<'a, U: Header> Nalu<'a, U> {
@@ -105,6 +105,8 @@ impl<'a, U: Header> Nalu<'a, U> {
     pub fn header(&self) -> &U
         ensures value { result.now ≡ self.now.header }
         ensures parsed { U.parsed (bytes_of self.now) ≡ Ok result.now }
+        // The unit is one of those of its stream.
+        ensures cut { IsCutOut U.kept self.now }
     {
         &self.header
     }
