@@ -12,8 +12,8 @@ invariant_of-result g c =
     let small : size ≤ length c.in-Some.cut.bytes.now = search rules in
     let fewer = take-fewer size (length c.in-Some.cut.bytes.now) (drop offset stream) small in
     let found : g.U.Header.kept c.in-Some.cut.bytes.now ≡ take size (drop offset stream) = elim c.if-is_end.branch [
-      then-is_end w ↦ search (rules, fewer)
-    | else-is_end w ↦ search (rules, fewer)
+      | then-is_end w ↦ search (rules, fewer)
+      | else-is_end w ↦ search (rules, fewer)
     ] in
     let first = c.in-Some.ensures.first g.U.Header.kept size small in
     let behind = units_from g.U.Header.kept (offset + size) stream in
