@@ -6,8 +6,8 @@ use Rattle.hevc_spec.specs.UnitTypes.{is_end}
 use Rattle.hevc_spec.specs.UnitHeader.{UnitHeader, HeaderFault, header_fields, checked_header, unit_header}
 use Rattle.hevc_spec.specs.Units.{NalUnit, begins_with_start_code, before_start_code, is_empty, without_trailing_zeros, units_at, units_from, kept_bytes, units}
 use Rattle.hevc_bits.specs.ParsedHeader.{parsed_header, answer_of}
-use Rattle.hevc_bits.specs.FoundUnit.{FoundUnit, bytes_of, unit_of}
-use Rattle.hevc_kept.specs.CutUnits.{IsCutOut, IsPictureSetStream}
+use Rattle.hevc_bits.specs.FoundUnit.{FoundUnit, IsCutOut, bytes_of, unit_of}
+use Rattle.hevc_kept.specs.CutUnits.{IsPictureSetStream}
 
 -- ---- bytes that have no start code
 
@@ -177,12 +177,8 @@ cut_again place stream u us h cut parsed typed =
     let same : u.bytes ≡ cutted = found.1 ∙ all in
     rw same (one_unit cutted (trimmed_has_none (before_start_code found.0) (before_has_none found.0)) (trimmed_twice (before_start_code found.0)) all)
 
--- a unit that was found from a place on is one of its stream's
-pub cut_out : (unit : FoundUnit UnitHeader) (place : ℕ) (stream : List ℕ) (others : List NalUnit) → unit.stream ≡ stream → units_from kept_bytes place stream ≡ unit_of unit ∷ others → IsCutOut unit
-cut_out unit place stream others same first = (place, others, ap (units_from kept_bytes place) same ∙ first)
-
 -- the bytes of a picture set behind a start code are its stream
-pub picture_set_stream : (unit : FoundUnit UnitHeader) (items : List ℕ) → items ≡ 0 ∷ 0 ∷ 1 ∷ bytes_of unit → IsCutOut unit → unit_header (bytes_of unit) ≡ Ok unit.header → unit.header.nal_unit_type ≡ 34 → length unit.stream < 2 ^ 60
+pub picture_set_stream : (unit : FoundUnit UnitHeader) (items : List ℕ) → items ≡ 0 ∷ 0 ∷ 1 ∷ bytes_of unit → IsCutOut kept_bytes unit → unit_header (bytes_of unit) ≡ Ok unit.header → unit.header.nal_unit_type ≡ 34 → length unit.stream < 2 ^ 60
     → IsPictureSetStream items
 unfolding units_from
 picture_set_stream unit items same cut header typed short =

@@ -19,7 +19,7 @@ use Rattle.hevc_elements.specs.Sets.{RefusesSet, NamesNoSet}
 use Rattle.hevc_stream.specs.Options.{Options}
 use Rattle.hevc_stream.specs.Kept.{Kept, with_video_set, with_sequence_set}
 use Rattle.hevc_stream.specs.Slices.{temporal_id}
-use Rattle.hevc_stream.specs.Contents.{Content, video_set, sequence_set, content_read, picture_set_read, content}
+use Rattle.hevc_stream.specs.Contents.{Content, video_set, sequence_set, unread_picture_set, content_read, picture_set_read, content}
 use Rattle.hevc_stream.specs.Stream.{with_picture_set_unit, with_waited, with_all_waited, with_content, kept_behind}
 use Rattle.hevc_stream_laws.proofs.ByType.{of_video_set, of_sequence_set, of_picture_set}
 use Rattle.hevc_slice.specs.declared.parser.Parser.{Parser}
@@ -100,6 +100,11 @@ module _ (options : Options) (bytes : List ℕ) (header : UnitHeader) (parsed : 
     behind_unread E true waiting old new is reads = absurd (cc is)
     behind_unread E false waiting old new is reads = picture_set_waits E waiting old new reads
 
+    -- a unit that wasn't read can't be read
+    pub unread_behind : (E : Type 0) (read_it : Bool) (old new : Kept) → read_it ≡ false → ReadsPictureSet {E = E} header bytes (Ok read_it) old new → content options new bytes ≡ unread_picture_set
+    unread_behind E true old new is reads = absurd (cc is)
+    unread_behind E false old new is reads = ap (λ (k : Kept). content options k bytes) reads.1 ∙ of_picture_set options old bytes header parsed wanted typed ∙ reads.0
+
     by_content : (old : Kept) (reading : Reading PlainPps) → with_content options bytes (picture_set_read reading) old ≡ with_picture_set_unit bytes (picture_set_read reading) old
     by_content old (gives set rest) = refl
     by_content old (refuses fault rest) = refl
@@ -109,6 +114,12 @@ module _ (options : Options) (bytes : List ℕ) (header : UnitHeader) (parsed : 
     behind_picture_set old =
         let is = of_picture_set options old bytes header parsed wanted typed in
         ap (λ (c : Content). with_content options bytes c old) is ∙ by_content old (read (picture_parameter_set (header.nuh_temporal_id_plus1 - 1) old.sequence_sets) (payload bytes)) ∙ sym (waited_picture_set old)
+
+-- reading a picture set leaves the sequence sets
+pub sets_stay : {E : Type 0} (header : UnitHeader) (bytes : List ℕ) (r : Result Bool E) (old new : Kept) → ReadsPictureSet header bytes r old new → old.sequence_sets ≡ new.sequence_sets
+sets_stay header bytes (Ok true) old new reads = sym (ap (λ (k : Kept). k.sequence_sets) reads.2)
+sets_stay header bytes (Ok false) old new reads = sym (ap (λ (k : Kept). k.sequence_sets) reads.1)
+sets_stay header bytes (Err e) old new reads = sym (ap (λ (k : Kept). k.sequence_sets) reads)
 
 -- ---- the first unit that waits
 

@@ -5,7 +5,7 @@ use Rattle.std.proofs.lemmas.List.Sums.{fold_push}
 use Rattle.hevc_stream.specs.Options.{Options}
 use Rattle.hevc_stream.specs.Kept.{Kept}
 use Rattle.hevc_stream.specs.Contents.{Content, refused, video_set, sequence_set, picture_set, unread_picture_set, slice, end_of_sequence, end_of_bitstream, nothing, content}
-use Rattle.hevc_stream.specs.Stream.{with_picture_set_unit, with_waited}
+use Rattle.hevc_stream.specs.Stream.{with_picture_set_unit, with_waited, with_all_waited}
 use Rattle.hevc_kept.specs.Takes.{first_waited}
 
 append_nil : {A : Type 0} (xs : List A) → xs ++ [] ≡ xs
@@ -76,3 +76,15 @@ module _ (options : Options) where
 
     pub moved_on : (now new : Kept) (more left : ℕ) → more ≡ suc left → IsUnderway now more → new ≡ first_waited options now.waiting now → IsUnderway new left
     moved_on now new more left same is by = one_more now new left is.tried is.others is.split (is.count ∙ same) is.stands by
+
+    -- none is left to try
+    pub finished : (now : Kept) (left : ℕ) → left ≡ 0 → IsUnderway now left → now ≡ with_all_waited options old
+    finished now left none is = by_others is.others (is.count ∙ none) is.split is.stands
+      where
+        by_others : (others : List (List ℕ)) → length others ≡ 0 → old.waiting ≡ is.tried ++ others → now ≡ waited_by (others ++ (behind is.tried).waiting) (behind is.tried) → now ≡ with_all_waited options old
+        by_others [] count split stands = stands ∙ ap behind (sym (split ∙ append_nil is.tried))
+        by_others (bytes ∷ others) count split stands = absurd (omega (arith, count))
+
+-- the first unit waits on, unread
+pub untried : (options : Options) (others : List (List ℕ)) (bytes : List ℕ) (kept : Kept) → content options kept bytes ≡ unread_picture_set → waited_by (others ++ bytes ∷ []) kept ≡ with_waited options (waited_by others kept) bytes
+untried options others bytes kept unread = sym (ap (λ (c : Content). with_picture_set_unit bytes c (waited_by others kept)) (same_content options kept others bytes ∙ unread))

@@ -1,13 +1,8 @@
--- Units as they were cut out of a stream, and the bytes that give one again.
+-- The bytes that give a unit again.
 use Rattle.std.specs.Prelude.{◌≡◌, ℕ, ◌<◌, ◌^◌, Bool, false, List, [], ◌∷◌, length, drop, nat_le, Result, Ok, Err}
 use Rattle.hevc_spec.specs.UnitHeader.{UnitHeader, HeaderFault, unit_header}
-use Rattle.hevc_spec.specs.Units.{NalUnit, units, units_from, kept_bytes}
-use Rattle.hevc_bits.specs.FoundUnit.{FoundUnit, unit_of}
+use Rattle.hevc_spec.specs.Units.{units}
 use Rattle.hevc_stream.specs.Slices.{temporal_id}
-
--- the unit is one of those of its stream (Annex B)
-abbrev pub IsCutOut : FoundUnit UnitHeader → Type 0
-IsCutOut unit = (place : ℕ) × (others : List NalUnit) × (units_from kept_bytes place unit.stream ≡ unit_of unit ∷ others)
 
 -- a stream that has one unit, of a picture set, directly behind its first three bytes
 pub record IsPictureSetStream (stream : List ℕ) : Type 0 where

@@ -1,3 +1,4 @@
 pub mod CutUnits
 pub mod Kept
+pub mod Settled
 pub mod Takes

@@ -5,31 +5,38 @@ ghost use Rattle.hevc_bits.specs.FoundUnit.{bytes_of};
 ghost use Rattle.hevc_stream.specs.Kept.{none_kept};
 ghost use Rattle.hevc_stream.specs.Slices.{temporal_id};
 ghost use Rattle.hevc_stream.specs.Stream.{kept_behind, with_all_waited};
+ghost use Rattle.hevc_options.specs.Options.{options_of};
 ghost use Rattle.hevc_slice.specs.Kept.{kept_by};
-ghost use Rattle.hevc_kept.specs.CutUnits.{IsCutOut, is_wanted};
+ghost use Rattle.hevc_kept.specs.CutUnits.{is_wanted};
+ghost use Rattle.hevc_kept.specs.Settled.{is_settled};
 ghost use Rattle.hevc_kept.specs.Takes.{ReadsPictureSet};
 
+use crate::set_ids::{is_among, with_id};
 use crate::waiting_unit::WaitingUnit;
 use hevc_bits::{Nalu, NaluHeader};
 use hevc_options::Options;
+use hevc_sets::read_sps;
 use hevc_slice::{ParseError, Parser};
 use std::alloc::{AllocError, Global};
 use std::collections::VecDeque;
 
 /// The parameter sets that are kept, and the units of picture sets that wait (7.4.2.4.2).
 ///
-/// A picture set that can't be read is kept as its unit. It is tried again behind each sequence set.
+/// A picture set that can't be read is kept as its unit. It is tried again where the sequence set that it names has changed since:
+/// it has the same meaning for as long as that set is the same.
 #[derive(Drop)]
 pub struct KeptSets {
     alloc: Global,
     options: Options,
     parser: Parser,
     waiting: VecDeque<WaitingUnit>,
+    /// The ids of the sequence sets that changed since all units that wait were tried: a bit for each.
+    changed: u16,
     ghost wanted: { IsTrue (list_all (is_wanted options.highest_tid) waiting.items) },
+    ghost settled: { IsTrue (list_all (is_settled changed (options_of options) (kept_by parser)) waiting.items) },
 }
 
 impl KeptSets {
-    ghost use Rattle.hevc_options.specs.Options.{options_of};
     ghost use Rattle.hevc_kept.specs.Kept.{kept_of, options_in};
     ghost use Rattle.hevc_kept.specs.Takes.{TakesVideoSet, KeepsSequenceSet, StopsReading, first_waited};
 
@@ -43,6 +50,7 @@ impl KeptSets {
             options,
             parser: Parser::new(alloc),
             waiting: VecDeque::new(alloc),
+            changed: 0,
         }
     }
 
@@ -100,10 +108,16 @@ impl KeptSets {
     {
         // That its bytes parse to its header, `header` says.
         let _header = nalu.header();
-        Ok(self.parser.parse_sps(nalu)?.seq_parameter_set_id)
+        let set = read_sps(self.alloc, nalu)?;
+        let id = set.seq_parameter_set_id;
+        if self.parser.keep_sequence_set(set)? {
+            self.changed = with_id(self.changed, id);
+        }
+        Ok(id)
     }
 
-    /// Tries all units that wait once more, in their order: each is read now and its set kept, or waits on.
+    /// Tries all units that wait once more, in their order: each is read now and its set kept, or waits on. One whose sequence set is
+    /// as it was at the last try waits on unread, so where no sequence set changed, none is looked at.
     ///
     /// Errors: want of memory at some unit. The units before it were tried; it and those behind it wait on, in their order.
     pub fn read_waiting(&mut self) -> Result<(), AllocError>
@@ -113,6 +127,9 @@ impl KeptSets {
             (StopsReading (options_in self.old) (kept_of self.old) (kept_of self.new)) }
         ensures options { options_in self.new ≡ options_in self.old }
     {
+        if self.changed == 0 {
+            return Ok(());
+        }
         let count = self.waiting.len();
         for tried in 0..count {
             if self.try_first().is_err() {
@@ -120,6 +137,7 @@ impl KeptSets {
                 return Err(AllocError);
             }
         }
+        self.changed = 0;
         Ok(())
     }
 
@@ -131,7 +149,6 @@ impl KeptSets {
         requires short { length nalu.now.stream < 2 ^ 60 }
         requires typed { nalu.now.header.nal_unit_type ≡ 34 }
         requires wanted { temporal_id nalu.now.header ≤ (options_in self.old).highest_tid }
-        requires cut { IsCutOut nalu.now }
         ensures behind { OnOk result (kept_of self.new
             ≡ kept_behind (options_in self.old) (kept_of self.old) (bytes_of nalu.now)) }
         ensures stays { OnErr result (kept_of self.new ≡ kept_of self.old) }
@@ -147,6 +164,7 @@ impl KeptSets {
     }
 
     /// Tries the first unit that waits once more: it is read now, or waits behind the others. On want of memory it stays the first.
+    /// It isn't read where its sequence set is as it was.
     fn try_first(&mut self) -> Result<(), AllocError>
         requires { 0 < length (kept_of self.old).waiting }
         ensures tried { OnOk result
@@ -156,6 +174,10 @@ impl KeptSets {
         ensures options { options_in self.new ≡ options_in self.old }
     {
         let unit = self.waiting.pop_front().unwrap();
+        if !is_among(self.changed, unit.named()) {
+            self.waiting.push_back_reserved(unit);
+            return Ok(());
+        }
         match read_picture_set(&mut self.parser, &unit.nalu()) {
             Ok(true) => Ok(()),
             Ok(false) => {

@@ -2,6 +2,7 @@
 #![tactic(auto)]
 
 mod kept_sets;
+mod set_ids;
 mod waiting_unit;
 
 pub use hevc_options::Options;

@@ -16,10 +16,30 @@ const SEQUENCE_SET: &[u8] = &[
     0x00, 0x00, 0x03, 0x00, 0x3c, 0xa0, 0x88, 0x45, 0xe5, 0x5a, 0xbc, 0x20, 0x80,
 ];
 
+/// Another one of that id, with samples of 10 bits.
+const DEEP_SET: &[u8] = &[
+    0x00, 0x00, 0x01, 0x42, 0x01, 0x01, 0x01, 0x60, 0x00, 0x00, 0x03, 0x00, 0x90, 0x00, 0x00, 0x03,
+    0x00, 0x00, 0x03, 0x00, 0x3c, 0xa0, 0x88, 0x44, 0xde, 0x55, 0xab, 0xc2, 0x08,
+];
+
+/// The same one of id 1.
+const OTHER_DEEP_SET: &[u8] = &[
+    0x00, 0x00, 0x01, 0x42, 0x01, 0x01, 0x01, 0x60, 0x00, 0x00, 0x03, 0x00, 0x90, 0x00, 0x00, 0x03,
+    0x00, 0x00, 0x03, 0x00, 0x3c, 0x48, 0x22, 0x11, 0x37, 0x95, 0x6a, 0xf0, 0x82,
+];
+
 const PICTURE_SET: &[u8] = &[0x00, 0x00, 0x01, 0x44, 0x01, 0xc0, 0x71, 0x80, 0x12];
 
 /// Another one of that id, with dependent slice segments.
 const LATER_SET: &[u8] = &[0x00, 0x00, 0x01, 0x44, 0x01, 0xe0, 0x71, 0x80, 0x12];
+
+/// The later set where it names the sequence set of id 1.
+const OTHER_PICTURE_SET: &[u8] = &[0x00, 0x00, 0x01, 0x44, 0x01, 0xa8, 0x1c, 0x60, 0x04, 0x80];
+
+/// Another one of that id, whose quantiser of -30 wants more than 8 bits.
+const DEEP_PICTURE_SET: &[u8] = &[
+    0x00, 0x00, 0x01, 0x44, 0x01, 0xc0, 0x60, 0xf4, 0x60, 0x04, 0x80,
+];
 
 /// A picture set whose payload ends behind its ids.
 const BROKEN_SET: &[u8] = &[0x00, 0x00, 0x01, 0x44, 0x01, 0xc0];
@@ -92,6 +112,63 @@ fn a_broken_set_waits_on(rt: HostRuntime) -> Result<(), Fail> {
     take(&mut sets, SEQUENCE_SET)?;
     assert_eq!(rt; sets.num_waiting(), 1);
     assert!(rt; picture_set_kept(&sets) == Some(false));
+    Ok(())
+}
+
+#[test]
+fn a_set_waits_on_where_its_sequence_set_is_repeated(rt: HostRuntime) -> Result<(), Fail> {
+    let mut sets = KeptSets::new(rt.alloc(), Options::new());
+    take(&mut sets, SEQUENCE_SET)?;
+    take(&mut sets, DEEP_PICTURE_SET)?;
+    take(&mut sets, SEQUENCE_SET)?;
+    assert_eq!(rt; sets.num_waiting(), 1);
+    assert!(rt; picture_set_kept(&sets) == None);
+    take(&mut sets, DEEP_SET)?;
+    assert_eq!(rt; sets.num_waiting(), 0);
+    assert!(rt; picture_set_kept(&sets) == Some(false));
+    Ok(())
+}
+
+#[test]
+fn a_set_waits_on_where_another_sequence_set_changes(rt: HostRuntime) -> Result<(), Fail> {
+    let mut sets = KeptSets::new(rt.alloc(), Options::new());
+    take(&mut sets, DEEP_PICTURE_SET)?;
+    take(&mut sets, OTHER_DEEP_SET)?;
+    assert_eq!(rt; sets.num_waiting(), 1);
+    assert!(rt; picture_set_kept(&sets) == None);
+    take(&mut sets, SEQUENCE_SET)?;
+    assert_eq!(rt; sets.num_waiting(), 1);
+    take(&mut sets, OTHER_DEEP_SET)?;
+    assert_eq!(rt; sets.num_waiting(), 1);
+    take(&mut sets, DEEP_SET)?;
+    assert_eq!(rt; sets.num_waiting(), 0);
+    assert!(rt; picture_set_kept(&sets) == Some(false));
+    Ok(())
+}
+
+#[test]
+fn the_sets_of_one_sequence_set_are_read_in_their_order(rt: HostRuntime) -> Result<(), Fail> {
+    let mut sets = KeptSets::new(rt.alloc(), Options::new());
+    take(&mut sets, LATER_SET)?;
+    take(&mut sets, OTHER_PICTURE_SET)?;
+    take(&mut sets, BROKEN_SET)?;
+    take(&mut sets, PICTURE_SET)?;
+    take(&mut sets, SEQUENCE_SET)?;
+    assert_eq!(rt; sets.num_waiting(), 2);
+    assert!(rt; picture_set_kept(&sets) == Some(false));
+    take(&mut sets, OTHER_DEEP_SET)?;
+    assert_eq!(rt; sets.num_waiting(), 1);
+    assert!(rt; picture_set_kept(&sets) == Some(true));
+    Ok(())
+}
+
+#[test]
+fn a_set_that_names_none_waits_on(rt: HostRuntime) -> Result<(), Fail> {
+    let mut sets = KeptSets::new(rt.alloc(), Options::new());
+    take(&mut sets, &[0x00, 0x00, 0x01, 0x44, 0x01, 0x80])?;
+    take(&mut sets, SEQUENCE_SET)?;
+    take(&mut sets, OTHER_DEEP_SET)?;
+    assert_eq!(rt; sets.num_waiting(), 1);
     Ok(())
 }
 

@@ -1,10 +1,19 @@
 //! The unit of a picture set that waits for its sequence set.
-ghost use Rattle.std.specs.Prelude.{◌≡◌, ◌<◌, ◌^◌, ◌∷◌, length, Ok, IfOk};
+ghost use Rattle.std.specs.Prelude.{◌≡◌, ◌<◌, ◌^◌, ◌∷◌, ℕ, length, Ok, IfOk, IfSome};
+ghost use Rattle.std.specs.Result.{result_ok};
 ghost use Rattle.hevc_spec.specs.UnitHeader.{unit_header};
+ghost use Rattle.hevc_spec.specs.Payload.{bits, payload_bits};
+ghost use Rattle.hevc_spec.specs.Table.{read};
 ghost use Rattle.hevc_bits.specs.FoundUnit.{bytes_of};
-ghost use Rattle.hevc_kept.specs.CutUnits.{IsCutOut};
+ghost use Rattle.hevc_records.specs.Pps.{PlainPps};
+ghost use Rattle.hevc_tables.specs.PpsTable.{ids};
+ghost use Rattle.hevc_stream_laws.specs.KeptWell.{sequence_set_named_in};
+ghost use Rattle.hevc_kept.specs.Settled.{named_set};
 
-use hevc_bits::{Nalu, NaluHeader};
+use hevc_bits::{Nalu, NaluHeader, NaluReader};
+use hevc_elements::ParseError;
+use hevc_elements::rows::ue_u8;
+use hevc_spec::Row;
 use std::alloc::{AllocError, Global};
 use std::marker::Model;
 
@@ -12,17 +21,21 @@ use std::marker::Model;
 #[derive(Drop)]
 pub(crate) struct WaitingUnit {
     stream: Vec<u8>,
+    /// The id of the sequence set that it names: 0 to 15. `None` where its payload tells none that is allowed, so that it can't be
+    /// read whatever sets are kept.
+    named: Option<u8>,
 }
 
 impl Model for WaitingUnit {
-    ghost use Rattle.std.specs.Prelude.{ℕ, List, drop};
+    ghost use Rattle.std.specs.Prelude.{◌≡◌, ℕ, List, drop};
     ghost use Rattle.hevc_kept.specs.CutUnits.{IsPictureSetStream};
+    ghost use Rattle.hevc_kept.specs.Settled.{named_set};
 
     ghost Value = { List ℕ };
 
     ghost view = { λ unit. drop 3 unit.stream.items };
 
-    ghost invariant = { λ unit. IsPictureSetStream unit.stream.items };
+    ghost invariant = { λ unit. IsPictureSetStream unit.stream.items × (unit.named ≡ named_set (drop 3 unit.stream.items)) };
 }
 
 impl WaitingUnit {
@@ -33,16 +46,16 @@ impl WaitingUnit {
     ) -> Result<WaitingUnit, AllocError>
         requires short { length nalu.now.stream < 2 ^ 60 }
         requires typed { nalu.now.header.nal_unit_type ≡ 34 }
-        requires cut { IsCutOut nalu.now }
         ensures same { IfOk result (λ unit. unit ≡ bytes_of nalu.now) }
     {
-        // That its bytes parse to its header, `header` says.
+        // That its bytes parse to its header, and that it is a unit of its stream, `header` says.
         let _header = nalu.header();
         let bytes = nalu.as_ref();
         let mut stream = Vec::with_capacity(alloc, 3 + bytes.len())?;
         stream.extend_from_slice(&[0, 0, 1])?;
         stream.extend_from_slice(bytes)?;
-        Ok(WaitingUnit { stream })
+        let named = read_named(nalu.payload());
+        Ok(WaitingUnit { stream, named })
     }
 
     /// The unit.
@@ -55,4 +68,30 @@ impl WaitingUnit {
         let mut position = 0;
         Nalu::next(&self.stream, &mut position).unwrap()
     }
+
+    /// The id of the sequence set that it names, 0 to 15; `None` where it can't be read whatever sets are kept.
+    pub(crate) fn named(&self) -> Option<u8>
+        ensures value { result ≡ named_set self.now }
+        ensures bound { IfSome result (λ id. id < 16) }
+    {
+        self.named
+    }
+}
+
+/// The id of the sequence set that the payload of a picture set names, if it tells one that is allowed.
+fn read_named(payload: &[u8]) -> Option<u8>
+    requires { length payload.now < 2 ^ 60 }
+    ensures { (pps : PlainPps)
+        → result ≡ sequence_set_named_in (read (ids pps) (payload_bits 0 payload.now)) }
+{
+    read_ids(&mut NaluReader::new(payload)).ok()
+}
+
+/// Rows 1 and 2 of table 11, of which the second names the sequence set (7.3.2.3.1).
+fn read_ids(r: &mut NaluReader<'_>) -> Result<u8, ParseError>
+    ensures { (pps : PlainPps)
+        → result_ok result ≡ sequence_set_named_in (read (ids pps) (bits r.old)) }
+{
+    ue_u8(r, Row(11, 1), 0, 63)?;
+    ue_u8(r, Row(11, 2), 0, 15)
 }

@@ -1,8 +1,10 @@
 -- What a parser keeps, as the definitions of streams have it.
-use Rattle.std.specs.Prelude.{not, ◌==◌, []}
-use Rattle.std.specs.BTreeMap.{btree_map_len}
+use Rattle.std.specs.Prelude.{ℕ, not, ◌==◌, [], Option}
+use Rattle.std.specs.Ordering.{nat_cmp}
+use Rattle.std.specs.BTreeMap.{btree_map_len, get}
 use Rattle.hevc_records.specs.SetsById.{sets_by_id}
 use Rattle.hevc_types_b.specs.Vps.{plain_vps}
+use Rattle.hevc_types_c.specs.declared.sps.Sps.{Sps}
 use Rattle.hevc_types_c.specs.Sps.{plain_sps}
 use Rattle.hevc_types_d.specs.Pps.{plain_pps}
 use Rattle.hevc_stream.specs.Kept.{Kept}
@@ -17,3 +19,7 @@ kept_by p = record {
   has_sequence_set = not (btree_map_len p.sequence_sets == 0);
   waiting = [];
 }
+
+-- the sequence set that a parser keeps under an id
+abbrev pub sequence_set_by : Parser → ℕ → Option Sps
+sequence_set_by p id = get nat_cmp p.sequence_sets id

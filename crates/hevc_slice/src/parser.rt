@@ -26,6 +26,7 @@ use hevc_sets::{ParseError, read_pps, read_sps, read_vps};
 use hevc_slice_header::read_slice_header;
 use hevc_types_b::Vps;
 use hevc_types_c::Sps;
+use hevc_types_c::comparisons::sps_eq;
 use hevc_types_d::{Pps, Slice};
 use std::alloc::{AllocError, Global};
 use std::collections::BTreeMap;
@@ -48,7 +49,7 @@ pub struct Parser {
 
 impl Parser {
     ghost use Rattle.std.specs.Borrow.{sem};
-    ghost use Rattle.hevc_slice.specs.Kept.{kept_by};
+    ghost use Rattle.hevc_slice.specs.Kept.{kept_by, sequence_set_by};
     ghost use Rattle.hevc_slice.specs.Lending.{LeavesParser, Keeps};
 
     /// No set is kept. Sets take their memory from `alloc`.
@@ -138,11 +139,38 @@ impl Parser {
         ensures refused { IfErr result (λ e. e ≡ ParseError.NoMemory) }
     {
         let id = set.seq_parameter_set_id;
-        self.keep_sequence_set(set)?;
+        self.insert_sequence_set(set)?;
         Ok(self.sequence_sets.get(&id).unwrap())
     }
 
-    fn keep_sequence_set(&mut self, set: Sps) -> Result<(), AllocError>
+    /// Keeps a sequence parameter set, in the place of an earlier one of its id (7.4.2.4.2), and tells whether that changed what is
+    /// kept: whether no set was kept under its id, or one that differs from it.
+    ///
+    /// Errors: want of memory; what is kept then stays.
+    pub fn keep_sequence_set(&mut self, set: Sps) -> Result<bool, AllocError>
+        ensures kept { OnOk result
+            (kept_by self.new ≡ with_sequence_set (plain_sps set) (kept_by self.old)) }
+        ensures changed { IfOk result (λ changed. IsFalse changed
+            ↔ (sequence_set_by self.old set.seq_parameter_set_id ≡ Some set)) }
+        ensures stays { OnErr result (kept_by self.new ≡ kept_by self.old) }
+    {
+        let changed = !self.keeps(&set);
+        self.insert_sequence_set(set)?;
+        Ok(changed)
+    }
+
+    /// Whether this very set is kept.
+    fn keeps(&self, set: &Sps) -> bool
+        ensures { IsTrue result
+            ↔ (sequence_set_by self.now set.now.seq_parameter_set_id ≡ Some set.now) }
+    {
+        match self.sequence_sets.get(&set.seq_parameter_set_id) {
+            Some(kept) => sps_eq(kept, set),
+            None => false,
+        }
+    }
+
+    fn insert_sequence_set(&mut self, set: Sps) -> Result<(), AllocError>
         ensures kept { OnOk result
             (kept_by self.new ≡ with_sequence_set (plain_sps set) (kept_by self.old)) }
         ensures found { OnOk result

@@ -4,6 +4,7 @@ ghost use Rattle.std.specs.Prelude.{◌<◌, length};
 use super::streams::{NO_SET, P_SLICE, PICTURE_SET, SEQUENCE_SET, VIDEO_SET};
 use crate::{ParseError, Parser, slice_header_set_defaults};
 use hevc_bits::{Nalu, NaluHeader};
+use hevc_sets::read_sps;
 use hevc_types_c::Sps;
 use hevc_types_d::{Pps, Slice, SliceHeader};
 use std::alloc::Global;
@@ -53,6 +54,31 @@ fn sets_are_kept_by_their_ids(rt: HostRuntime) {
     assert!(rt; parser.get_sps(15).is_none());
     assert!(rt; parser.get_pps(0).is_some());
     assert!(rt; parser.get_pps(63).is_none());
+}
+
+/// Whether keeping the set of a stream's first unit, under an id, changes what is kept.
+fn changes(alloc: Global, parser: &mut Parser, stream: &[u8], id: u8) -> Result<bool, ParseError>
+    requires { length stream.now < 1000 }
+{
+    let mut position = 0;
+    let Ok(unit) = Nalu::<NaluHeader>::next(stream, &mut position) else {
+        return Err(ParseError::OutOfBits);
+    };
+    let mut set = read_sps(alloc, &unit)?;
+    set.seq_parameter_set_id = id;
+    Ok(parser.keep_sequence_set(set)?)
+}
+
+#[test]
+fn a_sequence_set_that_is_repeated_changes_nothing(rt: HostRuntime) -> Result<(), Fail> {
+    let mut parser = Parser::new(rt.alloc());
+    assert!(rt; changes(rt.alloc(), &mut parser, SEQUENCE_SET, 0) == Ok(true));
+    assert!(rt; changes(rt.alloc(), &mut parser, SEQUENCE_SET, 0) == Ok(false));
+    assert!(rt; changes(rt.alloc(), &mut parser, SEQUENCE_SET, 1) == Ok(true));
+    assert!(rt; parser.keep_sequence_set(Sps::new(rt.alloc()))?);
+    assert!(rt; changes(rt.alloc(), &mut parser, SEQUENCE_SET, 1) == Ok(false));
+    assert!(rt; changes(rt.alloc(), &mut parser, SEQUENCE_SET, 0) == Ok(true));
+    Ok(())
 }
 
 #[test]

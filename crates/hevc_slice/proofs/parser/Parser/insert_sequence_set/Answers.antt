@@ -6,7 +6,7 @@ use Rattle.hevc_types_c.specs.Sps.{plain_sps}
 use Rattle.hevc_stream.specs.Kept.{with_sequence_set}
 use Rattle.hevc_slice.specs.Kept.{kept_by}
 use Rattle.hevc_slice.proofs.Keeping.{kept_behind, own_after, named_after, some_kept, found_in, if_err}
-use Rattle.hevc_slice.proofs.parser.Parser.keep_sequence_set.Goals as goal
+use Rattle.hevc_slice.proofs.parser.Parser.insert_sequence_set.Goals as goal
 
 pub invariant_of-self : goal.invariant_of-self
 invariant_of-self c = record {
