@@ -45,7 +45,7 @@ module _ {B H : Type 0} (t : ℕ) (o : Options) (us : List NalUnit) (u : NalUnit
   meant_is : meaning_in (state_by a) (unit_at o old.kept h u.bytes) ≡ meant_next o us u
   meant_is = first_is o old.kept u.bytes h parsed a after.started ∙ ap (λ (k : Kept). first_meaning a (meaning o k u.bytes)) after.kept
 
-  opens : Opens t (traces_of old.log old.view) (traces_of new.log new.view) (meant_next o us u) S new.view.standing
+  pub opens : Opens t (traces_of old.log old.view) (traces_of new.log new.view) (meant_next o us u) S new.view.standing
   opens = subst (λ (m : Meaning). Opens t (traces_of old.log old.view) (traces_of new.log new.view) m S new.view.standing) meant_is
       (subst (λ (s : Standing). Opens t (traces_of old.log old.view) (traces_of new.log new.view) (meaning_in (state_by a) (unit_at o old.kept h u.bytes)) s new.view.standing) after.stands
       (subst (λ (x : State). Opens t (traces_of old.log old.view) (traces_of new.log new.view) (meaning_in x (unit_at o old.kept h u.bytes)) old.view.standing new.view.standing) after.state_is step.part))

@@ -24,7 +24,7 @@ use Rattle.hevc_stream.specs.Stream.{meaning_of, meaning, kept_behind}
 use Rattle.hevc_bumping.specs.declared.frame.Frame.{Frame}
 use Rattle.hevc_bumping.specs.Frames.{frame_output}
 use Rattle.hevc_driver.specs.Does.{call_in, output_in}
-use Rattle.hevc_driver.specs.Moments.{step_part, negotiates}
+use Rattle.hevc_driver.specs.Moments.{begins_at, step_part, negotiates}
 use Rattle.hevc_driver.specs.Takes.{Goes}
 use Rattle.hevc_stateless.specs.declared.state.State.{State}
 use Rattle.hevc_stateless.specs.declared.state.State.TheVariants.{AwaitingStreamInfo, AwaitingFormat, Decoding, Reset}
@@ -40,6 +40,7 @@ pub record Means (x y : Meaning) (s : Standing) : Type 0 where
   pub part : step_part x s ≡ unit_part y s
   pub refusal : refusal_at x s ≡ refusal_at y s
   pub full : is_full_at x s ≡ is_full_at y s
+  pub begins : begins_at x s ≡ begins_at y s
 
 first_part : (x : Meaning) (s : Standing) → s.store.accepted ≡ None → step_part x s ≡ unit_part x s
 first_part (SequenceSet f) s none = rw none refl
@@ -49,13 +50,13 @@ first_part EndOfBitstream s none = refl
 first_part Other s none = refl
 first_part (Refused c) s none = refl
 
-later_part : (f : Format) (y : Meaning) (s : Standing) → s.store.accepted ≡ Some f → Means (later_meaning y) y s
-later_part f (SequenceSet g) s is = record { part = rw is refl; refusal = refl; full = refl }
-later_part f (CodedSlice w) s is = record { part = refl; refusal = refl; full = refl }
-later_part f EndOfSequence s is = record { part = refl; refusal = refl; full = refl }
-later_part f EndOfBitstream s is = record { part = refl; refusal = refl; full = refl }
-later_part f Other s is = record { part = refl; refusal = refl; full = refl }
-later_part f (Refused c) s is = record { part = refl; refusal = refl; full = refl }
+pub later_part : (f : Format) (y : Meaning) (s : Standing) → s.store.accepted ≡ Some f → Means (later_meaning y) y s
+later_part f (SequenceSet g) s is = record { part = rw is refl; refusal = refl; full = refl; begins = refl }
+later_part f (CodedSlice w) s is = record { part = refl; refusal = refl; full = refl; begins = refl }
+later_part f EndOfSequence s is = record { part = refl; refusal = refl; full = refl; begins = refl }
+later_part f EndOfBitstream s is = record { part = refl; refusal = refl; full = refl; begins = refl }
+later_part f Other s is = record { part = refl; refusal = refl; full = refl; begins = refl }
+later_part f (Refused c) s is = record { part = refl; refusal = refl; full = refl; begins = refl }
 
 module _ (o : Options) (k : Kept) (bytes : List ℕ) (h : UnitHeader) (parsed : unit_header bytes ≡ Ok h) where
   abbrev u : Unit
@@ -79,7 +80,7 @@ module _ (o : Options) (k : Kept) (bytes : List ℕ) (h : UnitHeader) (parsed : 
   first_is (Some f) has = ap later_meaning (sure_means (sym has))
 
   pub means : (a : Option Format) (s : Standing) → s.store.accepted ≡ a → is_some a ≡ k.has_sequence_set → Means (meaning_in (state_by a) u) (meaning o k bytes) s
-  means None s is has = subst (λ (x : Meaning). Means x (meaning o k bytes) s) (sym (none_means (sym has))) (record { part = first_part (meaning o k bytes) s is; refusal = refl; full = refl })
+  means None s is has = subst (λ (x : Meaning). Means x (meaning o k bytes) s) (sym (none_means (sym has))) (record { part = first_part (meaning o k bytes) s is; refusal = refl; full = refl; begins = refl })
   means (Some f) s is has = subst (λ (x : Meaning). Means (later_meaning x) (meaning o k bytes) s) (sym (sure_means (sym has))) (later_part f (meaning o k bytes) s is)
 
 -- where a format is accepted

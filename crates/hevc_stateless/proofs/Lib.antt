@@ -1,3 +1,4 @@
+mod Rooms
 mod Calling
 mod Coding
 mod Flushing

@@ -35,7 +35,6 @@ refused_unit T (meaning.InvalidNaluType n) t a s = refuses (meaning.InvalidNaluT
 refused_unit T meaning.OutOfBits t a s = refuses meaning.OutOfBits t a s
 refused_unit T (meaning.OutOfRange x y) t a s = refuses (meaning.OutOfRange x y) t a s
 refused_unit T (meaning.MissingPps n) t a s = refuses (meaning.MissingPps n) t a s
-refused_unit T (meaning.NotYet x y) t a s = refuses (meaning.NotYet x y) t a s
 
 -- such a unit opens no negotiation
 pub refused_moves : (T : Type 0) (c : UnitCause) (before behind now : State) → now ≡ behind → MovesBy {T = T} (Err (cause_error c)) before behind now
@@ -44,7 +43,6 @@ refused_moves T (meaning.InvalidNaluType n) before behind now is = is
 refused_moves T meaning.OutOfBits before behind now is = is
 refused_moves T (meaning.OutOfRange x y) before behind now is = is
 refused_moves T (meaning.MissingPps n) before behind now is = is
-refused_moves T (meaning.NotYet x y) before behind now is = is
 
 -- a unit that means nothing
 pub idle_unit : {H : Type 0} (t : ℕ) (a : Traces H) (s : Standing) → Goes t a a Other s s

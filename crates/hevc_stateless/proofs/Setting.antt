@@ -57,7 +57,6 @@ cause_named (causes.OutOfRange table row) e is = let same : parse.OutOfRange tab
 cause_named causes.TruncatedNalu e is = absurd (cc is)
 cause_named (causes.InvalidNaluType n) e is = absurd (cc is)
 cause_named (causes.MissingPps id) e is = absurd (cc is)
-cause_named (causes.NotYet table row) e is = absurd (cc is)
 
 cause_of_set : (c : UnitCause) (e : ParseError) → sets.cause_error c ≡ Some e → IsOfSet (cause_error c)
 cause_of_set causes.OutOfBits e is = tt
@@ -65,7 +64,6 @@ cause_of_set (causes.OutOfRange table row) e is = tt
 cause_of_set causes.TruncatedNalu e is = absurd (cc is)
 cause_of_set (causes.InvalidNaluType n) e is = absurd (cc is)
 cause_of_set (causes.MissingPps id) e is = absurd (cc is)
-cause_of_set (causes.NotYet table row) e is = absurd (cc is)
 
 keeps_refused : (T : Type 0) (c : UnitCause) (o : Options) (bytes : List ℕ) (old new : Kept) → new ≡ old → KeepsBehind {T = T} (Err (cause_error c)) o bytes old new
 keeps_refused T causes.OutOfBits o bytes old new is = is
@@ -73,7 +71,6 @@ keeps_refused T (causes.OutOfRange table row) o bytes old new is = is
 keeps_refused T causes.TruncatedNalu o bytes old new is = is
 keeps_refused T (causes.InvalidNaluType n) o bytes old new is = is
 keeps_refused T (causes.MissingPps id) o bytes old new is = is
-keeps_refused T (causes.NotYet table row) o bytes old new is = is
 
 pub set_error : (o : Options) (bytes : List ℕ) (old new : Kept) (e : ParseError) → sets.Refuses o bytes e old new → IsOfSet (refusal_of e)
 set_error o bytes old new parse.NoMemory h = tt

@@ -1,5 +1,5 @@
 -- What contracts see of a stream that is being decoded.
-use Rattle.std.specs.Prelude.{◌≡◌, ℕ, List, [], ◌∷◌, Option, Some, None}
+use Rattle.std.specs.Prelude.{◌≡◌, ℕ, ◌+◌, ◌≤◌, List, [], ◌∷◌, length, Option, Some, None}
 use Rattle.hevc_walk_units.specs.Units as units
 use Rattle.hevc_walk_units.specs.Units.{Standing, at_first}
 use Rattle.hevc_bumping.specs.declared.frame.Frame.{Frame}
@@ -26,6 +26,10 @@ at_beginning backend = record { backend = backend; state = AwaitingStreamInfo; s
 -- all that decoding may change, where the backend tells this log
 abbrev pub traces_of : {B H : Type 0} → Option (List (Call H)) → View B H → Traces H
 traces_of log v = record { log = log; queue = v.queue; tickets = v.tickets }
+
+-- At most 17 pictures came out: the 16 that may be stored, and one more.
+abbrev pub OutputsFew : {B H : Type 0} → View B H → View B H → Type 0
+OutputsFew old new = length new.queue ≤ length old.queue + 17
 
 -- before the first sequence set no picture is open
 abbrev pub IsIdleBefore : State → units.Current → Type 0

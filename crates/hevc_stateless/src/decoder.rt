@@ -1,5 +1,5 @@
 //! The decoder and its calls.
-ghost use Rattle.std.specs.Prelude.{◌≡◌, ◌<◌, ◌^◌, ℕ, length, [], option_map, OnOk, OnErr};
+ghost use Rattle.std.specs.Prelude.{◌≡◌, ◌<◌, ◌≤◌, ◌^◌, ℕ, length, IfOk, [], option_map, OnOk, OnErr};
 ghost use Rattle.hevc_spec.specs.Units.{units};
 ghost use Rattle.hevc_stream.specs.Kept.{none_kept};
 ghost use Rattle.hevc_stream.specs.Options.{default_options};
@@ -9,14 +9,15 @@ ghost use Rattle.hevc_stateless.specs.declared.state.State.TheVariants.{Awaiting
 ghost use Rattle.hevc_stateless.specs.States.{is_awaited};
 ghost use Rattle.hevc_stateless.specs.Events.{TellsNext};
 ghost use Rattle.hevc_stateless.specs.Flushes.{Flushes};
-ghost use Rattle.hevc_stateless.specs.Steps.{TakesFirst};
-ghost use Rattle.hevc_stateless.specs.Views.{at_beginning, traces_of};
+ghost use Rattle.hevc_bits.specs.FoundUnit.{bytes_of};
+ghost use Rattle.hevc_stateless.specs.Steps.{StepsIn, TakesFirst};
+ghost use Rattle.hevc_stateless.specs.Views.{at_beginning, traces_of, OutputsFew};
 ghost use Rattle.hevc_stateless.specs.Decoders.{view_of, kept_in, set_for, seen_by};
 
 use crate::event::DecoderEvent;
 use crate::session::Session;
 use hevc_backend::{Backend, StreamInfo};
-use hevc_bits::Nalu;
+use hevc_bits::{Nalu, NaluHeader};
 use hevc_driver::{DecodeError, Options, StatelessH265DecoderBackend};
 use hevc_kept::KeptSets;
 use std::alloc::Global;
@@ -54,28 +55,55 @@ impl<B: StatelessH265DecoderBackend> StatelessDecoder<B> {
     }
 
     /// Takes the first unit of the input, of less than 2^60 bytes, with the time at which its picture is to be shown, in the caller's
-    /// unit. The answer is the place behind the unit, in bytes.
+    /// unit. The answer is the place behind the unit, in bytes: 3 at least.
     ///
     /// Errors: `NoNal`, there is none; those of the unit's header; `CheckEvents`, a format is awaited, from here on where the unit opened
     /// its negotiation, and the unit is to be given once more when it is accepted; else those of the unit. `DecodeError` names each.
     pub fn decode(&mut self, timestamp: u64, bitstream: &[u8]) -> Result<usize, DecodeError>
         requires short { length bitstream.now < 2 ^ 60 }
+        ensures few { OutputsFew (view_of self.old) (view_of self.new) }
         ensures cause { CountsErrors (B.counts (view_of self.old).backend)
             (B.counts (view_of self.new).backend) result }
         ensures faultless { KeepsFaultless (B.is_faultless (view_of self.old).backend)
             (B.is_faultless (view_of self.new).backend) result }
         ensures takes { TakesFirst (units bitstream.now) result timestamp (set_for self.old)
             (seen_by B.log self.old) (seen_by B.log self.new) }
+        ensures inside { IfOk result (λ place. (3 ≤ place) × (place ≤ length bitstream.now)) }
         ensures options { set_for self.new ≡ set_for self.old }
     {
         let mut position = 0;
         let nalu = Nalu::next(bitstream, &mut position)?;
+        self.decode_unit(timestamp, &nalu)?;
+        Ok(nalu.offset() + nalu.size())
+    }
+
+    /// Takes a unit that was found in a stream of less than 2^60 bytes, with the time at which its picture is to be shown, in the
+    /// caller's unit. Its bytes are not searched again, so it may be given once more at no cost.
+    ///
+    /// Errors: `CheckEvents`, a format is awaited, from here on where the unit opened its negotiation, and the unit is to be given once
+    /// more when it is accepted; else those of the unit. `DecodeError` names each.
+    pub fn decode_unit(
+        &mut self,
+        timestamp: u64,
+        nalu: &Nalu<'_, NaluHeader>,
+    ) -> Result<(), DecodeError>
+        requires short { length nalu.now.stream < 2 ^ 60 }
+        ensures few { OutputsFew (view_of self.old) (view_of self.new) }
+        ensures cause { CountsErrors (B.counts (view_of self.old).backend)
+            (B.counts (view_of self.new).backend) result }
+        ensures faultless { KeepsFaultless (B.is_faultless (view_of self.old).backend)
+            (B.is_faultless (view_of self.new).backend) result }
+        ensures takes { StepsIn (view_of self.old).state result timestamp (set_for self.old)
+            nalu.now.header (bytes_of nalu.now)
+            (seen_by B.log self.old) (seen_by B.log self.new) }
+        ensures options { set_for self.new ≡ set_for self.old }
+    {
         if self.awaiting_format() {
             return Err(DecodeError::CheckEvents);
         }
-        let behind = nalu.offset() + nalu.size();
-        self.take_unit(timestamp, nalu)?;
-        Ok(behind)
+        // That its bytes parse to its header, `header` says.
+        let _header = nalu.header();
+        self.take_unit(timestamp, nalu.copy())
     }
 
     /// The stream ends, or is left: the open picture is over, and all that waits comes out. Behind it an IDR picture or a sequence
@@ -84,6 +112,7 @@ impl<B: StatelessH265DecoderBackend> StatelessDecoder<B> {
     /// Errors: `NoMemory`, `Backend`, `DpbFull`. The state and the stored pictures stay; where a call of the backend was refused the
     /// open picture is given up, and a second call goes on.
     pub fn flush(&mut self) -> Result<(), DecodeError>
+        ensures few { OutputsFew (view_of self.old) (view_of self.new) }
         ensures cause { CountsErrors (B.counts (view_of self.old).backend)
             (B.counts (view_of self.new).backend) result }
         ensures faultless { KeepsFaultless (B.is_faultless (view_of self.old).backend)
@@ -133,6 +162,13 @@ impl<B: StatelessH265DecoderBackend> StatelessDecoder<B> {
         ensures options { set_for self.new ≡ set_for self.old }
     {
         self.session.resume();
+    }
+
+    /// How many pictures have begun so far, those included that are passed over (8.1.3): the number of the next one.
+    pub fn num_pictures(&self) -> u64
+        ensures { result ≡ (view_of self.now).standing.next.number }
+    {
+        self.session.num_pictures()
     }
 
     /// What the backend tells of the sequence.

@@ -13,7 +13,7 @@ ghost use Rattle.hevc_driver.specs.Takes.{Takes};
 ghost use Rattle.hevc_stateless.specs.declared.state.State.TheVariants.{AwaitingStreamInfo, AwaitingFormat, Decoding, Reset};
 ghost use Rattle.hevc_stateless.specs.States.{AwaitsOrStays, is_awaited, awaits_stream_info, is_decoding, state_at};
 ghost use Rattle.hevc_stateless.specs.Flushes.{Flushes};
-ghost use Rattle.hevc_stateless.specs.Views.{at_beginning, traces_of, PopsFrame};
+ghost use Rattle.hevc_stateless.specs.Views.{at_beginning, traces_of, PopsFrame, OutputsFew};
 
 use crate::state::State;
 use hevc_bits::NaluType;
@@ -113,6 +113,13 @@ impl<B: StatelessH265DecoderBackend> Session<B> {
         self.state = State::Decoding;
     }
 
+    /// How many pictures have begun, those included that are passed over.
+    pub(crate) fn num_pictures(&self) -> u64
+        ensures { result ≡ self.now.standing.next.number }
+    {
+        self.driver.walk.next.number
+    }
+
     /// The next picture that came out.
     pub(crate) fn next_frame(&mut self) -> Option<Frame<B::Handle>>
         ensures frame { PopsFrame result self.old.queue self.new.queue }
@@ -126,6 +133,7 @@ impl<B: StatelessH265DecoderBackend> Session<B> {
     /// Errors: `CheckEvents`, the format is awaited from here on; `Backend`, `NoMemory`, and nothing has changed then.
     pub(crate) fn open_sequence(&mut self, sps: &Sps) -> Result<(), DecodeError>
         requires first { self.old.state ≡ AwaitingStreamInfo }
+        ensures few { OutputsFew self.old self.new }
         ensures cause { CountsErrors (B.counts self.old.backend)
             (B.counts self.new.backend) result }
         ensures faultless { KeepsFaultless (B.is_faultless self.old.backend)
@@ -155,6 +163,7 @@ impl<B: StatelessH265DecoderBackend> Session<B> {
     ) -> Result<(), DecodeError>
         requires named { AreNamed slice.old sps.now pps.now }
         requires decoding { self.old.state ≡ Decoding }
+        ensures few { OutputsFew self.old self.new }
         ensures cause { CountsErrors (B.counts self.old.backend)
             (B.counts self.new.backend) result }
         ensures faultless { KeepsFaultless (B.is_faultless self.old.backend)
@@ -194,6 +203,7 @@ impl<B: StatelessH265DecoderBackend> Session<B> {
     ///
     /// Errors: `NoMemory`, `Backend`, `DpbFull`; where a call of the backend was refused the open picture is given up.
     pub(crate) fn flush(&mut self) -> Result<(), DecodeError>
+        ensures few { OutputsFew self.old self.new }
         ensures cause { CountsErrors (B.counts self.old.backend)
             (B.counts self.new.backend) result }
         ensures faultless { KeepsFaultless (B.is_faultless self.old.backend)

@@ -5,7 +5,6 @@ ghost use Rattle.hevc_spec.specs.UnitTypes.{is_slice};
 ghost use Rattle.hevc_bits.specs.NaluType.{nalu_type_number};
 ghost use Rattle.hevc_bits.specs.FoundUnit.{bytes_of};
 ghost use Rattle.hevc_stream.specs.Slices.{temporal_id};
-ghost use Rattle.hevc_kept.specs.CutUnits.{IsCutOut};
 ghost use Rattle.hevc_kept.specs.Kept.{kept_of, options_in};
 ghost use Rattle.hevc_driver.specs.Answers.{CountsErrors, KeepsFaultless};
 ghost use Rattle.hevc_stateless.specs.States.{is_awaited, is_parameter_set, AwaitsOrStays, unit_at};
@@ -16,7 +15,7 @@ ghost use Rattle.hevc_walk.specs.Meanings.{SequenceSet};
 ghost use Rattle.hevc_driver.specs.declared.decode_error.DecodeError.TheVariants.{NoMemory};
 ghost use Rattle.hevc_driver.specs.Takes.{Takes};
 ghost use Rattle.hevc_stateless.specs.declared.state.State.TheVariants.{AwaitingStreamInfo, Decoding};
-ghost use Rattle.hevc_stateless.specs.Views.{traces_of};
+ghost use Rattle.hevc_stateless.specs.Views.{traces_of, OutputsFew};
 
 use crate::decoder::StatelessDecoder;
 use crate::refusal::refusal;
@@ -54,6 +53,7 @@ impl<B: StatelessH265DecoderBackend> StatelessDecoder<B> {
         requires typed { nalu.now.header.nal_unit_type ≡ 33 }
         requires wanted { temporal_id nalu.now.header ≤ (options_in self.old.kept).highest_tid }
         requires going { is_awaited self.old.session.state ≡ false }
+        ensures few { OutputsFew self.old.session self.new.session }
         ensures cause { CountsErrors (B.counts self.old.session.backend)
             (B.counts self.new.session.backend) result }
         ensures faultless { KeepsFaultless (B.is_faultless self.old.session.backend)
@@ -80,6 +80,7 @@ impl<B: StatelessH265DecoderBackend> StatelessDecoder<B> {
     fn open_sequence(&mut self, id: u8) -> Result<(), DecodeError>
         requires kept { IsSome ((kept_of self.old.kept).sequence_sets id) }
         requires first { self.old.session.state ≡ AwaitingStreamInfo }
+        ensures few { OutputsFew self.old.session self.new.session }
         ensures cause { CountsErrors (B.counts self.old.session.backend)
             (B.counts self.new.session.backend) result }
         ensures faultless { KeepsFaultless (B.is_faultless self.old.session.backend)
@@ -108,7 +109,6 @@ impl<B: StatelessH265DecoderBackend> StatelessDecoder<B> {
         requires parsed { unit_header (bytes_of nalu.now) ≡ Ok nalu.now.header }
         requires typed { nalu.now.header.nal_unit_type ≡ 34 }
         requires wanted { temporal_id nalu.now.header ≤ (options_in self.old.kept).highest_tid }
-        requires cut { IsCutOut nalu.now }
         ensures same { self.new.session ≡ self.old.session }
         ensures options { options_in self.new.kept ≡ options_in self.old.kept }
         ensures step { (timestamp : ℕ) → Step result timestamp (options_in self.old.kept)
@@ -128,6 +128,7 @@ impl<B: StatelessH265DecoderBackend> StatelessDecoder<B> {
         requires typed { is_slice nalu.header.nal_unit_type ≡ true }
         requires wanted { temporal_id nalu.header ≤ (options_in self.old.kept).highest_tid }
         requires decoding { self.old.session.state ≡ Decoding }
+        ensures few { OutputsFew self.old.session self.new.session }
         ensures cause { CountsErrors (B.counts self.old.session.backend)
             (B.counts self.new.session.backend) result }
         ensures faultless { KeepsFaultless (B.is_faultless self.old.session.backend)
@@ -165,6 +166,7 @@ impl<B: StatelessH265DecoderBackend> StatelessDecoder<B> {
         requires other { is_parameter_set nalu.header.nal_unit_type ≡ false }
         requires wanted { temporal_id nalu.header ≤ (options_in self.old.kept).highest_tid }
         requires decoding { self.old.session.state ≡ Decoding }
+        ensures few { OutputsFew self.old.session self.new.session }
         ensures cause { CountsErrors (B.counts self.old.session.backend)
             (B.counts self.new.session.backend) result }
         ensures faultless { KeepsFaultless (B.is_faultless self.old.session.backend)
@@ -197,6 +199,7 @@ impl<B: StatelessH265DecoderBackend> StatelessDecoder<B> {
         requires other { is_parameter_set nalu.header.nal_unit_type ≡ false }
         requires wanted { temporal_id nalu.header ≤ (options_in self.old.kept).highest_tid }
         requires going { is_awaited self.old.session.state ≡ false }
+        ensures few { OutputsFew self.old.session self.new.session }
         ensures cause { CountsErrors (B.counts self.old.session.backend)
             (B.counts self.new.session.backend) result }
         ensures faultless { KeepsFaultless (B.is_faultless self.old.session.backend)
@@ -222,8 +225,8 @@ impl<B: StatelessH265DecoderBackend> StatelessDecoder<B> {
     ) -> Result<(), DecodeError>
         requires short { length nalu.stream < 2 ^ 60 }
         requires parsed { unit_header (bytes_of nalu) ≡ Ok nalu.header }
-        requires cut { IsCutOut nalu }
         requires going { is_awaited self.old.session.state ≡ false }
+        ensures few { OutputsFew self.old.session self.new.session }
         ensures cause { CountsErrors (B.counts self.old.session.backend)
             (B.counts self.new.session.backend) result }
         ensures faultless { KeepsFaultless (B.is_faultless self.old.session.backend)

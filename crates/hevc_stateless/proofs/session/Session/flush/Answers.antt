@@ -1,8 +1,10 @@
-use Rattle.std.proofs.Common.{◌∙◌, ap, sym, Bool, if◌then◌else◌}
+use Rattle.std.proofs.Common.{◌≤◌, ◌+◌, length, arith, subst, ◌∙◌, ap, sym, Bool, if◌then◌else◌}
 use Rattle.hevc_walk_units.specs.Units.{Standing}
 use Rattle.hevc_driver.specs.Moments.{forgotten}
 use Rattle.hevc_driver.specs.Standings.{standing, traces}
 use Rattle.hevc_stateless.specs.Views.{View, traces_of}
+use Rattle.hevc_driver.specs.Does.{Traces}
+use Rattle.hevc_stateless.proofs.Rooms.{few_came}
 use Rattle.hevc_stateless.proofs.Flushing.{idle, closed_none, flush_refused, flush_done}
 use Rattle.hevc_stateless.proofs.session.Session.flush.Goals as goal
 use Rattle.hevc_stateless.proofs.session.Session.flush.Goals.{then-awaited, else-awaited}
@@ -34,3 +36,14 @@ returns-clause-flushes g c t =
       | then-awaited w ↦ ap (λ d. standing d.driver.walk) w.self-inside-is ∙ w.forget_format.ensures.standing ∙ ap (λ (b : Bool). if b then forgotten (standing c.close.new.self.walk) else standing c.close.new.self.walk) (sym w.if-awaited.true ∙ c.awaiting_format-awaited.ensures)
       | else-awaited w ↦ ap (λ d. standing d.driver.walk) w.self-inside-is ∙ ap (λ (b : Bool). if b then forgotten (standing c.close.new.self.walk) else standing c.close.new.self.walk) (sym w.if-awaited.false ∙ c.awaiting_format-awaited.ensures)
     ])
+
+pub returns-in_err-close-clause-few : goal.returns-in_err-close-clause-few
+returns-in_err-close-clause-few g c = few_came 1 c.args.self.now c.self.inside.driver.walk c.reserve.new.self.walk c.close.new.self.walk (ap (λ (v : View g.row.B.Denot g.row.B-Handle.Denot). v.queue) c.self.view_is) c.in_ok-reserve.ensures.total c.in_err-close.ensures.grows (omega arith)
+
+pub returns-clause-few : goal.returns-clause-few
+returns-clause-few g c =
+    let came = few_came 1 c.args.self.now c.self.inside.driver.walk c.reserve.new.self.walk c.close.new.self.walk (ap (λ (v : View g.row.B.Denot g.row.B-Handle.Denot). v.queue) c.self.view_is) c.in_ok-reserve.ensures.total c.in_ok-close.ensures.grows (omega arith) in
+    elim c.if-awaited.branch [
+      | then-awaited w ↦ subst (λ (t : Traces g.row.B-Handle.Denot). length t.queue ≤ length c.args.self.now.queue + 17) (sym (ap (λ d. traces (g.B.StatelessH265DecoderBackend.log d.driver.backend) d.driver.walk) w.self-inside-is ∙ w.forget_format.ensures.traces)) came
+      | else-awaited w ↦ subst (λ (t : Traces g.row.B-Handle.Denot). length t.queue ≤ length c.args.self.now.queue + 17) (sym (ap (λ d. traces (g.B.StatelessH265DecoderBackend.log d.driver.backend) d.driver.walk) w.self-inside-is)) came
+    ]

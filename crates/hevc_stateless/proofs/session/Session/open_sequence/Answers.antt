@@ -1,8 +1,9 @@
-use Rattle.std.proofs.Common.{ap, sym, subst}
+use Rattle.std.proofs.Common.{refl, ap, sym, subst, arith}
 use Rattle.hevc_types_c.specs.Sps.{plain_sps}
 use Rattle.hevc_views.specs.Sequences.{format_of_set}
 use Rattle.hevc_walk_units.specs.Units.{Standing}
 use Rattle.hevc_stateless.specs.Views.{View, IsIdleBefore, traces_of}
+use Rattle.hevc_stateless.proofs.Rooms.{few_came}
 use Rattle.hevc_stateless.proofs.Starting.{opens_first, first_refused, refused_stays, refused_left}
 use Rattle.hevc_stateless.proofs.session.Session.open_sequence.Goals as goal
 
@@ -25,3 +26,9 @@ returns-clause-part g c t =
     (ap (λ (v : View g.row.B.Denot g.row.B-Handle.Denot). traces_of (g.B.StatelessH265DecoderBackend.log v.backend) v) c.self.view_is)
     (ap (λ (v : View g.row.B.Denot g.row.B-Handle.Denot). v.standing) c.self.view_is)
     (c.in_ok-open_sequence.ensures.part t)
+
+pub returns-in_err-open_sequence-clause-few : goal.returns-in_err-open_sequence-clause-few
+returns-in_err-open_sequence-clause-few g c = few_came 0 c.args.self.now c.self.inside.driver.walk c.self.inside.driver.walk c.open_sequence.new.self.walk (ap (λ (v : View g.row.B.Denot g.row.B-Handle.Denot). v.queue) c.self.view_is) refl c.in_err-open_sequence.ensures.grows (omega arith)
+
+pub returns-clause-few : goal.returns-clause-few
+returns-clause-few g c = few_came 0 c.args.self.now c.self.inside.driver.walk c.self.inside.driver.walk c.open_sequence.new.self.walk (ap (λ (v : View g.row.B.Denot g.row.B-Handle.Denot). v.queue) c.self.view_is) refl c.in_ok-open_sequence.ensures.grows (omega arith)
