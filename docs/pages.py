@@ -1,4 +1,4 @@
-"""Makes MAP.md, the columns of RECORDS.md that the code has (field, type and default), and the example of BACKENDS.md.
+"""Makes MAP.md, the columns of RECORDS.md that the code has (field, type and default), and the examples of BACKENDS.md and CALLING.md.
 
 pages.py          writes them
 pages.py --check  says what differs, and ends with 1 where anything does
@@ -9,6 +9,12 @@ from pathlib import Path
 
 TOP = Path(__file__).resolve().parent.parent
 CRATES = TOP / "crates"
+
+# The pages with an example, and the file that has it.
+EXAMPLES = {
+    "BACKENDS.md": "hevc_backend/src/tests/over_device.rt",
+    "CALLING.md": "hevc_decoder/src/tests/calling.rt",
+}
 
 MAP_HEAD = """# Map
 
@@ -144,21 +150,19 @@ def made_records(page):
     return "\n".join(out) + "\n"
 
 
-def made_backends(page):
-    """BACKENDS.md with the example as it stands in the code."""
-    example = (CRATES / "hevc_backend" / "src" / "tests" / "over_device.rt").read_text()
+def with_example(page, example):
+    """The page with its example as it stands in the code."""
     before, old = page.split("```rust\n")
     behind = old.split("```\n")[1]
-    return f"{before}```rust\n{example}```\n{behind}"
+    return f"{before}```rust\n{example.read_text()}```\n{behind}"
 
 
 def main():
-    records, backends = TOP / "docs" / "RECORDS.md", TOP / "docs" / "BACKENDS.md"
-    pages = {
-        TOP / "docs" / "MAP.md": made_map(),
-        records: made_records(records.read_text()),
-        backends: made_backends(backends.read_text()),
-    }
+    records = TOP / "docs" / "RECORDS.md"
+    pages = {TOP / "docs" / "MAP.md": made_map(), records: made_records(records.read_text())}
+    for page, example in EXAMPLES.items():
+        path = TOP / "docs" / page
+        pages[path] = with_example(path.read_text(), CRATES / example)
     stale = [path for path, text in pages.items() if path.read_text() != text]
     if sys.argv[1:] == ["--check"]:
         for path in stale:

@@ -1,63 +1,71 @@
--- A unit whose header is refused means that refusal.
-use Rattle.std.proofs.Common.{◌≡◌, ◌≢◌, ◌⊎◌, inl, inr, ℕ, List, ◌∷◌, refl, sym, ◌∙◌, ap, subst, Result, Ok, Err}
+-- A unit whose header is refused.
+use Rattle.std.proofs.Common.{◌≡◌, ℕ, List, ◌∷◌, refl, sym, ap, subst, Result, Ok, Err}
 use Rattle.hevc_spec.specs.Units.{NalUnit}
-use Rattle.hevc_spec.specs.UnitHeader.{UnitHeader, HeaderFault, truncated, unspecified_type, temporal_id_zero, unit_header}
-use Rattle.hevc_bits.specs.declared.header.UnitError.{UnitError}
-use Rattle.hevc_bits.specs.declared.header.UnitError.TheVariants.{NoNal, TruncatedNalu, InvalidNaluType, TemporalIdZero}
-use Rattle.hevc_bits.specs.ParsedHeader as bits
-use Rattle.hevc_plain_tables.specs.KeptSets.{KeptSets}
-use Rattle.hevc_plain_tables.specs.UnitMeanings.{faulty, unit_meaning, headed_meaning, kept_behind}
+use Rattle.hevc_spec.specs.UnitHeader as headers
+use Rattle.hevc_spec.specs.UnitHeader.{UnitHeader, HeaderFault, unit_header}
 use Rattle.hevc_walk.specs.Meanings.{Meaning, Refused}
 use Rattle.hevc_walk.specs.Walk.{at_unit}
-use Rattle.hevc_walk_idr.specs.IdrWalk.{IdrStanding, idr_part, idr_refusal}
-use Rattle.hevc_decoder.specs.Answers.{CountsError, IsBackend}
-use Rattle.hevc_decoder.specs.Errors.{unit_error}
-use Rattle.hevc_stream.specs.Contents.{header_cause}
-use Rattle.hevc_decoder.specs.StreamMeanings.{first_format, picture_meaning, meanings_from}
-use Rattle.hevc_decoder.specs.Does.{Traces, RefusesBy, Refuses}
-use Rattle.hevc_decoder.proofs.Doing.{does_nothing}
+use Rattle.hevc_walk.specs.Refusals.{UnitRefused}
+use Rattle.hevc_walk_units.specs.Units.{Standing, unit_part, refusal_at, is_full_at}
+use Rattle.hevc_stream.specs.Kept.{Kept}
+use Rattle.hevc_stream.specs.Options.{Options}
+use Rattle.hevc_stream.specs.Contents.{header_cause, content}
+use Rattle.hevc_stream.specs.Stream.{meaning}
+use Rattle.hevc_bits.specs.declared.header.UnitError.{UnitError}
+use Rattle.hevc_bits.specs.declared.header.UnitError.TheVariants.{NoNal, TruncatedNalu, InvalidNaluType, TemporalIdZero}
+use Rattle.hevc_bits.specs.ParsedHeader.{header_error, answer_of, parsed_header}
+use Rattle.hevc_backend.specs.Trait.{Counts}
+use Rattle.hevc_driver.specs.Answers.{CountsError, IsOfBackend}
+use Rattle.hevc_driver.specs.Errors.{unit_error, cause_error}
+use Rattle.hevc_moments.specs.Stands.{meant, standing_after, kept_after}
+use Rattle.hevc_decoder.specs.Scenes.{Scene, Trail, trail_of}
+use Rattle.hevc_decoder.specs.Takes.{DoesAll, RefusesUnit, TakesUnit}
+use Rattle.hevc_decoder.specs.Runs.{Reached, Ended}
+use Rattle.hevc_decoder.proofs.Doing.{does_all_nothing}
+use Rattle.hevc_decoder.proofs.Running.{ended_refused}
 
-pub counts_unit_error : (e : UnitError) (faults : ℕ) → CountsError faults faults (unit_error e)
-counts_unit_error NoNal faults = refl
-counts_unit_error TruncatedNalu faults = refl
-counts_unit_error (InvalidNaluType number) faults = refl
-counts_unit_error TemporalIdZero faults = refl
+pub header_is : (r : Result UnitHeader HeaderFault) (h : UnitHeader) → answer_of r ≡ Ok h → r ≡ Ok h
+header_is (Ok x) h is = let same : x ≡ h = cc is in ap Ok same
+header_is (Err fault) h is = absurd (cc is)
 
-pub no_backend : (e : UnitError) → ¬ IsBackend (unit_error e)
-no_backend NoNal h = h
-no_backend TruncatedNalu h = h
-no_backend (InvalidNaluType number) h = h
-no_backend TemporalIdZero h = h
+pub counts_none : (e : UnitError) (before now : Counts) → now ≡ before → CountsError before now (unit_error e)
+counts_none NoNal before now same = same
+counts_none TruncatedNalu before now same = same
+counts_none (InvalidNaluType n) before now same = same
+counts_none TemporalIdZero before now same = same
 
-refused_by : {H : Type 0} (fault : HeaderFault) (k : ℕ) (a : Traces H) (i : IdrStanding) → RefusesBy (unit_error (bits.header_error fault)) (idr_refusal (Refused (header_cause fault))) a a (at_unit k (idr_part (Refused (header_cause fault)) i).events)
-refused_by truncated k a i = (refl, does_nothing a a refl refl refl)
-refused_by (unspecified_type number) k a i = (refl, does_nothing a a refl refl refl)
-refused_by temporal_id_zero k a i = (refl, does_nothing a a refl refl refl)
+pub blames_none : (e : UnitError) → ¬ IsOfBackend (unit_error e)
+blames_none NoNal b = b
+blames_none TruncatedNalu b = b
+blames_none (InvalidNaluType n) b = b
+blames_none TemporalIdZero b = b
 
-means_fault : (kept : KeptSets) (bytes : List ℕ) (fault : HeaderFault) → unit_header bytes ≡ Err fault → unit_meaning kept bytes ≡ faulty fault
-unfolding unit_meaning
-means_fault kept bytes fault is = ap (headed_meaning kept bytes) is
+module _ {H : Type 0} (o : Options) (kept : Kept) (bytes : List ℕ) (k : ℕ) (t : Trail H) (s : Standing) where
+  refuses : (fault : HeaderFault) → unit_header bytes ≡ Err fault → RefusesUnit (cause_error (header_cause fault)) k t t (meaning o kept bytes) s
+  unfolding meaning content
+  refuses fault parsed =
+      let means : meaning o kept bytes ≡ Refused (header_cause fault) = rw parsed refl in
+      record {
+        room = ap (λ (m : Meaning). is_full_at m s) means;
+        cause = UnitRefused (header_cause fault);
+        refused = ap (λ (m : Meaning). refusal_at m s) means;
+        named = refl;
+        does = subst (λ (m : Meaning). DoesAll t t (at_unit k (unit_part m s).events)) (sym means) (does_all_nothing t t refl);
+      }
 
-by_header : {H : Type 0} (r : Result UnitHeader HeaderFault) (e : UnitError) (kept : KeptSets) (bytes : List ℕ) (k : ℕ) (a : Traces H) (i : IdrStanding) → unit_header bytes ≡ r → bits.answer_of r ≡ Err e
-    → RefusesBy (unit_error e) (idr_refusal (picture_meaning (first_format kept) bytes (unit_meaning kept bytes))) a a (at_unit k (idr_part (picture_meaning (first_format kept) bytes (unit_meaning kept bytes)) i).events)
-by_header (Ok h) e kept bytes k a i is answer = absurd (cc answer)
-by_header (Err fault) e kept bytes k a i is answer =
-    let same : bits.header_error fault ≡ e = cc answer in
-    subst (λ (x : UnitError). RefusesBy (unit_error x) (idr_refusal (picture_meaning (first_format kept) bytes (unit_meaning kept bytes))) a a (at_unit k (idr_part (picture_meaning (first_format kept) bytes (unit_meaning kept bytes)) i).events)) same
-    (subst (λ (u : Meaning). RefusesBy (unit_error (bits.header_error fault)) (idr_refusal u) a a (at_unit k (idr_part u i).events))
-    (sym (ap (picture_meaning (first_format kept) bytes) (means_fault kept bytes fault is))) (refused_by fault k a i))
+  taken_by : (fault : HeaderFault) → unit_header bytes ≡ Err fault → TakesUnit {T = Unit {0}} (Err (unit_error (header_error fault))) k t t (meaning o kept bytes) s
+  taken_by headers.truncated parsed = refuses headers.truncated parsed
+  taken_by (headers.unspecified_type n) parsed = refuses (headers.unspecified_type n) parsed
+  taken_by headers.temporal_id_zero parsed = refuses headers.temporal_id_zero parsed
 
-pub refuses_header : {H : Type 0} (e : UnitError) (kept : KeptSets) (us : List NalUnit) (k : ℕ) (a : Traces H) (i : IdrStanding) → (u : NalUnit) × (others : List NalUnit) × (us ≡ u ∷ others) × (bits.parsed_header u.bytes ≡ Err e)
-    → Refuses (unit_error e) k a a (meanings_from kept us) i
-refuses_header e kept us k a i (u, others, is, refused) = record {
-  unit = picture_meaning (first_format kept) u.bytes (unit_meaning kept u.bytes);
-  later = meanings_from (kept_behind kept (unit_meaning kept u.bytes)) others;
-  units = ap (meanings_from kept) is;
-  refuses = by_header (unit_header u.bytes) e kept u.bytes k a i refl refused;
-}
+  header_taken : (e : UnitError) (r : Result UnitHeader HeaderFault) → unit_header bytes ≡ r → answer_of r ≡ Err e → TakesUnit {T = Unit {0}} (Err (unit_error e)) k t t (meaning o kept bytes) s
+  header_taken e (Ok h) parsed is = absurd (cc is)
+  header_taken e (Err fault) parsed is =
+      let told : header_error fault ≡ e = cc is in
+      subst (λ (x : UnitError). TakesUnit {T = Unit {0}} (Err (unit_error x)) k t t (meaning o kept bytes) s) told (taken_by fault parsed)
 
--- a unit whose header is refused is a unit
-pub isnt_the_end : (e : UnitError) → (e ≡ TruncatedNalu) ⊎ (((number : ℕ) × (e ≡ InvalidNaluType number)) ⊎ (e ≡ TemporalIdZero)) → e ≢ NoNal
-isnt_the_end e (inl is) none = cc (sym is ∙ none)
-isnt_the_end e (inr (inl (number, is))) none = cc (sym is ∙ none)
-isnt_the_end e (inr (inr is)) none = cc (sym is ∙ none)
+pub header_ended : {B H : Type 0} (o : Options) (all later others : List NalUnit) (u : NalUnit) (k : ℕ) (old mid : Scene B H) (e : UnitError) → Reached o all k old mid later → later ≡ u ∷ others → parsed_header u.bytes ≡ Err e
+    → Ended (Err (record { unit = k; error = unit_error e })) (meant o all) (trail_of old) (trail_of mid)
+header_ended o all later others u k old mid e x is refused =
+    let at : Reached o all k old mid (u ∷ others) = subst (λ (us : List NalUnit). Reached o all k old mid us) is x in
+    ended_refused o all k old mid u others at (Unit {0}) (unit_error e) (trail_of mid) (header_taken o (kept_after o at.front) u.bytes k (trail_of mid) (standing_after (meant o at.front)) e (unit_header u.bytes) refl refused)

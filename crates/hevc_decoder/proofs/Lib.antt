@@ -1,6 +1,13 @@
 pub mod Doing
-pub mod Headers
-pub mod Premises
-pub mod Promises
+pub mod Giving
+pub mod Again
+pub mod Behind
+pub mod Numbers
+pub mod Beginnings
 pub mod Running
-pub mod Slices
+pub mod Closing
+pub mod Promises
+pub mod Delivering
+pub mod Accepted
+pub mod Headers
+pub mod Walking

@@ -1,42 +1,36 @@
 -- From a whole run to what is promised of it.
-use Rattle.std.proofs.Common.{◌≡◌, ℕ, ◌+◌, ◌≤◌, List, [], ◌∷◌, ◌++◌, map, length, refl, sym, ◌∙◌, ap, subst, arith, Option, Some, None, Result, Ok, Err}
-use Rattle.std.specs.Prelude.{OnOk}
+use Rattle.std.proofs.Common.{◌≡◌, ℕ, ◌+◌, ◌≤◌, List, [], ◌∷◌, ◌++◌, map, length, refl, sym, ◌∙◌, ap, subst, append_assoc, arith, Option, Some, None, Result, Ok, Err}
+use Rattle.std.specs.Prelude.{OnOk, IfErr, Contains}
 use Rattle.std.specs.List.{AllByRecursion}
 use Rattle.std.proofs.lemmas.List.{map-append, append-nil}
-use Rattle.hevc_plain_backend.specs.declared.call.Call.{Call}
-use Rattle.hevc_plain_backend.specs.declared.call.Call.TheVariants as code
 use Rattle.hevc_walk.specs.Meanings.{Meaning}
 use Rattle.hevc_walk.specs.Pictures.{pictures}
 use Rattle.hevc_walk.specs.Walk as walk
 use Rattle.hevc_walk.specs.Walk.{Event, Called, Output}
 use Rattle.hevc_walk.specs.Refusals.{Refusal, stop}
-use Rattle.hevc_walk.specs.Results.{OutputPicture, calls_in, outputs_in, events, calls, outputs, verdict, full, full_or, stop_or}
+use Rattle.hevc_walk.specs.Results.{OutputPicture, calls_below, calls_in, outputs_in, calls, outputs, verdict, full, full_or, stop_or}
 use Rattle.hevc_walk.specs.Fates.{times, output_numbers}
 use Rattle.hevc_walk.specs.Clean.{IsClean}
-use Rattle.hevc_walk_joined.proofs.Joined.{events-same, verdict-same}
+use Rattle.hevc_walk_joined.proofs.Cuts.{calls_in-append, outputs_in-append}
 use Rattle.hevc_walk_fates.specs.Submissions.{submitted_in, submitted_numbers}
 use Rattle.hevc_walk_fates.proofs.Fates.{output_once, output_displayed}
 use Rattle.hevc_walk_fates.proofs.Submitted.{submitted_once}
 use Rattle.hevc_walk_bound.proofs.Bound.{clean_ok}
-use Rattle.hevc_walk_units.specs.Units.{at_first}
-use Rattle.hevc_walk_idr.specs.IdrWalk.{idr_first, idr_verdict_from, AreIdrMeanings}
-use Rattle.hevc_walk_idr.proofs.Simulation.{simulates_first, idr_events, idr_verdict}
+use Rattle.hevc_backend.specs.declared.call.Call.{Call}
+use Rattle.hevc_backend.specs.declared.call.Call.TheVariants as code
+use Rattle.hevc_driver.specs.declared.decode_error.DecodeError.{DecodeError}
+use Rattle.hevc_driver.specs.declared.decode_error.DecodeError.TheVariants as errors
+use Rattle.hevc_driver.specs.Answers.{IsNotOfBackend}
+use Rattle.hevc_driver.specs.Calls.{call_of, submissions}
+use Rattle.hevc_driver.proofs.Members.{part_left}
+use Rattle.hevc_moments.specs.Stands.{asked}
 use Rattle.hevc_decoder.specs.declared.decoded.Shown.{Shown}
 use Rattle.hevc_decoder.specs.declared.decoded.Refused.{Refused}
-use Rattle.hevc_decoder.specs.declared.decode_error.DecodeError.{DecodeError}
-use Rattle.hevc_decoder.specs.declared.decode_error.DecodeError.TheVariants as errors
-use Rattle.hevc_decoder.specs.Answers.{IsNoBackend, without_unit, IsAnswer, AnswersOnly}
-use Rattle.hevc_decoder.specs.Maps.{call_of, output_picture, answer_of}
-use Rattle.hevc_decoder.specs.Tickets.{Among, shown_ticket, submissions}
-use Rattle.hevc_decoder.specs.Does.{Traces}
+use Rattle.hevc_decoder.specs.Answers.{without_unit, IsAnswer, AnswersOnly, IsNoMemory, IsOkOrNoMemory}
+use Rattle.hevc_decoder.specs.Names.{output_picture, shown_ticket, answer_of}
+use Rattle.hevc_decoder.specs.Scenes.{Trail}
 use Rattle.hevc_decoder.specs.Runs.{CallFollows, UpTo, EndsAt, Ends, Ended}
-use Rattle.hevc_decoder.specs.Headline.{Grew, Appended, IsFront, asked, all_asked, AnswersError, AnswersVerdict, CutsCalls, NextIs, EndsCallsAt, EndsCalls, CutsOutputs, EndsOutputsAt, EndsOutputs, AllSubmitted, SubmittedOnce, shown_numbers, ComeOutOnce, AreDisplayed, IsOkOrNoMemory, IsNoMemory}
-use Rattle.hevc_decoder.proofs.Doing.{among_left, outputs_in_both}
-use Rattle.std.proofs.lemmas.Grind.{flat_map-append}
-use Rattle.hevc_walk.specs.Results.{call_at}
-
-calls_both : (d e : List (ℕ × Event)) → calls_in (d ++ e) ≡ calls_in d ++ calls_in e
-calls_both d e = flat_map-append (λ (x : ℕ × Event). call_at x.0 x.1) d e
+use Rattle.hevc_decoder.specs.Headline.{Grew, Appended, IsFront, all_asked, AnswersError, AnswersVerdict, CutsCalls, NextIs, EndsCallsAt, EndsCalls, CutsOutputs, EndsOutputsAt, EndsOutputs, WantsFrame, AllSubmitted, SubmittedOnce, shown_numbers, ComeOutOnce, AreDisplayed}
 
 calls_up : (k : ℕ) (es : List (ℕ × Event)) → AllByRecursion (λ e. e.0 ≤ k) es → AllByRecursion (λ c. c.0 ≤ k) (calls_in es)
 calls_up k [] a = tt
@@ -89,8 +83,8 @@ numbers_of_made [] = refl
 numbers_of_made (code.SubmitPicture number handle ∷ cs) = ap (λ ns. number ∷ ns) (numbers_of_made cs)
 numbers_of_made (code.NewSequence info ∷ cs) = numbers_of_made cs
 numbers_of_made (code.NewPicture number t c o s ∷ cs) = numbers_of_made cs
-numbers_of_made (code.BeginPicture number ∷ cs) = numbers_of_made cs
-numbers_of_made (code.DecodeSlice number address bytes ∷ cs) = numbers_of_made cs
+numbers_of_made (code.BeginPicture number st_curr_before st_curr_after st_foll lt_curr lt_foll ∷ cs) = numbers_of_made cs
+numbers_of_made (code.DecodeSlice number address bytes list0 list1 ∷ cs) = numbers_of_made cs
 
 numbers_both : (cs ds : List walk.Call) → numbers_asked (cs ++ ds) ≡ numbers_asked cs ++ numbers_asked ds
 numbers_both [] ds = refl
@@ -111,18 +105,12 @@ full_refused None (Some r) n m e = absurd (cc e)
 full_refused None None n m e = refl
 
 -- the clauses of a run
-module _ {H : Type 0} (us : List Meaning) (r : Result ℕ Refused) (old new : Traces H) (are : AreIdrMeanings None us) (x : Ended r us old new) where
-  events_are : events us ≡ x.done ++ x.rest
-  events_are = sym (events-same us) ∙ idr_events us 0 idr_first at_first are simulates_first ∙ x.whole
-
+module _ {H : Type 0} (us : List Meaning) (r : Result ℕ Refused) (old new : Trail H) (x : Ended r us old new) where
   calls_are : calls us ≡ calls_in x.done ++ calls_in x.rest
-  calls_are = ap calls_in events_are ∙ calls_both x.done x.rest
+  calls_are = ap calls_in x.whole ∙ calls_in-append x.done x.rest
 
   outputs_are : outputs us ≡ outputs_in x.done ++ outputs_in x.rest
-  outputs_are = ap outputs_in events_are ∙ outputs_in_both x.done x.rest
-
-  verdict_is : idr_verdict_from idr_first 0 us ≡ verdict us
-  verdict_is = sym (idr_verdict us 0 idr_first at_first are simulates_first) ∙ verdict-same us
+  outputs_are = ap outputs_in x.whole ∙ outputs_in-append x.done x.rest
 
   asked_are : all_asked (calls us) ≡ map call_of x.does.calls ++ all_asked (calls_in x.rest)
   asked_are = ap all_asked calls_are ∙ map-append asked (calls_in x.done) (calls_in x.rest) ∙ ap (λ l. l ++ all_asked (calls_in x.rest)) (sym x.does.made)
@@ -145,14 +133,43 @@ module _ {H : Type 0} (us : List Meaning) (r : Result ℕ Refused) (old new : Tr
   answers_at : (e : DecodeError) (s : Refused) → EndsAt e s us x.done x.rest → AnswersError e s (verdict us)
   answers_at errors.Backend s y = tt
   answers_at errors.NoMemory s y = tt
-  answers_at e s y = ap answer_of (sym verdict_is) ∙ y.0
+  answers_at (errors.NotEnoughOutputBuffers frames) s y = tt
+  answers_at errors.NoNal s y = absurd y
+  answers_at errors.CheckEvents s y = absurd y
+  answers_at errors.PictureNumbersSpent s y = absurd y
+  answers_at e s y = y.0
 
   answers_by : (q : Result ℕ Refused) → Ends q us x.done x.rest → AnswersVerdict q (verdict us)
-  answers_by (Ok n) y = ap answer_of (sym verdict_is) ∙ y.0
+  answers_by (Ok n) y = y.0
   answers_by (Err s) y = answers_at s.error s y
 
   pub answer_is : AnswersVerdict r (verdict us)
   answer_is = answers_by r x.ends
+
+  only_at : (e : DecodeError) (s : Refused) → EndsAt e s us x.done x.rest → IsAnswer e
+  only_at errors.NoNal s y = y
+  only_at errors.CheckEvents s y = y
+  only_at errors.PictureNumbersSpent s y = y
+  only_at (errors.NotEnoughOutputBuffers frames) s y = y.0
+  only_at e s y = tt
+
+  only_by : (q : Result ℕ Refused) → Ends q us x.done x.rest → AnswersOnly q
+  only_by (Ok n) y = tt
+  only_by (Err s) y = only_at s.error s y
+
+  pub answers_only_of : AnswersOnly r
+  answers_only_of = only_by r x.ends
+
+  frames_at : (e : DecodeError) (s : Refused) → EndsAt e s us x.done x.rest → WantsFrame e s.unit us
+  frames_at (errors.NotEnoughOutputBuffers frames) s y = y.1
+  frames_at e s y = tt
+
+  frames_by : (q : Result ℕ Refused) → Ends q us x.done x.rest → IfErr q (λ s. WantsFrame s.error s.unit us)
+  frames_by (Ok n) y = tt
+  frames_by (Err s) y = frames_at s.error s y
+
+  pub frames_of : IfErr r (λ s. WantsFrame s.error s.unit us)
+  frames_of = frames_by r x.ends
 
   abbrev cuts_calls : (k : ℕ) → UpTo k x.done x.rest → CutsCalls k (map call_of x.does.calls) (calls us)
   cuts_calls k y = record { made = calls_in x.done; unmade = calls_in x.rest; whole = calls_are; calls_are = x.does.made; made_before = calls_up k x.done y.done_before; unmade_behind = calls_on k x.rest y.rest_behind }
@@ -160,6 +177,20 @@ module _ {H : Type 0} (us : List Meaning) (r : Result ℕ Refused) (old new : Tr
   calls_at_end : (e : DecodeError) (s : Refused) → EndsAt e s us x.done x.rest → EndsCallsAt e s.unit (map call_of x.does.calls) (calls us)
   calls_at_end errors.Backend s y = record { cut = cuts_calls s.unit y.0; next = next_call s.unit x.rest y.1 }
   calls_at_end errors.NoMemory s y = cuts_calls s.unit y
+  calls_at_end (errors.NotEnoughOutputBuffers frames) s y = cuts_calls s.unit y.2
+  calls_at_end errors.DpbFull s y =
+      let f = y.1 in
+      let last : ℕ × walk.Call = (s.unit, walk.SubmitPicture f.number) in
+      let done : calls_in x.done ≡ calls_below s.unit (calls us) ++ last ∷ [] = ap calls_in f.done_is ∙ calls_in-append f.before ((s.unit, Called (walk.SubmitPicture f.number)) ∷ []) ∙ ap (λ l. l ++ last ∷ []) (sym f.calls) in
+      record {
+        number = f.number;
+        later = calls_in x.rest;
+        whole = calls_are ∙ ap (λ l. l ++ calls_in x.rest) done ∙ append_assoc (calls_below s.unit (calls us)) (last ∷ []) (calls_in x.rest);
+        calls_are = x.does.made ∙ ap all_asked done ∙ map-append asked (calls_below s.unit (calls us)) (last ∷ []);
+      }
+  calls_at_end errors.NoNal s y = absurd y
+  calls_at_end errors.CheckEvents s y = absurd y
+  calls_at_end errors.PictureNumbersSpent s y = absurd y
   calls_at_end e s y = all_made y.1
 
   calls_by : (q : Result ℕ Refused) → Ends q us x.done x.rest → EndsCalls q (map call_of x.does.calls) (calls us)
@@ -175,6 +206,13 @@ module _ {H : Type 0} (us : List Meaning) (r : Result ℕ Refused) (old new : Tr
   outputs_at_end : (e : DecodeError) (s : Refused) → EndsAt e s us x.done x.rest → EndsOutputsAt e s.unit (map output_picture x.does.out) (outputs us)
   outputs_at_end errors.Backend s y = cuts_outputs s.unit y.0
   outputs_at_end errors.NoMemory s y = cuts_outputs s.unit y
+  outputs_at_end (errors.NotEnoughOutputBuffers frames) s y = cuts_outputs s.unit y.2
+  outputs_at_end errors.DpbFull s y =
+      let f = y.1 in
+      x.does.given ∙ ap outputs_in f.done_is ∙ outputs_in-append f.before ((s.unit, Called (walk.SubmitPicture f.number)) ∷ []) ∙ append-nil (outputs_in f.before) ∙ sym f.outputs
+  outputs_at_end errors.NoNal s y = absurd y
+  outputs_at_end errors.CheckEvents s y = absurd y
+  outputs_at_end errors.PictureNumbersSpent s y = absurd y
   outputs_at_end e s y = all_given y.1
 
   outputs_by : (q : Result ℕ Refused) → Ends q us x.done x.rest → EndsOutputs q (map output_picture x.does.out) (outputs us)
@@ -191,7 +229,7 @@ module _ {H : Type 0} (us : List Meaning) (r : Result ℕ Refused) (old new : Tr
     (
       x.does.out,
       x.does.shown,
-      λ t h. subst (λ (ts : List (ℕ × H)). Among t (ts ++ submissions x.does.calls)) empty (x.does.tied t (among_left t (map shown_ticket x.does.out) new.tickets h)),
+      λ t h. subst (λ (ts : List (ℕ × H)). Contains (ts ++ submissions x.does.calls) t) empty (x.does.tied t (part_left t (map shown_ticket x.does.out) new.tickets h)),
     ),
   )
 
@@ -232,36 +270,31 @@ module _ {H : Type 0} (us : List Meaning) (r : Result ℕ Refused) (old new : Tr
     x.does.shown,
     λ n.
         ap (times n) (sym (numbers_are ∙ ap (λ es. shown_numbers x.does.out ++ map (λ o. o.number) (outputs_in es)) y.1 ∙ append-nil (shown_numbers x.does.out)))
-        ∙ output_displayed us (stops_none m (ap answer_of (sym verdict_is) ∙ y.0)) n,
+        ∙ output_displayed us (stops_none m y.0) n,
   )
   fates_by (Err s) y = tt
 
   pub fates_of : OnOk r (Appended old.shown new.shown (λ o. AreDisplayed us o))
   fates_of = fates_by r x.ends
 
-  completes_at : (n : ℕ) (e : DecodeError) (s : Refused) → verdict us ≡ Ok n → IsNoBackend {T = ℕ} (Err e) → EndsAt e s us x.done x.rest → IsNoMemory e
-  completes_at n errors.Backend s is fine y = absurd (fine tt)
-  completes_at n errors.NoMemory s is fine y = tt
-  completes_at n e s is fine y = absurd (let a : answer_of (verdict us) ≡ Err s = ap answer_of (sym verdict_is) ∙ y.0 in cc (sym (ap answer_of is) ∙ a))
+  not_ok : (n : ℕ) (s : Refused) → verdict us ≡ Ok n → answer_of (verdict us) ≡ Err s → ⊥
+  not_ok n s is refused = cc (sym (ap answer_of is) ∙ refused)
 
-  completes_by : (n : ℕ) (q : Result ℕ Refused) → verdict us ≡ Ok n → IsNoBackend (without_unit q) → Ends q us x.done x.rest → IsOkOrNoMemory q
+  completes_at : (n : ℕ) (e : DecodeError) (s : Refused) → verdict us ≡ Ok n → IsNotOfBackend {T = ℕ} (Err e) → EndsAt e s us x.done x.rest → IsNoMemory e
+  completes_at n errors.Backend s is fine y = absurd (fine tt)
+  completes_at n (errors.NotEnoughOutputBuffers frames) s is fine y = absurd (fine tt)
+  completes_at n errors.NoMemory s is fine y = tt
+  completes_at n errors.NoNal s is fine y = absurd y
+  completes_at n errors.CheckEvents s is fine y = absurd y
+  completes_at n errors.PictureNumbersSpent s is fine y = absurd y
+  completes_at n e s is fine y = absurd (not_ok n s is y.0)
+
+  completes_by : (n : ℕ) (q : Result ℕ Refused) → verdict us ≡ Ok n → IsNotOfBackend (without_unit q) → Ends q us x.done x.rest → IsOkOrNoMemory q
   completes_by n (Ok m) is fine y = tt
   completes_by n (Err s) is fine y = completes_at n s.error s is fine y
 
-  only_at : (e : DecodeError) (s : Refused) → s.error ≡ e → AnswersOnly (answer_of (idr_verdict_from idr_first 0 us)) → EndsAt e s us x.done x.rest → IsAnswer e
-  only_at errors.Backend s is v y = tt
-  only_at errors.NoMemory s is v y = tt
-  only_at e s is v y = subst IsAnswer is (subst AnswersOnly y.0 v)
-
-  only_by : (q : Result ℕ Refused) → AnswersOnly (answer_of (idr_verdict_from idr_first 0 us)) → Ends q us x.done x.rest → AnswersOnly q
-  only_by (Ok m) v y = tt
-  only_by (Err s) v y = only_at s.error s refl v y
-
-  pub answers_only_of : AnswersOnly (answer_of (idr_verdict_from idr_first 0 us)) → AnswersOnly r
-  answers_only_of v = only_by r v x.ends
-
-  pub completes : (n : ℕ) → verdict us ≡ Ok n → IsNoBackend (without_unit r) → IsOkOrNoMemory r
+  pub completes : (n : ℕ) → verdict us ≡ Ok n → IsNotOfBackend (without_unit r) → IsOkOrNoMemory r
   completes n is fine = completes_by n r is fine x.ends
 
-  pub completes_clean : IsClean us → IsNoBackend (without_unit r) → IsOkOrNoMemory r
+  pub completes_clean : IsClean us → IsNotOfBackend (without_unit r) → IsOkOrNoMemory r
   completes_clean clean fine = completes (length (pictures us)) (clean_ok us clean) fine

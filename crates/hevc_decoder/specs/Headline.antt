@@ -1,20 +1,22 @@
 -- What decoding a stream promises: which calls the backend got, which pictures came out, and how it ended.
-use Rattle.std.specs.Prelude.{◌≡◌, ℕ, ◌≤◌, List, [], ◌∷◌, ◌++◌, map, Option, Result, Ok, Err}
+use Rattle.std.specs.Prelude.{◌≡◌, ℕ, ◌≤◌, List, [], ◌∷◌, ◌++◌, map, Option, Result, Ok, Err, Contains}
 use Rattle.std.specs.List.{AllByRecursion}
-use Rattle.hevc_plain_backend.specs.declared.call.Call.{Call}
-use Rattle.hevc_plain_backend.specs.Trait.{logged}
 use Rattle.hevc_walk.specs.Meanings.{Meaning}
-use Rattle.hevc_walk.specs.Pictures.{pictures}
+use Rattle.hevc_walk.specs.Pictures.{Picture, pictures}
 use Rattle.hevc_walk.specs.Walk as walk
 use Rattle.hevc_walk.specs.Refusals.{Refusal}
-use Rattle.hevc_walk.specs.Results.{OutputPicture}
+use Rattle.hevc_walk.specs.Results.{OutputPicture, calls_below, outputs_below}
 use Rattle.hevc_walk.specs.Fates.{times, displayed_numbers, discarded_numbers}
+use Rattle.hevc_dpb.specs.Entries.{IsPartOf}
+use Rattle.hevc_backend.specs.declared.call.Call.{Call}
+use Rattle.hevc_backend.specs.Trait.{logged}
+use Rattle.hevc_driver.specs.declared.decode_error.DecodeError.{DecodeError}
+use Rattle.hevc_driver.specs.declared.decode_error.DecodeError.TheVariants as errors
+use Rattle.hevc_driver.specs.Calls.{submissions}
+use Rattle.hevc_moments.specs.Stands.{asked}
 use Rattle.hevc_decoder.specs.declared.decoded.Shown.{Shown}
 use Rattle.hevc_decoder.specs.declared.decoded.Refused.{Refused}
-use Rattle.hevc_decoder.specs.declared.decode_error.DecodeError.{DecodeError}
-use Rattle.hevc_decoder.specs.declared.decode_error.DecodeError.TheVariants as errors
-use Rattle.hevc_decoder.specs.Maps.{answer_of}
-use Rattle.hevc_decoder.specs.Tickets.{Among, shown_ticket, submissions}
+use Rattle.hevc_decoder.specs.Names.{answer_of, shown_ticket}
 
 -- the log, where it is told, grew by calls of which this holds
 abbrev pub Grew : {X : Type 0} → Option (List X) → Option (List X) → (List X → Type 0) → Type 0
@@ -27,23 +29,24 @@ Appended {X} old new P = (o : List X) × (new ≡ old ++ o) × P o
 abbrev pub IsFront : {X : Type 0} → List X → List X → Type 0
 IsFront {X} front all = (rest : List X) × (all ≡ front ++ rest)
 
--- a call without its unit
-abbrev pub asked : ℕ × walk.Call → walk.Call
-asked c = c.1
-
 -- the calls that the units ask for, without their units
 abbrev pub all_asked : List (ℕ × walk.Call) → List walk.Call
 all_asked cs = map asked cs
 
--- the answer is the verdict on the units, but for the two that the units don't decide
+-- ---- the answer
+
+-- the answer is the verdict on the units, but for the three that the units don't decide
 abbrev pub AnswersError : DecodeError → Refused → Result ℕ Refusal → Type 0
 AnswersError errors.Backend r verdict = Unit {0}
+AnswersError (errors.NotEnoughOutputBuffers frames) r verdict = Unit {0}
 AnswersError errors.NoMemory r verdict = Unit {0}
 AnswersError error r verdict = answer_of verdict ≡ Err r
 
 abbrev pub AnswersVerdict : Result ℕ Refused → Result ℕ Refusal → Type 0
 AnswersVerdict (Ok n) verdict = answer_of verdict ≡ Ok n
 AnswersVerdict (Err r) verdict = AnswersError r.error r verdict
+
+-- ---- calls
 
 -- the calls made are all those of units before k, and none of units behind it
 pub record CutsCalls (k : ℕ) (calls : List walk.Call) (all : List (ℕ × walk.Call)) : Type 0 where
@@ -64,15 +67,26 @@ pub record FailsInUnit (k : ℕ) (calls : List walk.Call) (all : List (ℕ × wa
   pub cut : CutsCalls k calls all
   pub next : NextIs k cut.unmade
 
+-- the calls made are those of units before k, and the submission of the picture that finds the buffer full (C.5.2.3)
+pub record SubmitsLast (k : ℕ) (calls : List walk.Call) (all : List (ℕ × walk.Call)) : Type 0 where
+  pub number : ℕ
+  pub later : List (ℕ × walk.Call)
+  pub whole : all ≡ calls_below k all ++ (k, walk.SubmitPicture number) ∷ later
+  pub calls_are : calls ≡ all_asked (calls_below k all) ++ walk.SubmitPicture number ∷ []
+
 abbrev pub EndsCallsAt : DecodeError → ℕ → List walk.Call → List (ℕ × walk.Call) → Type 0
 EndsCallsAt errors.Backend k calls all = FailsInUnit k calls all
+EndsCallsAt (errors.NotEnoughOutputBuffers frames) k calls all = CutsCalls k calls all
 EndsCallsAt errors.NoMemory k calls all = CutsCalls k calls all
+EndsCallsAt errors.DpbFull k calls all = SubmitsLast k calls all
 EndsCallsAt error k calls all = calls ≡ all_asked all
 
 -- which calls were made, by the answer
 abbrev pub EndsCalls : Result ℕ Refused → List walk.Call → List (ℕ × walk.Call) → Type 0
 EndsCalls (Ok n) calls all = calls ≡ all_asked all
 EndsCalls (Err r) calls all = EndsCallsAt r.error r.unit calls all
+
+-- ---- outputs
 
 -- the pictures that came out are all those of units before k, and none of units behind it
 pub record CutsOutputs (k : ℕ) (given all : List OutputPicture) : Type 0 where
@@ -83,7 +97,9 @@ pub record CutsOutputs (k : ℕ) (given all : List OutputPicture) : Type 0 where
 
 abbrev pub EndsOutputsAt : DecodeError → ℕ → List OutputPicture → List OutputPicture → Type 0
 EndsOutputsAt errors.Backend k given all = CutsOutputs k given all
+EndsOutputsAt (errors.NotEnoughOutputBuffers frames) k given all = CutsOutputs k given all
 EndsOutputsAt errors.NoMemory k given all = CutsOutputs k given all
+EndsOutputsAt errors.DpbFull k given all = given ≡ outputs_below k all
 EndsOutputsAt error k given all = given ≡ all
 
 -- which pictures came out, by the answer
@@ -91,9 +107,24 @@ abbrev pub EndsOutputs : Result ℕ Refused → List OutputPicture → List Outp
 EndsOutputs (Ok n) given all = given ≡ all
 EndsOutputs (Err r) given all = EndsOutputsAt r.error r.unit given all
 
+-- ---- frames
+
+-- a picture begins with unit k (7.4.2.4.5)
+pub record BeginsPicture (k : ℕ) (us : List Meaning) : Type 0 where
+  pub picture : Picture
+  pub coded : Contains (pictures us) picture
+  pub first : picture.unit ≡ k
+
+-- a frame is wanted for a picture alone, and as it begins
+abbrev pub WantsFrame : DecodeError → ℕ → List Meaning → Type 0
+WantsFrame (errors.NotEnoughOutputBuffers frames) k us = BeginsPicture k us
+WantsFrame error k us = Unit {0}
+
+-- ---- pictures and handles
+
 -- each output's picture was submitted, and got this handle
 abbrev pub AllSubmitted : {H : Type 0} → List (Call H) → List (Shown H) → Type 0
-AllSubmitted {H} calls shown = (t : ℕ × H) → Among t (map shown_ticket shown) → Among t (submissions calls)
+AllSubmitted calls shown = IsPartOf (map shown_ticket shown) (submissions calls)
 
 -- no picture is submitted twice, so that the handle of each is one
 abbrev pub SubmittedOnce : {H : Type 0} → List (Call H) → Type 0
@@ -109,12 +140,3 @@ ComeOutOnce shown = (n : ℕ) → times n (shown_numbers shown) ≤ 1
 -- those whose fate is to be displayed come out, and no others
 abbrev pub AreDisplayed : {H : Type 0} → List Meaning → List (Shown H) → Type 0
 AreDisplayed us shown = (n : ℕ) → times n (shown_numbers shown) ≡ times n (displayed_numbers (discarded_numbers us) (pictures us))
-
-abbrev pub IsNoMemory : DecodeError → Type 0
-IsNoMemory errors.NoMemory = Unit {0}
-IsNoMemory error = ⊥
-
--- the stream is decoded whole, or memory was wanted
-abbrev pub IsOkOrNoMemory : Result ℕ Refused → Type 0
-IsOkOrNoMemory (Ok n) = Unit {0}
-IsOkOrNoMemory (Err r) = IsNoMemory r.error

@@ -1,9 +1,7 @@
+pub mod Names
 pub mod Answers
-pub mod Does
-pub mod Errors
 pub mod Headline
-pub mod Maps
+pub mod Scenes
+pub mod Gives
+pub mod Takes
 pub mod Runs
-pub mod State
-pub mod StreamMeanings
-pub mod Tickets

@@ -1,14 +1,32 @@
 -- What a whole run did of the events that the units of a stream ask for.
-use Rattle.std.specs.Prelude.{◌≡◌, ℕ, ◌≤◌, List, [], ◌∷◌, ◌++◌, Result, Ok, Err}
+use Rattle.std.specs.Prelude.{◌≡◌, ℕ, ◌≤◌, List, [], ◌∷◌, ◌++◌, length, Result, Ok, Err}
 use Rattle.std.specs.List.{AllByRecursion}
+use Rattle.hevc_spec.specs.Units.{NalUnit}
 use Rattle.hevc_walk.specs.Meanings.{Meaning}
+use Rattle.hevc_walk.specs.Pictures.{stream}
+use Rattle.hevc_walk.specs.Walk as walk
 use Rattle.hevc_walk.specs.Walk.{Event, Called, Output}
-use Rattle.hevc_walk_idr.specs.IdrWalk.{IdrStanding, idr_first, idr_events_from, idr_verdict_from}
+use Rattle.hevc_walk.specs.Results.{walk_events, events, calls, outputs, verdict, calls_in, outputs_in, calls_below, outputs_below}
+use Rattle.hevc_stream.specs.Options.{Options}
+use Rattle.hevc_driver.specs.declared.decode_error.DecodeError.{DecodeError}
+use Rattle.hevc_driver.specs.declared.decode_error.DecodeError.TheVariants as errors
+use Rattle.hevc_moments.specs.Stands.{meant, StandsAfter}
 use Rattle.hevc_decoder.specs.declared.decoded.Refused.{Refused}
-use Rattle.hevc_decoder.specs.declared.decode_error.DecodeError.{DecodeError}
-use Rattle.hevc_decoder.specs.declared.decode_error.DecodeError.TheVariants as errors
-use Rattle.hevc_decoder.specs.Maps.{answer_of}
-use Rattle.hevc_decoder.specs.Does.{Traces, Does}
+use Rattle.hevc_decoder.specs.Names.{answer_of}
+use Rattle.hevc_decoder.specs.Headline.{BeginsPicture}
+use Rattle.hevc_decoder.specs.Scenes.{Scene, Trail, trail_of}
+use Rattle.hevc_decoder.specs.Takes.{DoesAll}
+
+-- Where a run stands in front of unit k, from which on these units come: behind the others, with all that they ask for done.
+pub record Reached {B H : Type 0} (options : Options) (all : List NalUnit) (k : ℕ) (old now : Scene B H) (later : List NalUnit) : Type 0 where
+  pub front : List NalUnit
+  pub whole : all ≡ front ++ later
+  pub place : length front ≡ k
+  pub stands : StandsAfter options front now.seen
+  pub empty : now.seen.view.queue ≡ []
+  -- no more pictures than units
+  pub few : now.seen.view.standing.next.number ≤ k
+  pub does : DoesAll (trail_of old) (trail_of now) (walk_events (stream (meant options front)))
 
 -- the next event is a call of unit k
 abbrev pub CallFollows : ℕ → List (ℕ × Event) → Type 0
@@ -21,27 +39,36 @@ pub record UpTo (k : ℕ) (done rest : List (ℕ × Event)) : Type 0 where
   pub done_before : AllByRecursion (λ e. e.0 ≤ k) done
   pub rest_behind : AllByRecursion (λ e. k ≤ e.0) rest
 
+-- What was done is all before unit k, and the submission of its picture before.
+pub record Fills (k : ℕ) (us : List Meaning) (done : List (ℕ × Event)) : Type 0 where
+  pub before : List (ℕ × Event)
+  pub number : ℕ
+  pub done_is : done ≡ before ++ (k, Called (walk.SubmitPicture number)) ∷ []
+  pub calls : calls_below k (calls us) ≡ calls_in before
+  pub outputs : outputs_below k (outputs us) ≡ outputs_in before
+
+-- the verdict is this refusal
+abbrev pub IsVerdict : Refused → List Meaning → Type 0
+IsVerdict r us = answer_of (verdict us) ≡ Err r
+
 abbrev pub EndsAt : DecodeError → Refused → List Meaning → List (ℕ × Event) → List (ℕ × Event) → Type 0
 EndsAt errors.Backend r us done rest = UpTo r.unit done rest × CallFollows r.unit rest
 EndsAt errors.NoMemory r us done rest = UpTo r.unit done rest
-EndsAt error r us done rest = (answer_of (idr_verdict_from idr_first 0 us) ≡ Err r) × (rest ≡ [])
+EndsAt (errors.NotEnoughOutputBuffers frames) r us done rest = (frames ≡ 1) × BeginsPicture r.unit us × UpTo r.unit done rest
+EndsAt errors.DpbFull r us done rest = IsVerdict r us × Fills r.unit us done
+EndsAt errors.NoNal r us done rest = ⊥
+EndsAt errors.CheckEvents r us done rest = ⊥
+EndsAt errors.PictureNumbersSpent r us done rest = ⊥
+EndsAt error r us done rest = IsVerdict r us × (rest ≡ [])
 
 abbrev pub Ends : Result ℕ Refused → List Meaning → List (ℕ × Event) → List (ℕ × Event) → Type 0
-Ends (Ok n) us done rest = (answer_of (idr_verdict_from idr_first 0 us) ≡ Ok n) × (rest ≡ [])
+Ends (Ok n) us done rest = (answer_of (verdict us) ≡ Ok n) × (rest ≡ [])
 Ends (Err r) us done rest = EndsAt r.error r us done rest
 
 -- A whole run.
-pub record Ended {H : Type 0} (result : Result ℕ Refused) (us : List Meaning) (old new : Traces H) : Type 0 where
+pub record Ended {H : Type 0} (result : Result ℕ Refused) (us : List Meaning) (old new : Trail H) : Type 0 where
   pub done : List (ℕ × Event)
   pub rest : List (ℕ × Event)
-  pub whole : idr_events_from idr_first 0 us ≡ done ++ rest
-  pub does : Does old new done
+  pub whole : events us ≡ done ++ rest
+  pub does : DoesAll old new done
   pub ends : Ends result us done rest
-
--- Where a run stands in front of unit k, from which on these units come.
-pub record Reached {H : Type 0} (all : List Meaning) (k : ℕ) (old new : Traces H) (us : List Meaning) (standing : IdrStanding) : Type 0 where
-  pub done : List (ℕ × Event)
-  pub whole : idr_events_from idr_first 0 all ≡ done ++ idr_events_from standing k us
-  pub verdict : idr_verdict_from idr_first 0 all ≡ idr_verdict_from standing k us
-  pub does : Does old new done
-  pub before : AllByRecursion (λ e. e.0 ≤ k) done

@@ -1,8 +1,8 @@
-mod failing;
+mod calling;
 
 use crate::{DecodeError, Refused, Shown, decode_stream};
-use failing::Failing;
-use hevc_plain_backend::Backend;
+use calling::{numbers_by_events, numbers_of_stream};
+use hevc_backend::Backend;
 use std::alloc::Global;
 use std::process::Abort;
 use std::test::Fail;
@@ -48,8 +48,24 @@ fn two_pictures_come_out(rt: HostRuntime) -> Result<(), Fail> {
     Ok(())
 }
 
-/// Of the nine calls one fails: where it is told, how many were taken before it, and how many
-/// pictures came out.
+/// The stream is refused at this unit over a backend, which took so many calls; so many pictures came out.
+fn refused(
+    rt: &impl Abort,
+    alloc: Global,
+    backend: Backend,
+    refused: Refused,
+    calls: usize,
+    pictures: usize,
+) -> Result<(), Fail> {
+    let mut shown = Vec::new(alloc);
+    let decoded = decode_stream(alloc, backend, TWO_PICTURES, &mut shown);
+    assert!(rt; decoded.result == Err(refused));
+    assert_eq!(rt; decoded.backend.calls().len(), calls);
+    assert_eq!(rt; shown.len(), pictures);
+    Ok(())
+}
+
+/// Of the nine calls one fails, the first being 1.
 fn fails(
     rt: &impl Abort,
     alloc: Global,
@@ -57,25 +73,68 @@ fn fails(
     unit: u64,
     pictures: usize,
 ) -> Result<(), Fail> {
-    let mut shown = Vec::new(alloc);
-    let decoded = decode_stream(alloc, Failing::new(alloc, call), TWO_PICTURES, &mut shown);
+    let backend = Backend::with_plan(alloc, vec![in alloc; call]?, Vec::new(alloc));
     let error = DecodeError::Backend;
-    assert!(rt; decoded.result == Err(Refused { unit, error }));
-    assert_eq!(rt; decoded.backend.taken(), call);
-    assert_eq!(rt; shown.len(), pictures);
-    Ok(())
+    refused(
+        rt,
+        alloc,
+        backend,
+        Refused { unit, error },
+        call as usize - 1,
+        pictures,
+    )
 }
 
 #[test]
 fn a_call_that_fails_is_told_at_its_unit(rt: HostRuntime) -> Result<(), Fail> {
     let alloc = rt.alloc();
-    fails(&rt, alloc, 0, 0, 0)?;
-    fails(&rt, alloc, 1, 2, 0)?;
+    fails(&rt, alloc, 1, 0, 0)?;
     fails(&rt, alloc, 2, 2, 0)?;
     fails(&rt, alloc, 3, 2, 0)?;
-    fails(&rt, alloc, 4, 3, 0)?;
-    fails(&rt, alloc, 5, 3, 1)?;
+    fails(&rt, alloc, 4, 2, 0)?;
+    fails(&rt, alloc, 5, 3, 0)?;
     fails(&rt, alloc, 6, 3, 1)?;
     fails(&rt, alloc, 7, 3, 1)?;
-    fails(&rt, alloc, 8, 4, 1)
+    fails(&rt, alloc, 8, 3, 1)?;
+    fails(&rt, alloc, 9, 4, 1)
+}
+
+#[test]
+fn a_frame_that_is_missing_is_told_at_the_picture_that_wants_it(
+    rt: HostRuntime,
+) -> Result<(), Fail> {
+    let alloc = rt.alloc();
+    let error = DecodeError::NotEnoughOutputBuffers(1);
+    let first = Backend::with_plan(alloc, Vec::new(alloc), vec![in alloc; 0]?);
+    refused(&rt, alloc, first, Refused { unit: 2, error }, 1, 0)?;
+    let second = Backend::with_plan(alloc, Vec::new(alloc), vec![in alloc; 1, 0]?);
+    refused(&rt, alloc, second, Refused { unit: 3, error }, 5, 0)
+}
+
+#[test]
+fn events_and_whole_streams_give_the_same_pictures(rt: HostRuntime) -> Result<(), Fail> {
+    let alloc = rt.alloc();
+    let numbers = numbers_by_events(alloc, TWO_PICTURES).or(Err("refused"))?;
+    assert_eq!(rt; numbers.as_slice(), [0u64, 1].as_slice());
+    let numbers = numbers_of_stream(alloc, TWO_PICTURES)?.or(Err("refused"))?;
+    assert_eq!(rt; numbers.as_slice(), [0u64, 1].as_slice());
+    Ok(())
+}
+
+#[test]
+fn refused_units_are_told_with_their_numbers(rt: HostRuntime) -> Result<(), Fail> {
+    let alloc = rt.alloc();
+    let truncated = numbers_of_stream(alloc, &[0, 0, 1, 0x26])?;
+    assert!(rt;
+        matches!(
+            truncated,
+            Err(Refused {
+                unit: 0,
+                error: DecodeError::TruncatedNalu
+            })
+        )
+    );
+    let refused = numbers_by_events(alloc, &[0, 0, 1, 0x26]);
+    assert!(rt; matches!(refused, Err(DecodeError::TruncatedNalu)));
+    Ok(())
 }

@@ -27,7 +27,6 @@ cause_error (meaning.InvalidNaluType nal_unit_type) = errors.InvalidNaluType nal
 cause_error meaning.OutOfBits = errors.OutOfBits
 cause_error (meaning.OutOfRange table row) = errors.OutOfRange table row
 cause_error (meaning.MissingPps pic_parameter_set_id) = errors.MissingPps pic_parameter_set_id
-cause_error (meaning.NotYet table row) = errors.OutOfRange table row
 
 abbrev pub error_of : Cause → DecodeError
 error_of (UnitRefused cause) = cause_error cause

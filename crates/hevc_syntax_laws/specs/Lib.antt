@@ -1,2 +1,1 @@
 pub mod OneMeaning
-pub mod NotRead

@@ -9,10 +9,6 @@ pub record SpellsOne {A : Type 0} (t : Table A) (payload : List Bool) : Type 0 w
   pub rest : List Bool
   pub spells : Spells t value payload rest
 
--- No beginning of the payload spells the lines of a record.
-unfoldable pub SpellsNone : {A : Type 0} → Table A → List Bool → Type 0
-SpellsNone {A = A} t payload = (x : A) (rest : List Bool) → Spells t x payload rest → ⊥
-
 -- some beginning of the payload spells first lines, and the next one breaks
 pub record BreaksSomewhere {A : Type 0} (t : Table A) (payload : List Bool) : Type 0 where
   pub fault : Fault

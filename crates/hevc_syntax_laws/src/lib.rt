@@ -2,14 +2,9 @@
 #![tactic(auto)]
 
 mod forms;
-mod plain_tables;
 mod tables;
-mod unit_meanings;
 
 pub use forms::{one_spelling, spellings_begin_apart};
-pub use plain_tables::{
-    one_plain_picture_set_meaning, one_plain_sequence_set_meaning, one_plain_slice_header_meaning,
-};
 pub use tables::{
     one_hrd_parameters_meaning, one_picture_set_meaning, one_pps_range_extension_meaning,
     one_pps_scc_extension_meaning, one_pred_weight_table_meaning, one_profile_tier_level_meaning,
@@ -18,4 +13,3 @@ pub use tables::{
     one_sps_scc_extension_meaning, one_sub_layer_hrd_parameters_meaning, one_video_set_meaning,
     one_vui_parameters_meaning,
 };
-pub use unit_meanings::{picture_set_units, sequence_set_units, slice_units, units_not_read};

@@ -1,22 +1,22 @@
 -- What is written of a log and of the pictures that came out.
-use Rattle.std.specs.Prelude.{ℕ, List, [], ◌++◌, length, codes, decimal, Result}
+use Rattle.std.specs.Prelude.{ℕ, List, [], ◌++◌, length, Result}
 use Rattle.std.specs.List.{flat_map}
 use Rattle.hevc_bits.specs.NaluType.{nalu_type_number}
-use Rattle.hevc_plain_backend.specs.declared.call.Call.{Call}
-use Rattle.hevc_plain_backend.specs.declared.call.Call.TheVariants.{NewSequence, NewPicture, BeginPicture, DecodeSlice, SubmitPicture}
+use Rattle.hevc_refs.specs.Lists.{plain_places}
+use Rattle.hevc_backend.specs.declared.call.Call.{Call}
+use Rattle.hevc_backend.specs.declared.call.Call.TheVariants.{NewSequence, NewPicture, BeginPicture, DecodeSlice, SubmitPicture}
+use Rattle.hevc_backend.specs.Negotiation.{format_of}
 use Rattle.hevc_decoder.specs.declared.decoded.Shown.{Shown}
 use Rattle.hevc_decoder.specs.declared.decoded.Refused.{Refused}
-use Rattle.hevc_decoder.specs.Maps.{output_picture}
-use Rattle.hevc_plain_backend.specs.Negotiation.{format_of}
-use Rattle.hevc_trace.specs.Report.{sequence_line, picture_line, submission_line, output_line, last_line}
+use Rattle.hevc_decoder.specs.Names.{output_picture}
+use Rattle.hevc_trace.specs.Report.{sequence_line, picture_line, slice_line, submission_line, output_line, last_line}
 
 -- the line of a call of the log
 abbrev pub log_line : Call ℕ → List ℕ
 log_line (NewSequence info) = sequence_line (format_of info)
 log_line (NewPicture number nalu_type order_count output timestamp) = picture_line number (nalu_type_number nalu_type) order_count output
-log_line (BeginPicture number) = []
-log_line (DecodeSlice number address bytes) =
-    codes "slice " ++ decimal number ++ codes " at " ++ decimal address ++ codes " size " ++ decimal (length bytes) ++ codes " list0 - list1 -\n"
+log_line (BeginPicture number st_curr_before st_curr_after st_foll lt_curr lt_foll) = []
+log_line (DecodeSlice number address bytes list0 list1) = slice_line number address (length bytes) (plain_places list0) (plain_places list1)
 log_line (SubmitPicture number handle) = submission_line number handle
 
 -- the line of an output

@@ -1,17 +1,18 @@
 -- The report on a stream, as bytes: what the units ask for, which pictures come out, and how the stream ends.
-use Rattle.std.specs.Prelude.{ℕ, ℤ, ◌+◌, Bool, List, [], ◌∷◌, ◌++◌, length, codes, decimal, Option, Some, None, Result, Ok, Err, if◌then◌else◌}
+use Rattle.std.specs.Prelude.{ℕ, ℤ, ◌+◌, Bool, List, [], ◌∷◌, ◌++◌, length, take, codes, decimal, Option, Some, None, Result, Ok, Err, if◌then◌else◌}
 use Rattle.std.specs.List.{flat_map}
 use Rattle.std.specs.Fmt.{signed_decimal}
 use Rattle.hevc_walk.specs.Meanings.{Format}
 use Rattle.hevc_walk.specs.ReferenceLists.{RefPicListEntry, CurrentPicture, DpbEntry}
 use Rattle.hevc_walk.specs.Walk.{Call, NewSequence, NewPicture, BeginPicture, DecodeSlice, SubmitPicture}
-use Rattle.hevc_walk.specs.Results.{OutputPicture, calls, outputs, verdict}
-use Rattle.hevc_decoder.specs.declared.decode_error.DecodeError.{DecodeError}
-use Rattle.hevc_decoder.specs.declared.decode_error.DecodeError.TheVariants as errors
+use Rattle.hevc_walk.specs.Results.{OutputPicture, calls, outputs, verdict, calls_below, calls_of_unit, outputs_below}
+use Rattle.hevc_stream.specs.Options.{Options}
+use Rattle.hevc_stream.specs.Stream.{meanings}
+use Rattle.hevc_driver.specs.declared.decode_error.DecodeError.{DecodeError}
+use Rattle.hevc_driver.specs.declared.decode_error.DecodeError.TheVariants as errors
 use Rattle.hevc_decoder.specs.declared.decoded.Refused.{Refused}
 use Rattle.hevc_decoder.specs.Headline.{all_asked}
-use Rattle.hevc_decoder.specs.Maps.{answer_of}
-use Rattle.hevc_decoder.specs.StreamMeanings.{meanings}
+use Rattle.hevc_decoder.specs.Names.{answer_of}
 
 -- the line of a sequence: its size in luma samples, profile, bit depths, chroma format, and how many pictures the buffer holds
 abbrev pub sequence_line : Format → List ℕ
@@ -32,10 +33,14 @@ place_text None = codes "x"
 place_text (Some CurrentPicture) = codes "c"
 place_text (Some (DpbEntry number)) = decimal number
 
--- the places joined by commas
+-- places, each behind a comma
+abbrev pub more_places : List (Option RefPicListEntry) → List ℕ
+more_places places = flat_map (λ place. codes "," ++ place_text place) places
+
+-- the places joined by commas, `-` for an empty list
 abbrev pub list_text : List (Option RefPicListEntry) → List ℕ
 list_text [] = codes "-"
-list_text (place ∷ places) = place_text place ++ flat_map (λ p. codes "," ++ place_text p) places
+list_text (place ∷ places) = place_text place ++ more_places places
 
 -- the line of a slice: its picture, its address, how many bytes its unit has, and its reference picture lists
 abbrev pub slice_line : ℕ → ℕ → ℕ → List (Option RefPicListEntry) → List (Option RefPicListEntry) → List ℕ
@@ -90,18 +95,40 @@ cause_text errors.CheckEvents = codes "CheckEvents"
 cause_text errors.PictureNumbersSpent = codes "PictureNumbersSpent"
 cause_text errors.Backend = codes "Backend"
 cause_text errors.NoMemory = codes "NoMemory"
-cause_text (errors.NotYet table row) = codes "NotYet " ++ decimal table ++ codes " " ++ decimal row
 
 -- the last line, where so many pictures were output
 abbrev pub last_line : ℕ → Result ℕ Refused → List ℕ
 last_line shown (Ok pictures) = codes "end pictures " ++ decimal pictures ++ codes " shown " ++ decimal shown ++ codes "\n"
 last_line shown (Err refused) = codes "refused unit " ++ decimal refused.unit ++ codes " " ++ cause_text refused.error ++ codes "\n"
 
--- how a stream ends: with the number of its pictures, or refused
-abbrev pub ending_of : List ℕ → Result ℕ Refused
-ending_of stream = answer_of (verdict (meanings stream))
+-- how a stream ends under these options: with the number of its pictures, or refused
+abbrev pub ending_of : Options → List ℕ → Result ℕ Refused
+ending_of options stream = answer_of (verdict (meanings options stream))
 
--- a line for each call that the units ask for, one for each picture that comes out, and the last; the handles are 0, 1, 2 and so on
-abbrev pub report_of : List ℕ → List ℕ
-report_of stream = calls_text 0 (all_asked (calls (meanings stream))) ++ flat_map output_line (outputs (meanings stream))
-    ++ last_line (length (outputs (meanings stream))) (ending_of stream)
+-- the calls that are made of those that the units ask for: all, or, where the buffer is full at unit k, those of units before it and the one that
+-- submits the picture for which there is no room (C.5.2.3)
+abbrev pub calls_until : DecodeError → ℕ → List (ℕ × Call) → List (ℕ × Call)
+calls_until errors.DpbFull k all = calls_below k all ++ take 1 (calls_of_unit k all)
+calls_until error k all = all
+
+abbrev pub calls_made : Result ℕ Refused → List (ℕ × Call) → List (ℕ × Call)
+calls_made (Ok pictures) all = all
+calls_made (Err refused) all = calls_until refused.error refused.unit all
+
+-- the pictures that come out: all, or, where the buffer is full at unit k, those of units before it
+abbrev pub outputs_until : DecodeError → ℕ → List OutputPicture → List OutputPicture
+outputs_until errors.DpbFull k all = outputs_below k all
+outputs_until error k all = all
+
+abbrev pub outputs_given : Result ℕ Refused → List OutputPicture → List OutputPicture
+outputs_given (Ok pictures) all = all
+outputs_given (Err refused) all = outputs_until refused.error refused.unit all
+
+-- a line for each of these calls, one for each of these outputs, and the last
+abbrev pub text_for : List Call → List OutputPicture → Result ℕ Refused → List ℕ
+text_for made given ending = calls_text 0 made ++ flat_map output_line given ++ last_line (length given) ending
+
+-- the report on a stream under these options; the handles are 0, 1, 2 and so on
+abbrev pub report_of : Options → List ℕ → List ℕ
+report_of options stream = text_for (all_asked (calls_made (ending_of options stream) (calls (meanings options stream))))
+    (outputs_given (ending_of options stream) (outputs (meanings options stream))) (ending_of options stream)

@@ -1,7 +1,7 @@
 -- The statuses of the program.
 use Rattle.std.specs.Prelude.{◌≡◌, ℕ, ◌⊎◌, Result, Ok, Err}
 use Rattle.hevc_decoder.specs.declared.decoded.Refused.{Refused}
-use Rattle.hevc_decoder.specs.Headline.{IsNoMemory}
+use Rattle.hevc_decoder.specs.Answers.{IsNoMemory}
 
 -- 0 where the stream was decoded, 1 where it was refused
 abbrev pub status_of : Result ℕ Refused → ℕ

@@ -5,6 +5,7 @@
 ghost use Rattle.std.specs.Prelude.{◌≡◌, ◌≤◌, All, IfOk, IfSome, length};
 ghost use Rattle.hevc_trace.specs.declared.WordsError.TheVariants.{NoMemory};
 
+mod command;
 mod input;
 mod output;
 mod program;

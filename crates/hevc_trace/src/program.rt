@@ -1,18 +1,24 @@
 //! The top call: from the words of the command line to the status.
-ghost use Rattle.std.specs.Prelude.{◌≡◌, ◌≢◌, ◌≤◌, ◌<◌, ◌⊎◌, ◌↔◌, ℕ, List, [], length, IfOk, IfSome, IsErrOf, IsTrue, is_ok};
+ghost use Rattle.std.specs.Prelude.{◌≡◌, ◌≤◌, ◌<◌, ◌⊎◌, ◌↔◌, ℕ, List, length, IfOk, IfSome, IsErrOf, IsTrue, OnErr, is_ok, true};
+ghost use Rattle.std.specs.declared.option.Option.TheVariants.{None, Some};
 ghost use Rattle.std.specs.String.{string_bytes};
 ghost use Rattle.std.specs.Io.KnownBytes.{Appends, IsAtEnd};
 ghost use Rattle.hevc_faults.specs.Faults.{Rose};
-ghost use Rattle.hevc_trace.specs.Prefix.{AppendsPrefix};
+ghost use Rattle.hevc_walk.specs.Clean.{IsClean};
+ghost use Rattle.hevc_stream.specs.Stream.{meanings};
+ghost use Rattle.hevc_options.specs.Options.{options_of};
+ghost use Rattle.hevc_trace.specs.Command.{command};
+ghost use Rattle.hevc_trace.specs.Prefix.{AppendsPrefix, AppendsLess};
 ghost use Rattle.hevc_trace.specs.Report.{ending_of, report_of};
 ghost use Rattle.hevc_trace.specs.Status.{status_of, IsDone, WantsMemory};
 
+use crate::command::read_command;
 use crate::input::{INPUT_LIMIT, InputError, read_all};
 use crate::output::write_all;
 use crate::report::report_text;
-use hevc_decoder::{DecodeError, Refused, decode_stream};
+use hevc_backend::Backend;
+use hevc_decoder::{DecodeError, Options, Refused, decode_stream_with};
 use hevc_io::{Sink, SinkError, Source, Word};
-use hevc_plain_backend::Backend;
 use std::alloc::{AllocError, Global};
 
 /// Why a run has no status 0 or 1.
@@ -32,8 +38,8 @@ struct Report {
 }
 
 /// Decodes the source's stream over a backend that records its calls, and writes the report. `words`
-/// are those of the command line behind the program's name; no words ask for this, and any others are
-/// refused. Answers the status of the program:
+/// are those of the command line behind the program's name; they are a command, which tells the options
+/// that the stream is decoded with, or are refused. Answers the status of the program:
 ///
 /// | status | where |
 /// |---|---|
@@ -48,21 +54,23 @@ pub fn run<S: Source, K: Sink>(alloc: Global, words: &[Word], source: &mut S, si
     ensures statuses { result ≤ 6 }
 
     // On 0 and 1 all was read, the report on it was written, and the status tells whether it was decoded.
-    ensures whole { words.now ≡ [] → result ≤ 1
+    ensures whole { IfSome (command words.now) (λ options. result ≤ 1
         → IsAtEnd (S.left source.new) × IfSome (S.left source.old) (λ s.
-        Appends (K.written sink.old) (K.written sink.new) (report_of s)
-        × (result ≡ status_of (ending_of s))) }
+        Appends (K.written sink.old) (K.written sink.new) (report_of options s)
+        × (result ≡ status_of (ending_of options s)))) }
     // That is so for no longer input than may be.
-    ensures limit { words.now ≡ [] → result ≤ 1
-        → IfSome (S.left source.old) (λ s. length s ≤ INPUT_LIMIT) }
-    // Whatever the status, what was written is a front of that report.
-    ensures part { words.now ≡ [] → IfSome (S.left source.old) (λ s.
-        AppendsPrefix (K.written sink.old) (K.written sink.new) (report_of s)) }
+    ensures limit { IfSome (command words.now) (λ options. result ≤ 1
+        → IfSome (S.left source.old) (λ s. length s ≤ INPUT_LIMIT)) }
+    // Whatever the status, what was written is a front of that report; on any but 0 and 1 not the whole.
+    ensures part { IfSome (command words.now) (λ options. IfSome (S.left source.old) (λ s.
+        AppendsPrefix (K.written sink.old) (K.written sink.new) (report_of options s))) }
+    ensures less { IfSome (command words.now) (λ options. 1 < result
+        → IfSome (S.left source.old) (λ s.
+        AppendsLess (K.written sink.old) (K.written sink.new) (report_of options s))) }
 
-    // 2 exactly where there are words, and then nothing is read or written.
-    ensures command { (result ≡ 2) ⊎ (words.now ≡ []) }
-    ensures faulty { result ≡ 2
-        → (words.now ≢ []) × (source.new ≡ source.old) × (sink.new ≡ sink.old) }
+    // 2 exactly where the words are no command, and then nothing is read or written.
+    ensures no_command { (result ≡ 2) ↔ (command words.now ≡ None) }
+    ensures untouched { result ≡ 2 → (source.new ≡ source.old) × (sink.new ≡ sink.old) }
 
     ensures read { result ≡ 3
         → Rose (S.faults source.old) (S.faults source.new) × (sink.new ≡ sink.old) }
@@ -70,16 +78,22 @@ pub fn run<S: Source, K: Sink>(alloc: Global, words: &[Word], source: &mut S, si
     ensures long { result ≡ 6
         → (sink.new ≡ sink.old) × IfSome (S.left source.old) (λ s. INPUT_LIMIT < length s) }
 
-    // No words, ends that don't fail, and an input within the limit.
-    ensures completes { (s : List ℕ) → S.left source.old ≡ Some s → length s ≤ INPUT_LIMIT
-        → words.now ≡ []
+    // A command, ends that don't fail, and an input within the limit.
+    ensures completes { IfSome (command words.now) (λ options.
+        (s : List ℕ) → S.left source.old ≡ Some s → length s ≤ INPUT_LIMIT
         → ¬ (Rose (S.faults source.old) (S.faults source.new))
-        → ¬ (Rose (K.faults sink.old) (K.faults sink.new)) → IsDone result }
+        → ¬ (Rose (K.faults sink.old) (K.faults sink.new)) → IsDone result) }
+    // Of a clean stream, then, nothing but memory is wanted.
+    ensures clean { IfSome (command words.now) (λ options.
+        (s : List ℕ) → S.left source.old ≡ Some s → length s ≤ INPUT_LIMIT
+        → IsClean (meanings options s)
+        → ¬ (Rose (S.faults source.old) (S.faults source.new))
+        → ¬ (Rose (K.faults sink.old) (K.faults sink.new)) → (result ≡ 0) ⊎ (result ≡ 5)) }
 {
-    if !words.is_empty() {
+    let Some(options) = read_command(words) else {
         return 2;
-    }
-    match write_report(alloc, source, sink) {
+    };
+    match write_report(alloc, options, source, sink) {
         Ok(true) => 0,
         Ok(false) => 1,
         Err(Stop::Read) => 3,
@@ -92,16 +106,23 @@ pub fn run<S: Source, K: Sink>(alloc: Global, words: &[Word], source: &mut S, si
 /// Reads the input, and writes the report on it. Answers whether the stream was decoded.
 fn write_report<S: Source, K: Sink>(
     alloc: Global,
+    options: Options,
     source: &mut S,
     sink: &mut K,
 ) -> Result<bool, Stop>
     ensures whole { IfOk result
         (λ is_decoded. IsAtEnd (S.left source.new) × IfSome (S.left source.old) (λ s.
-        Appends (K.written sink.old) (K.written sink.new) (report_of s)
-        × (is_decoded ≡ is_ok (ending_of s)))) }
+        Appends (K.written sink.old) (K.written sink.new) (report_of (options_of options) s)
+        × (is_decoded ≡ is_ok (ending_of (options_of options) s)))) }
     ensures limit { IfOk result (λ _. IfSome (S.left source.old) (λ s. length s ≤ INPUT_LIMIT)) }
     ensures part { IfSome (S.left source.old) (λ s.
-        AppendsPrefix (K.written sink.old) (K.written sink.new) (report_of s)) }
+        AppendsPrefix (K.written sink.old) (K.written sink.new)
+        (report_of (options_of options) s)) }
+    ensures less { OnErr result (IfSome (S.left source.old) (λ s.
+        AppendsLess (K.written sink.old) (K.written sink.new)
+        (report_of (options_of options) s))) }
+    ensures clean { IfOk result (λ is_decoded. IfSome (S.left source.old) (λ s.
+        IsClean (meanings (options_of options) s) → is_decoded ≡ true)) }
     ensures read { IsErrOf result Stop.Read
         → Rose (S.faults source.old) (S.faults source.new) × (sink.new ≡ sink.old) }
     ensures write { IsErrOf result Stop.Write → Rose (K.faults sink.old) (K.faults sink.new) }
@@ -114,7 +135,7 @@ fn write_report<S: Source, K: Sink>(
         Err(InputError::TooLong) => return Err(Stop::TooLong),
         Err(InputError::NoMemory) => return Err(Stop::NoMemory),
     };
-    let Ok(report) = report_on(alloc, &input) else {
+    let Ok(report) = report_on(alloc, options, &input) else {
         return Err(Stop::NoMemory);
     };
     match write_all(sink, report.text.as_bytes()) {
@@ -125,13 +146,17 @@ fn write_report<S: Source, K: Sink>(
 }
 
 /// The report on a stream.
-fn report_on(alloc: Global, stream: &[u8]) -> Result<Report, AllocError>
+fn report_on(alloc: Global, options: Options, stream: &[u8]) -> Result<Report, AllocError>
     requires { length stream.now ≤ INPUT_LIMIT }
-    ensures text { IfOk result (λ report. string_bytes report.text ≡ report_of stream.now) }
-    ensures decoded { IfOk result (λ report. report.is_decoded ≡ is_ok (ending_of stream.now)) }
+    ensures text { IfOk result (λ report.
+        string_bytes report.text ≡ report_of (options_of options) stream.now) }
+    ensures decoded { IfOk result (λ report.
+        report.is_decoded ≡ is_ok (ending_of (options_of options) stream.now)) }
+    ensures clean { IfOk result (λ report.
+        IsClean (meanings (options_of options) stream.now) → report.is_decoded ≡ true) }
 {
     let mut shown = Vec::new(alloc);
-    let decoded = decode_stream(alloc, Backend::new(alloc), stream, &mut shown);
+    let decoded = decode_stream_with(alloc, Backend::new(alloc), options, stream, &mut shown);
     if wants_memory(decoded.result) {
         return Err(AllocError);
     }

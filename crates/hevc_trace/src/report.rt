@@ -6,9 +6,10 @@ ghost use Rattle.hevc_trace.specs.Lines.{log_line, shown_line, text_of};
 
 mod last;
 mod line;
+mod list;
 
+use hevc_backend::Call;
 use hevc_decoder::{Refused, Shown};
-use hevc_plain_backend::Call;
 use last::push_last;
 use line::{push_call, push_shown};
 use std::alloc::{AllocError, Global};

@@ -97,7 +97,6 @@ pub data UnitCause : Type 0 where
   OutOfBits : UnitCause
   OutOfRange : (table row : ℕ) → UnitCause
   MissingPps : (pic_parameter_set_id : ℕ) → UnitCause
-  NotYet : (table row : ℕ) → UnitCause
 
 -- What a unit means behind the units before it.
 pub data Meaning : Type 0 where

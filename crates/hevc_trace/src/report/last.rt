@@ -48,6 +48,5 @@ fn push_cause(text: &mut String, error: DecodeError) -> Result<(), AllocError>
         DecodeError::PictureNumbersSpent => text.push_str("PictureNumbersSpent"),
         DecodeError::Backend => text.push_str("Backend"),
         DecodeError::NoMemory => text.push_str("NoMemory"),
-        DecodeError::NotYet { table, row } => write!(text, "NotYet {table} {row}"),
     }
 }

@@ -1,12 +1,15 @@
 //! One line of the report.
 ghost use Rattle.std.specs.Prelude.{◌≡◌, ◌++◌, OnOk};
 ghost use Rattle.std.specs.String.{string_bytes};
-ghost use Rattle.hevc_plain_backend.specs.Negotiation.{format_of};
+ghost use Rattle.hevc_backend.specs.Negotiation.{format_of};
+ghost use Rattle.hevc_refs.specs.Lists.{plain_places};
 ghost use Rattle.hevc_trace.specs.Lines.{log_line, shown_line};
-ghost use Rattle.hevc_trace.specs.Report.{sequence_line};
+ghost use Rattle.hevc_trace.specs.Report.{sequence_line, slice_line};
 
+use super::list::push_list;
+use hevc_backend::{Call, NegotiationInfo};
 use hevc_decoder::Shown;
-use hevc_plain_backend::{Call, NegotiationInfo};
+use hevc_refs::RefPicListEntry;
 use std::alloc::AllocError;
 
 /// Adds the line of a call. Where the slices of a picture come there is none.
@@ -35,11 +38,17 @@ pub(crate) fn push_call(text: &mut String, call: &Call<u64>) -> Result<(), Alloc
             number,
             address,
             bytes,
+            list0,
+            list1,
         } => {
             let size = bytes.as_slice().len();
-            writeln!(
+            push_slice(
                 text,
-                "slice {number} at {address} size {size} list0 - list1 -"
+                *number,
+                *address,
+                size,
+                list0.as_slice(),
+                list1.as_slice(),
             )
         }
         Call::SubmitPicture { number, handle } => writeln!(text, "submit {number} handle {handle}"),
@@ -61,6 +70,25 @@ fn push_sequence(text: &mut String, info: &NegotiationInfo) -> Result<(), AllocE
         text,
         "seq {width}x{height} profile {profile} depth {luma} {chroma} chroma {format} buffer {buffer}"
     )
+}
+
+#[tactic(auto, using(std::proofs::Common::append_assoc))]
+fn push_slice(
+    text: &mut String,
+    number: u64,
+    address: u32,
+    size: usize,
+    list0: &[Option<RefPicListEntry>],
+    list1: &[Option<RefPicListEntry>],
+) -> Result<(), AllocError>
+    ensures { OnOk result (string_bytes text.new ≡ string_bytes text.old ++ slice_line
+        number address size (plain_places list0.now) (plain_places list1.now)) }
+{
+    write!(text, "slice {number} at {address} size {size} list0 ")?;
+    push_list(text, list0)?;
+    text.push_str(" list1 ")?;
+    push_list(text, list1)?;
+    text.push_str("\n")
 }
 
 /// Adds the line of an output.

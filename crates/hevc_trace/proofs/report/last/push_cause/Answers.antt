@@ -6,6 +6,3 @@ returns-in-OutOfRange c = rw c.in-OutOfRange.is (search (rules, append_assoc))
 
 pub returns-in-MissingPps : goal.returns-in-MissingPps
 returns-in-MissingPps c = rw c.in-MissingPps.is c.write-in-MissingPps.ensures.bytes
-
-pub returns-in-NotYet : goal.returns-in-NotYet
-returns-in-NotYet c = rw c.in-NotYet.is (search (rules, append_assoc))

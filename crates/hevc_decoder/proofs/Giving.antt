@@ -1,0 +1,122 @@
+-- A unit that is given once.
+use Rattle.std.proofs.Common.{◌≡◌, inl, inr, ℕ, ◌+◌, ◌<◌, ◌^◌, List, [], ◌∷◌, ◌++◌, map, refl, sym, ◌∙◌, ap, subst, arith, Option, Some, None, Result, Ok, Err, Bool, true, if◌then◌else◌}
+use Rattle.hevc_walk.specs.Meanings.{Slice, Meaning, SequenceSet, CodedSlice, EndOfSequence, EndOfBitstream, Other, Refused}
+use Rattle.hevc_walk.specs.DependentSlices.{whole_slice}
+use Rattle.hevc_walk.specs.Walk as walk
+use Rattle.hevc_walk.specs.Walk.{Event, Called, Part, at_unit}
+use Rattle.hevc_walk.specs.Meanings as causes
+use Rattle.hevc_walk.specs.Refusals.{Cause, UnitRefused, NoIndependentSlice, ChangedMidPicture, PocOutOfRange, DpbFull}
+use Rattle.hevc_driver.specs.Errors.{error_of}
+use Rattle.hevc_walk_units.specs.Units.{Standing, finish_current, begin_slice, first_slice, later_slice, whole_part, unit_part, is_full_at}
+use Rattle.hevc_bumping.specs.declared.frame.Frame.{Frame}
+use Rattle.hevc_driver.specs.declared.decode_error.DecodeError.{DecodeError}
+use Rattle.hevc_driver.specs.declared.decode_error.DecodeError.TheVariants as errors
+use Rattle.hevc_driver.specs.Does.{Traces, Does, Stops}
+use Rattle.hevc_driver.specs.Moments.{with_kept, begins_at, begins_by, step_part, kept_behind, left_at}
+use Rattle.hevc_driver.specs.Takes.{Goes, Fills, Halts, Refuses, Stays, Takes}
+use Rattle.hevc_driver.proofs.Doing.{does_nothing, keeps_all}
+use Rattle.hevc_stateless.specs.Views.{traces_of}
+use Rattle.hevc_moments.proofs.Standing.{Means}
+use Rattle.hevc_decoder.specs.Names.{shown_at}
+use Rattle.hevc_decoder.specs.Scenes.{Scene, trail_of, with_queue}
+use Rattle.hevc_decoder.specs.Takes.{StopsPlan, TakesWhole, RefusesUnit, FillsUnit, HaltsUnit, TakesUnit}
+use Rattle.hevc_decoder.proofs.Doing.{lifts}
+
+-- no cause is told as the end of the stream
+pub no_nal : (c : Cause) → error_of c ≡ errors.NoNal → ⊥
+no_nal (UnitRefused causes.TruncatedNalu) is = cc is
+no_nal (UnitRefused (causes.InvalidNaluType n)) is = cc is
+no_nal (UnitRefused causes.OutOfBits) is = cc is
+no_nal (UnitRefused (causes.OutOfRange t r)) is = cc is
+no_nal (UnitRefused (causes.MissingPps n)) is = cc is
+no_nal NoIndependentSlice is = cc is
+no_nal (ChangedMidPicture accepted named) is = cc is
+no_nal PocOutOfRange is = cc is
+no_nal DpbFull is = cc is
+
+-- a picture begins behind the end of the one before
+whole_begins : (x : Slice) (s : Standing) (o : Option Slice) → whole_slice s.kept x ≡ o → begins_by o s ≡ true → (later : List Event) × ((unit_part (CodedSlice x) s).events ≡ (finish_current (with_kept x s)).events ++ later)
+whole_begins x s None whole e = absurd (cc e)
+whole_begins x s (Some w) whole e = (
+  (begin_slice w (finish_current (with_kept x s)).next).events,
+  ap (λ (o : Option Slice). (whole_part o (with_kept x s)).events) whole ∙ ap (λ (b : Bool). (if b then first_slice w (with_kept x s) else later_slice w (with_kept x s)).events) e,
+)
+
+pub part_begins : (y : Meaning) (s : Standing) → begins_at y s ≡ true → (later : List Event) × ((unit_part y s).events ≡ (finish_current (kept_behind y s)).events ++ later)
+part_begins (SequenceSet f) s e = absurd (cc e)
+part_begins (CodedSlice x) s e = whole_begins x s (whole_slice s.kept x) refl e
+part_begins EndOfSequence s e = absurd (cc e)
+part_begins EndOfBitstream s e = absurd (cc e)
+part_begins Other s e = absurd (cc e)
+part_begins (Refused c) s e = absurd (cc e)
+
+-- a meaning that begins a picture is a slice's
+kept_same : (x y : Meaning) (s : Standing) → begins_at x s ≡ true → step_part x s ≡ unit_part x s
+kept_same (SequenceSet f) y s e = absurd (cc e)
+kept_same (CodedSlice w) y s e = refl
+kept_same EndOfSequence y s e = refl
+kept_same EndOfBitstream y s e = refl
+kept_same Other y s e = refl
+kept_same (Refused c) y s e = refl
+
+module _ {B H : Type 0} (k : ℕ) (old new : Scene B H) (out : List (Frame H)) (x y : Meaning) (s st : Standing) (m : Means x y s) (empty : old.seen.view.queue ≡ []) (shown : new.shown ≡ old.shown ++ map (shown_at k) out) where
+  abbrev a : Traces H
+  a = traces_of old.seen.log old.seen.view
+
+  abbrev b : Traces H
+  b = traces_of new.seen.log (with_queue out new.seen).view
+
+  whole_events : (step_part x s).events ≡ (unit_part y s).events
+  whole_events = ap (λ (q : Part Standing). q.events) m.part
+
+  once_ok : Goes 0 a b x s st → TakesWhole k (trail_of old) (trail_of new) y s
+  once_ok g = record {
+    goes_on = sym m.refusal ∙ g.goes_on;
+    room = sym m.full ∙ g.room;
+    does = lifts k old new out (unit_part y s).events empty shown (subst (Does 0 a b) whole_events g.completes.does);
+  }
+
+  once_stops : (F : Type 0) (Left : walk.Call → Type 0) → Stops 0 a b (step_part x s).events Left → StopsPlan F k (trail_of old) (trail_of new) (unit_part y s).events
+  once_stops F Left z = record { done = z.done; rest = Called z.call ∷ z.rest; whole = sym whole_events ∙ z.whole; does = lifts k old new out z.done empty shown z.does; next = λ f. record { call = z.call; later = z.rest; rest_is = refl } }
+
+  once_fills : (before : Standing) → (is_full_at x s ≡ true) × Fills 0 a b (step_part x s).events before st → FillsUnit k (trail_of old) (trail_of new) y s
+  once_fills before z = record { full = sym m.full ∙ z.0; fills = record { number = z.1.number; rest = z.1.rest; whole = sym whole_events ∙ z.1.whole; does = lifts k old new out (Called (walk.SubmitPicture z.1.number) ∷ []) empty shown z.1.does } }
+
+  once_halts : (frames : ℕ) → (frames ≡ 1) × Halts 0 a b x s st → HaltsUnit frames k (trail_of old) (trail_of new) y s
+  once_halts frames (one, z) =
+      let later = part_begins x s z.begins in
+      record {
+        told = one;
+        begins = sym m.begins ∙ z.begins;
+        stops = record {
+          done = (finish_current (kept_behind x s)).events;
+          rest = later.0;
+          whole = sym whole_events ∙ ap (λ (q : Part Standing). q.events) (kept_same x y s z.begins) ∙ later.1;
+          does = lifts k old new out (finish_current (kept_behind x s)).events empty shown z.does;
+          next = λ f. absurd f;
+        };
+      }
+
+  once_refuses : (e : DecodeError) → Refuses e 0 a b x s st → RefusesUnit e k (trail_of old) (trail_of new) y s
+  once_refuses e z = record { room = sym m.full ∙ z.room; cause = z.cause; refused = sym m.refusal ∙ z.refused; named = z.named; does = lifts k old new out (unit_part y s).events empty shown (subst (Does 0 a b) whole_events z.does) }
+
+  once_stays : Stays a b s st → StopsPlan ⊥ k (trail_of old) (trail_of new) (unit_part y s).events
+  once_stays z = record {
+    done = [];
+    rest = (unit_part y s).events;
+    whole = refl;
+    does = lifts k old new out [] empty shown (does_nothing 0 a b (ap (λ (v : Traces H). v.log) z.traces) (ap (λ (v : Traces H). v.queue) z.traces) (keeps_all a.tickets b.tickets (ap (λ (v : Traces H). v.tickets) z.traces)));
+    next = λ f. absurd f;
+  }
+
+  pub take_once : {T : Type 0} (r : Result T DecodeError) → (r ≡ Err errors.CheckEvents → ⊥) → s.next.number + 1 < 2 ^ 64 → Takes r 0 a b x s st → TakesUnit r k (trail_of old) (trail_of new) y s
+  take_once (Ok v) isnt few z = once_ok z
+  take_once (Err errors.Backend) isnt few z = once_stops (Unit {0}) (λ c. st ≡ left_at c x s) z
+  take_once (Err errors.NoMemory) isnt few (inl z) = once_stays z
+  take_once (Err errors.NoMemory) isnt few (inr z) = once_stops ⊥ (λ c. st ≡ left_at c x s) z
+  take_once (Err errors.DpbFull) isnt few z = once_fills (kept_behind x s) z
+  take_once (Err (errors.NotEnoughOutputBuffers frames)) isnt few z = once_halts frames z
+  take_once (Err errors.NoNal) isnt few z = absurd (no_nal z.cause z.named)
+  take_once (Err errors.CheckEvents) isnt few z = absurd (isnt refl)
+  take_once (Err errors.PictureNumbersSpent) isnt few z = let spent = z.spent in absurd (omega arith)
+  take_once (Err e) isnt few z = once_refuses e z

@@ -1,0 +1,161 @@
+//! The units of a stream, one by one.
+ghost use Rattle.std.specs.Prelude.{◌≡◌, ◌+◌, ◌≤◌, ◌<◌, ◌^◌, ◌++◌, [], length, map, vec_len, vec_capacity, true, false, IfErr};
+ghost use Rattle.hevc_spec.specs.Units.{units};
+ghost use Rattle.hevc_bits.specs.FoundUnit.{bytes_of};
+ghost use Rattle.hevc_stream.specs.Kept.{none_kept};
+ghost use Rattle.hevc_stream.specs.Stream.{meanings};
+ghost use Rattle.hevc_driver.specs.Answers.{CountsErrors, KeepsFaultless};
+ghost use Rattle.hevc_stateless.specs.Decoders.{view_of, kept_in, set_for};
+ghost use Rattle.hevc_stateless.specs.Views.{at_beginning};
+ghost use Rattle.hevc_decoder.specs.Answers.{without_unit};
+ghost use Rattle.hevc_decoder.specs.Names.{shown_at};
+ghost use Rattle.hevc_decoder.specs.Scenes.{scene, trail_of};
+ghost use Rattle.hevc_decoder.specs.Gives.{Gives, GivesWhole, Closes, is_check_events};
+ghost use Rattle.hevc_decoder.specs.Runs.{Ended};
+
+use crate::decoded::{Refused, Shown};
+use hevc_bits::{Nalu, NaluHeader, UnitError};
+use hevc_stateless::{DecodeError, DecoderEvent, StatelessDecoder, StatelessH265DecoderBackend};
+
+/// Moves what came out to the outputs of a unit.
+fn deliver<B: StatelessH265DecoderBackend>(
+    decoder: &mut StatelessDecoder<B>,
+    unit: u64,
+    shown: &mut Vec<Shown<B::Handle>>,
+)
+    requires room { vec_len shown.old + length (view_of decoder.old).queue
+        ≤ vec_capacity shown.old }
+    ensures shown { shown.new.items
+        ≡ shown.old.items ++ map (shown_at unit) (view_of decoder.old).queue }
+    ensures view { view_of decoder.new ≡ record (view_of decoder.old) { queue = [] } }
+    ensures kept { kept_in decoder.new ≡ kept_in decoder.old }
+    ensures options { set_for decoder.new ≡ set_for decoder.old }
+{
+    while let Some(DecoderEvent::FrameReady(frame)) = decoder.next_event() {
+        shown.push_reserved(Shown::of(frame, unit));
+    }
+}
+
+/// Gives a unit, and moves what comes out.
+fn give<B: StatelessH265DecoderBackend>(
+    decoder: &mut StatelessDecoder<B>,
+    nalu: &Nalu<'_, NaluHeader>,
+    unit: u64,
+    shown: &mut Vec<Shown<B::Handle>>,
+) -> Result<(), DecodeError>
+    requires short { length nalu.now.stream < 2 ^ 60 }
+    requires empty { (view_of decoder.old).queue ≡ [] }
+    ensures empty { (view_of decoder.new).queue ≡ [] }
+    ensures cause { CountsErrors (B.counts (view_of decoder.old).backend)
+        (B.counts (view_of decoder.new).backend) result }
+    ensures faultless { KeepsFaultless (B.is_faultless (view_of decoder.old).backend)
+        (B.is_faultless (view_of decoder.new).backend) result }
+    ensures gives { Gives result unit (set_for decoder.old) nalu.now.header (bytes_of nalu.now)
+        (scene B.log decoder.old shown.old.items) (scene B.log decoder.new shown.new.items) }
+    ensures options { set_for decoder.new ≡ set_for decoder.old }
+{
+    shown.reserve(17)?;
+    let taken = decoder.decode_unit(0, nalu);
+    deliver(decoder, unit, shown);
+    taken
+}
+
+/// Whether a negotiation was opened.
+fn opens_negotiation(taken: &Result<(), DecodeError>) -> bool
+    ensures { result ≡ is_check_events taken.now }
+{
+    matches!(taken, Err(DecodeError::CheckEvents))
+}
+
+/// Takes a unit of a stream: one that opens a negotiation is given once more.
+fn take_unit<B: StatelessH265DecoderBackend>(
+    decoder: &mut StatelessDecoder<B>,
+    nalu: &Nalu<'_, NaluHeader>,
+    unit: u64,
+    shown: &mut Vec<Shown<B::Handle>>,
+) -> Result<(), DecodeError>
+    requires short { length nalu.now.stream < 2 ^ 60 }
+    requires empty { (view_of decoder.old).queue ≡ [] }
+    ensures empty { (view_of decoder.new).queue ≡ [] }
+    ensures cause { CountsErrors (B.counts (view_of decoder.old).backend)
+        (B.counts (view_of decoder.new).backend) result }
+    ensures faultless { KeepsFaultless (B.is_faultless (view_of decoder.old).backend)
+        (B.is_faultless (view_of decoder.new).backend) result }
+    ensures gives { GivesWhole result unit (set_for decoder.old) nalu.now.header
+        (bytes_of nalu.now)
+        (scene B.log decoder.old shown.old.items) (scene B.log decoder.new shown.new.items) }
+    ensures options { set_for decoder.new ≡ set_for decoder.old }
+{
+    let taken = give(decoder, nalu, unit, shown);
+    if !opens_negotiation(&taken) {
+        return taken;
+    }
+    decoder.accept_format();
+    give(decoder, nalu, unit, shown)
+}
+
+/// Behind the last unit.
+fn close<B: StatelessH265DecoderBackend>(
+    decoder: &mut StatelessDecoder<B>,
+    unit: u64,
+    shown: &mut Vec<Shown<B::Handle>>,
+) -> Result<(), DecodeError>
+    requires empty { (view_of decoder.old).queue ≡ [] }
+    ensures cause { CountsErrors (B.counts (view_of decoder.old).backend)
+        (B.counts (view_of decoder.new).backend) result }
+    ensures faultless { KeepsFaultless (B.is_faultless (view_of decoder.old).backend)
+        (B.is_faultless (view_of decoder.new).backend) result }
+    ensures closes { Closes result unit
+        (scene B.log decoder.old shown.old.items) (scene B.log decoder.new shown.new.items) }
+{
+    shown.reserve(17)?;
+    let flushed = decoder.flush();
+    deliver(decoder, unit, shown);
+    flushed
+}
+
+/// Takes all units of a stream, and gives the number of its pictures.
+pub(crate) fn take_units<B: StatelessH265DecoderBackend>(
+    decoder: &mut StatelessDecoder<B>,
+    stream: &[u8],
+    shown: &mut Vec<Shown<B::Handle>>,
+) -> Result<u64, Refused>
+    requires short { length stream.now < 2 ^ 60 }
+    requires beginning { view_of decoder.old ≡ at_beginning (view_of decoder.old).backend }
+    requires nothing { kept_in decoder.old ≡ none_kept }
+    ensures cause { CountsErrors (B.counts (view_of decoder.old).backend)
+        (B.counts (view_of decoder.new).backend) (without_unit result) }
+    ensures faultless { KeepsFaultless (B.is_faultless (view_of decoder.old).backend)
+        (B.is_faultless (view_of decoder.new).backend) (without_unit result) }
+    ensures ended { Ended result (meanings (set_for decoder.old) stream.now)
+        (trail_of (scene B.log decoder.old shown.old.items))
+        (trail_of (scene B.log decoder.new shown.new.items)) }
+    ensures unit { IfErr result (λ refused. refused.unit ≤ length (units stream.now)) }
+{
+    let mut position = 0;
+    let mut unit = 0;
+    loop {
+        let nalu = match Nalu::next(stream, &mut position) {
+            Ok(nalu) => nalu,
+            Err(error) => match error {
+                UnitError::NoNal => break,
+                UnitError::TruncatedNalu
+                | UnitError::InvalidNaluType(_)
+                | UnitError::TemporalIdZero => {
+                    let error = error.into();
+                    return Err(Refused { unit, error });
+                }
+            },
+        };
+        if let Err(error) = take_unit(decoder, &nalu, unit, shown) {
+            return Err(Refused { unit, error });
+        }
+        position = nalu.offset() + nalu.size();
+        unit += 1;
+    }
+    let pictures = decoder.num_pictures();
+    match close(decoder, unit, shown) {
+        Ok(()) => Ok(pictures),
+        Err(error) => Err(Refused { unit, error }),
+    }
+}

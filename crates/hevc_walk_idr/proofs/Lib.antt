@@ -1,4 +1,0 @@
-pub mod Buffers
-pub mod Heads
-pub mod Parts
-pub mod Simulation
