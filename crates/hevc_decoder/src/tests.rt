@@ -1,4 +1,5 @@
 mod calling;
+mod states;
 
 use crate::{DecodeError, Refused, Shown, decode_stream};
 use calling::{numbers_by_events, numbers_of_stream};
@@ -80,7 +81,7 @@ fn fails(
         alloc,
         backend,
         Refused { unit, error },
-        call as usize - 1,
+        (call as usize).saturating_sub(1),
         pictures,
     )
 }
