@@ -1,5 +1,6 @@
 -- A unit that is given once.
-use Rattle.std.proofs.Common.{◌≡◌, inl, inr, ℕ, ◌+◌, ◌<◌, ◌^◌, List, [], ◌∷◌, ◌++◌, map, refl, sym, ◌∙◌, ap, subst, arith, Option, Some, None, Result, Ok, Err, Bool, true, if◌then◌else◌}
+use Rattle.std.proofs.Common.{◌≡◌, inl, inr, ℕ, ◌+◌, ◌-◌, ◌<◌, ◌^◌, List, [], ◌∷◌, ◌++◌, map, refl, sym, ◌∙◌, ap, subst, arith, Option, Some, None, Result, Ok, Err, Bool, true, false, ◌&&◌, if◌then◌else◌}
+use Rattle.std.proofs.lemmas.Bool.Decides.{nat_tests}
 use Rattle.hevc_walk.specs.Meanings.{Slice, Meaning, SequenceSet, CodedSlice, EndOfSequence, EndOfBitstream, Other, Refused}
 use Rattle.hevc_walk.specs.DependentSlices.{whole_slice}
 use Rattle.hevc_walk.specs.Walk as walk
@@ -12,8 +13,8 @@ use Rattle.hevc_bumping.specs.declared.frame.Frame.{Frame}
 use Rattle.hevc_driver.specs.declared.decode_error.DecodeError.{DecodeError}
 use Rattle.hevc_driver.specs.declared.decode_error.DecodeError.TheVariants as errors
 use Rattle.hevc_driver.specs.Does.{Traces, Does, Stops}
-use Rattle.hevc_driver.specs.Moments.{with_kept, begins_at, begins_by, step_part, kept_behind, left_at}
-use Rattle.hevc_driver.specs.Takes.{Goes, Fills, Halts, Refuses, Stays, Takes}
+use Rattle.hevc_driver.specs.Moments.{with_kept, begins_at, begins_by, step_part, kept_behind}
+use Rattle.hevc_driver.specs.Takes.{Goes, Fills, Halts, Refuses, Stays, LeftAt, Takes}
 use Rattle.hevc_driver.proofs.Doing.{does_nothing, keeps_all}
 use Rattle.hevc_stateless.specs.Views.{traces_of}
 use Rattle.hevc_moments.proofs.Standing.{Means}
@@ -58,6 +59,11 @@ kept_same EndOfSequence y s e = refl
 kept_same EndOfBitstream y s e = refl
 kept_same Other y s e = refl
 kept_same (Refused c) y s e = refl
+
+last_true : (p q n : Bool) → p && q && n ≡ true → n ≡ true
+last_true true true n h = h
+last_true true false n h = absurd (cc h)
+last_true false q n h = absurd (cc h)
 
 module _ {B H : Type 0} (k : ℕ) (old new : Scene B H) (out : List (Frame H)) (x y : Meaning) (s st : Standing) (m : Means x y s) (empty : old.seen.view.queue ≡ []) (shown : new.shown ≡ old.shown ++ map (shown_at k) out) where
   abbrev a : Traces H
@@ -111,12 +117,12 @@ module _ {B H : Type 0} (k : ℕ) (old new : Scene B H) (out : List (Frame H)) (
 
   pub take_once : {T : Type 0} (r : Result T DecodeError) → (r ≡ Err errors.CheckEvents → ⊥) → s.next.number + 1 < 2 ^ 64 → Takes r 0 a b x s st → TakesUnit r k (trail_of old) (trail_of new) y s
   take_once (Ok v) isnt few z = once_ok z
-  take_once (Err errors.Backend) isnt few z = once_stops (Unit {0}) (λ c. st ≡ left_at c x s) z
+  take_once (Err errors.Backend) isnt few z = once_stops (Unit {0}) (λ c. LeftAt c x s st) z
   take_once (Err errors.NoMemory) isnt few (inl z) = once_stays z
-  take_once (Err errors.NoMemory) isnt few (inr z) = once_stops ⊥ (λ c. st ≡ left_at c x s) z
+  take_once (Err errors.NoMemory) isnt few (inr z) = once_stops ⊥ (λ c. LeftAt c x s st) z
   take_once (Err errors.DpbFull) isnt few z = once_fills (kept_behind x s) z
   take_once (Err (errors.NotEnoughOutputBuffers frames)) isnt few z = once_halts frames z
   take_once (Err errors.NoNal) isnt few z = absurd (no_nal z.cause z.named)
   take_once (Err errors.CheckEvents) isnt few z = absurd (isnt refl)
-  take_once (Err errors.PictureNumbersSpent) isnt few z = let spent = z.spent in absurd (omega arith)
+  take_once (Err errors.PictureNumbersSpent) isnt few z = let spent : s.next.number ≡ 2 ^ 64 - 1 = grind (arith, nat_tests, last_true _ _ _ z.spent) in absurd (omega (arith, spent, few))
   take_once (Err e) isnt few z = once_refuses e z

@@ -1,5 +1,5 @@
 -- A picture begins.
-use Rattle.std.proofs.Common.{◌≡◌, ℕ, arith, List, [], ◌∷◌, ◌++◌, map, refl, sym, ◌∙◌, ap, subst, append_assoc, Some, None, Result, Ok, Err, Bool, true, false, not, ◌&&◌, if◌then◌else◌}
+use Rattle.std.proofs.Common.{◌≡◌, ◌≢◌, ℕ, ◌-◌, ◌^◌, arith, List, [], ◌∷◌, ◌++◌, map, refl, sym, ◌∙◌, ap, subst, append_assoc, Some, None, Result, Ok, Err, Bool, true, false, not, ◌&&◌, if◌then◌else◌}
 use Rattle.std.specs.Result.{IsErrAnd}
 use Rattle.std.proofs.lemmas.Result.{err_from_is_err_and}
 use Rattle.hevc_dpb.specs.declared.dpb.Dpb.{Dpb}
@@ -20,6 +20,7 @@ use Rattle.hevc_walk.specs.Walk.{Event, Called, Output, Part, ◌>>=◌, nothing
 use Rattle.hevc_walk_units.specs.Units.{Standing, Current, NoPicture, SkippedPicture, OpenPicture, on_store, context_behind, current_of, decode_current, open_picture, decode_slice, begin_slice}
 use Rattle.hevc_driver.specs.declared.decode_error.DecodeError.{DecodeError}
 use Rattle.hevc_driver.specs.declared.decode_error.DecodeError.TheVariants as errors
+use Rattle.hevc_driver.specs.Answers.{KeepsInfo}
 use Rattle.hevc_driver.specs.Moments.{given_up, drained, renegotiates, starts, enters, hands_over, room_of, new_call, begin_call}
 use Rattle.hevc_driver.specs.Does.{Traces, Stops, StopsBy, Completes, Runs}
 use Rattle.hevc_driver.specs.Takes.{LeftStarted, Starts, IsNewSequence, LeftBegun, Begins}
@@ -126,26 +127,27 @@ skips_is p w s e =
 in_range_head : (p : Head) → order_count_in_range p ≡ true → refusal_of_picture p ≡ None
 in_range_head p e = ap (λ (v : Bool). if v then None else Some PocOutOfRange) e
 
-pub skips_at : {H : Type 0} (t : ℕ) (a b : Traces H) (w : Slice) (s st : Standing) (p : Head) → p ≡ head s.next w → order_count_in_range (head s.next w) ≡ true → p.skipped ≡ true → b.log ≡ a.log → b.queue ≡ a.queue → b.tickets ≡ a.tickets → st ≡ record s { current = SkippedPicture; next = context_behind p s.next }
-    → (refusal_of_picture (head s.next w) ≡ None) × Completes t a b (starts (head s.next w) w s) st
-skips_at t a b w s st p is ranges skipped log queue tickets next = (
+pub skips_at : {H : Type 0} (t : ℕ) (a b : Traces H) (w : Slice) (s st : Standing) (p : Head) → s.next.number ≢ 2 ^ 64 - 1 → p ≡ head s.next w → order_count_in_range (head s.next w) ≡ true → p.skipped ≡ true → b.log ≡ a.log → b.queue ≡ a.queue → b.tickets ≡ a.tickets → st ≡ record s { current = SkippedPicture; next = context_behind p s.next }
+    → (s.next.number ≢ 2 ^ 64 - 1) × (refusal_of_picture (head s.next w) ≡ None) × Completes t a b (starts (head s.next w) w s) st
+skips_at t a b w s st p numbered is ranges skipped log queue tickets next = (
+  numbered,
   in_range_head (head s.next w) ranges,
   subst (λ (v : Head). Completes t a b (starts v w s) st) is
       (subst (λ (q : Part Standing). Completes t a b q st) (sym (skips_is p w s skipped)) (record { does = does_nothing t a b log queue (keeps_all a.tickets b.tickets tickets); next = next })),
 )
 
 module _ {H T : Type 0} (r : Result T DecodeError) (t : ℕ) (a b : Traces H) (w : Slice) (s st : Standing) where
-  pub starts_at : (p : Head) → p ≡ head s.next w → order_count_in_range (head s.next w) ≡ true → Runs r t a b (starts p w s) (λ c. LeftStarted c × (st ≡ given_up (starts p w s).next)) st → Starts r t a b w s st
-  starts_at p is ranges x = by r (subst (λ (v : Head). Runs r t a b (starts v w s) (λ c. LeftStarted c × (st ≡ given_up (starts v w s).next)) st) is x)
+  pub starts_at : (p : Head) → s.next.number ≢ 2 ^ 64 - 1 → p ≡ head s.next w → order_count_in_range (head s.next w) ≡ true → Runs r t a b (starts p w s) (λ c. LeftStarted c × (st ≡ given_up (starts p w s).next)) st → Starts r t a b w s st
+  starts_at p numbered is ranges x = by r (subst (λ (v : Head). Runs r t a b (starts v w s) (λ c. LeftStarted c × (st ≡ given_up (starts v w s).next)) st) is x)
     where
       by : (q : Result T DecodeError) → Runs q t a b (starts (head s.next w) w s) (λ c. LeftStarted c × (st ≡ given_up (starts (head s.next w) w s).next)) st → Starts q t a b w s st
-      by (Ok v) x = (in_range_head (head s.next w) ranges, x)
-      by (Err errors.Backend) x = x
-      by (Err errors.NoMemory) x = x
+      by (Ok v) x = (numbered, in_range_head (head s.next w) ranges, x)
+      by (Err errors.Backend) x = (numbered, x)
+      by (Err errors.NoMemory) x = (numbered, x)
       by (Err e) x = absurd x
 
-  pub out_of_range : IsErrAnd r (λ y. y ≡ errors.PocOutOfRange) → order_count_in_range (head s.next w) ≡ false → b ≡ a → st ≡ s → Starts r t a b w s st
-  out_of_range is ranges same stays = let q = err_from_is_err_and r is in rw q.1 (rw q.2 (ap (λ (v : Bool). if v then None else Some PocOutOfRange) ranges, same, stays))
+  pub out_of_range : s.next.number ≢ 2 ^ 64 - 1 → IsErrAnd r (λ y. y ≡ errors.PocOutOfRange) → order_count_in_range (head s.next w) ≡ false → b ≡ a → st ≡ s → Starts r t a b w s st
+  out_of_range numbered is ranges same stays = let q = err_from_is_err_and r is in rw q.1 (rw q.2 (numbered, ap (λ (v : Bool). if v then None else Some PocOutOfRange) ranges, same, stays))
 
 pub head_number : (c : Context) (w : Slice) (p : Head) → p ≡ head c w → p.number ≡ c.number
 unfolding head
@@ -176,36 +178,36 @@ begin_accepted w s e = begin_is w s true e
 pub change_other : (w : Slice) (s : Standing) → is_accepted w.format s.store.accepted ≡ false → on_store (change_format w.format) s ≡ renegotiates w.format s
 change_other w s e = ap (λ (q : Part Store). record { events = q.events; next = record s { store = q.next } }) (change_is w.format s ∙ ap (changes_by w.format s) e)
 
-started_begun : (w : Slice) (s st : Standing) (c : walk.Call) → LeftStarted c × (st ≡ given_up (begin_slice w s).next) → LeftBegun c w s st
-started_begun w s st (walk.SubmitPicture number) h = absurd h.0
-started_begun w s st (walk.NewSequence info) h = absurd h.0
-started_begun w s st (walk.NewPicture number t c o k) h = h.1
-started_begun w s st (walk.BeginPicture number set) h = h.1
-started_begun w s st (walk.DecodeSlice number address bytes l0 l1) h = h.1
+started_begun : (w : Slice) (s st : Standing) (c : walk.Call) → is_accepted w.format s.store.accepted ≡ true → s.next.number ≢ 2 ^ 64 - 1 → LeftStarted c × (st ≡ given_up (begin_slice w s).next) → LeftBegun c w s st
+started_begun w s st (walk.SubmitPicture number) accepted numbered h = absurd h.0
+started_begun w s st (walk.NewSequence info) accepted numbered h = absurd h.0
+started_begun w s st (walk.NewPicture number t c o k) accepted numbered h = (accepted, numbered, h.1)
+started_begun w s st (walk.BeginPicture number set) accepted numbered h = (accepted, numbered, h.1)
+started_begun w s st (walk.DecodeSlice number address bytes l0 l1) accepted numbered h = (accepted, numbered, h.1)
 
-negotiated_begun : (w : Slice) (s st : Standing) (c : walk.Call) → IsNewSequence c × (st ≡ drained s) → LeftBegun c w s st
-negotiated_begun w s st (walk.SubmitPicture number) h = absurd h.0
-negotiated_begun w s st (walk.NewSequence info) h = h.1
-negotiated_begun w s st (walk.NewPicture number t c o k) h = absurd h.0
-negotiated_begun w s st (walk.BeginPicture number set) h = absurd h.0
-negotiated_begun w s st (walk.DecodeSlice number address bytes l0 l1) h = absurd h.0
+negotiated_begun : (w : Slice) (s st : Standing) (c : walk.Call) → is_accepted w.format s.store.accepted ≡ false → IsNewSequence c × (st ≡ drained s) → LeftBegun c w s st
+negotiated_begun w s st (walk.SubmitPicture number) other h = absurd h.0
+negotiated_begun w s st (walk.NewSequence info) other h = (other, h.1)
+negotiated_begun w s st (walk.NewPicture number t c o k) other h = absurd h.0
+negotiated_begun w s st (walk.BeginPicture number set) other h = absurd h.0
+negotiated_begun w s st (walk.DecodeSlice number address bytes l0 l1) other h = absurd h.0
 
 pub begins_accepted : {H T : Type 0} (r : Result T DecodeError) (t : ℕ) (a b : Traces H) (w : Slice) (s st : Standing) → is_accepted w.format s.store.accepted ≡ true → Starts r t a b w s st → Begins r t a b w s st
 begins_accepted {H} {T} r t a b w s st e x = by r x
   where
-    left : (c : walk.Call) → LeftStarted c × (st ≡ given_up (starts (head s.next w) w s).next) → LeftBegun c w s st
-    left c h = started_begun w s st c (h.0, h.1 ∙ ap (λ (q : Part Standing). given_up q.next) (sym (begin_accepted w s e)))
+    left : s.next.number ≢ 2 ^ 64 - 1 → (c : walk.Call) → LeftStarted c × (st ≡ given_up (starts (head s.next w) w s).next) → LeftBegun c w s st
+    left numbered c h = started_begun w s st c e numbered (h.0, h.1 ∙ ap (λ (q : Part Standing). given_up q.next) (sym (begin_accepted w s e)))
 
-    stops : Stops t a b (starts (head s.next w) w s).events (λ c. LeftStarted c × (st ≡ given_up (starts (head s.next w) w s).next)) → Stops t a b (begin_slice w s).events (λ c. LeftBegun c w s st)
-    stops x = stops_as t a b (starts (head s.next w) w s).events (begin_slice w s).events (λ c. LeftStarted c × (st ≡ given_up (starts (head s.next w) w s).next)) (λ c. LeftBegun c w s st) (ap (λ (q : Part Standing). q.events) (begin_accepted w s e)) left x
+    stops : (s.next.number ≢ 2 ^ 64 - 1) × Stops t a b (starts (head s.next w) w s).events (λ c. LeftStarted c × (st ≡ given_up (starts (head s.next w) w s).next)) → Stops t a b (begin_slice w s).events (λ c. LeftBegun c w s st)
+    stops x = stops_as t a b (starts (head s.next w) w s).events (begin_slice w s).events (λ c. LeftStarted c × (st ≡ given_up (starts (head s.next w) w s).next)) (λ c. LeftBegun c w s st) (ap (λ (q : Part Standing). q.events) (begin_accepted w s e)) (left x.0) x.1
 
     by : (r : Result T DecodeError) → Starts r t a b w s st → Begins r t a b w s st
-    by (Ok v) x = (e, x.0, subst (λ (q : Part Standing). Completes t a b q st) (sym (begin_accepted w s e)) x.1)
+    by (Ok v) x = (e, x.0, x.1, subst (λ (q : Part Standing). Completes t a b q st) (sym (begin_accepted w s e)) x.2)
     by (Err errors.PictureNumbersSpent) x = (e, x.0, x.1, x.2)
-    by (Err errors.PocOutOfRange) x = (e, x.0, x.1, x.2)
+    by (Err errors.PocOutOfRange) x = (e, x.0, x.1, x.2, x.3)
     by (Err errors.Backend) x = stops x
     by (Err errors.NoMemory) x = stops x
-    by (Err other) x = absurd x
+    by (Err other) x = absurd x.1
 
 -- the format differs
 pub begins_negotiated : {H : Type 0} (t : ℕ) (a b : Traces H) (w : Slice) (s st : Standing) → is_accepted w.format s.store.accepted ≡ false → Completes t a b (renegotiates w.format s) st → (is_accepted w.format s.store.accepted ≡ false) × Completes t a b (on_store (change_format w.format) s) st
@@ -216,12 +218,21 @@ pub begins_refused : {H T : Type 0} (r : Result T DecodeError) (e : DecodeError)
 begins_refused {H} {T} r e t a b w s st is other x = let q = err_from_is_err_and r is in rw q.1 (rw q.2 (by e x))
   where
     stops : Stops t a b (renegotiates w.format s).events (λ c. IsNewSequence c × (st ≡ drained s)) → Stops t a b (begin_slice w s).events (λ c. LeftBegun c w s st)
-    stops x = stops_as t a b _ (begin_slice w s).events (λ c. IsNewSequence c × (st ≡ drained s)) (λ c. LeftBegun c w s st) (ap (λ (q : Part Standing). q.events) (begin_is w s false other)) (negotiated_begun w s st)
+    stops x = stops_as t a b _ (begin_slice w s).events (λ c. IsNewSequence c × (st ≡ drained s)) (λ c. LeftBegun c w s st) (ap (λ (q : Part Standing). q.events) (begin_is w s false other)) (λ c. negotiated_begun w s st c other)
         (stops_more t a b _ _ (λ c. IsNewSequence c × (st ≡ drained s)) (stops_more t a b (renegotiates w.format s).events _ (λ c. IsNewSequence c × (st ≡ drained s)) x))
 
     by : (e : DecodeError) → StopsBy e t a b (renegotiates w.format s).events (λ c. IsNewSequence c × (st ≡ drained s)) → Begins {H = H} {T = T} (Err e) t a b w s st
     by errors.Backend x = stops x
     by errors.NoMemory x = stops x
+    by other x = absurd x
+
+-- a refused call may have told another format
+pub refused_info : {H T I : Type 0} (r : Result T DecodeError) (e : DecodeError) (t : ℕ) (a b : Traces H) (plan : List Event) (Left : walk.Call → Type 0) (before now : I) → IsErrAnd r (λ y. y ≡ e) → StopsBy e t a b plan Left → KeepsInfo before now r
+refused_info {H} {T} {I} r e t a b plan Left before now is x = let q = err_from_is_err_and r is in rw q.1 (rw q.2 (by e x))
+  where
+    by : (e : DecodeError) → StopsBy e t a b plan Left → KeepsInfo {I = I} {T = T} before now (Err e)
+    by errors.Backend x = tt
+    by errors.NoMemory x = tt
     by other x = absurd x
 
 -- ---- a count that isn't in range

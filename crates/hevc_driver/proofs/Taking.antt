@@ -1,5 +1,5 @@
 -- A slice as a whole.
-use Rattle.std.proofs.Common.{◌≡◌, inl, inr, ℕ, [], ◌++◌, refl, sym, ◌∙◌, ap, subst, Option, Some, None, Result, Ok, Err, Bool, true, false, not, ◌&&◌, if◌then◌else◌}
+use Rattle.std.proofs.Common.{◌≡◌, ◌≢◌, ◌==◌, ◌-◌, ◌^◌, eq-eqb, ne_eqb, inl, inr, ℕ, [], ◌++◌, refl, sym, ◌∙◌, ap, subst, Option, Some, None, Result, Ok, Err, Bool, true, false, not, ◌&&◌, if◌then◌else◌}
 use Rattle.std.specs.Prelude.{is_some}
 use Rattle.std.proofs.lemmas.List.{append-nil}
 use Rattle.hevc_walk.specs.Meanings.{Format, Slice, Meaning, CodedSlice}
@@ -13,8 +13,8 @@ use Rattle.hevc_driver.specs.declared.decode_error.DecodeError.{DecodeError}
 use Rattle.hevc_driver.specs.declared.decode_error.DecodeError.TheVariants as errors
 use Rattle.hevc_backend.specs.Negotiation.{format_of}
 use Rattle.hevc_driver.specs.Does.{Traces, Does, Stops, Completes}
-use Rattle.hevc_driver.specs.Moments.{given_up, with_kept, begins_at, begins_by, negotiates, negotiates_by, opening, opening_by, step_part, left_at}
-use Rattle.hevc_driver.specs.Takes.{Fills, Halts, Refuses, Takes, Follows, Changes, IsRefused, Finishes, Begins, LeftStarted, LeftBegun, LeftUnsubmitted, Changed}
+use Rattle.hevc_driver.specs.Moments.{given_up, with_kept, begins_at, begins_by, negotiates, negotiates_by, spends, opening, opening_by, step_part}
+use Rattle.hevc_driver.specs.Takes.{Fills, Halts, Refuses, LeftAt, Takes, Follows, Changes, IsRefused, Finishes, Begins, LeftStarted, LeftBegun, LeftUnsubmitted, Changed}
 use Rattle.hevc_driver.proofs.Doing.{does_nothing, does_then, stops_as, stops_then, stops_more, keeps_all}
 use Rattle.hevc_driver.proofs.PictureBegins.{begin_accepted, starts_nothing}
 
@@ -63,6 +63,9 @@ module _ {H : Type 0} (t : ℕ) (a b : Traces H) (x w : Slice) (s st : Standing)
   begins_is : (v : Bool) → begins_picture s.current w ≡ v → begins_at u s ≡ v
   begins_is v e = ap (λ o. begins_by o s) whole ∙ e
 
+  spends_is : (v n : Bool) → begins_picture s.current w ≡ v → negotiates u s ≡ n → spends u s ≡ (v && not n && (s.next.number == 2 ^ 64 - 1))
+  spends_is v n e o = ap (λ c. c && not (negotiates u s) && (s.next.number == 2 ^ 64 - 1)) (begins_is v e) ∙ ap (λ c. v && not c && (s.next.number == 2 ^ 64 - 1)) o
+
   full_is : (v : Bool) → begins_picture s.current w ≡ v → is_full_at u s ≡ (v && is_full_now s)
   full_is v e = ap (λ o. fills_by o s) whole ∙ ap (λ c. c && is_full_now s) e
 
@@ -75,18 +78,27 @@ module _ {H : Type 0} (t : ℕ) (a b : Traces H) (x w : Slice) (s st : Standing)
   -- ---- a later slice
 
   module _ (later : begins_picture s.current w ≡ false) where
-    left_later : (c : walk.Call) → LeftStarted c × (st ≡ given_up k) → st ≡ left_at c u s
+    numbered_later : spends u s ≡ false
+    numbered_later = spends_is false false later (negotiates_is false later)
+
+    given_later : (c : walk.Call) → LeftStarted c × (st ≡ given_up k) → st ≡ given_up (step_part u s).next
+    given_later c h = h.1 ∙ ap given_up (sym (ap (λ (q : Part Standing). q.next) (part_is false later) ∙ later_next w k))
+
+    left_later : (c : walk.Call) → LeftStarted c × (st ≡ given_up k) → LeftAt c u s st
     left_later (walk.SubmitPicture number) h = absurd h.0
     left_later (walk.NewSequence info) h = absurd h.0
-    left_later c h = h.1 ∙ ap given_up (sym (ap (λ (q : Part Standing). q.next) (part_is false later) ∙ later_next w k))
+    left_later (walk.NewPicture number nal c o i) h = (numbered_later, given_later (walk.NewPicture number nal c o i) h)
+    left_later (walk.BeginPicture number set) h = (numbered_later, given_later (walk.BeginPicture number set) h)
+    left_later (walk.DecodeSlice number address bytes l0 l1) h = (numbered_later, given_later (walk.DecodeSlice number address bytes l0 l1) h)
 
-    stops_later : Stops t a b (later_slice w k).events (λ c. LeftStarted c × (st ≡ given_up k)) → Stops t a b (step_part u s).events (λ c. st ≡ left_at c u s)
-    stops_later y = stops_as t a b (later_slice w k).events (step_part u s).events (λ c. LeftStarted c × (st ≡ given_up k)) (λ c. st ≡ left_at c u s) (ap (λ (q : Part Standing). q.events) (part_is false later)) left_later y
+    stops_later : Stops t a b (later_slice w k).events (λ c. LeftStarted c × (st ≡ given_up k)) → Stops t a b (step_part u s).events (λ c. LeftAt c u s st)
+    stops_later y = stops_as t a b (later_slice w k).events (step_part u s).events (λ c. LeftStarted c × (st ≡ given_up k)) (λ c. LeftAt c u s st) (ap (λ (q : Part Standing). q.events) (part_is false later)) left_later y
 
     refused_later : (e : DecodeError) → Changed e (refusal_of_later s.current w s.store.accepted) × (b ≡ a) × (st ≡ given_up k) → Refuses e t a b u s st
     refused_later e y = record {
       accepted = negotiates_is false later;
       room = full_is false later;
+      numbered = numbered_later;
       cause = ChangedMidPicture (format_of y.0.accepted) (format_of y.0.named);
       refused = refusal_is false later ∙ y.0.refused;
       named = sym y.0.told;
@@ -96,7 +108,7 @@ module _ {H : Type 0} (t : ℕ) (a b : Traces H) (x w : Slice) (s st : Standing)
     }
 
     pub takes_later : {T : Type 0} (r : Result T DecodeError) → Follows r t a b w k st → Takes r t a b u s st
-    takes_later (Ok v) y = record { accepted = negotiates_is false later; room = full_is false later; goes_on = refusal_is false later ∙ y.0; completes = subst (λ (q : Part Standing). Completes t a b q st) (sym (part_is false later)) y.1 }
+    takes_later (Ok v) y = record { accepted = negotiates_is false later; room = full_is false later; numbered = numbered_later; goes_on = refusal_is false later ∙ y.0; completes = subst (λ (q : Part Standing). Completes t a b q st) (sym (part_is false later)) y.1 }
     takes_later (Err errors.Backend) y = stops_later y
     takes_later (Err errors.NoMemory) y = inr (stops_later y)
     takes_later (Err errors.CheckEvents) y = absurd (cc y.0.told)
@@ -117,6 +129,12 @@ module _ {H : Type 0} (t : ℕ) (a b : Traces H) (x w : Slice) (s st : Standing)
     opens : (v : Bool) → is_accepted w.format m.store.accepted ≡ v → negotiates u s ≡ not v
     opens v e = negotiates_is true begins ∙ ap (λ (o : Option Format). not (is_accepted w.format o)) (sym accepted_is) ∙ ap not e
 
+    spends_by : (v : Bool) → is_accepted w.format m.store.accepted ≡ v → spends u s ≡ (not (not v) && (s.next.number == 2 ^ 64 - 1))
+    spends_by v e = spends_is true (not v) begins (opens v e)
+
+    is_numbered : is_accepted w.format m.store.accepted ≡ true → m.next.number ≢ 2 ^ 64 - 1 → spends u s ≡ false
+    is_numbered e numbered = spends_by true e ∙ ne_eqb _ _ numbered
+
     plan : (step_part u s).events ≡ (finish_current k).events ++ (begin_slice w m).events
     plan = ap (λ (q : Part Standing). q.events) (part_is true begins)
 
@@ -127,16 +145,16 @@ module _ {H : Type 0} (t : ℕ) (a b : Traces H) (x w : Slice) (s st : Standing)
     opening_is = ap (λ o. opening_by o k) whole
 
     -- stopped as the picture before was finished
-    left_unsubmitted : (c : walk.Call) → LeftUnsubmitted c k st → st ≡ left_at c u s
-    left_unsubmitted (walk.SubmitPicture number) h = h
+    left_unsubmitted : (c : walk.Call) → LeftUnsubmitted c k st → LeftAt c u s st
+    left_unsubmitted (walk.SubmitPicture number) h = (tt, h)
     left_unsubmitted (walk.NewSequence info) h = absurd h
     left_unsubmitted (walk.NewPicture number nal c o i) h = absurd h
     left_unsubmitted (walk.BeginPicture number set) h = absurd h
     left_unsubmitted (walk.DecodeSlice number address bytes l0 l1) h = absurd h
 
-    stops_first : Stops t a b (finish_current k).events (λ c. LeftUnsubmitted c k st) → Stops t a b (step_part u s).events (λ c. st ≡ left_at c u s)
-    stops_first y = stops_as t a b ((finish_current k).events ++ (begin_slice w m).events) (step_part u s).events (λ c. st ≡ left_at c u s) (λ c. st ≡ left_at c u s) plan (λ c h. h)
-        (stops_more t a b (finish_current k).events (begin_slice w m).events (λ c. st ≡ left_at c u s) (stops_as t a b (finish_current k).events (finish_current k).events (λ c. LeftUnsubmitted c k st) (λ c. st ≡ left_at c u s) refl left_unsubmitted y))
+    stops_first : Stops t a b (finish_current k).events (λ c. LeftUnsubmitted c k st) → Stops t a b (step_part u s).events (λ c. LeftAt c u s st)
+    stops_first y = stops_as t a b ((finish_current k).events ++ (begin_slice w m).events) (step_part u s).events (λ c. LeftAt c u s st) (λ c. LeftAt c u s st) plan (λ c h. h)
+        (stops_more t a b (finish_current k).events (begin_slice w m).events (λ c. LeftAt c u s st) (stops_as t a b (finish_current k).events (finish_current k).events (λ c. LeftUnsubmitted c k st) (λ c. LeftAt c u s st) refl left_unsubmitted y))
 
     full_first : (is_full_now k ≡ true) × Fills t a b (finish_current k).events k st → (is_full_at u s ≡ true) × Fills t a b (step_part u s).events k st
     full_first y = (
@@ -153,15 +171,15 @@ module _ {H : Type 0} (t : ℕ) (a b : Traces H) (x w : Slice) (s st : Standing)
 
     -- stopped behind that
     module _ (mid : Traces H) (room : is_full_now k ≡ false) (finishes : Does t a mid (finish_current k).events) where
-      left_begun : (c : walk.Call) → LeftBegun c w m st → st ≡ left_at c u s
+      left_begun : (c : walk.Call) → LeftBegun c w m st → LeftAt c u s st
       left_begun (walk.SubmitPicture number) h = absurd h
-      left_begun (walk.NewSequence info) h = h
-      left_begun (walk.NewPicture number nal c o i) h = h ∙ ap given_up (sym next_is)
-      left_begun (walk.BeginPicture number set) h = h ∙ ap given_up (sym next_is)
-      left_begun (walk.DecodeSlice number address bytes l0 l1) h = h ∙ ap given_up (sym next_is)
+      left_begun (walk.NewSequence info) h = (spends_by false h.0, h.1)
+      left_begun (walk.NewPicture number nal c o i) h = (is_numbered h.0 h.1, h.2 ∙ ap given_up (sym next_is))
+      left_begun (walk.BeginPicture number set) h = (is_numbered h.0 h.1, h.2 ∙ ap given_up (sym next_is))
+      left_begun (walk.DecodeSlice number address bytes l0 l1) h = (is_numbered h.0 h.1, h.2 ∙ ap given_up (sym next_is))
 
-      stops_behind : Stops t mid b (begin_slice w m).events (λ c. LeftBegun c w m st) → Stops t a b (step_part u s).events (λ c. st ≡ left_at c u s)
-      stops_behind y = stops_as t a b ((finish_current k).events ++ (begin_slice w m).events) (step_part u s).events (λ c. LeftBegun c w m st) (λ c. st ≡ left_at c u s) plan left_begun
+      stops_behind : Stops t mid b (begin_slice w m).events (λ c. LeftBegun c w m st) → Stops t a b (step_part u s).events (λ c. LeftAt c u s st)
+      stops_behind y = stops_as t a b ((finish_current k).events ++ (begin_slice w m).events) (step_part u s).events (λ c. LeftBegun c w m st) (λ c. LeftAt c u s st) plan left_begun
           (stops_then t a mid b (finish_current k).events (begin_slice w m).events (λ c. LeftBegun c w m st) finishes y)
 
       halts : b ≡ mid → st ≡ m → Halts t a b u s st
@@ -172,24 +190,26 @@ module _ {H : Type 0} (t : ℕ) (a b : Traces H) (x w : Slice) (s st : Standing)
         left = left;
       }
 
-      out_of_range : (is_accepted w.format m.store.accepted ≡ true) × (refusal_of_picture (head m.next w) ≡ Some PocOutOfRange) × (b ≡ mid) × (st ≡ m) → Refuses errors.PocOutOfRange t a b u s st
+      out_of_range : (is_accepted w.format m.store.accepted ≡ true) × (m.next.number ≢ 2 ^ 64 - 1) × (refusal_of_picture (head m.next w) ≡ Some PocOutOfRange) × (b ≡ mid) × (st ≡ m) → Refuses errors.PocOutOfRange t a b u s st
       out_of_range y = record {
         accepted = opens true y.0;
         room = full_is true begins ∙ room;
+        numbered = is_numbered y.0 y.1;
         cause = PocOutOfRange;
-        refused = refusal_is true begins ∙ y.1;
+        refused = refusal_is true begins ∙ y.2;
         named = refl;
-        does = subst (Does t a b) (sym (plan ∙ ap (λ es. (finish_current k).events ++ es) (ap (λ (q : Part Standing). q.events) (begin_accepted w m y.0) ∙ starts_nothing (head m.next w) w m y.1) ∙ append-nil (finish_current k).events))
-            (subst (λ (v : Traces H). Does t a v (finish_current k).events) (sym y.2) finishes);
-        left = y.3;
+        does = subst (Does t a b) (sym (plan ∙ ap (λ es. (finish_current k).events ++ es) (ap (λ (q : Part Standing). q.events) (begin_accepted w m y.0) ∙ starts_nothing (head m.next w) w m y.2) ∙ append-nil (finish_current k).events))
+            (subst (λ (v : Traces H). Does t a v (finish_current k).events) (sym y.3) finishes);
+        left = y.4;
       }
 
       behind : {T : Type 0} (r : Result T DecodeError) → Begins r t mid b w m st → Takes r t a b u s st
       behind (Ok v) y = record {
         accepted = opens true y.0;
         room = full_is true begins ∙ room;
-        goes_on = refusal_is true begins ∙ y.1;
-        completes = record { does = subst (Does t a b) (sym plan) (does_then t a mid b (finish_current k).events (begin_slice w m).events finishes y.2.does); next = y.2.next ∙ sym next_is };
+        numbered = is_numbered y.0 y.1;
+        goes_on = refusal_is true begins ∙ y.2;
+        completes = record { does = subst (Does t a b) (sym plan) (does_then t a mid b (finish_current k).events (begin_slice w m).events finishes y.3.does); next = y.3.next ∙ sym next_is };
       }
       behind (Err errors.CheckEvents) y = record {
         negotiates = opens false y.0;
@@ -199,7 +219,7 @@ module _ {H : Type 0} (t : ℕ) (a b : Traces H) (x w : Slice) (s st : Standing)
       behind (Err errors.Backend) y = stops_behind y
       behind (Err errors.NoMemory) y = inr (stops_behind y)
       behind (Err (errors.NotEnoughOutputBuffers n)) y = (y.0, halts y.1 y.2)
-      behind (Err errors.PictureNumbersSpent) y = record { accepted = opens true y.0; spent = y.1; halts = halts y.2 y.3 }
+      behind (Err errors.PictureNumbersSpent) y = record { spent = spends_by true y.0 ∙ eq-eqb _ _ y.1; halts = halts y.2 y.3 }
       behind (Err errors.PocOutOfRange) y = out_of_range y
       behind (Err e) y = absurd y
 
@@ -212,6 +232,7 @@ pub lacks : {H : Type 0} (t : ℕ) (a b : Traces H) (x : Slice) (s st : Standing
 lacks t a b x s st none log queue tickets same = record {
   accepted = ap (λ o. negotiates_by o s) none;
   room = ap (λ o. fills_by o s) none;
+  numbered = ap (λ o. begins_by o s && not (negotiates (CodedSlice x) s) && (s.next.number == 2 ^ 64 - 1)) none;
   cause = NoIndependentSlice;
   refused = ap (λ o. refusal_of_whole o s) none;
   named = refl;

@@ -2,7 +2,7 @@
 use Rattle.std.specs.Prelude.{◌≡◌, Result, Ok, Err}
 use Rattle.hevc_backend.specs.Trait.{Counts, Counted}
 use Rattle.hevc_driver.specs.declared.decode_error.DecodeError.{DecodeError}
-use Rattle.hevc_driver.specs.declared.decode_error.DecodeError.TheVariants.{Backend, NotEnoughOutputBuffers}
+use Rattle.hevc_driver.specs.declared.decode_error.DecodeError.TheVariants.{Backend, NoMemory, CheckEvents, NotEnoughOutputBuffers}
 
 -- both counts are as they were, unless the backend failed or had no frame: then that of faults or of empty answers rose
 abbrev pub CountsError : Counts → Counts → DecodeError → Type 0
@@ -27,3 +27,10 @@ IsNotOfBackend (Err error) = ¬ IsOfBackend error
 -- a backend that never fails didn't, and never will
 abbrev pub KeepsFaultless : {T : Type 0} → Type 0 → Type 0 → Result T DecodeError → Type 0
 KeepsFaultless before now result = before → now × IsNotOfBackend result
+
+-- the format that was told is as it was, unless another was told, or the backend refused a call
+abbrev pub KeepsInfo : {I T : Type 0} → I → I → Result T DecodeError → Type 0
+KeepsInfo before now (Err Backend) = Unit {0}
+KeepsInfo before now (Err NoMemory) = Unit {0}
+KeepsInfo before now (Err CheckEvents) = Unit {0}
+KeepsInfo before now result = now ≡ before

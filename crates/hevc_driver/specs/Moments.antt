@@ -1,5 +1,5 @@
 -- The parts of the walk that a call may stop between, and what stands there.
-use Rattle.std.specs.Prelude.{Bool, true, false, not, ◌&&◌, [], ◌∷◌, Option, Some, None}
+use Rattle.std.specs.Prelude.{Bool, true, false, not, ◌&&◌, ◌==◌, ◌-◌, ◌^◌, [], ◌∷◌, Option, Some, None}
 use Rattle.hevc_walk.specs.Meanings.{Format, Slice, Meaning, SequenceSet, CodedSlice}
 use Rattle.hevc_walk.specs.Pictures.{Head}
 use Rattle.hevc_walk.specs.DependentSlices.{whole_slice, kept_header}
@@ -74,6 +74,10 @@ abbrev pub negotiates : Meaning → Standing → Bool
 negotiates (SequenceSet format) s = true
 negotiates (CodedSlice slice) s = negotiates_by (whole_slice s.kept slice) s
 negotiates u s = false
+
+-- a picture of the accepted format begins, and no number is left for it
+abbrev pub spends : Meaning → Standing → Bool
+spends u s = begins_at u s && not (negotiates u s) && (s.next.number == 2 ^ 64 - 1)
 
 abbrev pub opening_by : Option Slice → Standing → Part Standing
 opening_by None s = nothing s

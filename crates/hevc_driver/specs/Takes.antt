@@ -1,5 +1,5 @@
 -- What the driver does with a unit, by its answer.
-use Rattle.std.specs.Prelude.{◌≡◌, ◌⊎◌, ℕ, ◌-◌, ◌^◌, true, false, List, [], ◌∷◌, Option, Some, None, Result, Ok, Err}
+use Rattle.std.specs.Prelude.{◌≡◌, ◌≢◌, ◌⊎◌, ℕ, ◌-◌, ◌^◌, true, false, List, [], ◌∷◌, Option, Some, None, Result, Ok, Err}
 use Rattle.hevc_walk.specs.Meanings.{Format, Slice, Meaning}
 use Rattle.hevc_walk.specs.Pictures.{head}
 use Rattle.hevc_walk.specs.Walk as walk
@@ -12,12 +12,13 @@ use Rattle.hevc_driver.specs.declared.decode_error.DecodeError.{DecodeError}
 use Rattle.hevc_driver.specs.declared.decode_error.DecodeError.TheVariants as errors
 use Rattle.hevc_driver.specs.Errors.{error_of}
 use Rattle.hevc_driver.specs.Does.{Traces, Does, Stops, StopsBy, Completes, Runs}
-use Rattle.hevc_driver.specs.Moments.{begins_at, negotiates, opening, step_part, kept_behind, not_stored, left_at, left_by, given_up, drained, renegotiates, starts, closes}
+use Rattle.hevc_driver.specs.Moments.{begins_at, negotiates, spends, opening, step_part, kept_behind, not_stored, left_at, left_by, given_up, drained, renegotiates, starts, closes}
 
 -- The unit was taken.
 pub record Goes {H : Type 0} (timestamp : ℕ) (old new : Traces H) (u : Meaning) (before standing : Standing) : Type 0 where
   pub accepted : negotiates u before ≡ false
   pub room : is_full_at u before ≡ false
+  pub numbered : spends u before ≡ false
   pub goes_on : refusal_at u before ≡ None
   pub completes : Completes timestamp old new (step_part u before) standing
 
@@ -44,19 +45,28 @@ pub record Halts {H : Type 0} (timestamp : ℕ) (old new : Traces H) (u : Meanin
 
 -- No number is left for a picture that begins.
 pub record Spends {H : Type 0} (timestamp : ℕ) (old new : Traces H) (u : Meaning) (before standing : Standing) : Type 0 where
-  pub accepted : negotiates u before ≡ false
-  pub spent : before.next.number ≡ 2 ^ 64 - 1
+  pub spent : spends u before ≡ true
   pub halts : Halts timestamp old new u before standing
 
 -- The unit was refused for a cause.
 pub record Refuses {H : Type 0} (error : DecodeError) (timestamp : ℕ) (old new : Traces H) (u : Meaning) (before standing : Standing) : Type 0 where
   pub accepted : negotiates u before ≡ false
   pub room : is_full_at u before ≡ false
+  pub numbered : spends u before ≡ false
   pub cause : Cause
   pub refused : refusal_at u before ≡ Some cause
   pub named : error_of cause ≡ error
   pub does : Does timestamp old new (step_part u before).events
   pub left : standing ≡ left_by cause u before
+
+-- a number was left for the picture of a refused call; one that is submitted has its own
+abbrev pub IsNumbered : walk.Call → Meaning → Standing → Type 0
+IsNumbered (walk.SubmitPicture number) u before = Unit {0}
+IsNumbered call u before = spends u before ≡ false
+
+-- what stands behind a call that the backend refused
+abbrev pub LeftAt : walk.Call → Meaning → Standing → Standing → Type 0
+LeftAt call u before standing = IsNumbered call u before × (standing ≡ left_at call u before)
 
 -- nothing was done
 pub record Stays {H : Type 0} (old new : Traces H) (before standing : Standing) : Type 0 where
@@ -66,8 +76,8 @@ pub record Stays {H : Type 0} (old new : Traces H) (before standing : Standing) 
 abbrev pub Takes : {H T : Type 0} → Result T DecodeError → ℕ → Traces H → Traces H → Meaning → Standing → Standing → Type 0
 Takes (Ok value) timestamp old new u before standing = Goes timestamp old new u before standing
 Takes (Err errors.CheckEvents) timestamp old new u before standing = Opens timestamp old new u before standing
-Takes (Err errors.Backend) timestamp old new u before standing = Stops timestamp old new (step_part u before).events (λ call. standing ≡ left_at call u before)
-Takes (Err errors.NoMemory) timestamp old new u before standing = Stays old new before standing ⊎ Stops timestamp old new (step_part u before).events (λ call. standing ≡ left_at call u before)
+Takes (Err errors.Backend) timestamp old new u before standing = Stops timestamp old new (step_part u before).events (λ call. LeftAt call u before standing)
+Takes (Err errors.NoMemory) timestamp old new u before standing = Stays old new before standing ⊎ Stops timestamp old new (step_part u before).events (λ call. LeftAt call u before standing)
 Takes (Err errors.DpbFull) timestamp old new u before standing = (is_full_at u before ≡ true) × Fills timestamp old new (step_part u before).events (kept_behind u before) standing
 Takes (Err (errors.NotEnoughOutputBuffers frames)) timestamp old new u before standing = (frames ≡ 1) × Halts timestamp old new u before standing
 Takes (Err errors.PictureNumbersSpent) timestamp old new u before standing = Spends timestamp old new u before standing
@@ -97,16 +107,16 @@ Negotiates result timestamp old new format s standing = Runs result timestamp ol
 -- a call of a picture that begins was refused
 abbrev pub LeftBegun : walk.Call → Slice → Standing → Standing → Type 0
 LeftBegun (walk.SubmitPicture number) slice s standing = ⊥
-LeftBegun (walk.NewSequence info) slice s standing = standing ≡ drained s
-LeftBegun call slice s standing = standing ≡ given_up (begin_slice slice s).next
+LeftBegun (walk.NewSequence info) slice s standing = (is_accepted slice.format s.store.accepted ≡ false) × (standing ≡ drained s)
+LeftBegun call slice s standing = (is_accepted slice.format s.store.accepted ≡ true) × (s.next.number ≢ 2 ^ 64 - 1) × (standing ≡ given_up (begin_slice slice s).next)
 
 -- a picture begins where none is current
 abbrev pub Begins : {H T : Type 0} → Result T DecodeError → ℕ → Traces H → Traces H → Slice → Standing → Standing → Type 0
-Begins (Ok value) timestamp old new slice s standing = (is_accepted slice.format s.store.accepted ≡ true) × (refusal_of_picture (head s.next slice) ≡ None) × Completes timestamp old new (begin_slice slice s) standing
+Begins (Ok value) timestamp old new slice s standing = (is_accepted slice.format s.store.accepted ≡ true) × (s.next.number ≢ 2 ^ 64 - 1) × (refusal_of_picture (head s.next slice) ≡ None) × Completes timestamp old new (begin_slice slice s) standing
 Begins (Err errors.CheckEvents) timestamp old new slice s standing = (is_accepted slice.format s.store.accepted ≡ false) × Completes timestamp old new (on_store (change_format slice.format) s) standing
 Begins (Err (errors.NotEnoughOutputBuffers frames)) timestamp old new slice s standing = (frames ≡ 1) × (new ≡ old) × (standing ≡ s)
 Begins (Err errors.PictureNumbersSpent) timestamp old new slice s standing = (is_accepted slice.format s.store.accepted ≡ true) × (s.next.number ≡ 2 ^ 64 - 1) × (new ≡ old) × (standing ≡ s)
-Begins (Err errors.PocOutOfRange) timestamp old new slice s standing = (is_accepted slice.format s.store.accepted ≡ true) × (refusal_of_picture (head s.next slice) ≡ Some PocOutOfRange) × (new ≡ old) × (standing ≡ s)
+Begins (Err errors.PocOutOfRange) timestamp old new slice s standing = (is_accepted slice.format s.store.accepted ≡ true) × (s.next.number ≢ 2 ^ 64 - 1) × (refusal_of_picture (head s.next slice) ≡ Some PocOutOfRange) × (new ≡ old) × (standing ≡ s)
 Begins (Err error) timestamp old new slice s standing = StopsBy error timestamp old new (begin_slice slice s).events (λ call. LeftBegun call slice s standing)
 
 -- the refused call is one of a picture that has begun
@@ -117,10 +127,10 @@ LeftStarted call = Unit {0}
 
 -- a picture of the accepted format begins
 abbrev pub Starts : {H T : Type 0} → Result T DecodeError → ℕ → Traces H → Traces H → Slice → Standing → Standing → Type 0
-Starts (Ok value) timestamp old new slice s standing = (refusal_of_picture (head s.next slice) ≡ None) × Completes timestamp old new (starts (head s.next slice) slice s) standing
+Starts (Ok value) timestamp old new slice s standing = (s.next.number ≢ 2 ^ 64 - 1) × (refusal_of_picture (head s.next slice) ≡ None) × Completes timestamp old new (starts (head s.next slice) slice s) standing
 Starts (Err errors.PictureNumbersSpent) timestamp old new slice s standing = (s.next.number ≡ 2 ^ 64 - 1) × (new ≡ old) × (standing ≡ s)
-Starts (Err errors.PocOutOfRange) timestamp old new slice s standing = (refusal_of_picture (head s.next slice) ≡ Some PocOutOfRange) × (new ≡ old) × (standing ≡ s)
-Starts (Err error) timestamp old new slice s standing = StopsBy error timestamp old new (starts (head s.next slice) slice s).events (λ call. LeftStarted call × (standing ≡ given_up (starts (head s.next slice) slice s).next))
+Starts (Err errors.PocOutOfRange) timestamp old new slice s standing = (s.next.number ≢ 2 ^ 64 - 1) × (refusal_of_picture (head s.next slice) ≡ Some PocOutOfRange) × (new ≡ old) × (standing ≡ s)
+Starts (Err error) timestamp old new slice s standing = (s.next.number ≢ 2 ^ 64 - 1) × StopsBy error timestamp old new (starts (head s.next slice) slice s).events (λ call. LeftStarted call × (standing ≡ given_up (starts (head s.next slice) slice s).next))
 
 -- the answer to a format that differs in mid-picture
 pub record Changed (error : DecodeError) (refusal : Option Cause) : Type 0 where

@@ -1,7 +1,7 @@
 //! The driver, and what ends a stream.
 ghost use Rattle.std.specs.Prelude.{◌≡◌, [], ℕ, None, OnOk};
 ghost use Rattle.hevc_walk_units.specs.Units.{at_first};
-ghost use Rattle.hevc_driver.specs.Answers.{CountsErrors, KeepsFaultless};
+ghost use Rattle.hevc_driver.specs.Answers.{CountsErrors, KeepsFaultless, KeepsInfo};
 ghost use Rattle.hevc_driver.specs.Standings.{standing, traces};
 ghost use Rattle.hevc_driver.specs.Sound.{IsSound, HasRoom, Grows, total};
 ghost use Rattle.hevc_driver.specs.Takes.{Closes};
@@ -80,6 +80,7 @@ impl<B: StatelessH265DecoderBackend> Driver<B> {
             (B.counts self.new.backend) result }
         ensures faultless { KeepsFaultless (B.is_faultless self.old.backend)
             (B.is_faultless self.new.backend) result }
+        ensures info { KeepsInfo (B.info self.old.backend) (B.info self.new.backend) result }
         ensures part { (timestamp : ℕ) → Closes result timestamp
             (traces (B.log self.old.backend) self.old.walk)
             (traces (B.log self.new.backend) self.new.walk)

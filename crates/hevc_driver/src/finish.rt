@@ -3,7 +3,7 @@ ghost use Rattle.std.specs.Prelude.{◌≡◌, ℕ, true};
 ghost use Rattle.hevc_walk.specs.Walk.{is_decoded};
 ghost use Rattle.hevc_walk_units.specs.Units.{NoPicture};
 ghost use Rattle.hevc_driver.specs.Heads.{head_of};
-ghost use Rattle.hevc_driver.specs.Answers.{CountsErrors, KeepsFaultless};
+ghost use Rattle.hevc_driver.specs.Answers.{CountsErrors, KeepsFaultless, KeepsInfo};
 ghost use Rattle.hevc_driver.specs.Standings.{standing, traces, current_of, with_open};
 ghost use Rattle.hevc_driver.specs.Sound.{IsSound, IsNewest, HasRoom, Grows};
 ghost use Rattle.hevc_driver.specs.Takes.{Finishes};
@@ -27,6 +27,7 @@ impl<B: StatelessH265DecoderBackend> Driver<B> {
             (B.counts self.new.backend) result }
         ensures faultless { KeepsFaultless (B.is_faultless self.old.backend)
             (B.is_faultless self.new.backend) result }
+        ensures info { KeepsInfo (B.info self.old.backend) (B.info self.new.backend) result }
         ensures part { (timestamp : ℕ) → Finishes result timestamp
             (traces (B.log self.old.backend) self.old.walk)
             (traces (B.log self.new.backend) self.new.walk)
@@ -51,6 +52,7 @@ impl<B: StatelessH265DecoderBackend> Driver<B> {
             (B.counts self.new.backend) result }
         ensures faultless { KeepsFaultless (B.is_faultless self.old.backend)
             (B.is_faultless self.new.backend) result }
+        ensures info { KeepsInfo (B.info self.old.backend) (B.info self.new.backend) result }
         ensures part { (timestamp : ℕ) → Finishes result timestamp
             (traces (B.log self.old.backend) self.old.walk)
             (traces (B.log self.new.backend) self.new.walk)

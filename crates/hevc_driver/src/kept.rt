@@ -4,7 +4,7 @@ ghost use Rattle.hevc_types_c.specs.declared.sps.Sps.{Sps};
 ghost use Rattle.hevc_types_d.specs.declared.pps.Pps.{Pps};
 ghost use Rattle.hevc_walk.specs.DependentSlices.{KeptHeader, whole_slice, kept_header};
 ghost use Rattle.hevc_options.specs.declared.Options.{Options};
-ghost use Rattle.hevc_driver.specs.Slices.{slice_of, kept_of};
+ghost use Rattle.hevc_driver.specs.Slices.{slice_of, kept_of, StaysUnlessWhole};
 
 use hevc_types_c::Sps;
 use hevc_types_d::{Slice, SliceHeader};
@@ -32,6 +32,7 @@ pub(crate) fn complete(
     ensures whole { (o : Options) (pps : Pps) → IfOk result (λ is_whole.
         whole_slice (option_map kept_of kept.now) (slice_of o slice.old sps.now pps)
         ≡ (if is_whole then Some (slice_of o slice.new sps.now pps) else None)) }
+    ensures stays { StaysUnlessWhole result slice.old slice.new }
     ensures kept { (o : Options) (pps : Pps) (latest : Option KeptHeader) → OnOk result
         (kept_header latest (slice_of o slice.new sps.now pps)
         ≡ kept_header latest (slice_of o slice.old sps.now pps)) }

@@ -6,7 +6,7 @@ ghost use Rattle.hevc_walk.specs.Walk.{is_accepted, open_sequence};
 ghost use Rattle.hevc_walk_units.specs.Units.{NoPicture, on_store};
 ghost use Rattle.hevc_backend.specs.Negotiation.{format_of};
 ghost use Rattle.hevc_driver.specs.Slices.{slice_of};
-ghost use Rattle.hevc_driver.specs.Answers.{CountsErrors, KeepsFaultless};
+ghost use Rattle.hevc_driver.specs.Answers.{CountsErrors, KeepsFaultless, KeepsInfo};
 ghost use Rattle.hevc_driver.specs.Does.{Runs};
 ghost use Rattle.hevc_driver.specs.Standings.{standing, traces, current_of};
 ghost use Rattle.hevc_driver.specs.Sound.{IsSound, HasRoom, Grows, AreNamed};
@@ -46,6 +46,7 @@ impl<B: StatelessH265DecoderBackend> Driver<B> {
             (B.counts self.new.backend) result }
         ensures faultless { KeepsFaultless (B.is_faultless self.old.backend)
             (B.is_faultless self.new.backend) result }
+        ensures info { KeepsInfo (B.info self.old.backend) (B.info self.new.backend) result }
         ensures part { Begins result timestamp
             (traces (B.log self.old.backend) self.old.walk)
             (traces (B.log self.new.backend) self.new.walk)

@@ -10,7 +10,7 @@ ghost use Rattle.hevc_refs.specs.Sets.{plain_set};
 ghost use Rattle.hevc_backend.specs.Named.{SetNamesAmong};
 ghost use Rattle.hevc_driver.specs.Heads.{head_of};
 ghost use Rattle.hevc_driver.specs.Slices.{slice_of};
-ghost use Rattle.hevc_driver.specs.Answers.{CountsErrors, KeepsFaultless};
+ghost use Rattle.hevc_driver.specs.Answers.{CountsErrors, KeepsFaultless, KeepsInfo};
 ghost use Rattle.hevc_driver.specs.Does.{Runs};
 ghost use Rattle.hevc_driver.specs.Moments.{starts, hands_over, given_up};
 ghost use Rattle.hevc_driver.specs.Standings.{standing, traces, current_of};
@@ -54,6 +54,7 @@ impl<B: StatelessH265DecoderBackend> Driver<B> {
             (B.counts self.new.backend) result }
         ensures faultless { KeepsFaultless (B.is_faultless self.old.backend)
             (B.is_faultless self.new.backend) result }
+        ensures info { KeepsInfo (B.info self.old.backend) (B.info self.new.backend) result }
         ensures part { Starts result timestamp
             (traces (B.log self.old.backend) self.old.walk)
             (traces (B.log self.new.backend) self.new.walk)
@@ -96,6 +97,7 @@ impl<B: StatelessH265DecoderBackend> Driver<B> {
             (B.counts self.new.backend) result }
         ensures faultless { KeepsFaultless (B.is_faultless self.old.backend)
             (B.is_faultless self.new.backend) result }
+        ensures info { KeepsInfo (B.info self.old.backend) (B.info self.new.backend) result }
         ensures part { (o : code_options.Options) → Runs result timestamp
             (traces (B.log self.old.backend) self.old.walk)
             (traces (B.log self.new.backend) self.new.walk)
@@ -134,6 +136,7 @@ impl<B: StatelessH265DecoderBackend> Driver<B> {
             (B.counts self.new.backend) result }
         ensures faultless { KeepsFaultless (B.is_faultless self.old.backend)
             (B.is_faultless self.new.backend) result }
+        ensures info { KeepsInfo (B.info self.old.backend) (B.info self.new.backend) result }
         ensures part { (o : code_options.Options) → Runs result timestamp
             (traces (B.log self.old.backend) self.old.walk)
             (traces (B.log self.new.backend) self.new.walk)

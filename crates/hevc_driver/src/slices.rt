@@ -3,10 +3,11 @@ ghost use Rattle.std.specs.Prelude.{◌≡◌, ℕ, option_map};
 ghost use Rattle.hevc_types_c.specs.Sps.{plain_sps};
 ghost use Rattle.hevc_views.specs.Sequences.{format_of_set};
 ghost use Rattle.hevc_walk.specs.Meanings.{CodedSlice, same_format};
+ghost use Rattle.hevc_walk.specs.DependentSlices.{whole_slice};
 ghost use Rattle.hevc_walk_units.specs.Units.{NoPicture, begins_picture, changed_by};
 ghost use Rattle.hevc_backend.specs.Negotiation.{format_of};
-ghost use Rattle.hevc_driver.specs.Slices.{slice_of};
-ghost use Rattle.hevc_driver.specs.Answers.{CountsErrors, KeepsFaultless};
+ghost use Rattle.hevc_driver.specs.Slices.{slice_of, kept_of, LeavesSlice};
+ghost use Rattle.hevc_driver.specs.Answers.{CountsErrors, KeepsFaultless, KeepsInfo};
 ghost use Rattle.hevc_driver.specs.Standings.{standing, traces, current_of, with_open};
 ghost use Rattle.hevc_backend.specs.Told.{WhereTold};
 ghost use Rattle.hevc_driver.specs.declared.current.Current.TheVariants.{Opened};
@@ -67,9 +68,9 @@ fn check_format(
 impl<B: StatelessH265DecoderBackend> Driver<B> {
     /// Takes a slice segment with the sets that it makes active; it is completed where it is a dependent one (7.4.7.1). Where it opens a
     /// negotiation the answer is `CheckEvents`, and the unit is to be given once more when its format is accepted. `timestamp` is in the
-    /// caller's unit, and is handed to the backend with a picture that begins.
+    /// caller's unit, and is handed to the backend with a picture that begins. The segment is left completed.
     ///
-    /// Errors: `NoIndependentSlice`, nothing was done; `ChangedMidPicture`, the picture is given up; `DpbFull`, the picture before isn't
+    /// Errors: `NoIndependentSlice`, nothing was done, and the segment is as it was; `ChangedMidPicture`, the picture is given up; `DpbFull`, the picture before isn't
     /// stored (C.5.2.3); `NotEnoughOutputBuffers`, of 1 frame, `PictureNumbersSpent` and `PocOutOfRange`, the picture before is over
     /// and none begins; `Backend` and `NoMemory`, the picture of the refused call is given up, or nothing was done.
     pub fn take_slice(
@@ -89,11 +90,17 @@ impl<B: StatelessH265DecoderBackend> Driver<B> {
             (B.counts self.new.backend) result }
         ensures faultless { KeepsFaultless (B.is_faultless self.old.backend)
             (B.is_faultless self.new.backend) result }
+        ensures info { KeepsInfo (B.info self.old.backend) (B.info self.new.backend) result }
         ensures part { Takes result timestamp
             (traces (B.log self.old.backend) self.old.walk)
             (traces (B.log self.new.backend) self.new.walk)
             (CodedSlice (slice_of options slice.old sps.now pps.now))
             (standing self.old.walk) (standing self.new.walk) }
+        ensures slice { LeavesSlice result
+            (whole_slice (option_map kept_of self.old.walk.kept)
+            (slice_of options slice.old sps.now pps.now))
+            (slice_of options slice.old sps.now pps.now)
+            (slice_of options slice.new sps.now pps.now) }
     {
         if !complete(&self.walk.kept, slice, sps)? {
             return Err(DecodeError::NoIndependentSlice);
@@ -124,6 +131,7 @@ impl<B: StatelessH265DecoderBackend> Driver<B> {
             (B.counts self.new.backend) result }
         ensures faultless { KeepsFaultless (B.is_faultless self.old.backend)
             (B.is_faultless self.new.backend) result }
+        ensures info { KeepsInfo (B.info self.old.backend) (B.info self.new.backend) result }
         ensures part { Changes result timestamp
             (traces (B.log self.old.backend) self.old.walk)
             (traces (B.log self.new.backend) self.new.walk)
@@ -144,6 +152,7 @@ impl<B: StatelessH265DecoderBackend> Driver<B> {
             (B.counts self.new.backend) result }
         ensures faultless { KeepsFaultless (B.is_faultless self.old.backend)
             (B.is_faultless self.new.backend) result }
+        ensures info { KeepsInfo (B.info self.old.backend) (B.info self.new.backend) result }
         ensures part { (timestamp : ℕ) (o : code_options.Options)
             → Follows result timestamp
             (traces (B.log self.old.backend) self.old.walk)
@@ -181,6 +190,7 @@ impl<B: StatelessH265DecoderBackend> Driver<B> {
             (B.counts self.new.backend) result }
         ensures faultless { KeepsFaultless (B.is_faultless self.old.backend)
             (B.is_faultless self.new.backend) result }
+        ensures info { KeepsInfo (B.info self.old.backend) (B.info self.new.backend) result }
         ensures part { (timestamp : ℕ) (o : code_options.Options)
             → Follows result timestamp
             (traces (B.log self.old.backend) self.old.walk)

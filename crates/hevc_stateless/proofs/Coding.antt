@@ -33,7 +33,7 @@ use Rattle.hevc_stateless.proofs.Setting.{means}
 
 -- ---- the content
 
-either : {A : Type 0} (F : Content → A) (x : A) (b : Bool) (c d : Content) → F c ≡ x → F d ≡ x → F (if b then c else d) ≡ x
+pub either : {A : Type 0} (F : Content → A) (x : A) (b : Bool) (c d : Content) → F c ≡ x → F d ≡ x → F (if b then c else d) ≡ x
 either F x true c d is other = is
 either F x false c d is other = other
 
@@ -42,17 +42,23 @@ module _ {A : Type 0} (F : Content → A) (x : A) (idle : F nothing ≡ x) (refu
   read_coded h (gives segment rest) = slicing h segment
   read_coded h (refuses fault rest) = refusing _
 
-  of_coded : (k : Kept) (h : UnitHeader) (bytes : List ℕ) → F (coded_content k h bytes) ≡ x
+  pub of_coded : (k : Kept) (h : UnitHeader) (bytes : List ℕ) → F (coded_content k h bytes) ≡ x
   of_coded k h bytes =
       either F x (not k.has_sequence_set) nothing _ idle (either F x (is_slice h.nal_unit_type) _ _ (read_coded h (read (slice_segment_header h.nal_unit_type (drop 2 bytes) (active_sets k.sequence_sets k.picture_sets)) (payload bytes)))
       (either F x (h.nal_unit_type == 36) _ _ ending (either F x (h.nal_unit_type == 37) _ _ closing idle)))
 
-isnt : (t n : ℕ) → is_parameter_set t ≡ false → is_parameter_set n ≡ true → (t == n) ≡ false
+-- the unit of another type isn't of this one
+pub isnt : (t n : ℕ) → is_parameter_set t ≡ false → is_parameter_set n ≡ true → (t == n) ≡ false
 isnt t n p q = by (t == n) refl
   where
     by : (b : Bool) → (t == n) ≡ b → b ≡ false
     by true e = let same : t ≡ n = grind (arith, nat_tests, e) in absurd (cc (sym p ∙ ap is_parameter_set same ∙ q))
     by false e = refl
+
+-- a slice segment is no sequence set
+pub segment_isnt : (o : Options) (bytes : List ℕ) (g : UnitHeader) (segment : PlainSliceSegmentHeader) (sets : Option ActiveSets) → is_sequence_set (slice_segment_meaning o g bytes segment sets) ≡ false
+segment_isnt o bytes g segment (Some sets) = refl
+segment_isnt o bytes g segment None = refl
 
 module _ (o : Options) (k : Kept) (bytes : List ℕ) (h : UnitHeader) (parsed : unit_header bytes ≡ Ok h) where
   -- a unit of a sub-layer that isn't wanted
@@ -77,12 +83,8 @@ module _ (o : Options) (k : Kept) (bytes : List ℕ) (h : UnitHeader) (parsed : 
     abbrev sure : Kept
     sure = record k { has_sequence_set = true }
 
-    segment_isnt : (g : UnitHeader) (segment : PlainSliceSegmentHeader) (sets : Option ActiveSets) → is_sequence_set (slice_segment_meaning o g bytes segment sets) ≡ false
-    segment_isnt g segment (Some sets) = refl
-    segment_isnt g segment None = refl
-
     pub coded_isnt : is_sequence_set (unit_at o k h bytes).meaning ≡ false
-    coded_isnt = ap is_sequence_set (means o k bytes h parsed wanted (coded_content sure h bytes) (of_other sure)) ∙ of_coded (λ (c : Content). is_sequence_set (meaning_of o sure bytes c)) false refl (λ cause. refl) (λ g segment. segment_isnt g segment _) refl refl sure h bytes
+    coded_isnt = ap is_sequence_set (means o k bytes h parsed wanted (coded_content sure h bytes) (of_other sure)) ∙ of_coded (λ (c : Content). is_sequence_set (meaning_of o sure bytes c)) false refl (λ cause. refl) (λ g segment. segment_isnt o bytes g segment _) refl refl sure h bytes
 
     -- ends, and what asks for nothing
     pub end_means : h.nal_unit_type ≡ 36 → (unit_at o k h bytes).meaning ≡ EndOfSequence
@@ -97,10 +99,10 @@ module _ (o : Options) (k : Kept) (bytes : List ℕ) (h : UnitHeader) (parsed : 
 -- ---- ends
 
 pub ends : {H : Type 0} (t : ℕ) (a : Traces H) (s : Standing) → Goes t a a EndOfSequence s (step_part EndOfSequence s).next
-ends t a s = record { accepted = refl; room = refl; goes_on = refl; completes = record { does = does_nothing t a a refl refl (keeps_all a.tickets a.tickets refl); next = refl } }
+ends t a s = record { accepted = refl; room = refl; numbered = refl; goes_on = refl; completes = record { does = does_nothing t a a refl refl (keeps_all a.tickets a.tickets refl); next = refl } }
 
 pub closes : {H : Type 0} (t : ℕ) (a : Traces H) (s : Standing) → Goes t a a EndOfBitstream s (step_part EndOfBitstream s).next
-closes t a s = record { accepted = refl; room = refl; goes_on = refl; completes = record { does = does_nothing t a a refl refl (keeps_all a.tickets a.tickets refl); next = refl } }
+closes t a s = record { accepted = refl; room = refl; numbered = refl; goes_on = refl; completes = record { does = does_nothing t a a refl refl (keeps_all a.tickets a.tickets refl); next = refl } }
 
 -- ---- the states
 

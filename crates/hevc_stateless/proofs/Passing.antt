@@ -21,6 +21,7 @@ refuses : {H : Type 0} (c : UnitCause) (t : ℕ) (a : Traces H) (s : Standing) �
 refuses {H} c t a s = record {
   accepted = refl;
   room = refl;
+  numbered = refl;
   cause = UnitRefused c;
   refused = refl;
   named = refl;
@@ -49,6 +50,7 @@ pub idle_unit : {H : Type 0} (t : ℕ) (a : Traces H) (s : Standing) → Goes t 
 idle_unit {H} t a s = record {
   accepted = refl;
   room = refl;
+  numbered = refl;
   goes_on = refl;
   completes = record { does = does_nothing t a a refl refl (keeps_all a.tickets a.tickets refl); next = refl };
 }

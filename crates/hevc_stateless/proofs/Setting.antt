@@ -25,6 +25,7 @@ use Rattle.hevc_stream.specs.Contents.{Content, refused, sequence_set, picture_s
 use Rattle.hevc_stream.specs.Stream.{meaning_of, meaning, kept_behind, with_content, with_all_waited}
 use Rattle.hevc_stream_laws.proofs.ByType.{of_video_set, of_sequence_set, of_picture_set}
 use Rattle.hevc_kept.specs.Takes as sets
+use Rattle.hevc_kept.proofs.Sets.{behind_sequence_set}
 use Rattle.hevc_backend.specs.declared.call.Call.{Call}
 use Rattle.hevc_walk_units.specs.Units.{Standing}
 use Rattle.hevc_driver.specs.declared.decode_error.DecodeError.{DecodeError}
@@ -162,7 +163,7 @@ module _ (o : Options) (k : Kept) (bytes : List ℕ) (h : UnitHeader) (parsed : 
     keeps_first (Err errors.NoMemory) t a b f s st new h kept = inr (inl (kept_as_read new kept))
     keeps_first (Err errors.DpbFull) t a b f s st new h kept = absurd (cc h.0)
     keeps_first (Err (errors.NotEnoughOutputBuffers frames)) t a b f s st new h kept = absurd (cc h.1.begins)
-    keeps_first (Err errors.PictureNumbersSpent) t a b f s st new h kept = absurd (cc h.accepted)
+    keeps_first (Err errors.PictureNumbersSpent) t a b f s st new h kept = absurd (cc h.spent)
     keeps_first (Err e) t a b f s st new h kept = absurd (cc h.accepted)
 
     -- the first one
@@ -175,11 +176,6 @@ module _ (o : Options) (k : Kept) (bytes : List ℕ) (h : UnitHeader) (parsed : 
       kept = keeps_first r t (traces_of log view) (traces_of newlog now) (format_of_set set) view.standing now.standing new takes kept;
     }
 
-    -- what is kept behind it, with the units that wait
-    behind_sequence_set : kept_behind o k bytes ≡ with_all_waited o (with_sequence_set set k)
-    unfolding kept_behind
-    behind_sequence_set = ap (λ (c : Content). with_content o bytes c k) is
-
     later_means : {B H : Type 0} (view : View B H) → awaits_stream_info view.state ≡ false → is_awaited view.state ≡ false → meaning_in view.state (unit_at o k h bytes) ≡ Other
     later_means view first awaited = ap (λ (x : State). meaning_when x (unit_at o k h bytes)) (later_behind view.state (unit_at o k h bytes) first awaited resumed) ∙ ap later_meaning sequence_means
 
@@ -189,7 +185,7 @@ module _ (o : Options) (k : Kept) (bytes : List ℕ) (h : UnitHeader) (parsed : 
     later_step value t log view now mid new first awaited same kept behind = rw same (record {
       part = subst (λ (m : Meaning). Takes (Ok value) t (traces_of log view) (traces_of log view) m view.standing view.standing) (sym (later_means view first awaited)) (idle_unit t (traces_of log view) view.standing);
       state = sym (later_behind view.state (unit_at o k h bytes) first awaited resumed);
-      kept = behind ∙ ap (with_all_waited o) kept ∙ sym behind_sequence_set;
+      kept = behind ∙ ap (with_all_waited o) kept ∙ sym (behind_sequence_set o bytes h parsed wanted k set is);
     })
 
     pub later_stopped : {B H T : Type 0} (r : Result T DecodeError) (t : ℕ) (log : Option (List (Call H))) (view now : View B H) (mid new : Kept) → awaits_stream_info view.state ≡ false → is_awaited view.state ≡ false → now ≡ record view { state = Decoding } → mid ≡ with_sequence_set set k → sets.StopsReading o mid new

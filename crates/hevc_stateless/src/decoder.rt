@@ -4,7 +4,7 @@ ghost use Rattle.hevc_spec.specs.Units.{units};
 ghost use Rattle.hevc_stream.specs.Kept.{none_kept};
 ghost use Rattle.hevc_stream.specs.Options.{default_options};
 ghost use Rattle.hevc_options.specs.Options.{options_of};
-ghost use Rattle.hevc_driver.specs.Answers.{CountsErrors, KeepsFaultless};
+ghost use Rattle.hevc_driver.specs.Answers.{CountsErrors, KeepsFaultless, KeepsInfo};
 ghost use Rattle.hevc_stateless.specs.declared.state.State.TheVariants.{AwaitingFormat, Decoding, Reset};
 ghost use Rattle.hevc_stateless.specs.States.{is_awaited};
 ghost use Rattle.hevc_stateless.specs.Events.{TellsNext};
@@ -66,6 +66,8 @@ impl<B: StatelessH265DecoderBackend> StatelessDecoder<B> {
             (B.counts (view_of self.new).backend) result }
         ensures faultless { KeepsFaultless (B.is_faultless (view_of self.old).backend)
             (B.is_faultless (view_of self.new).backend) result }
+        ensures info { KeepsInfo (B.info (view_of self.old).backend)
+            (B.info (view_of self.new).backend) result }
         ensures takes { TakesFirst (units bitstream.now) result timestamp (set_for self.old)
             (seen_by B.log self.old) (seen_by B.log self.new) }
         ensures inside { IfOk result (λ place. (3 ≤ place) × (place ≤ length bitstream.now)) }
@@ -93,6 +95,8 @@ impl<B: StatelessH265DecoderBackend> StatelessDecoder<B> {
             (B.counts (view_of self.new).backend) result }
         ensures faultless { KeepsFaultless (B.is_faultless (view_of self.old).backend)
             (B.is_faultless (view_of self.new).backend) result }
+        ensures info { KeepsInfo (B.info (view_of self.old).backend)
+            (B.info (view_of self.new).backend) result }
         ensures takes { StepsIn (view_of self.old).state result timestamp (set_for self.old)
             nalu.now.header (bytes_of nalu.now)
             (seen_by B.log self.old) (seen_by B.log self.new) }
@@ -117,6 +121,8 @@ impl<B: StatelessH265DecoderBackend> StatelessDecoder<B> {
             (B.counts (view_of self.new).backend) result }
         ensures faultless { KeepsFaultless (B.is_faultless (view_of self.old).backend)
             (B.is_faultless (view_of self.new).backend) result }
+        ensures info { KeepsInfo (B.info (view_of self.old).backend)
+            (B.info (view_of self.new).backend) result }
         ensures flushes { (timestamp : ℕ) → Flushes result timestamp
             (traces_of (B.log (view_of self.old).backend) (view_of self.old))
             (traces_of (B.log (view_of self.new).backend) (view_of self.new))

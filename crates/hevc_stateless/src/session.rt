@@ -5,7 +5,7 @@ ghost use Rattle.hevc_bits.specs.NaluType.{nalu_type_number};
 ghost use Rattle.hevc_types_c.specs.Sps.{plain_sps};
 ghost use Rattle.hevc_views.specs.Sequences.{format_of_set};
 ghost use Rattle.hevc_walk.specs.Meanings.{SequenceSet, CodedSlice, EndOfSequence, EndOfBitstream};
-ghost use Rattle.hevc_driver.specs.Answers.{CountsErrors, KeepsFaultless};
+ghost use Rattle.hevc_driver.specs.Answers.{CountsErrors, KeepsFaultless, KeepsInfo};
 ghost use Rattle.hevc_driver.specs.Moments.{step_part};
 ghost use Rattle.hevc_driver.specs.Slices.{slice_of};
 ghost use Rattle.hevc_driver.specs.Sound.{AreNamed};
@@ -138,6 +138,7 @@ impl<B: StatelessH265DecoderBackend> Session<B> {
             (B.counts self.new.backend) result }
         ensures faultless { KeepsFaultless (B.is_faultless self.old.backend)
             (B.is_faultless self.new.backend) result }
+        ensures info { KeepsInfo (B.info self.old.backend) (B.info self.new.backend) result }
         ensures part { (timestamp : ℕ) → Takes result timestamp
             (traces_of (B.log self.old.backend) self.old)
             (traces_of (B.log self.new.backend) self.new)
@@ -168,6 +169,7 @@ impl<B: StatelessH265DecoderBackend> Session<B> {
             (B.counts self.new.backend) result }
         ensures faultless { KeepsFaultless (B.is_faultless self.old.backend)
             (B.is_faultless self.new.backend) result }
+        ensures info { KeepsInfo (B.info self.old.backend) (B.info self.new.backend) result }
         ensures part { Takes result timestamp
             (traces_of (B.log self.old.backend) self.old)
             (traces_of (B.log self.new.backend) self.new)
@@ -208,6 +210,7 @@ impl<B: StatelessH265DecoderBackend> Session<B> {
             (B.counts self.new.backend) result }
         ensures faultless { KeepsFaultless (B.is_faultless self.old.backend)
             (B.is_faultless self.new.backend) result }
+        ensures info { KeepsInfo (B.info self.old.backend) (B.info self.new.backend) result }
         ensures flushes { (timestamp : ℕ) → Flushes result timestamp
             (traces_of (B.log self.old.backend) self.old)
             (traces_of (B.log self.new.backend) self.new)

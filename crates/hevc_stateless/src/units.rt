@@ -6,7 +6,7 @@ ghost use Rattle.hevc_bits.specs.NaluType.{nalu_type_number};
 ghost use Rattle.hevc_bits.specs.FoundUnit.{bytes_of};
 ghost use Rattle.hevc_stream.specs.Slices.{temporal_id};
 ghost use Rattle.hevc_kept.specs.Kept.{kept_of, options_in};
-ghost use Rattle.hevc_driver.specs.Answers.{CountsErrors, KeepsFaultless};
+ghost use Rattle.hevc_driver.specs.Answers.{CountsErrors, KeepsFaultless, KeepsInfo};
 ghost use Rattle.hevc_stateless.specs.States.{is_awaited, is_parameter_set, AwaitsOrStays, unit_at};
 ghost use Rattle.hevc_stateless.specs.Steps.{Step, seen, IsOfSet};
 ghost use Rattle.hevc_records.specs.Sps.{PlainSps};
@@ -58,6 +58,8 @@ impl<B: StatelessH265DecoderBackend> StatelessDecoder<B> {
             (B.counts self.new.session.backend) result }
         ensures faultless { KeepsFaultless (B.is_faultless self.old.session.backend)
             (B.is_faultless self.new.session.backend) result }
+        ensures info { KeepsInfo (B.info self.old.session.backend)
+            (B.info self.new.session.backend) result }
         ensures options { options_in self.new.kept ≡ options_in self.old.kept }
         ensures step { (timestamp : ℕ) → Step result timestamp (options_in self.old.kept)
             nalu.now.header (bytes_of nalu.now)
@@ -85,6 +87,8 @@ impl<B: StatelessH265DecoderBackend> StatelessDecoder<B> {
             (B.counts self.new.session.backend) result }
         ensures faultless { KeepsFaultless (B.is_faultless self.old.session.backend)
             (B.is_faultless self.new.session.backend) result }
+        ensures info { KeepsInfo (B.info self.old.session.backend)
+            (B.info self.new.session.backend) result }
         ensures part { (timestamp : ℕ) (set : PlainSps)
             → (kept_of self.old.kept).sequence_sets id ≡ Some set
             → Takes result timestamp
@@ -133,6 +137,8 @@ impl<B: StatelessH265DecoderBackend> StatelessDecoder<B> {
             (B.counts self.new.session.backend) result }
         ensures faultless { KeepsFaultless (B.is_faultless self.old.session.backend)
             (B.is_faultless self.new.session.backend) result }
+        ensures info { KeepsInfo (B.info self.old.session.backend)
+            (B.info self.new.session.backend) result }
         ensures kept { self.new.kept ≡ self.old.kept }
         ensures part { Takes result timestamp
             (traces_of (B.log self.old.session.backend) self.old.session)
@@ -171,6 +177,8 @@ impl<B: StatelessH265DecoderBackend> StatelessDecoder<B> {
             (B.counts self.new.session.backend) result }
         ensures faultless { KeepsFaultless (B.is_faultless self.old.session.backend)
             (B.is_faultless self.new.session.backend) result }
+        ensures info { KeepsInfo (B.info self.old.session.backend)
+            (B.info self.new.session.backend) result }
         ensures kept { self.new.kept ≡ self.old.kept }
         ensures part { Takes result timestamp
             (traces_of (B.log self.old.session.backend) self.old.session)
@@ -204,6 +212,8 @@ impl<B: StatelessH265DecoderBackend> StatelessDecoder<B> {
             (B.counts self.new.session.backend) result }
         ensures faultless { KeepsFaultless (B.is_faultless self.old.session.backend)
             (B.is_faultless self.new.session.backend) result }
+        ensures info { KeepsInfo (B.info self.old.session.backend)
+            (B.info self.new.session.backend) result }
         ensures options { options_in self.new.kept ≡ options_in self.old.kept }
         ensures step { Step result timestamp (options_in self.old.kept)
             nalu.entry.header (bytes_of nalu.entry)
@@ -231,6 +241,8 @@ impl<B: StatelessH265DecoderBackend> StatelessDecoder<B> {
             (B.counts self.new.session.backend) result }
         ensures faultless { KeepsFaultless (B.is_faultless self.old.session.backend)
             (B.is_faultless self.new.session.backend) result }
+        ensures info { KeepsInfo (B.info self.old.session.backend)
+            (B.info self.new.session.backend) result }
         ensures options { options_in self.new.kept ≡ options_in self.old.kept }
         ensures step { Step result timestamp (options_in self.old.kept)
             nalu.entry.header (bytes_of nalu.entry)

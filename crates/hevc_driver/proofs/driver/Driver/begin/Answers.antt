@@ -11,7 +11,7 @@ use Rattle.hevc_walk.specs.Walk.{is_accepted}
 use Rattle.hevc_backend.specs.Negotiation.{format_of}
 use Rattle.hevc_driver.specs.Slices.{slice_of}
 use Rattle.hevc_driver.specs.Standings.{standing, traces}
-use Rattle.hevc_driver.proofs.PictureBegins.{begins_accepted, begins_negotiated, begins_refused}
+use Rattle.hevc_driver.proofs.PictureBegins.{begins_accepted, begins_negotiated, begins_refused, refused_info}
 use Rattle.hevc_driver.proofs.SliceViews.{slice_format}
 use Rattle.hevc_driver.proofs.Soundness.{has_frames}
 use Rattle.hevc_driver.proofs.driver.Driver.begin.Goals as goal
@@ -49,3 +49,6 @@ returns-in_err-negotiate-clause-part g c =
     (subst (λ (log : Option (List (Call g.row.B-Handle.Denot))). StopsBy c.in_err-negotiate.field-0.0 c.args.timestamp (traces log c.args.self.now.walk) (traces (g.B.StatelessH265DecoderBackend.log c.negotiate.new.self.backend) c.negotiate.new.self.walk) (renegotiates w.format s).events (λ call. IsNewSequence call × (st ≡ drained s))) c.num_free_frames.ensures.log
     (subst (λ (f : Format). StopsBy c.in_err-negotiate.field-0.0 c.args.timestamp (traces (g.B.StatelessH265DecoderBackend.log c.num_free_frames.new.self) c.args.self.now.walk) (traces (g.B.StatelessH265DecoderBackend.log c.negotiate.new.self.backend) c.negotiate.new.self.walk) (renegotiates f s).events (λ call. IsNewSequence call × (st ≡ drained s))) (sym is)
     (c.in_err-negotiate.ensures.part c.args.timestamp)))
+
+pub returns-in_err-negotiate-clause-info : goal.returns-in_err-negotiate-clause-info
+returns-in_err-negotiate-clause-info g c = refused_info _ c.in_err-negotiate.field-0.0 c.args.timestamp _ _ _ _ _ _ c.from_residual.ensures.1 (c.in_err-negotiate.ensures.part c.args.timestamp)

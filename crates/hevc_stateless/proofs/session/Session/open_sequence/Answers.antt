@@ -2,6 +2,7 @@ use Rattle.std.proofs.Common.{refl, ap, sym, subst, arith}
 use Rattle.hevc_types_c.specs.Sps.{plain_sps}
 use Rattle.hevc_views.specs.Sequences.{format_of_set}
 use Rattle.hevc_walk_units.specs.Units.{Standing}
+use Rattle.hevc_driver.proofs.PictureBegins.{refused_info}
 use Rattle.hevc_stateless.specs.Views.{View, IsIdleBefore, traces_of}
 use Rattle.hevc_stateless.proofs.Rooms.{few_came}
 use Rattle.hevc_stateless.proofs.Starting.{opens_first, first_refused, refused_stays, refused_left}
@@ -32,3 +33,6 @@ returns-in_err-open_sequence-clause-few g c = few_came 0 c.args.self.now c.self.
 
 pub returns-clause-few : goal.returns-clause-few
 returns-clause-few g c = few_came 0 c.args.self.now c.self.inside.driver.walk c.self.inside.driver.walk c.open_sequence.new.self.walk (ap (λ (v : View g.row.B.Denot g.row.B-Handle.Denot). v.queue) c.self.view_is) refl c.in_ok-open_sequence.ensures.grows (omega arith)
+
+pub returns-in_err-open_sequence-clause-info : goal.returns-in_err-open_sequence-clause-info
+returns-in_err-open_sequence-clause-info g c = refused_info _ _ 0 _ _ _ _ _ _ c.from_residual.ensures.1 (c.in_err-open_sequence.ensures.part 0)
