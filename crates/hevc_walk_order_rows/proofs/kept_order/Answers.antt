@@ -36,3 +36,7 @@ returns-clause-keeps c = All-from_recursion (KeepsOrder two_sequences) (sequence
 pub returns-clause-bounds : goal.returns-clause-bounds
 unfolding head order_count_in_range nearest due_outputs needs_additional_bumping needs_bumping with_stored reference_set with_marks ref_pic_list0 ref_pic_list1 finish store_picture change_format begin_picture make_room start_decoding
 returns-clause-bounds c = All-from_recursion (KeepsBounds two_sequences) (sequences two_sequences) (bounds_by two_sequences _ (refl, (refl, tt)) (refl, (refl, tt)) refl ((λ e. few _ _ refl), ((λ e. few _ _ refl), tt)) tt ((unequal _ _ refl, (unequal _ _ refl, tt)), ((unequal _ _ refl, tt), (tt, tt))) (few _ _ refl, (few _ _ refl, (few _ _ refl, tt))), (bounds_by two_sequences _ (refl, tt) (refl, tt) refl ((λ e. few _ _ refl), tt) refl ((unequal _ _ refl, tt), (tt, tt)) (few _ _ refl, (few _ _ refl, tt)), tt))
+
+pub returns-clause-tested : goal.returns-clause-tested
+unfolding head order_count_in_range nearest due_outputs needs_additional_bumping needs_bumping with_stored reference_set with_marks ref_pic_list0 ref_pic_list1 finish store_picture change_format begin_picture make_room start_decoding
+returns-clause-tested c = refl
