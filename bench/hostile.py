@@ -15,6 +15,8 @@ import time
 START = b"\0\0\1"
 SEQUENCE_SET = bytes.fromhex("42010101600000030090000003000003003ca08845e55abc2080")
 PICTURE_SET = bytes.fromhex("4401c0718012")
+# It ends within its third row, so it waits, and is read again whenever the sequence set of id 0 changes.
+BROKEN_PICTURE_SET = bytes.fromhex("4401c0")
 IDR = bytes.fromhex("2601af80")
 LATER_SLICE = bytes.fromhex("26012f80")
 CRA = bytes.fromhex("2a01ae1e80")
@@ -104,6 +106,7 @@ KINDS = {
     "waiting picture sets": halves(START + picture_set(0, 1), OTHER_SETS),
     "waiting, then replaced": halves(START + picture_set(0), OTHER_SETS),
     "waiting, sets between": repeated(START + picture_set(0, 1) + OTHER_SETS),
+    "broken, then replaced": halves(START + BROKEN_PICTURE_SET, OTHER_SETS),
     "entry points": repeated(START + entry_points(255), START + sequence_set(64, 4096) + START + picture_set(0, 0, True)),
     "17 bytes a picture": repeated(START + IDR + data(10), behind_sets()),
     "17 bytes a slice": repeated(START + LATER_SLICE + data(10), behind_sets(IDR)),
