@@ -1,0 +1,170 @@
+"""Runs a program over streams that are made to cost more than they should, beside a plain stream, and prints the time for each byte and
+the peak memory of each, also as multiples of those of the plain stream.
+
+hostile.py PROGRAM FOLDER [BYTES] [SECONDS] [KIND ..]
+
+Each kind is run over a quarter of BYTES and over BYTES, so that what isn't linear shows. A run is given up after SECONDS, and has at most
+8 GB of memory.
+"""
+import os
+import resource
+import subprocess
+import sys
+import time
+
+START = b"\0\0\1"
+SEQUENCE_SET = bytes.fromhex("42010101600000030090000003000003003ca08845e55abc2080")
+PICTURE_SET = bytes.fromhex("4401c0718012")
+# It ends within its third row, so it waits, and is read again whenever the sequence set of id 0 changes.
+BROKEN_PICTURE_SET = bytes.fromhex("4401c0")
+IDR = bytes.fromhex("2601af80")
+LATER_SLICE = bytes.fromhex("26012f80")
+CRA = bytes.fromhex("2a01ae1e80")
+# RASL_R of order count 6: behind a CRA picture that begins the stream it is skipped.
+SKIPPED = bytes.fromhex("1201db3c80")
+END_OF_BITSTREAM = bytes.fromhex("4a01")
+MESSAGE = bytes.fromhex("4e01")
+MEMORY = 8 << 30
+
+
+def ue(value):
+    """ue(v) of 9.2."""
+    digits = bin(value + 1)[2:]
+    return "0" * (len(digits) - 1) + digits
+
+
+def unit(header, bits):
+    """A unit with these payload bits, a stop bit behind them, and each 03 that 7.3.1.1 asks for."""
+    bits += "1"
+    bits += "0" * (-len(bits) % 8)
+    out, zeros = bytearray(), 0
+    for byte in int(bits, 2).to_bytes(len(bits) // 8, "big"):
+        if zeros == 2 and byte <= 3:
+            out.append(3)
+            zeros = 0
+        out.append(byte)
+        zeros = zeros + 1 if byte == 0 else 0
+    return bytes.fromhex(header) + bytes(out)
+
+
+def sequence_set(width, height, latency=0):
+    """A sequence set of id 0 at level 6.2, with coding tree blocks of 16 by 16 luma samples."""
+    profile = "00000001" + f"{0x60000000:032b}" + f"{0x900000000000:048b}" + f"{186:08b}"
+    size = ue(0) + ue(1) + ue(width) + ue(height) + "0" + ue(0) + ue(0) + ue(4)
+    ordering = "1" + ue(4) + ue(2) + ue(latency)
+    blocks = ue(0) + ue(1) + ue(0) + ue(2) + ue(0) + ue(0)
+    return unit("4201", "0000" + "000" + "1" + profile + size + ordering + blocks + "0000" + ue(0) + "000" + "00")
+
+
+def picture_set(number, sequence_number=0, synchronised=False):
+    """A picture set with these ids, with or without entropy_coding_sync_enabled_flag."""
+    first = ue(number) + ue(sequence_number) + "00" + "000" + "00" + ue(0) + ue(0) + "1" + "000" + "11"
+    flags = "00000" + ("1" if synchronised else "0")
+    return unit("4401", first + flags + "0" + "0" + "0" + "0" + ue(0) + "00")
+
+
+def entry_points(count):
+    """An IDR slice whose header has so many entry points of 32 bits each."""
+    offsets = "".join(f"{0x01020304 + place:032b}" for place in range(count))
+    return unit("2601", "1" + "0" + ue(0) + ue(2) + "1" + ue(count) + ue(31) + offsets)
+
+
+def data(size):
+    """Slice data of so many bytes, none of which is 0."""
+    return bytes(0x40 | (place * 7 + 1) % 61 for place in range(size))
+
+
+def behind_sets(*units):
+    return START + SEQUENCE_SET + START + PICTURE_SET + b"".join(START + each for each in units)
+
+
+def halves(first, second):
+    """A half of the bytes of the first kind, and a half of the second."""
+    return lambda total: [(b"", first, total // 2), (b"", second, total // 2)]
+
+
+def repeated(piece, front=b""):
+    return lambda total: [(front, piece, total)]
+
+
+RUN_OF_03 = b"\0\0\3" * 100
+OTHER_SETS = START + sequence_set(64, 64, 0) + START + sequence_set(64, 64, 1)
+
+# What each kind is made of: a front, and what is repeated behind it.
+KINDS = {
+    "plain": repeated(START + IDR + data(676), behind_sets()),
+    "zeros": repeated(b"\0" * 1000),
+    "start codes alone": repeated(START * 300),
+    "units of one byte": repeated(START + b"\x26"),
+    "units of two bytes": repeated(START + END_OF_BITSTREAM, behind_sets()),
+    "one message of 03": repeated(RUN_OF_03, behind_sets(MESSAGE)),
+    "one slice of 03": repeated(RUN_OF_03, behind_sets(IDR)),
+    "slices of 03": repeated(START + IDR + RUN_OF_03, behind_sets()),
+    "sets behind 03": repeated(START + SEQUENCE_SET + RUN_OF_03, behind_sets()),
+    "skipped pictures": repeated(START + SKIPPED, behind_sets(CRA)),
+    "64 picture sets": repeated(b"".join(START + picture_set(number) for number in range(64)), behind_sets()),
+    "waiting picture sets": halves(START + picture_set(0, 1), OTHER_SETS),
+    "waiting, then replaced": halves(START + picture_set(0), OTHER_SETS),
+    "waiting, sets between": repeated(START + picture_set(0, 1) + OTHER_SETS),
+    "broken, then replaced": halves(START + BROKEN_PICTURE_SET, OTHER_SETS),
+    "entry points": repeated(START + entry_points(255), START + sequence_set(64, 4096) + START + picture_set(0, 0, True)),
+    "17 bytes a picture": repeated(START + IDR + data(10), behind_sets()),
+    "17 bytes a slice": repeated(START + LATER_SLICE + data(10), behind_sets(IDR)),
+}
+
+
+def write(path, parts):
+    """Writes the parts, and gives how many bytes they have."""
+    with open(path, "wb") as out:
+        for front, piece, total in parts:
+            out.write(front)
+            block = piece * max(1, 1_000_000 // len(piece))
+            whole, rest = divmod(max(0, total - len(front)), len(block))
+            for _ in range(whole):
+                out.write(block)
+            out.write(piece * (rest // len(piece)))
+        return out.tell()
+
+
+def limit_memory():
+    resource.setrlimit(resource.RLIMIT_AS, (MEMORY, MEMORY))
+
+
+def run(program, path, patience):
+    """The status, the seconds of processor time, and the most memory in bytes; no status where it was given up."""
+    start = time.monotonic()
+    with open(path, "rb") as source:
+        child = subprocess.Popen([program], stdin=source, stdout=subprocess.DEVNULL, preexec_fn=limit_memory)
+    while True:
+        number, status, usage = os.wait4(child.pid, os.WNOHANG)
+        if number:
+            return os.waitstatus_to_exitcode(status), usage.ru_utime + usage.ru_stime, usage.ru_maxrss * 1024
+        if time.monotonic() - start > patience:
+            child.kill()
+            _, _, usage = os.wait4(child.pid, 0)
+            return None, usage.ru_utime + usage.ru_stime, usage.ru_maxrss * 1024
+        time.sleep(0.01)
+
+
+def main():
+    program, folder = sys.argv[1:3]
+    total = int(sys.argv[3]) if len(sys.argv) > 3 else 256_000_000
+    patience = float(sys.argv[4]) if len(sys.argv) > 4 else 120
+    chosen = sys.argv[5:] or [kind for kind in KINDS if kind != "plain"]
+    path = os.path.join(folder, "stream")
+    print("kind                           MB  status   ns/byte   x plain   bytes/byte   x plain")
+    plain = {}
+    for kind in ["plain", *chosen]:
+        for part in (total // 4, total):
+            size = write(path, KINDS[kind](part))
+            status, seconds, memory = run(program, path, patience)
+            figures = seconds / size * 1e9, memory / size
+            plain.setdefault(part, figures)
+            ratios = [own / of_plain for own, of_plain in zip(figures, plain[part])]
+            mark = "   above 10" if max(ratios) > 10 or status is None else ""
+            told = "-" if status is None else status
+            print(f"{kind:25} {size / 1e6:8.1f} {told:>7} {figures[0]:9.2f} {ratios[0]:9.2f} {figures[1]:12.2f} {ratios[1]:9.2f}{mark}", flush=True)
+            os.remove(path)
+
+
+main()

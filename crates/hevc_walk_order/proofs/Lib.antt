@@ -1,0 +1,11 @@
+pub mod Each
+pub mod Keys
+pub mod Waiting
+pub mod Parts
+pub mod Heads
+pub mod Run
+pub mod Law
+pub mod Cut
+pub mod Turns
+pub mod Bounds
+pub mod Tested

@@ -1,0 +1,4 @@
+pub mod Sequences
+pub mod DisplayOrder
+pub mod Bounds
+pub mod Tests
