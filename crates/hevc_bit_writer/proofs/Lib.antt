@@ -1,0 +1,5 @@
+pub mod Escapes
+pub mod Found
+pub mod Packing
+pub mod Spellings
+pub mod Writes
