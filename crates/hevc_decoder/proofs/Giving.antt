@@ -1,5 +1,5 @@
 -- A unit that is given once.
-use Rattle.std.proofs.Common.{◌≡◌, inl, inr, ℕ, ◌+◌, ◌-◌, ◌<◌, ◌^◌, List, [], ◌∷◌, ◌++◌, map, refl, sym, ◌∙◌, ap, subst, arith, Option, Some, None, Result, Ok, Err, Bool, true, false, ◌&&◌, if◌then◌else◌}
+use Rattle.std.proofs.Common.{◌≡◌, inl, inr, ℕ, ◌+◌, ◌-◌, ◌<◌, ◌^◌, List, [], ◌∷◌, ◌++◌, map, refl, sym, ◌∙◌, ap, subst, arith, Option, Some, None, Result, Ok, Err, Bool, true, false, not, ◌&&◌, ◌==◌, if◌then◌else◌}
 use Rattle.std.proofs.lemmas.Bool.Decides.{nat_tests}
 use Rattle.hevc_walk.specs.Meanings.{Slice, Meaning, SequenceSet, CodedSlice, EndOfSequence, EndOfBitstream, Other, Refused}
 use Rattle.hevc_walk.specs.DependentSlices.{whole_slice}
@@ -13,7 +13,7 @@ use Rattle.hevc_bumping.specs.declared.frame.Frame.{Frame}
 use Rattle.hevc_driver.specs.declared.decode_error.DecodeError.{DecodeError}
 use Rattle.hevc_driver.specs.declared.decode_error.DecodeError.TheVariants as errors
 use Rattle.hevc_driver.specs.Does.{Traces, Does, Stops}
-use Rattle.hevc_driver.specs.Moments.{with_kept, begins_at, begins_by, step_part, kept_behind}
+use Rattle.hevc_driver.specs.Moments.{with_kept, begins_at, begins_by, negotiates, step_part, kept_behind}
 use Rattle.hevc_driver.specs.Takes.{Goes, Fills, Halts, Refuses, Stays, LeftAt, Takes}
 use Rattle.hevc_driver.proofs.Doing.{does_nothing, keeps_all}
 use Rattle.hevc_stateless.specs.Views.{traces_of}
@@ -124,5 +124,5 @@ module _ {B H : Type 0} (k : ℕ) (old new : Scene B H) (out : List (Frame H)) (
   take_once (Err (errors.NotEnoughOutputBuffers frames)) isnt few z = once_halts frames z
   take_once (Err errors.NoNal) isnt few z = absurd (no_nal z.cause z.named)
   take_once (Err errors.CheckEvents) isnt few z = absurd (isnt refl)
-  take_once (Err errors.PictureNumbersSpent) isnt few z = let spent : s.next.number ≡ 2 ^ 64 - 1 = grind (arith, nat_tests, last_true _ _ _ z.spent) in absurd (omega (arith, spent, few))
+  take_once (Err errors.PictureNumbersSpent) isnt few z = let spent : s.next.number ≡ 2 ^ 64 - 1 = grind (arith, nat_tests, last_true (begins_at x s) (not (negotiates x s)) (s.next.number == 2 ^ 64 - 1) z.spent) in absurd (omega (arith, spent, few))
   take_once (Err e) isnt few z = once_refuses e z

@@ -16,6 +16,9 @@ use Rattle.hevc_walk_fates.specs.Submissions.{submitted_in, submitted_numbers}
 use Rattle.hevc_walk_fates.proofs.Fates.{output_once, output_displayed}
 use Rattle.hevc_walk_fates.proofs.Submitted.{submitted_once}
 use Rattle.hevc_walk_bound.proofs.Bound.{clean_ok}
+use Rattle.hevc_walk_order.specs.DisplayOrder.{ComeInOrder, ComeInTurn}
+use Rattle.hevc_walk_order.proofs.Law.{law}
+use Rattle.hevc_walk_order.proofs.Turns.{in_turn}
 use Rattle.hevc_backend.specs.declared.call.Call.{Call}
 use Rattle.hevc_backend.specs.declared.call.Call.TheVariants as code
 use Rattle.hevc_driver.specs.declared.decode_error.DecodeError.{DecodeError}
@@ -26,7 +29,7 @@ use Rattle.hevc_driver.proofs.Members.{part_left}
 use Rattle.hevc_moments.specs.Stands.{asked}
 use Rattle.hevc_decoder.specs.declared.decoded.Shown.{Shown}
 use Rattle.hevc_decoder.specs.declared.decoded.Refused.{Refused}
-use Rattle.hevc_decoder.specs.Answers.{without_unit, IsAnswer, AnswersOnly, IsNoMemory, IsOkOrNoMemory}
+use Rattle.hevc_decoder.specs.Answers.{without_unit, IsAnswer, AnswersOnly, IsNoMemory, IsOkOrNoMemory, IsNoFullStore, FindsRoom}
 use Rattle.hevc_decoder.specs.Names.{output_picture, shown_ticket, answer_of}
 use Rattle.hevc_decoder.specs.Scenes.{Trail}
 use Rattle.hevc_decoder.specs.Runs.{CallFollows, UpTo, EndsAt, Ends, Ended}
@@ -277,6 +280,16 @@ module _ {H : Type 0} (us : List Meaning) (r : Result ℕ Refused) (old new : Tr
   pub fates_of : OnOk r (Appended old.shown new.shown (λ o. AreDisplayed us o))
   fates_of = fates_by r x.ends
 
+  order_by : (P : List OutputPicture → Type 0) → (stop us ≡ None → P (outputs us)) → (q : Result ℕ Refused) → Ends q us x.done x.rest → OnOk q (Appended old.shown new.shown (λ o. P (map output_picture o)))
+  order_by P holds (Ok m) y = (x.does.out, x.does.shown, subst P (sym (all_given y.1)) (holds (stops_none m y.0)))
+  order_by P holds (Err s) y = tt
+
+  pub in_turn_of : OnOk r (Appended old.shown new.shown (λ o. ComeInTurn us (map output_picture o)))
+  in_turn_of = order_by (ComeInTurn us) (λ none. in_turn us none) r x.ends
+
+  pub display_order_of : OnOk r (Appended old.shown new.shown (λ o. ComeInOrder us (map output_picture o)))
+  display_order_of = order_by (ComeInOrder us) (λ none. law us none) r x.ends
+
   not_ok : (n : ℕ) (s : Refused) → verdict us ≡ Ok n → answer_of (verdict us) ≡ Err s → ⊥
   not_ok n s is refused = cc (sym (ap answer_of is) ∙ refused)
 
@@ -298,3 +311,14 @@ module _ {H : Type 0} (us : List Meaning) (r : Result ℕ Refused) (old new : Tr
 
   pub completes_clean : IsClean us → IsNotOfBackend (without_unit r) → IsOkOrNoMemory r
   completes_clean clean fine = completes (length (pictures us)) (clean_ok us clean) fine
+
+  room_at : (e : DecodeError) (s : Refused) → verdict us ≡ Ok (length (pictures us)) → EndsAt e s us x.done x.rest → IsNoFullStore e
+  room_at errors.DpbFull s is y = not_ok (length (pictures us)) s is y.0
+  room_at e s is y = tt
+
+  room_by : (q : Result ℕ Refused) → verdict us ≡ Ok (length (pictures us)) → Ends q us x.done x.rest → FindsRoom q
+  room_by (Ok m) is y = tt
+  room_by (Err s) is y = room_at s.error s is y
+
+  pub room_of : IsClean us → FindsRoom r
+  room_of clean = room_by r (clean_ok us clean) x.ends

@@ -30,3 +30,12 @@ IsNoMemory error = ⊥
 abbrev pub IsOkOrNoMemory : Result ℕ Refused → Type 0
 IsOkOrNoMemory (Ok pictures) = Unit {0}
 IsOkOrNoMemory (Err refused) = IsNoMemory refused.error
+
+abbrev pub IsNoFullStore : DecodeError → Type 0
+IsNoFullStore errors.DpbFull = ⊥
+IsNoFullStore error = Unit {0}
+
+-- no picture found the buffer full as it was to be stored (C.5.2.3)
+abbrev pub FindsRoom : Result ℕ Refused → Type 0
+FindsRoom (Ok pictures) = Unit {0}
+FindsRoom (Err refused) = IsNoFullStore refused.error

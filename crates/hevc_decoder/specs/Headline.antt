@@ -2,11 +2,12 @@
 use Rattle.std.specs.Prelude.{◌≡◌, ℕ, ◌≤◌, List, [], ◌∷◌, ◌++◌, map, Option, Result, Ok, Err, Contains}
 use Rattle.std.specs.List.{AllByRecursion}
 use Rattle.hevc_walk.specs.Meanings.{Meaning}
-use Rattle.hevc_walk.specs.Pictures.{Picture, pictures}
+use Rattle.hevc_walk.specs.Pictures.{Picture, pictures, stream}
 use Rattle.hevc_walk.specs.Walk as walk
 use Rattle.hevc_walk.specs.Refusals.{Refusal}
 use Rattle.hevc_walk.specs.Results.{OutputPicture, calls_below, outputs_below}
 use Rattle.hevc_walk.specs.Fates.{times, displayed_numbers, discarded_numbers}
+use Rattle.hevc_walk_bound.specs.Stores.{StoresFew}
 use Rattle.hevc_dpb.specs.Entries.{IsPartOf}
 use Rattle.hevc_backend.specs.declared.call.Call.{Call}
 use Rattle.hevc_backend.specs.Trait.{logged}
@@ -140,3 +141,9 @@ ComeOutOnce shown = (n : ℕ) → times n (shown_numbers shown) ≤ 1
 -- those whose fate is to be displayed come out, and no others
 abbrev pub AreDisplayed : {H : Type 0} → List Meaning → List (Shown H) → Type 0
 AreDisplayed us shown = (n : ℕ) → times n (shown_numbers shown) ≡ times n (displayed_numbers (discarded_numbers us) (pictures us))
+
+-- ---- the buffer
+
+-- whenever a picture is to be stored, no more are in the buffer than its sets declare (C.5.2.3)
+abbrev pub NeverStoreMore : List Meaning → Type 0
+NeverStoreMore us = StoresFew (stream us).first_set (pictures us)

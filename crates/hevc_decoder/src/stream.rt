@@ -4,13 +4,14 @@ ghost use Rattle.std.specs.declared.result.Result.TheVariants.{Ok};
 ghost use Rattle.hevc_spec.specs.Units.{units};
 ghost use Rattle.hevc_walk.specs.Clean.{IsClean};
 ghost use Rattle.hevc_walk.specs.Results.{calls, outputs, verdict};
+ghost use Rattle.hevc_walk_order.specs.DisplayOrder.{ComeInOrder, ComeInTurn};
 ghost use Rattle.hevc_stream.specs.Options.{default_options};
 ghost use Rattle.hevc_stream.specs.Stream.{meanings};
 ghost use Rattle.hevc_options.specs.Options.{options_of};
 ghost use Rattle.hevc_driver.specs.Answers.{CountsErrors, KeepsFaultless};
 ghost use Rattle.hevc_driver.specs.Calls.{call_of};
-ghost use Rattle.hevc_decoder.specs.Answers.{AnswersOnly, IsOkOrNoMemory, without_unit};
-ghost use Rattle.hevc_decoder.specs.Headline.{Grew, Appended, IsFront, all_asked, AnswersVerdict, EndsCalls, EndsOutputs, WantsFrame, AllSubmitted, SubmittedOnce, ComeOutOnce, AreDisplayed};
+ghost use Rattle.hevc_decoder.specs.Answers.{AnswersOnly, FindsRoom, IsOkOrNoMemory, without_unit};
+ghost use Rattle.hevc_decoder.specs.Headline.{Grew, Appended, IsFront, all_asked, AnswersVerdict, EndsCalls, EndsOutputs, WantsFrame, AllSubmitted, SubmittedOnce, ComeOutOnce, AreDisplayed, NeverStoreMore};
 ghost use Rattle.hevc_decoder.specs.Names.{output_picture};
 
 use crate::decoded::{Decoded, Shown};
@@ -67,6 +68,12 @@ pub fn decode_stream_with<B: StatelessH265DecoderBackend>(
     ensures fates { OnOk result.result (Appended shown.old.items shown.new.items
         (λ o. AreDisplayed (meanings (options_of options) stream.now) o)) }
 
+    // On Ok sequence by sequence comes out, and each that keeps the order that it declares in display order.
+    ensures in_turn { OnOk result.result (Appended shown.old.items shown.new.items
+        (λ o. ComeInTurn (meanings (options_of options) stream.now) (map output_picture o))) }
+    ensures display_order { OnOk result.result (Appended shown.old.items shown.new.items
+        (λ o. ComeInOrder (meanings (options_of options) stream.now) (map output_picture o))) }
+
     // The backend is blamed only where it failed or had no frame, and one that never fails still doesn't.
     ensures cause { CountsErrors (B.counts backend) (B.counts result.backend)
         (without_unit result.result) }
@@ -78,6 +85,12 @@ pub fn decode_stream_with<B: StatelessH265DecoderBackend>(
         → B.is_faultless backend → IsOkOrNoMemory result.result }
     ensures clean { IsClean (meanings (options_of options) stream.now)
         → B.is_faultless backend → IsOkOrNoMemory result.result }
+
+    // A clean stream stores no picture where more entries stand than its sets declare, so over any backend none finds the
+    // buffer full.
+    ensures stores_few { IsClean (meanings (options_of options) stream.now)
+        → NeverStoreMore (meanings (options_of options) stream.now) }
+    ensures room { IsClean (meanings (options_of options) stream.now) → FindsRoom result.result }
 {
     let mut decoder = StatelessDecoder::new_with(alloc, backend, options);
     let result = take_units(&mut decoder, stream, shown);
@@ -119,6 +132,10 @@ pub fn decode_stream<B: StatelessH265DecoderBackend>(
     ensures once { Appended shown.old.items shown.new.items (λ o. ComeOutOnce o) }
     ensures fates { OnOk result.result (Appended shown.old.items shown.new.items
         (λ o. AreDisplayed (meanings default_options stream.now) o)) }
+    ensures in_turn { OnOk result.result (Appended shown.old.items shown.new.items
+        (λ o. ComeInTurn (meanings default_options stream.now) (map output_picture o))) }
+    ensures display_order { OnOk result.result (Appended shown.old.items shown.new.items
+        (λ o. ComeInOrder (meanings default_options stream.now) (map output_picture o))) }
     ensures cause { CountsErrors (B.counts backend) (B.counts result.backend)
         (without_unit result.result) }
     ensures faultless { KeepsFaultless (B.is_faultless backend) (B.is_faultless result.backend)
@@ -127,6 +144,9 @@ pub fn decode_stream<B: StatelessH265DecoderBackend>(
         → B.is_faultless backend → IsOkOrNoMemory result.result }
     ensures clean { IsClean (meanings default_options stream.now)
         → B.is_faultless backend → IsOkOrNoMemory result.result }
+    ensures stores_few { IsClean (meanings default_options stream.now)
+        → NeverStoreMore (meanings default_options stream.now) }
+    ensures room { IsClean (meanings default_options stream.now) → FindsRoom result.result }
 {
     decode_stream_with(alloc, backend, Options::new(), stream, shown)
 }

@@ -1,4 +1,5 @@
 mod calling;
+mod plans;
 mod states;
 
 use crate::{DecodeError, Refused, Shown, decode_stream};

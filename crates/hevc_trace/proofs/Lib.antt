@@ -1,3 +1,4 @@
 pub mod Bytes
 pub mod Joined
 pub mod Pieces
+pub mod Order

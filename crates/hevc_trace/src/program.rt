@@ -5,6 +5,8 @@ ghost use Rattle.std.specs.String.{string_bytes};
 ghost use Rattle.std.specs.Io.KnownBytes.{Appends, IsAtEnd};
 ghost use Rattle.hevc_faults.specs.Faults.{Rose};
 ghost use Rattle.hevc_walk.specs.Clean.{IsClean};
+ghost use Rattle.hevc_walk.specs.Results.{outputs};
+ghost use Rattle.hevc_walk_order.specs.DisplayOrder.{ComeInOrder, ComeInTurn};
 ghost use Rattle.hevc_stream.specs.Stream.{meanings};
 ghost use Rattle.hevc_options.specs.Options.{options_of};
 ghost use Rattle.hevc_trace.specs.Command.{command};
@@ -58,6 +60,13 @@ pub fn run<S: Source, K: Sink>(alloc: Global, words: &[Word], source: &mut S, si
         → IsAtEnd (S.left source.new) × IfSome (S.left source.old) (λ s.
         Appends (K.written sink.old) (K.written sink.new) (report_of options s)
         × (result ≡ status_of (ending_of options s)))) }
+    // On 0 sequence by sequence came out, and each that keeps the order that it declares in display order.
+    ensures in_turn { IfSome (command words.now) (λ options. result ≡ 0
+        → IfSome (S.left source.old) (λ s.
+        ComeInTurn (meanings options s) (outputs (meanings options s)))) }
+    ensures display_order { IfSome (command words.now) (λ options. result ≡ 0
+        → IfSome (S.left source.old) (λ s.
+        ComeInOrder (meanings options s) (outputs (meanings options s)))) }
     // That is so for no longer input than may be.
     ensures limit { IfSome (command words.now) (λ options. result ≤ 1
         → IfSome (S.left source.old) (λ s. length s ≤ INPUT_LIMIT)) }
@@ -123,6 +132,12 @@ fn write_report<S: Source, K: Sink>(
         (report_of (options_of options) s))) }
     ensures clean { IfOk result (λ is_decoded. IfSome (S.left source.old) (λ s.
         IsClean (meanings (options_of options) s) → is_decoded ≡ true)) }
+    ensures in_turn { IfOk result (λ is_decoded. IfSome (S.left source.old) (λ s.
+        is_decoded ≡ true → ComeInTurn (meanings (options_of options) s)
+        (outputs (meanings (options_of options) s)))) }
+    ensures display_order { IfOk result (λ is_decoded. IfSome (S.left source.old) (λ s.
+        is_decoded ≡ true → ComeInOrder (meanings (options_of options) s)
+        (outputs (meanings (options_of options) s)))) }
     ensures read { IsErrOf result Stop.Read
         → Rose (S.faults source.old) (S.faults source.new) × (sink.new ≡ sink.old) }
     ensures write { IsErrOf result Stop.Write → Rose (K.faults sink.old) (K.faults sink.new) }
@@ -154,6 +169,12 @@ fn report_on(alloc: Global, options: Options, stream: &[u8]) -> Result<Report, A
         report.is_decoded ≡ is_ok (ending_of (options_of options) stream.now)) }
     ensures clean { IfOk result (λ report.
         IsClean (meanings (options_of options) stream.now) → report.is_decoded ≡ true) }
+    ensures in_turn { IfOk result (λ report. report.is_decoded ≡ true
+        → ComeInTurn (meanings (options_of options) stream.now)
+        (outputs (meanings (options_of options) stream.now))) }
+    ensures display_order { IfOk result (λ report. report.is_decoded ≡ true
+        → ComeInOrder (meanings (options_of options) stream.now)
+        (outputs (meanings (options_of options) stream.now))) }
 {
     let mut shown = Vec::new(alloc);
     let decoded = decode_stream_with(alloc, Backend::new(alloc), options, stream, &mut shown);

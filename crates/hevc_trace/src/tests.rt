@@ -619,7 +619,8 @@ fn other_words_are_no_command(rt: HostRuntime) -> Result<(), Fail> {
     Ok(())
 }
 
-/// A run whose so manieth read and write fail ends with this status, and writes nothing.
+/// A run whose reads and writes with these numbers fail ends with this status; but where it succeeds, it
+/// writes nothing.
 fn fails(
     rt: &impl Abort,
     alloc: Global,
@@ -630,7 +631,15 @@ fn fails(
     let mut source = MemorySource::new(stream(alloc, &[SPS, PPS, IDR, P4, P2])?, reads);
     let mut sink = MemorySink::new(alloc, writes);
     assert_eq!(rt; run(alloc, &[], &mut source, &mut sink), status);
-    assert!(rt; sink.written().is_empty());
+    let end = "end pictures 3 shown 3\n";
+    let is_whole = sink.written().ends_with(end.as_bytes());
+    assert!(rt;
+        if status == 0 {
+            is_whole
+        } else {
+            sink.written().is_empty()
+        }
+    );
     Ok(())
 }
 
@@ -639,5 +648,7 @@ fn faults_have_their_statuses(rt: HostRuntime) -> Result<(), Fail> {
     let alloc = rt.alloc();
     fails(&rt, alloc, vec![in alloc; 1]?, Vec::new(alloc), 3)?;
     fails(&rt, alloc, vec![in alloc; 2]?, Vec::new(alloc), 3)?;
-    fails(&rt, alloc, Vec::new(alloc), vec![in alloc; 1]?, 4)
+    fails(&rt, alloc, vec![in alloc; 3]?, Vec::new(alloc), 0)?;
+    fails(&rt, alloc, Vec::new(alloc), vec![in alloc; 1]?, 4)?;
+    fails(&rt, alloc, Vec::new(alloc), vec![in alloc; 2]?, 0)
 }

@@ -1,11 +1,12 @@
 use Rattle.std.proofs.Common.{[], refl, sym, ap, subst}
 use Rattle.hevc_stream.specs.Stream.{meanings}
 use Rattle.hevc_options.specs.Options.{options_of}
+use Rattle.hevc_walk_bound.proofs.Bound.{stores_few}
 use Rattle.hevc_stateless.specs.Decoders.{view_of}
 use Rattle.hevc_stateless.specs.Views.{View}
 use Rattle.hevc_decoder.specs.Runs.{Ended}
 use Rattle.hevc_decoder.proofs.Walking.{whole_run}
-use Rattle.hevc_decoder.proofs.Promises.{calls_of, outputs_of, whole_calls_of, whole_outputs_of, handles_of, submitted_once_of, once_of, fates_of, completes_clean}
+use Rattle.hevc_decoder.proofs.Promises.{calls_of, outputs_of, whole_calls_of, whole_outputs_of, handles_of, submitted_once_of, once_of, fates_of, in_turn_of, display_order_of, completes_clean, room_of}
 use Rattle.hevc_decoder.proofs.stream.decode_stream_with.Given as given
 use Rattle.hevc_decoder.proofs.stream.decode_stream_with.Goals as goal
 
@@ -34,6 +35,18 @@ returns-clause-once g c = once_of _ _ _ _ (run g c)
 
 pub returns-clause-fates : goal.returns-clause-fates
 returns-clause-fates g c = fates_of _ _ _ _ (run g c)
+
+pub returns-clause-in_turn : goal.returns-clause-in_turn
+returns-clause-in_turn g c = in_turn_of _ _ _ _ (run g c)
+
+pub returns-clause-display_order : goal.returns-clause-display_order
+returns-clause-display_order g c = display_order_of _ _ _ _ (run g c)
+
+pub returns-clause-stores_few : goal.returns-clause-stores_few
+returns-clause-stores_few g c = stores_few (meanings (options_of c.args.options) c.args.stream.now)
+
+pub returns-clause-room : goal.returns-clause-room
+returns-clause-room g c = room_of _ _ _ _ (run g c)
 
 pub returns-clause-handles : goal.returns-clause-handles
 returns-clause-handles g c = handles_of _ _ _ _ (run g c) refl
