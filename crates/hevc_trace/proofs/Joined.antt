@@ -3,15 +3,16 @@ use Rattle.std.proofs.Common.{◌≡◌, ℕ, suc, ◌+◌, ◌<◌, Bool, true,
 use Rattle.std.proofs.lemmas.List.{map-append}
 use Rattle.std.proofs.lemmas.List.Elements.{filter-append}
 use Rattle.std.proofs.lemmas.Bool.Decides.{nat_tests}
+use Rattle.std.specs.Prelude.{ℤ}
 use Rattle.std.specs.List.{flat_map, range_with_len}
 use Rattle.hevc_backend.specs.declared.call.Call.{Call}
 use Rattle.hevc_backend.specs.declared.call.Call.TheVariants.{NewSequence, NewPicture, BeginPicture, DecodeSlice, SubmitPicture}
 use Rattle.hevc_backend.specs.Handles.{handles, AreCounted}
 use Rattle.hevc_backend.specs.Trait.{logged}
 use Rattle.hevc_walk.specs.Meanings.{Meaning}
-use Rattle.hevc_walk.specs.Results.{calls, outputs, verdict, calls_below, calls_of_unit}
+use Rattle.hevc_walk.specs.Results.{OutputPicture, calls, outputs, verdict, calls_below, calls_of_unit}
 use Rattle.hevc_walk.specs.Walk as walk
-use Rattle.hevc_stream.specs.Options.{Options}
+use Rattle.hevc_stream.specs.Options.{Options, default_options}
 use Rattle.hevc_stream.specs.Stream.{meanings}
 use Rattle.hevc_driver.specs.declared.decode_error.DecodeError.{DecodeError}
 use Rattle.hevc_driver.specs.declared.decode_error.DecodeError.TheVariants as errors
@@ -22,9 +23,10 @@ use Rattle.hevc_decoder.specs.declared.decoded.Refused.{Refused}
 use Rattle.hevc_decoder.specs.Answers.{IsNoMemory, IsOkOrNoMemory, without_unit}
 use Rattle.hevc_decoder.specs.Headline.{Grew, Appended, AnswersError, AnswersVerdict, EndsCalls, EndsCallsAt, EndsOutputs, EndsOutputsAt, SubmitsLast, all_asked}
 use Rattle.hevc_decoder.specs.Names.{output_picture, answer_of}
-use Rattle.hevc_trace.specs.Lines.{log_line, shown_line, text_of}
+use Rattle.hevc_trace.specs.Lines.{log_line, shown_line, shown_counts, summary_text, text_of}
 use Rattle.hevc_trace.specs.Report.{calls_text, submission_line, output_line, cause_text, last_line, ending_of, calls_made, outputs_given, text_for, report_of}
 use Rattle.hevc_trace.specs.Status.{WantsMemory}
+use Rattle.hevc_trace.specs.Summary.{lowest, highest, falls, counts_text, numbers_line, summary_for, summary_line, summary_of}
 
 first_is : (a b : ℕ) (xs ys : List ℕ) → a ∷ xs ≡ b ∷ ys → a ≡ b
 first_is a b xs ys e = cc e
@@ -46,6 +48,10 @@ log_text h (SubmitPicture number handle ∷ log) e =
 pub shown_text : (shown : List (Shown ℕ)) → flat_map shown_line shown ≡ flat_map output_line (map output_picture shown)
 shown_text [] = refl
 shown_text (output ∷ shown) = ap (λ t. shown_line output ++ t) (shown_text shown)
+
+same_counts : (shown : List (Shown ℕ)) → shown_counts shown ≡ map (λ o. o.order_count) (map output_picture shown)
+same_counts [] = refl
+same_counts (output ∷ shown) = ap (λ t. output.order_count ∷ t) (same_counts shown)
 
 pub shown_length : (shown : List (Shown ℕ)) → length shown ≡ length (map output_picture shown)
 shown_length [] = refl
@@ -121,6 +127,18 @@ text_is us log shown result w counted =
     ap₂ (λ x y. x ++ y) (ap₂ (λ x y. x ++ y) calls_part outputs_part) (ap (λ n. last_line n result) count) in
     subst (λ r. text_of log shown result ≡ text_for (all_asked (calls_made r (calls us))) (outputs_given r (outputs us)) r) (sym w.answer_is) same
 
+-- what the clauses of the decoder say of a log and of outputs that began empty
+whole_of : (us : List Meaning) (empty after log : List (Call ℕ)) (none given shown : List (Shown ℕ)) (result : Result ℕ Refused)
+    → empty ≡ [] → log ≡ after → none ≡ [] → shown ≡ given → IsNotOfBackend (without_unit result) → ¬ WantsMemory result
+    → Grew (Some empty) (Some after) (λ l. EndsCalls result (map call_of l) (calls us)) → Appended none given (λ o. EndsOutputs result (map output_picture o) (outputs us))
+    → AnswersVerdict result (verdict us) → IsWhole us log shown result
+whole_of us empty after log none given shown result p q r s b m c o a =
+    let log_is : log ≡ c.0 = q ∙ one_inside after c.0 (c.1 ∙ ap (λ l. logged (Some l) c.0) p) in
+    let shown_is : shown ≡ o.0 = s ∙ o.1 ∙ ap (λ l. l ++ o.0) r in
+    whole us log shown result b m
+    (subst (λ l. EndsCalls result (map call_of l) (calls us)) (sym log_is) c.2)
+    (subst (λ l. EndsOutputs result (map output_picture l) (outputs us)) (sym shown_is) o.2) a
+
 -- the same, as the clauses of the decoder have it
 pub report_is : (options : Options) (stream : List ℕ) (empty after log : List (Call ℕ)) (none given shown : List (Shown ℕ)) (result : Result ℕ Refused)
     → empty ≡ [] → log ≡ after → none ≡ [] → shown ≡ given → IsNotOfBackend (without_unit result) → ¬ WantsMemory result
@@ -129,12 +147,30 @@ pub report_is : (options : Options) (stream : List ℕ) (empty after log : List 
     → AnswersVerdict result (verdict (meanings options stream)) → AreCounted log → text_of log shown result ≡ report_of options stream
 report_is options stream empty after log none given shown result p q r s b m c o a counted =
     let us = meanings options stream in
-    let log_is : log ≡ c.0 = q ∙ one_inside after c.0 (c.1 ∙ ap (λ l. logged (Some l) c.0) p) in
-    let shown_is : shown ≡ o.0 = s ∙ o.1 ∙ ap (λ l. l ++ o.0) r in
-    let w = whole us log shown result b m
-    (subst (λ l. EndsCalls result (map call_of l) (calls us)) (sym log_is) c.2)
-    (subst (λ l. EndsOutputs result (map output_picture l) (outputs us)) (sym shown_is) o.2) a in
-    text_is us log shown result w counted
+    text_is us log shown result (whole_of us empty after log none given shown result p q r s b m c o a) counted
+
+-- ---- a summary
+
+-- the outputs of a whole stream in one line
+summary_is_of : (us : List Meaning) (log : List (Call ℕ)) (shown : List (Shown ℕ)) (result : Result ℕ Refused) → IsWhole us log shown result
+    → summary_text shown result ≡ summary_for (answer_of (verdict us)) (outputs us)
+summary_is_of us log shown (Ok n) w =
+    let all : map output_picture shown ≡ outputs us = w.outputs_are in
+    let counts : shown_counts shown ≡ map (λ o. o.order_count) (outputs us) = same_counts shown ∙ ap (map (λ (o : OutputPicture). o.order_count)) all in
+    let same : summary_text shown (Ok n) ≡ summary_for (Ok n) (outputs us) = ap (summary_line n) counts in
+    subst (λ r. summary_text shown (Ok n) ≡ summary_for r (outputs us)) (sym w.answer_is) same
+summary_is_of us log shown (Err refused) w = ap (λ r. summary_for r (outputs us)) (sym w.answer_is)
+
+-- the same, as the clauses of the decoder have it
+pub summary_is : (options : Options) (stream : List ℕ) (empty after log : List (Call ℕ)) (none given shown : List (Shown ℕ)) (result : Result ℕ Refused)
+    → options ≡ default_options → empty ≡ [] → log ≡ after → none ≡ [] → shown ≡ given → IsNotOfBackend (without_unit result) → ¬ WantsMemory result
+    → Grew (Some empty) (Some after) (λ l. EndsCalls result (map call_of l) (calls (meanings options stream)))
+    → Appended none given (λ o. EndsOutputs result (map output_picture o) (outputs (meanings options stream)))
+    → AnswersVerdict result (verdict (meanings options stream)) → summary_text shown result ≡ summary_of stream
+summary_is options stream empty after log none given shown result o p q r s b m c g a =
+    let us = meanings options stream in
+    let w = whole_of us empty after log none given shown result p q r s b m c g a in
+    summary_is_of us log shown result w ∙ ap (λ x. summary_for (answer_of (verdict (meanings x stream))) (outputs (meanings x stream))) o
 
 -- ---- what a report tells
 
@@ -159,3 +195,16 @@ some_report options stream =
     let last : 0 < length (last_line (length given) ending) = some_line (length given) ending in
     let long : length (lines ++ last_line (length given) ending) ≡ length lines + length (last_line (length given) ending) = length-append lines (last_line (length given) ending) in
     omega (arith, last, long)
+
+-- a summary has its line
+some_numbers : (pictures shown : ℕ) (low high : ℤ) (fallen : ℕ) → 0 < length (numbers_line pictures shown low high fallen)
+some_numbers pictures shown low high fallen = some_end (codes "made " ++ decimal pictures ++ codes " shown " ++ decimal shown ++ codes " " ++ counts_text low high ++ codes " falls " ++ decimal fallen)
+
+some_summary_line : (ending : Result ℕ Refused) (given : List OutputPicture) → 0 < length (summary_for ending given)
+some_summary_line (Ok pictures) given =
+    let counts = map (λ (o : OutputPicture). o.order_count) given in
+    some_numbers pictures (length counts) (lowest counts) (highest counts) (falls counts)
+some_summary_line (Err refused) given = some_line (length given) (Err refused)
+
+pub some_summary : (stream : List ℕ) → 0 < length (summary_of stream)
+some_summary stream = some_summary_line (ending_of default_options stream) (outputs (meanings default_options stream))

@@ -1,4 +1,6 @@
 pub mod Bytes
 pub mod Joined
-pub mod Pieces
+pub mod Numbers
 pub mod Order
+pub mod Pieces
+pub mod SameLine

@@ -1,5 +1,6 @@
--- The commands: which words of the command line ask for a report, and with which options the stream is decoded for it.
-use Rattle.std.specs.Prelude.{ℕ, ◌-◌, ◌&&◌, true, nat_le, List, [], ◌∷◌, codes, Option, Some, None, if◌then◌else◌}
+-- The commands: which words of the command line ask for a report, and with which options the stream is decoded for it; and which ask for a made
+-- stream.
+use Rattle.std.specs.Prelude.{ℕ, ◌+◌, ◌-◌, ◌*◌, ◌&&◌, ◌==◌, true, nat_le, List, [], ◌∷◌, codes, Option, Some, None, if◌then◌else◌}
 use Rattle.std.specs.Option.{option_map, option_and_then}
 use Rattle.std.specs.Str.{bytes_eq}
 use Rattle.hevc_stream.specs.Options.{Options, default_options}
@@ -24,3 +25,19 @@ command (cra ∷ []) = with_cra cra default_options
 command (layer ∷ digit ∷ []) = with_layer layer digit
 command (layer ∷ digit ∷ cra ∷ []) = option_and_then (with_cra cra) (with_layer layer digit)
 command words = None
+
+-- the number up to 100000 that decimal digits spell behind a number; 48 is the code of 0
+abbrev pub digits_behind : ℕ → List ℕ → Option ℕ
+digits_behind n [] = Some n
+digits_behind n (code ∷ codes) =
+    if nat_le 48 code && nat_le code 57 && nat_le (10 * n + (code - 48)) 100000 then digits_behind (10 * n + (code - 48)) codes else None
+
+-- the number from 1 to 100000 that a word spells in decimal digits, the first of which isn't 0
+abbrev pub number_of_pictures : List ℕ → Option ℕ
+number_of_pictures [] = None
+number_of_pictures (first ∷ codes) = if first == 48 then None else digits_behind 0 (first ∷ codes)
+
+-- `make N`: a stream of so many pictures is made
+abbrev pub pictures_to_make : List (List ℕ) → Option ℕ
+pictures_to_make (make ∷ number ∷ []) = if bytes_eq make (codes "make") then number_of_pictures number else None
+pictures_to_make words = None

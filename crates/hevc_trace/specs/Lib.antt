@@ -3,3 +3,4 @@ pub mod Lines
 pub mod Prefix
 pub mod Report
 pub mod Status
+pub mod Summary

@@ -96,10 +96,14 @@ cause_text errors.PictureNumbersSpent = codes "PictureNumbersSpent"
 cause_text errors.Backend = codes "Backend"
 cause_text errors.NoMemory = codes "NoMemory"
 
+-- the line of a refusal
+abbrev pub refusal_line : Refused → List ℕ
+refusal_line refused = codes "refused unit " ++ decimal refused.unit ++ codes " " ++ cause_text refused.error ++ codes "\n"
+
 -- the last line, where so many pictures were output
 abbrev pub last_line : ℕ → Result ℕ Refused → List ℕ
 last_line shown (Ok pictures) = codes "end pictures " ++ decimal pictures ++ codes " shown " ++ decimal shown ++ codes "\n"
-last_line shown (Err refused) = codes "refused unit " ++ decimal refused.unit ++ codes " " ++ cause_text refused.error ++ codes "\n"
+last_line shown (Err refused) = refusal_line refused
 
 -- how a stream ends under these options: with the number of its pictures, or refused
 abbrev pub ending_of : Options → List ℕ → Result ℕ Refused

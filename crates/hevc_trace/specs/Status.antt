@@ -12,6 +12,10 @@ status_of (Err refused) = 1
 abbrev pub IsDone : ℕ → Type 0
 IsDone status = (status ≡ 0) ⊎ (status ≡ 1) ⊎ (status ≡ 5)
 
+-- 0, 1, 4 or 5
+abbrev pub IsMade : ℕ → Type 0
+IsMade status = (status ≡ 0) ⊎ (status ≡ 1) ⊎ (status ≡ 4) ⊎ (status ≡ 5)
+
 -- the decoding ended for want of memory
 abbrev pub WantsMemory : Result ℕ Refused → Type 0
 WantsMemory (Ok pictures) = ⊥

@@ -1,8 +1,9 @@
 //! The command that the words of the command line are.
-ghost use Rattle.std.specs.Prelude.{◌≡◌, option_map};
+ghost use Rattle.std.specs.Prelude.{◌≡◌, ◌≤◌, IfSome, IsSome, option_map};
+ghost use Rattle.std.specs.declared.option.Option.TheVariants.{None};
 ghost use Rattle.std.specs.Str.{bytes_eq};
 ghost use Rattle.hevc_options.specs.Options.{options_of};
-ghost use Rattle.hevc_trace.specs.Command.{command, sub_layer, with_cra, with_layer};
+ghost use Rattle.hevc_trace.specs.Command.{command, number_of_pictures, pictures_to_make, sub_layer, with_cra, with_layer};
 
 use hevc_decoder::Options;
 use hevc_io::Word;
@@ -25,6 +26,41 @@ pub(crate) fn read_command(words: &[Word]) -> Option<Options>
         [layer, digit, cra] => add_cra(cra, read_layer(layer, digit)?),
         _ => None,
     }
+}
+
+/// The number of pictures that the words `make N` ask for, from 1 to 100000, or none where they are other words.
+pub(crate) fn read_make(words: &[Word]) -> Option<u32>
+    ensures number { result ≡ pictures_to_make words.now }
+    ensures apart { IsSome result → command words.now ≡ None }
+    ensures bounds { IfSome result (λ pictures. (1 ≤ pictures) × (pictures ≤ 100000)) }
+{
+    let [make, number] = words else {
+        return None;
+    };
+    if !is_text(make, "make") {
+        return None;
+    }
+    read_number(number.as_bytes())
+}
+
+/// The number from 1 to 100000 that decimal digits spell, the first of which isn't 0.
+fn read_number(digits: &[u8]) -> Option<u32>
+    ensures { result ≡ number_of_pictures digits.now }
+{
+    let [b'1'..=b'9', ..] = digits else {
+        return None;
+    };
+    let mut number = 0;
+    for digit in digits {
+        let b'0'..=b'9' = *digit else {
+            return None;
+        };
+        number = 10 * number + (*digit - b'0') as u32;
+        if number > 100_000 {
+            return None;
+        }
+    }
+    Some(number)
 }
 
 /// The options of `layer T`.

@@ -7,6 +7,7 @@ ghost use Rattle.hevc_trace.specs.declared.WordsError.TheVariants.{NoMemory};
 
 mod command;
 mod input;
+mod made;
 mod output;
 mod program;
 mod report;

@@ -9,13 +9,17 @@ ghost use Rattle.hevc_walk.specs.Results.{outputs};
 ghost use Rattle.hevc_walk_order.specs.DisplayOrder.{ComeInOrder, ComeInTurn};
 ghost use Rattle.hevc_stream.specs.Stream.{meanings};
 ghost use Rattle.hevc_options.specs.Options.{options_of};
-ghost use Rattle.hevc_trace.specs.Command.{command};
+ghost use Rattle.hevc_made.specs.Made.{made};
+ghost use Rattle.hevc_stream.specs.Options.{default_options};
+ghost use Rattle.hevc_trace.specs.Command.{command, pictures_to_make};
 ghost use Rattle.hevc_trace.specs.Prefix.{AppendsPrefix, AppendsLess};
 ghost use Rattle.hevc_trace.specs.Report.{ending_of, report_of};
-ghost use Rattle.hevc_trace.specs.Status.{status_of, IsDone, WantsMemory};
+ghost use Rattle.hevc_trace.specs.Status.{status_of, IsDone, IsMade, WantsMemory};
+ghost use Rattle.hevc_trace.specs.Summary.{summary_of};
 
-use crate::command::read_command;
+use crate::command::{read_command, read_make};
 use crate::input::{INPUT_LIMIT, InputError, read_all};
+use crate::made::run_made;
 use crate::output::write_all;
 use crate::report::report_text;
 use hevc_backend::Backend;
@@ -34,14 +38,15 @@ enum Stop {
 
 /// A report, and whether the stream was decoded.
 #[derive(Drop)]
-struct Report {
-    text: String,
-    is_decoded: bool,
+pub(crate) struct Report {
+    pub(crate) text: String,
+    pub(crate) is_decoded: bool,
 }
 
 /// Decodes the source's stream over a backend that records its calls, and writes the report. `words`
 /// are those of the command line behind the program's name; they are a command, which tells the options
-/// that the stream is decoded with, or are refused. Answers the status of the program:
+/// that the stream is decoded with, or are refused. By `make N` a made stream of N pictures, from 1 to 100000,
+/// takes the place of the source's, and one line that of the report. Answers the status of the program:
 ///
 /// | status | where |
 /// |---|---|
@@ -78,7 +83,8 @@ pub fn run<S: Source, K: Sink>(alloc: Global, words: &[Word], source: &mut S, si
         AppendsLess (K.written sink.old) (K.written sink.new) (report_of options s))) }
 
     // 2 exactly where the words are no command, and then nothing is read or written.
-    ensures no_command { (result ≡ 2) ↔ (command words.now ≡ None) }
+    ensures no_command { (result ≡ 2)
+        ↔ (command words.now ≡ None) × (pictures_to_make words.now ≡ None) }
     ensures untouched { result ≡ 2 → (source.new ≡ source.old) × (sink.new ≡ sink.old) }
 
     ensures read { result ≡ 3
@@ -98,7 +104,23 @@ pub fn run<S: Source, K: Sink>(alloc: Global, words: &[Word], source: &mut S, si
         → IsClean (meanings options s)
         → ¬ (Rose (S.faults source.old) (S.faults source.new))
         → ¬ (Rose (K.faults sink.old) (K.faults sink.new)) → (result ≡ 0) ⊎ (result ≡ 5)) }
+
+    // For `make N` the source isn't read, and the status is 0, 1, 4 or 5.
+    ensures make_statuses { IfSome (pictures_to_make words.now) (λ _.
+        (source.new ≡ source.old) × IsMade result) }
+    // On 0 and 1 the line of the made stream was written, and the status tells whether it was decoded.
+    ensures make_whole { IfSome (pictures_to_make words.now) (λ n. result ≤ 1
+        → Appends (K.written sink.old) (K.written sink.new) (summary_of (made n))
+        × (result ≡ status_of (ending_of default_options (made n)))) }
+    // Whatever the status, a front of that line was written; on any but 0 and 1 not the whole.
+    ensures make_part { IfSome (pictures_to_make words.now) (λ n.
+        AppendsPrefix (K.written sink.old) (K.written sink.new) (summary_of (made n))) }
+    ensures make_less { IfSome (pictures_to_make words.now) (λ n. 1 < result
+        → AppendsLess (K.written sink.old) (K.written sink.new) (summary_of (made n))) }
 {
+    if let Some(pictures) = read_make(words) {
+        return run_made(alloc, pictures, sink);
+    }
     let Some(options) = read_command(words) else {
         return 2;
     };
@@ -189,7 +211,7 @@ fn report_on(alloc: Global, options: Options, stream: &[u8]) -> Result<Report, A
 }
 
 /// Whether the decoding ended for want of memory.
-fn wants_memory(answer: Result<u64, Refused>) -> bool
+pub(crate) fn wants_memory(answer: Result<u64, Refused>) -> bool
     ensures { IsTrue result ↔ WantsMemory answer }
 {
     match answer {

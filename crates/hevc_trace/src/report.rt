@@ -7,12 +7,14 @@ ghost use Rattle.hevc_trace.specs.Lines.{log_line, shown_line, text_of};
 mod last;
 mod line;
 mod list;
+mod summary;
 
 use hevc_backend::Call;
 use hevc_decoder::{Refused, Shown};
 use last::push_last;
 use line::{push_call, push_shown};
 use std::alloc::{AllocError, Global};
+pub(crate) use summary::summary_text;
 
 /// The report of these calls, these outputs and this result.
 pub(crate) fn report_text(

@@ -1,6 +1,7 @@
 //! Streams of the worked units, from the words of the command line and the bytes to the report.
 use crate::program::run;
 use hevc_io::{MemorySink, MemorySource, Word};
+use hevc_made::make_stream;
 use std::alloc::{AllocError, Global};
 use std::process::Abort;
 use std::test::Fail;
@@ -608,7 +609,16 @@ fn other_words_are_no_command(rt: HostRuntime) -> Result<(), Fail> {
         &["layer", "0", "0"],
         &["layer", "0", "cra", "cra"],
         &["cra", "layer", "0"],
-        &["make", "3"],
+        &["make"],
+        &["make", ""],
+        &["make", "0"],
+        &["make", "01"],
+        &["make", "100001"],
+        &["make", "4294967297"],
+        &["make", "1x"],
+        &["make", "+1"],
+        &["make", "1", "1"],
+        &["mkae", "3"],
         &["--help"],
         &[""],
     ] {
@@ -616,6 +626,48 @@ fn other_words_are_no_command(rt: HostRuntime) -> Result<(), Fail> {
         let sink = written_by(&rt, alloc, words, bytes, 2)?;
         assert!(rt; sink.written().is_empty());
     }
+    Ok(())
+}
+
+/// A run by `make` and this number reads nothing, ends with status 0, and writes this line.
+fn makes(rt: &impl Abort, alloc: Global, number: &str, line: &str) -> Result<(), Fail> {
+    let words = words_of(alloc, &["make", number])?;
+    let mut source = MemorySource::new(stream(alloc, &[SPS])?, vec![in alloc; 1]?);
+    let mut sink = MemorySink::new(alloc, Vec::new(alloc));
+    assert_eq!(rt; run(alloc, &words, &mut source, &mut sink), 0);
+    assert_eq!(rt; sink.written(), line.as_bytes());
+    Ok(())
+}
+
+#[test]
+fn made_streams_are_summed_up(rt: HostRuntime) -> Result<(), Fail> {
+    let alloc = rt.alloc();
+    let one = "made 1 shown 1 lowest 0 highest 0 falls 0\n";
+    makes(&rt, alloc, "1", one)?;
+    let two = "made 2 shown 2 lowest 0 highest 8 falls 0\n";
+    makes(&rt, alloc, "2", two)?;
+    let thousand = "made 1000 shown 1000 lowest 0 highest 1000 falls 0\n";
+    makes(&rt, alloc, "1000", thousand)
+}
+
+#[test]
+fn a_made_stream_is_a_stream(rt: HostRuntime) -> Result<(), Fail> {
+    let alloc = rt.alloc();
+    let bytes = make_stream(alloc, 2)?;
+    let picture =
+        "pic 1 type 1 poc 8 output 1\nslice 1 at 0 size 7 list0 0 list1 -\nsubmit 1 handle 1\n";
+    let end = "show 0 poc 0 unit 4\nshow 1 poc 8 unit 4\nend pictures 2 shown 2\n";
+    reports(&rt, alloc, bytes, 0, &[SEQ, PICTURE_0, picture, end])
+}
+
+#[test]
+fn a_made_line_that_is_not_written_is_a_fault(rt: HostRuntime) -> Result<(), Fail> {
+    let alloc = rt.alloc();
+    let words = words_of(alloc, &["make", "9"])?;
+    let mut source = MemorySource::new(Vec::new(alloc), Vec::new(alloc));
+    let mut sink = MemorySink::new(alloc, vec![in alloc; 1]?);
+    assert_eq!(rt; run(alloc, &words, &mut source, &mut sink), 4);
+    assert!(rt; sink.written().is_empty());
     Ok(())
 }
 

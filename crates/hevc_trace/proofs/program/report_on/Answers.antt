@@ -21,9 +21,9 @@ returns-clause-text c =
 pub returns-clause-in_turn : goal.returns-clause-in_turn
 returns-clause-in_turn c is =
     let decoded = c.decode_stream_with-decoded in
-    come_in_turn (meanings (options_of c.args.options) c.args.stream.now) decoded.result.result decoded.ensures.answer (sym c.is_ok.ensures ∙ is)
+    come_in_turn (meanings (options_of c.args.options) c.args.stream.now) decoded.result.result decoded.ensures.answer (sym c.is_ok.ensures.value ∙ is)
 
 pub returns-clause-display_order : goal.returns-clause-display_order
 returns-clause-display_order c is =
     let decoded = c.decode_stream_with-decoded in
-    come_in_order (meanings (options_of c.args.options) c.args.stream.now) decoded.result.result decoded.ensures.answer (sym c.is_ok.ensures ∙ is)
+    come_in_order (meanings (options_of c.args.options) c.args.stream.now) decoded.result.result decoded.ensures.answer (sym c.is_ok.ensures.value ∙ is)
