@@ -646,6 +646,10 @@ fn made_streams_are_summed_up(rt: HostRuntime) -> Result<(), Fail> {
     makes(&rt, alloc, "1", one)?;
     let two = "made 2 shown 2 lowest 0 highest 8 falls 0\n";
     makes(&rt, alloc, "2", two)?;
+    let nine = "made 9 shown 9 lowest 0 highest 8 falls 0\n";
+    makes(&rt, alloc, "9", nine)?;
+    let hundred = "made 100 shown 100 lowest 0 highest 104 falls 0\n";
+    makes(&rt, alloc, "100", hundred)?;
     let thousand = "made 1000 shown 1000 lowest 0 highest 1000 falls 0\n";
     makes(&rt, alloc, "1000", thousand)
 }
