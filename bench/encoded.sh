@@ -22,4 +22,4 @@ encode() { # NAME WIDTH HEIGHT PICTURES OPTION ..
 encode pyramid 1280 720 60 --bframes 4 --b-adapt 0 --b-pyramid --ref 3 --bitrate 3000
 encode parallel 3840 2160 6 --wpp --bframes 2 --bitrate 12000
 encode slices 1280 720 30 --wpp --slices 11 --bframes 2 --bitrate 1500
-encode layers 640 360 60 --temporal-layers 2 --bframes 3 --bitrate 600
+encode layers 640 360 60 --temporal-layers --bframes 3 --bitrate 600
