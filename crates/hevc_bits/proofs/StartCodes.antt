@@ -1,11 +1,12 @@
 -- A start code at a place of a stream, seen by its three bytes and at the front of the bytes from there on.
-use Rattle.std.proofs.Common.{◌≡◌, ◌≢◌, ℕ, List, [], ◌∷◌, drop, Bool, true, false, refl, sym, ◌∙◌, arith}
+use Rattle.std.proofs.Common.{◌≡◌, ◌≢◌, Some, ◌≤◌, ◌+◌, ◌-◌, ℕ, length, get_or, List, [], ◌∷◌, drop, take, Bool, true, false, refl, sym, ◌∙◌, arith}
 use Rattle.std.proofs.lemmas.Bool.{eqb-true, and_parts}
-use Rattle.std.proofs.lemmas.List.{get_or-drop}
+use Rattle.std.proofs.lemmas.List.{get_or-drop, take_all}
 use Rattle.std.proofs.Math.ListN.{length-drop}
 use Rattle.hevc_spec.specs.Units.{begins_with_start_code}
 use Rattle.hevc_spec.proofs.UnitLaws.{NoStartCode}
-use Rattle.hevc_bits.specs.StartCode.{StandsAt, NoneStands}
+use Rattle.memchr.specs.Find.{Nowhere, NoneBefore, Passes, is_byte}
+use Rattle.hevc_bits.specs.StartCode.{StandsAt, NoneStands, EndsFirst}
 
 front_stands : (xs : List ℕ) → begins_with_start_code xs ≡ true → StandsAt xs 0
 front_stands [] e = absurd cc
@@ -46,3 +47,24 @@ by_test false h = refl
 
 pub none_begins : (stream : List ℕ) (from to : ℕ) → NoneStands stream from to → NoStartCode stream from to
 none_begins stream from to none k low high = by_test (begins_with_start_code (drop k stream)) (λ e. none k low high (stands_at stream k e))
+
+pub whole : (stream : List ℕ) (n : ℕ) → take (length stream - n) (drop n stream) ≡ drop n stream
+whole stream n = take_all (length stream - n) (drop n stream) (omega (arith, length-drop n stream))
+
+-- none stands where no third byte is 1
+pub none_ends : (stream : List ℕ) (from count : ℕ) → Nowhere (Passes (is_byte 1) (drop (from + 2) stream)) 0 count → NoneStands stream from (from + count)
+none_ends stream from count none k low high stands =
+    let third : get_or (drop (from + 2) stream) (k - from) 0 ≡ 1 = get_or-drop (from + 2) stream (k - from) 0 ∙ grind (arith, stands.3, low) in
+    none (k - from) (omega arith) (omega (arith, low, high)) (rw third refl)
+
+pub none_follows : (stream : List ℕ) (from : ℕ) → from + 2 ≤ length stream → Nowhere (Passes (is_byte 1) (drop (from + 2) stream)) 0 (length (drop (from + 2) stream)) → NoneStands stream from (length stream)
+none_follows stream from within none k low high stands =
+    none_ends stream from (length (drop (from + 2) stream)) none k low (omega (arith, length-drop (from + 2) stream, stands.0)) stands
+
+pub ends_first : (stream : List ℕ) (from ahead : ℕ) → NoneBefore (Passes (is_byte 1) (drop (from + 2) stream)) 0 (length (drop (from + 2) stream)) ahead → Passes (is_byte 1) (drop (from + 2) stream) ahead → EndsFirst stream from (Some (from + ahead))
+ends_first stream from ahead before here =
+    let third : get_or stream (from + 2 + ahead) 0 ≡ 1 = sym (get_or-drop (from + 2) stream ahead 0) ∙ eqb-true _ 1 here in
+    (omega arith, omega (arith, length-drop (from + 2) stream, before.high), grind (arith, third), none_ends stream from ahead before.before)
+
+pub none_joined : (stream : List ℕ) (from between to : ℕ) → NoneStands stream from between → NoneStands stream between to → NoneStands stream from to
+none_joined stream from between to before behind k low high stands = grind (arith, before k low, behind k, high, stands)

@@ -1,26 +1,35 @@
 //! The search for the start code 00 00 01, and what stands behind a unit.
 
-ghost use Rattle.std.specs.Prelude.{◌≤◌, ◌<◌, ◌≡◌, length, take};
+ghost use Rattle.std.specs.Prelude.{◌≤◌, ◌<◌, ◌≡◌, ◌+◌, length, take};
 ghost use Rattle.hevc_spec.specs.Units.{without_trailing_zeros};
-ghost use Rattle.hevc_bits.specs.StartCode.{IsFirstStart, NoneStands, StandsAt};
+ghost use Rattle.hevc_bits.specs.StartCode.{EndsFirst, IsFirstStart, NoneStands, StandsAt};
 
-/// The place of the first start code at `from` or behind it. A byte above 1 rules out three places at once.
+use memchr::memchr;
+
+/// The first place at `from` or behind it whose third byte is 1, as that of a start code is.
+fn find_end(stream: &[u8], from: usize) -> Option<usize>
+    requires { from + 2 ≤ length stream.now }
+    ensures { EndsFirst stream.now from result }
+{
+    match memchr(1, &stream[from + 2..]) {
+        Some(ahead) => Some(from + ahead),
+        None => None,
+    }
+}
+
+/// The place of the first start code at `from` or behind it. Behind a place whose third byte is 1 but that is none, two more
+/// are ruled out.
 pub fn find_start_code(stream: &[u8], from: usize) -> Option<usize>
     requires { from ≤ length stream.now }
     ensures { IsFirstStart stream.now from result }
 {
     let mut at = from;
     while at + 2 < stream.len() {
-        let third = stream[at + 2];
-        if third > 1 {
-            at += 3;
-        } else if third == 0 {
-            at += 1;
-        } else if stream[at] == 0 && stream[at + 1] == 0 {
+        at = find_end(stream, at)?;
+        if stream[at] == 0 && stream[at + 1] == 0 {
             return Some(at);
-        } else {
-            at += 3;
         }
+        at += 3;
     }
     None
 }
