@@ -58,7 +58,7 @@ impl<'a> Slice<'a> {
         if !self.header.dependent_slice_segment_flag {
             return Err(NotDependent);
         }
-        self.header.complete(header);
+        self.header.complete(&header);
         Ok(())
     }
 }

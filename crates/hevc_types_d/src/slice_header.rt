@@ -215,26 +215,56 @@ impl SliceHeader {
         self.use_integer_mv_flag = motion_vector_resolution_control_idc != 0;
     }
 
-    // The whole header of a dependent segment (7.4.7.1), from its own header and that of the independent segment before it.
-    pub(crate) fn complete(&mut self, independent: SliceHeader)
+    /// Completes the header of a dependent segment by that of the independent one before it (7.4.7.1). What stands before the slice
+    /// type stays, and so do the entry points, the bit size and the number of emulation prevention bytes; all else is taken over.
+    pub fn complete(&mut self, independent: &SliceHeader)
         ensures { plain_slice_header self.new
-            ≡ completed_header (plain_slice_header self.old) (plain_slice_header independent) }
+            ≡ completed_header (plain_slice_header self.old) (plain_slice_header independent.now) }
     {
-        let mut completed = independent;
-        completed.first_slice_segment_in_pic_flag = self.first_slice_segment_in_pic_flag;
-        completed.no_output_of_prior_pics_flag = self.no_output_of_prior_pics_flag;
-        completed.pic_parameter_set_id = self.pic_parameter_set_id;
-        completed.dependent_slice_segment_flag = self.dependent_slice_segment_flag;
-        completed.segment_address = self.segment_address;
-        completed.num_entry_point_offsets = self.num_entry_point_offsets;
-        completed.offset_len_minus1 = self.offset_len_minus1;
-        std::mem::swap(
-            &mut completed.entry_point_offset_minus1,
-            &mut self.entry_point_offset_minus1,
-        );
-        completed.header_bit_size = self.header_bit_size;
-        completed.n_emulation_prevention_bytes = self.n_emulation_prevention_bytes;
-        *self = completed;
+        self.type_ = independent.type_;
+        self.pic_output_flag = independent.pic_output_flag;
+        self.colour_plane_id = independent.colour_plane_id;
+        self.pic_order_cnt_lsb = independent.pic_order_cnt_lsb;
+        self.short_term_ref_pic_set_sps_flag = independent.short_term_ref_pic_set_sps_flag;
+        self.short_term_ref_pic_set = independent.short_term_ref_pic_set;
+        self.short_term_ref_pic_set_idx = independent.short_term_ref_pic_set_idx;
+        self.num_long_term_sps = independent.num_long_term_sps;
+        self.num_long_term_pics = independent.num_long_term_pics;
+        self.lt_idx_sps = independent.lt_idx_sps;
+        self.poc_lsb_lt = independent.poc_lsb_lt;
+        self.used_by_curr_pic_lt = independent.used_by_curr_pic_lt;
+        self.delta_poc_msb_present_flag = independent.delta_poc_msb_present_flag;
+        self.delta_poc_msb_cycle_lt = independent.delta_poc_msb_cycle_lt;
+        self.temporal_mvp_enabled_flag = independent.temporal_mvp_enabled_flag;
+        self.sao_luma_flag = independent.sao_luma_flag;
+        self.sao_chroma_flag = independent.sao_chroma_flag;
+        self.num_ref_idx_active_override_flag = independent.num_ref_idx_active_override_flag;
+        self.num_ref_idx_l0_active_minus1 = independent.num_ref_idx_l0_active_minus1;
+        self.num_ref_idx_l1_active_minus1 = independent.num_ref_idx_l1_active_minus1;
+        self.ref_pic_list_modification = modification_copy(&independent.ref_pic_list_modification);
+        self.mvd_l1_zero_flag = independent.mvd_l1_zero_flag;
+        self.cabac_init_flag = independent.cabac_init_flag;
+        self.collocated_from_l0_flag = independent.collocated_from_l0_flag;
+        self.collocated_ref_idx = independent.collocated_ref_idx;
+        self.pred_weight_table = independent.pred_weight_table;
+        self.five_minus_max_num_merge_cand = independent.five_minus_max_num_merge_cand;
+        self.use_integer_mv_flag = independent.use_integer_mv_flag;
+        self.qp_delta = independent.qp_delta;
+        self.cb_qp_offset = independent.cb_qp_offset;
+        self.cr_qp_offset = independent.cr_qp_offset;
+        self.slice_act_y_qp_offset = independent.slice_act_y_qp_offset;
+        self.slice_act_cb_qp_offset = independent.slice_act_cb_qp_offset;
+        self.slice_act_cr_qp_offset = independent.slice_act_cr_qp_offset;
+        self.cu_chroma_qp_offset_enabled_flag = independent.cu_chroma_qp_offset_enabled_flag;
+        self.deblocking_filter_override_flag = independent.deblocking_filter_override_flag;
+        self.deblocking_filter_disabled_flag = independent.deblocking_filter_disabled_flag;
+        self.beta_offset_div2 = independent.beta_offset_div2;
+        self.tc_offset_div2 = independent.tc_offset_div2;
+        self.loop_filter_across_slices_enabled_flag =
+            independent.loop_filter_across_slices_enabled_flag;
+        self.curr_rps_idx = independent.curr_rps_idx;
+        self.num_pic_total_curr = independent.num_pic_total_curr;
+        self.st_rps_bits = independent.st_rps_bits;
     }
 
     /// An equal header.
