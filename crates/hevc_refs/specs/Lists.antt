@@ -1,5 +1,5 @@
 -- Reference picture lists, as the walk has them.
-use Rattle.std.specs.Prelude.{◌≡◌, Bool, List, map, Option, option_map}
+use Rattle.std.specs.Prelude.{◌≡◌, ℕ, Bool, List, [], ◌∷◌, ◌++◌, map, if◌then◌else◌, Option, Some, option_map}
 use Rattle.hevc_views.specs.Headers.{slice_header_of}
 use Rattle.hevc_types_d.specs.declared.slice_header.SliceHeader.{SliceHeader}
 use Rattle.hevc_types_d.specs.SliceHeader.{plain_slice_header}
@@ -18,6 +18,10 @@ plain_place (DpbEntry number) = walk.DpbEntry number
 
 abbrev pub plain_places : List (Option RefPicListEntry) → List (Option walk.RefPicListEntry)
 plain_places places = map (option_map plain_place) places
+
+-- what a list is taken from, gone through once (8-8, 8-10)
+abbrev pub base_places : List (Option ℕ) → List (Option ℕ) → List (Option ℕ) → Bool → List (Option walk.RefPicListEntry)
+base_places first second long_term has_current = map walk.entry_of_number (first ++ second ++ long_term) ++ (if has_current then Some walk.CurrentPicture ∷ [] else [])
 
 -- a slice of the walk has this header, and its picture set this flag
 pub record HasHeader (s : Slice) (header : SliceHeader) (curr_pic_ref_enabled : Bool) : Type 0 where

@@ -36,6 +36,5 @@ unfolding with_sizes
 sized_current kept payload size old new is current = subst (λ (h : PlainSliceSegmentHeader). HasCurrentSet kept h) (sym is) current
 
 -- the order of the members is an invariant of each set
-pub in_order : (result : Result SliceHeader ParseError) → IfOk result (λ h. IsInOrder h.short_term_ref_pic_set)
-in_order (Ok h) = (h.short_term_ref_pic_set.negatives, h.short_term_ref_pic_set.positives)
-in_order (Err e) = tt
+pub in_order : (h : SliceHeader) → IsInOrder h.short_term_ref_pic_set
+in_order h = (h.short_term_ref_pic_set.negatives, h.short_term_ref_pic_set.positives)

@@ -1,9 +1,10 @@
 //! Slice segment headers (7.3.6.1, table 14).
-ghost use Rattle.std.specs.Prelude.{◌≡◌, ◌==◌, ◌+◌, ◌-◌, ◌<◌, ◌%◌, ◌^◌, ◌↔◌, IfErr, IfOk, IsErrOf, IsFalse, IsTrue, ◌≤◌, drop, length};
+ghost use Rattle.std.specs.Prelude.{◌≡◌, ◌==◌, ◌+◌, ◌-◌, ◌<◌, ◌%◌, ◌^◌, ◌↔◌, IfErr, OnOk, OnErr, IsErrOf, IsFalse, IsTrue, ◌≤◌, drop, length};
 ghost use Rattle.hevc_spec.specs.Payload.{payload, payload_bits, bits_left};
 ghost use Rattle.hevc_spec.specs.UnitTypes.{is_slice as is_slice_number};
 ghost use Rattle.hevc_bits.specs.FoundUnit.{bytes_of};
 ghost use Rattle.hevc_bits.specs.NaluType.{nalu_type_number};
+ghost use Rattle.hevc_records.specs.SliceHeader.{default_slice_header};
 ghost use Rattle.hevc_elements.specs.Words.{bits, IsAhead, read, Fills, FillsGrowing, ReadsSet, MeansSet};
 ghost use Rattle.hevc_tables.specs.SliceHeaderTable as table;
 ghost use Rattle.hevc_short_term.specs.Predictions.{IsInOrder};
@@ -29,46 +30,56 @@ use std::alloc::Global;
 use std::collections::BTreeMap;
 
 /// Reads a slice segment header out of its unit, of a stream of less than 2^60 bytes, by table 14 (7.3.6.1), with the parameter sets
-/// that are kept, by their ids. It takes memory from `alloc` for its entry points.
+/// that are kept, by their ids, into a header of `SliceHeader::new`. It takes memory from `alloc` for its entry points.
 ///
 /// An element that is absent has its value of `SliceHeader::new`, but for what its sets infer (`SliceHeader::set_defaults`).
 ///
 /// Errors: `WrongNaluType` first, where the unit is no slice (types 0 to 9 and 16 to 21); `OutOfBits` where the payload ends within
 /// an element; `OutOfRange` with table and row of the first element that isn't allowed; behind row 3, `MissingPps` where none of
-/// the picture sets has the id that it names, with a sequence set that is kept; `NoMemory`.
+/// the picture sets has the id that it names, with a sequence set that is kept; `NoMemory`. The header is again that of
+/// `SliceHeader::new` then.
 #[tactic(auto, using(hevc_elements::proofs::SetMeaning::set_meanings, crate::proofs::CurrentSets::in_order))]
 pub fn read_slice_header(
     alloc: Global,
     nalu: &Nalu<'_, NaluHeader>,
     spses: &BTreeMap<u8, Sps>,
     ppses: &BTreeMap<u8, Pps>,
-) -> Result<SliceHeader, ParseError>
-    requires { length nalu.now.stream < 2 ^ 60 }
+    h: &mut SliceHeader,
+) -> Result<(), ParseError>
+    requires short { length nalu.now.stream < 2 ^ 60 }
+    requires new { plain_slice_header h.old ≡ default_slice_header }
     ensures wrong_type { IsErrOf result ParseError.WrongNaluType
         ↔ IsFalse (is_slice_number nalu.now.header.nal_unit_type) }
     ensures read { IsTrue (is_slice_number nalu.now.header.nal_unit_type)
-        → ReadsSet plain_slice_header result
+        → ReadsSet (λ _. plain_slice_header h.new) result
         (read (table.slice_segment_header nalu.now.header.nal_unit_type (drop 2 (bytes_of nalu.now))
         (kept_active_sets ppses.now spses.now)) (payload (bytes_of nalu.now))) }
     ensures means { IsTrue (is_slice_number nalu.now.header.nal_unit_type)
-        → MeansSet plain_slice_header
+        → MeansSet (λ _. plain_slice_header h.new)
         (table.slice_segment_header nalu.now.header.nal_unit_type (drop 2 (bytes_of nalu.now))
         (kept_active_sets ppses.now spses.now)) result (payload (bytes_of nalu.now)) }
     ensures names { IfErr result NamesNoSequenceSet }
+    ensures refused { OnErr result (plain_slice_header h.new ≡ default_slice_header) }
     // Of the header's own short-term set negatives fall, positives rise, and none is 0 (7.4.8).
-    ensures predictions { IfOk result (λ h. IsInOrder h.short_term_ref_pic_set) }
+    ensures predictions { IsInOrder h.new.short_term_ref_pic_set }
     // CurrRpsIdx is at most the number of the sequence set's short-term sets, and that number
     // exactly where the header names none of them.
-    ensures current { IfOk result (λ h. HasCurrentSet
-        (kept_active_sets ppses.now spses.now) (plain_slice_header h)) }
+    ensures current { OnOk result (HasCurrentSet
+        (kept_active_sets ppses.now spses.now) (plain_slice_header h.new)) }
     // Each list whose order is told has an entry for each active place, each below NumPicTotalCurr.
-    ensures lists { IfOk result (λ h. HasLists (plain_slice_header h)) }
+    ensures lists { OnOk result (HasLists (plain_slice_header h.new)) }
 {
     let header = nalu.header();
     if !is_slice(header.nalu_type()) {
         return Err(ParseError::WrongNaluType);
     }
-    read_payload(alloc, header.nalu_type(), nalu.payload(), spses, ppses)
+    match read_payload(alloc, header.nalu_type(), nalu.payload(), spses, ppses, h) {
+        Ok(()) => Ok(()),
+        Err(error) => {
+            *h = SliceHeader::new(alloc);
+            Err(error)
+        }
+    }
 }
 
 /// Whether a unit of this type is a slice.
@@ -87,22 +98,24 @@ fn read_payload(
     payload: &[u8],
     spses: &BTreeMap<u8, Sps>,
     ppses: &BTreeMap<u8, Pps>,
-) -> Result<SliceHeader, ParseError>
-    requires { length payload.now < 2 ^ 60 }
-    ensures read { ReadsSet plain_slice_header result
+    h: &mut SliceHeader,
+) -> Result<(), ParseError>
+    requires short { length payload.now < 2 ^ 60 }
+    requires new { plain_slice_header h.old ≡ default_slice_header }
+    ensures read { ReadsSet (λ _. plain_slice_header h.new) result
         (read (table.slice_segment_header (nalu_type_number nalu_type) payload.now
         (kept_active_sets ppses.now spses.now)) (payload_bits 0 payload.now)) }
     ensures names { IfErr result NamesNoSequenceSet }
-    ensures current { IfOk result (λ h. HasCurrentSet
-        (kept_active_sets ppses.now spses.now) (plain_slice_header h)) }
-    ensures lists { IfOk result (λ h. HasLists (plain_slice_header h)) }
+    ensures current { OnOk result (HasCurrentSet
+        (kept_active_sets ppses.now spses.now) (plain_slice_header h.new)) }
+    ensures lists { OnOk result (HasLists (plain_slice_header h.new)) }
 {
     let mut r = NaluReader::new(payload);
     let before = r.fork();
-    match read_aligned(alloc, &mut r, nalu_type, spses, ppses) {
-        Ok(mut h) => {
-            set_sizes(payload, bits_between(&before, &r), &mut h);
-            Ok(h)
+    match read_aligned(alloc, &mut r, nalu_type, spses, ppses, h) {
+        Ok(()) => {
+            set_sizes(payload, bits_between(&before, &r), h);
+            Ok(())
         }
         Err(error) => Err(error),
     }
@@ -130,24 +143,26 @@ fn read_aligned(
     nalu_type: NaluType,
     spses: &BTreeMap<u8, Sps>,
     ppses: &BTreeMap<u8, Pps>,
-) -> Result<SliceHeader, ParseError>
-    requires { bits_left r.old % 8 ≡ 0 }
-    ensures read { ReadsHeader plain_slice_header result r.new
+    h: &mut SliceHeader,
+) -> Result<(), ParseError>
+    requires whole { bits_left r.old % 8 ≡ 0 }
+    requires new { plain_slice_header h.old ≡ default_slice_header }
+    ensures read { ReadsHeader (λ _. plain_slice_header h.new) result r.new
         (read (table.aligned
         (table.elements (nalu_type_number nalu_type) (kept_active_sets ppses.now spses.now)))
         (bits r.old)) }
     ensures moves { IsAhead r.old r.new }
-    ensures few { IfOk result (λ _. length (bits r.old) ≤ 2 ^ 31 + 8 + length (bits r.new)) }
+    ensures few { OnOk result (length (bits r.old) ≤ 2 ^ 31 + 8 + length (bits r.new)) }
     ensures names { IfErr result NamesNoSequenceSet }
-    ensures current { IfOk result (λ h. HasCurrentSet
-        (kept_active_sets ppses.now spses.now) (plain_slice_header h)) }
-    ensures lists { IfOk result (λ h. HasLists (plain_slice_header h)) }
+    ensures current { OnOk result (HasCurrentSet
+        (kept_active_sets ppses.now spses.now) (plain_slice_header h.new)) }
+    ensures lists { OnOk result (HasLists (plain_slice_header h.new)) }
 {
-    let h = read_elements(alloc, r, nalu_type, spses, ppses)?;
+    read_elements(alloc, r, nalu_type, spses, ppses, h)?;
     skip(r, Row(14, 53), 1)?;
     let left_in_byte = r.num_bits_left() % 8;
     skip(r, Row(14, 53), left_in_byte)?;
-    Ok(h)
+    Ok(())
 }
 
 /// Rows 1 to 52 of table 14.
@@ -158,19 +173,20 @@ fn read_elements(
     nalu_type: NaluType,
     spses: &BTreeMap<u8, Sps>,
     ppses: &BTreeMap<u8, Pps>,
-) -> Result<SliceHeader, ParseError>
-    ensures read { ReadsHeader plain_slice_header result r.new
+    h: &mut SliceHeader,
+) -> Result<(), ParseError>
+    requires { plain_slice_header h.old ≡ default_slice_header }
+    ensures read { ReadsHeader (λ _. plain_slice_header h.new) result r.new
         (read (table.elements (nalu_type_number nalu_type) (kept_active_sets ppses.now spses.now))
         (bits r.old)) }
     ensures moves { IsAhead r.old r.new }
-    ensures few { IfOk result (λ _. length (bits r.old) ≤ 2 ^ 31 + length (bits r.new)) }
+    ensures few { OnOk result (length (bits r.old) ≤ 2 ^ 31 + length (bits r.new)) }
     ensures names { IfErr result NamesNoSequenceSet }
-    ensures current { IfOk result (λ h. HasCurrentSet
-        (kept_active_sets ppses.now spses.now) (plain_slice_header h)) }
-    ensures lists { IfOk result (λ h. HasLists (plain_slice_header h)) }
+    ensures current { OnOk result (HasCurrentSet
+        (kept_active_sets ppses.now spses.now) (plain_slice_header h.new)) }
+    ensures lists { OnOk result (HasLists (plain_slice_header h.new)) }
 {
-    let mut h = SliceHeader::new(alloc);
-    read_beginning(r, nalu_type, &mut h)?;
+    read_beginning(r, nalu_type, h)?;
     let missing = ParseError::MissingPps(h.pic_parameter_set_id);
     let Some(pps) = ppses.get(&h.pic_parameter_set_id) else {
         return Err(missing);
@@ -179,8 +195,8 @@ fn read_elements(
         return Err(missing);
     };
     has_few_extra_bits(pps);
-    read_behind_sets(alloc, r, nalu_type, sps, pps, &mut h)?;
-    Ok(h)
+    read_behind_sets(alloc, r, nalu_type, sps, pps, h)?;
+    Ok(())
 }
 
 /// Says that row 6 is short, on which the size of a header rests.

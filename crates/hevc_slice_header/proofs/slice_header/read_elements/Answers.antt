@@ -13,14 +13,14 @@ pub returns-clause-few : goal.returns-clause-few
 returns-clause-few c =
     let sps = c.in-Some-get.sps.now in
     let pps = c.in-Some.pps.now in
-    let taken = rows_take (nalu_type_number c.args.nalu_type) (plain_sps sps) (plain_pps pps) (are_small sps pps c.has_few_extra_bits.ensures) (plain_slice_header c.new-h.result) (plain_slice_header c.read_beginning.new.h) (plain_slice_header c.read_behind_sets.new.h) (bits c.args.r.now) (bits c.read_beginning.new.r) (bits c.read_behind_sets.new.r) c.new-h.ensures c.in_ok-read_beginning.ensures.reads c.in_ok-read_behind_sets.ensures.reads in
+    let taken = rows_take (nalu_type_number c.args.nalu_type) (plain_sps sps) (plain_pps pps) (are_small sps pps c.has_few_extra_bits.ensures) (plain_slice_header c.args.h.now) (plain_slice_header c.read_beginning.new.h) (plain_slice_header c.read_behind_sets.new.h) (bits c.args.r.now) (bits c.read_beginning.new.r) (bits c.read_behind_sets.new.r) c.requires c.in_ok-read_beginning.ensures.reads c.in_ok-read_behind_sets.ensures.reads in
     grind (arith, taken.0)
 
 pub returns-clause-lists : goal.returns-clause-lists
 returns-clause-lists c =
     let sps = c.in-Some-get.sps.now in
     let pps = c.in-Some.pps.now in
-    let taken = rows_take (nalu_type_number c.args.nalu_type) (plain_sps sps) (plain_pps pps) (are_small sps pps c.has_few_extra_bits.ensures) (plain_slice_header c.new-h.result) (plain_slice_header c.read_beginning.new.h) (plain_slice_header c.read_behind_sets.new.h) (bits c.args.r.now) (bits c.read_beginning.new.r) (bits c.read_behind_sets.new.r) c.new-h.ensures c.in_ok-read_beginning.ensures.reads c.in_ok-read_behind_sets.ensures.reads in
+    let taken = rows_take (nalu_type_number c.args.nalu_type) (plain_sps sps) (plain_pps pps) (are_small sps pps c.has_few_extra_bits.ensures) (plain_slice_header c.args.h.now) (plain_slice_header c.read_beginning.new.h) (plain_slice_header c.read_behind_sets.new.h) (bits c.args.r.now) (bits c.read_beginning.new.r) (bits c.read_behind_sets.new.r) c.requires c.in_ok-read_beginning.ensures.reads c.in_ok-read_behind_sets.ensures.reads in
     taken.1.0
 
 pub returns-clause-current : goal.returns-clause-current
@@ -28,5 +28,5 @@ returns-clause-current c =
     let sps = c.in-Some-get.sps.now in
     let pps = c.in-Some.pps.now in
     let h = plain_slice_header c.read_beginning.new.h in
-    let taken = rows_take (nalu_type_number c.args.nalu_type) (plain_sps sps) (plain_pps pps) (are_small sps pps c.has_few_extra_bits.ensures) (plain_slice_header c.new-h.result) h (plain_slice_header c.read_behind_sets.new.h) (bits c.args.r.now) (bits c.read_beginning.new.r) (bits c.read_behind_sets.new.r) c.new-h.ensures c.in_ok-read_beginning.ensures.reads c.in_ok-read_behind_sets.ensures.reads in
+    let taken = rows_take (nalu_type_number c.args.nalu_type) (plain_sps sps) (plain_pps pps) (are_small sps pps c.has_few_extra_bits.ensures) (plain_slice_header c.args.h.now) h (plain_slice_header c.read_behind_sets.new.h) (bits c.args.r.now) (bits c.read_beginning.new.r) (bits c.read_behind_sets.new.r) c.requires c.in_ok-read_beginning.ensures.reads c.in_ok-read_behind_sets.ensures.reads in
     named_current (kept_active_sets c.args.ppses.now c.args.spses.now) (record { sps = plain_sps sps; pps = plain_pps pps }) h.pic_parameter_set_id (plain_slice_header c.read_behind_sets.new.h) (active_found c.args.ppses.now c.args.spses.now h.pic_parameter_set_id pps sps (sym c.in-Some.ensures.value) (sym c.in-Some-get.ensures.value)) taken.1.1
