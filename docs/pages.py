@@ -2,7 +2,8 @@
 
 pages.py          writes them
 pages.py --check  says what differs, and ends with 1 where anything does:
-                  those examples and fields; the row of TABLES.md that a field of RECORDS.md names; that MAP.md has
+                  those examples and fields; each bound of TABLES.md that is two numbers, beside the table's own
+                  in hevc_tables; the row of TABLES.md that a field of RECORDS.md names; that MAP.md has
                   each crate of crates.txt, in its order and no other; that each definition listed in PROMISES.md stands in
                   the file that its heading names; that files which the pages name or link to are there
 """
@@ -99,6 +100,38 @@ def rows_of_tables():
     return rows
 
 
+def bounds_of_tables():
+    """The bound of each row in TABLES.md, as it stands there."""
+    bounds = {}
+    for part in re.split(r"^### ", (DOCS / "TABLES.md").read_text(), flags=re.M)[1:]:
+        table = re.match(r"Table (\d+)", part)
+        for number, bound in re.findall(r"^\| (\d+) \|[^|]*\|[^|]*\| *([^|]*?) *\|", part, re.M) if table else []:
+            bounds[table.group(1), number] = bound
+    return bounds
+
+
+def numeric_bounds():
+    """The rows of hevc_tables whose least and greatest value are numbers: table, row, least, greatest, and whether they are all values."""
+    for path in sorted((CRATES / "hevc_tables" / "specs").glob("*.antt")):
+        for form, table, row, rest in re.findall(r"(ue|se|bits)_row \(row (\d+) (\d+)\) (.*)", path.read_text()):
+            rest = re.sub(r"\(neg_ℤ \(pos (\d+)\)\)", r"-\1", rest)
+            rest = re.sub(r"\(negsuc (\d+)\)", lambda n: str(-int(n.group(1)) - 1), rest)
+            rest = re.sub(r"\(pos (\d+)\)", r"\1", rest)
+            numbers = re.match(r"(\d+ )?(-?\d+) (-?\d+)(?:\)|$)" if form == "bits" else r"()(-?\d+) (-?\d+)(?:\)|$)", rest)
+            if numbers:
+                greatest = 2 ** int(numbers.group(1)) - 1 if form == "bits" and numbers.group(1) else 2147483647
+                yield table, row, numbers.group(2), numbers.group(3), numbers.group(2) == "0" and numbers.group(3) == str(greatest)
+
+
+def wrong_bounds():
+    """The rows of TABLES.md whose bound isn't that of hevc_tables."""
+    bounds = bounds_of_tables()
+    for table, row, least, greatest, all_values in numeric_bounds():
+        bound = bounds.get((table, row))
+        if bound != f"{least}..{greatest}" and not (all_values and bound == ""):
+            yield f"TABLES.md: row {row} of table {table} has {bound}, and hevc_tables {least}..{greatest}"
+
+
 def is_at(field, elements):
     """A field has the name of one of these elements, without its prefix or its ending."""
     name = OTHER_NAMES.get(field, field)
@@ -161,6 +194,7 @@ def with_example(page, example):
 
 def complaints():
     records = (DOCS / "RECORDS.md").read_text()
+    yield from wrong_bounds()
     yield from wrong_rows(records)
     yield from wrong_crates((DOCS / "MAP.md").read_text())
     yield from wrong_definitions((DOCS / "PROMISES.md").read_text())
