@@ -5,7 +5,8 @@ pages.py --check  says what differs, and ends with 1 where anything does:
                   those examples and fields; each bound of TABLES.md that is two numbers, beside the table's own
                   in hevc_tables; the row of TABLES.md that a field of RECORDS.md names; that MAP.md has
                   each crate of crates.txt, in its order and no other; that each definition listed in PROMISES.md stands in
-                  the file that its heading names; that files which the pages name or link to are there
+                  the file that its heading names; the numbers of edits in STRENGTH.md; that files and headings
+                  which the pages name or link to are there
 """
 import re
 import sys
@@ -174,12 +175,30 @@ def wrong_definitions(page):
                     yield f"PROMISES.md: {name} isn't in {path.relative_to(TOP)}"
 
 
+def wrong_edits(page):
+    """The crates whose number of edits in STRENGTH.md isn't that of their folder."""
+    told = {}
+    for names, numbers in re.findall(r"^\| (`hevc_[^|]*`) \| ([\d, ]+) \|", page, re.M):
+        told.update(zip(re.findall(r"`(\w+)`", names), numbers.split(", ")))
+    for crate in crates():
+        edits = len(list((CRATES / crate / "must-fail").glob("*.edit")))
+        if int(told.get(crate, 0)) != edits:
+            yield f"STRENGTH.md: {crate} has {edits} edits"
+
+
+def anchors(text):
+    """The places of a page that a link can name: its headings, in small letters, with hyphens and without marks."""
+    headings = re.findall(r"^#+ (.*)$", text, re.M)
+    return {re.sub(r"[^\w -]", "", heading.lower()).replace(" ", "-") for heading in headings}
+
+
 def wrong_files(path):
-    """Files that a page links to, or names as a path of the repository, and that aren't there."""
+    """Files and headings that a page links to, and files that it names as a path of the repository, that aren't there."""
     text = path.read_text()
-    for link in re.findall(r"\]\(([^)#:]+)(?:#[^)]*)?\)", text):
-        if not (path.parent / link).exists():
-            yield f"{path.name}: no file {link}"
+    for link, anchor in re.findall(r"\]\(([^)#:]*)(?:#([^)]*))?\)", text):
+        target = path.parent / link if link else path
+        if not target.exists() or anchor and anchor not in anchors(target.read_text()):
+            yield f"{path.name}: no place {link} {anchor}"
     for name in re.findall(r"`((?:hevc_\w+|bench|crates|docs)/[\w/.]+\w)`", text):
         if not (TOP / name).exists() and not (CRATES / name).exists():
             yield f"{path.name}: no file {name}"
@@ -198,6 +217,7 @@ def complaints():
     yield from wrong_rows(records)
     yield from wrong_crates((DOCS / "MAP.md").read_text())
     yield from wrong_definitions((DOCS / "PROMISES.md").read_text())
+    yield from wrong_edits((DOCS / "STRENGTH.md").read_text())
     for path in [TOP / "README.md", *sorted(DOCS.glob("*.md"))]:
         yield from wrong_files(path)
 
