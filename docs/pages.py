@@ -3,7 +3,7 @@
 pages.py          writes them
 pages.py --check  says what differs, and ends with 1 where anything does:
                   those examples and fields; each bound of TABLES.md that is two numbers, beside the table's own
-                  in hevc_tables; the row of TABLES.md that a field of RECORDS.md names; that MAP.md has
+                  in hevc_tables; the records of RECORDS.md, and the row of TABLES.md that each field names; that MAP.md has
                   each crate of crates.txt, in its order and no other; that each definition listed in PROMISES.md stands in
                   the file that its heading names; the numbers of edits in STRENGTH.md; that files and headings
                   which the pages name or link to are there
@@ -86,29 +86,31 @@ def made_records(page):
     return page
 
 
+def wrong_records(page):
+    """The records of three fields or more that RECORDS.md lacks."""
+    listed = {(name, crate) for name, crate, _, _ in records_in(page)}
+    for crate in crates():
+        for path in sorted((CRATES / crate / "src").glob("*.rt")) if crate.startswith("hevc_types_") else []:
+            for name in re.findall(r"^pub struct (\w+)", path.read_text(), re.M):
+                if (name, crate) not in listed and len(fields_of(crate, name)) > 2:
+                    yield f"RECORDS.md: {name} of {crate} is missing"
+
+
 def rows_of_tables():
-    """The elements of each table's rows in TABLES.md."""
+    """The rows of TABLES.md: for each table and row its elements and its bound, as they stand there."""
     rows = {}
     for part in re.split(r"^### ", (DOCS / "TABLES.md").read_text(), flags=re.M)[1:]:
         table = re.match(r"Table (\d+)", part)
-        if not table:
-            continue
-        for number, elements in re.findall(r"^\| (\d+) \| ([^|]*)", part, re.M):
-            rows[table.group(1), number] = [re.match(r"\w*", element.strip()).group() for element in elements.split(",")]
+        for line in part.splitlines() if table else []:
+            cells = [cell.strip() for cell in line.strip("|").split("|")]
+            if cells[0].isdigit():
+                elements = [re.match(r"\w*", element.strip()).group() for element in cells[1].split(",")]
+                rows[table.group(1), cells[0]] = elements, cells[3] if len(cells) > 3 else ""
     # Rows 9 to 14 of table 16 are rows 3 to 8 for list 1.
     for number in range(9, 15):
-        rows["16", str(number)] = [element.replace("_l0", "_l1") for element in rows["16", str(number - 6)]]
+        elements, bound = rows["16", str(number - 6)]
+        rows["16", str(number)] = [element.replace("_l0", "_l1") for element in elements], bound
     return rows
-
-
-def bounds_of_tables():
-    """The bound of each row in TABLES.md, as it stands there."""
-    bounds = {}
-    for part in re.split(r"^### ", (DOCS / "TABLES.md").read_text(), flags=re.M)[1:]:
-        table = re.match(r"Table (\d+)", part)
-        for number, bound in re.findall(r"^\| (\d+) \|[^|]*\|[^|]*\| *([^|]*?) *\|", part, re.M) if table else []:
-            bounds[table.group(1), number] = bound
-    return bounds
 
 
 def numeric_bounds():
@@ -126,9 +128,9 @@ def numeric_bounds():
 
 def wrong_bounds():
     """The rows of TABLES.md whose bound isn't that of hevc_tables."""
-    bounds = bounds_of_tables()
+    rows = rows_of_tables()
     for table, row, least, greatest, all_values in numeric_bounds():
-        bound = bounds.get((table, row))
+        _, bound = rows.get((table, row), ([], None))
         if bound != f"{least}..{greatest}" and not (all_values and bound == ""):
             yield f"TABLES.md: row {row} of table {table} has {bound}, and hevc_tables {least}..{greatest}"
 
@@ -147,7 +149,7 @@ def wrong_rows(page):
             general = re.sub("^sub_layer_", "general_", field)
             # Row 30 of table 2 has the elements of rows 1 to 15 for a sub-layer.
             places = [str(n) for n in range(1, 16)] if (table, row) == ("2", "30") else [row]
-            elements = [e for place in places for e in rows.get((table, place), [])]
+            elements = [e for place in places for e in rows.get((table, place), ([], ""))[0]]
             if row != "derived" and not is_at(general if row == "30" else field, elements):
                 yield f"RECORDS.md: {field} of {name} isn't at row {row} of table {table}"
 
@@ -214,6 +216,7 @@ def with_example(page, example):
 def complaints():
     records = (DOCS / "RECORDS.md").read_text()
     yield from wrong_bounds()
+    yield from wrong_records(records)
     yield from wrong_rows(records)
     yield from wrong_crates((DOCS / "MAP.md").read_text())
     yield from wrong_definitions((DOCS / "PROMISES.md").read_text())
