@@ -1,6 +1,6 @@
 -- A later slice of the current picture.
-use Rattle.std.proofs.Common.{◌≡◌, ℕ, [], ◌∷◌, sym, ◌∙◌, ap, subst, Option, None, Result, Err, Bool, true, if◌then◌else◌}
-use Rattle.std.specs.Prelude.{is_some}
+use Rattle.std.proofs.Common.{◌≡◌, ℕ, [], ◌∷◌, sym, ◌∙◌, ap, subst, Option, None, Some, Result, Ok, Err, Bool, true, false, refl, if◌then◌else◌}
+use Rattle.std.specs.Prelude.{is_some, is_err}
 use Rattle.std.specs.Result.{IsErrAnd}
 use Rattle.std.proofs.lemmas.Result.{err_from_is_err_and}
 use Rattle.hevc_backend.specs.declared.error.BackendError.{BackendError}
@@ -17,9 +17,15 @@ use Rattle.hevc_walk_units.specs.Units.{Standing, Current, OpenPicture, later_sl
 use Rattle.hevc_driver.specs.declared.decode_error.DecodeError.{DecodeError}
 use Rattle.hevc_driver.specs.Errors.{backend_error}
 use Rattle.hevc_driver.specs.Does.{Traces, Does, Stops, Completes}
+use Rattle.hevc_backend.specs.Told.{BegunPicture, begun_picture}
+use Rattle.hevc_driver.specs.declared.current.Current.{Current as CodeCurrent}
+use Rattle.hevc_driver.specs.declared.current.Current.TheVariants as code
+use Rattle.hevc_driver.specs.declared.current.Open.{Open}
+use Rattle.hevc_driver.specs.declared.walk.Walk.{Walk}
+use Rattle.hevc_driver.specs.Sound.{IsOpenNewest, IsNewest, IsLatest}
 use Rattle.hevc_driver.specs.Calls.{call_of, IsTimed, submissions}
 use Rattle.hevc_driver.specs.Moments.{given_up}
-use Rattle.hevc_driver.specs.Takes.{Follows, LeftStarted, Changed}
+use Rattle.hevc_driver.specs.Takes.{Follows, LeftStarted, Changed, given_up_by}
 use Rattle.hevc_driver.specs.declared.decode_error.DecodeError.TheVariants as errors
 use Rattle.hevc_driver.proofs.Doing.{does_nothing, does_call, stops_at, stops_as, keeps_all, keeps_more}
 
@@ -76,3 +82,30 @@ follow_changed {H} {T} r e t a b w s st is changed same left = let q = err_from_
     by errors.Backend h = absurd (cc h.told)
     by errors.NoMemory h = absurd (cc h.told)
     by e h = (h, same, left)
+
+-- what stands once the picture of a refused slice is given up
+pub left_refused : {T : Type 0} (r : Result T DecodeError) (s : Standing) → is_err r ≡ true → given_up_by r s ≡ given_up s
+left_refused (Ok value) s refused = absurd (cc refused)
+left_refused (Err e) s refused = refl
+
+pub left_taken : {T : Type 0} (r : Result T DecodeError) (s : Standing) → is_err r ≡ false → given_up_by r s ≡ s
+left_taken (Ok value) s taken = refl
+left_taken (Err e) s taken = absurd (cc taken)
+
+pub refused_given_up : {T : Type 0} (r : Result T DecodeError) (P : DecodeError → Type 0) (s : Standing) → IsErrAnd r P → given_up_by r s ≡ given_up s
+refused_given_up (Ok value) P s refused = absurd refused
+refused_given_up (Err e) P s refused = refl
+
+pub hand_stops : {H T : Type 0} (r : Result T DecodeError) (e : BackendError) (t : ℕ) (a b : Traces H) (p : Head) (set : RefPicSet) (w : Slice) (s : Standing) → IsErrAnd r (λ y. y ≡ backend_error e) → is_decoded p ≡ true → changed_by w.format s.store.accepted ≡ None
+    → b.log ≡ a.log → b.queue ≡ a.queue → b.tickets ≡ a.tickets → Follows r t a b w (opened p set s) (given_up_by r (opened p set s))
+hand_stops r e t a b p set w s is decoded fine log queue tickets = follow_stops r e t a b p set w s (given_up_by r (opened p set s)) is decoded fine log queue tickets (refused_given_up r (λ y. y ≡ backend_error e) (opened p set s) is)
+
+pub hand_changed : {H T : Type 0} (r : Result T DecodeError) (e : DecodeError) (t : ℕ) (a b : Traces H) (w : Slice) (s : Standing) → IsErrAnd r (λ y. y ≡ e) → Changed e (refusal_of_later s.current w s.store.accepted) → b ≡ a → Follows r t a b w s (given_up_by r s)
+hand_changed r e t a b w s is changed same = follow_changed r e t a b w s (given_up_by r s) is changed same (refused_given_up r (λ y. y ≡ e) s is)
+
+-- the open picture is the newest, and the backend's last one
+pub open_newest : {H P : Type 0} (w : Walk H P) (o : Open P) → w.current ≡ code.Opened o → IsOpenNewest w.current w → IsNewest o.head o.set w
+open_newest w o is h = subst (λ (c : CodeCurrent _). IsOpenNewest c w) is h
+
+pub open_latest : {P : Type 0} (c : CodeCurrent P) (o : Open P) (picture : Option BegunPicture) → c ≡ code.Opened o → IsLatest c picture → picture ≡ Some (begun_picture o.head.number o.head.picture)
+open_latest c o picture is h = subst (λ (c : CodeCurrent _). IsLatest c picture) is h

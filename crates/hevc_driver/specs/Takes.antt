@@ -150,6 +150,11 @@ Follows (Err errors.Backend) timestamp old new slice s standing = Stops timestam
 Follows (Err errors.NoMemory) timestamp old new slice s standing = Stops timestamp old new (later_slice slice s).events (λ call. LeftStarted call × (standing ≡ given_up s))
 Follows (Err error) timestamp old new slice s standing = Changed error (refusal_of_later s.current slice s.store.accepted) × (new ≡ old) × (standing ≡ given_up s)
 
+-- what stands once the picture of a refused slice is given up
+abbrev pub given_up_by : {T : Type 0} → Result T DecodeError → Standing → Standing
+given_up_by (Ok value) s = s
+given_up_by (Err error) s = given_up s
+
 -- a picture is over and the next begins, the header being kept
 pub record BeginsBehind {H T : Type 0} (result : Result T DecodeError) (timestamp : ℕ) (old new : Traces H) (slice : Slice) (s standing : Standing) : Type 0 where
   pub mid : Traces H

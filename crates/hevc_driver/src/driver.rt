@@ -12,6 +12,7 @@ use crate::head::Next;
 use crate::walk::Walk;
 use hevc_backend::StatelessH265DecoderBackend;
 use hevc_dpb::Dpb;
+use hevc_refs::ReferencePicLists;
 use std::alloc::{AllocError, Global};
 use std::collections::VecDeque;
 
@@ -20,6 +21,8 @@ use std::collections::VecDeque;
 pub struct Driver<B: StatelessH265DecoderBackend> {
     pub backend: B,
     pub walk: Walk<B::Handle, B::Picture>,
+    /// The reference picture lists of the latest slice: their room is used again.
+    pub lists: ReferencePicLists,
 }
 
 impl<B: StatelessH265DecoderBackend> Driver<B> {
@@ -47,6 +50,7 @@ impl<B: StatelessH265DecoderBackend> Driver<B> {
                 },
                 queue: VecDeque::new(alloc),
             },
+            lists: ReferencePicLists::new(),
         }
     }
 

@@ -1,5 +1,5 @@
 //! The headers of dependent slice segments (7.4.7.1).
-ghost use Rattle.std.specs.Prelude.{◌≡◌, ◌==◌, ◌&&◌, nat_le, Option, Some, None, IfOk, OnOk, OnErr, option_map, if◌then◌else◌};
+ghost use Rattle.std.specs.Prelude.{◌≡◌, ◌==◌, ◌&&◌, nat_le, Option, Some, None, OnOk, OnErr, option_map, if◌then◌else◌};
 ghost use Rattle.hevc_types_c.specs.declared.sps.Sps.{Sps};
 ghost use Rattle.hevc_types_d.specs.declared.pps.Pps.{Pps};
 ghost use Rattle.hevc_walk.specs.DependentSlices.{KeptHeader, whole_slice, kept_header};
@@ -24,35 +24,31 @@ fn completes(kept: &SliceHeader, header: &SliceHeader, sps: &Sps) -> bool
 /// Completes the header of a dependent slice segment by that of the latest independent one. Whether the segment has its whole header
 /// then; one that has it already stays.
 #[tactic(auto, unfolding(crate::specs::Slices::slice_of, crate::specs::Slices::kept_of))]
-pub(crate) fn complete(
-    kept: &Option<SliceHeader>,
-    slice: &mut Slice<'_>,
-    sps: &Sps,
-) -> Result<bool, AllocError>
-    ensures whole { (o : Options) (pps : Pps) → IfOk result (λ is_whole.
+pub(crate) fn complete(kept: &Option<SliceHeader>, slice: &mut Slice<'_>, sps: &Sps) -> bool
+    ensures whole { (o : Options) (pps : Pps) →
         whole_slice (option_map kept_of kept.now) (slice_of o slice.old sps.now pps)
-        ≡ (if is_whole then Some (slice_of o slice.new sps.now pps) else None)) }
+        ≡ (if result then Some (slice_of o slice.new sps.now pps) else None) }
     ensures stays { StaysUnlessWhole result slice.old slice.new }
-    ensures kept { (o : Options) (pps : Pps) (latest : Option KeptHeader) → OnOk result
-        (kept_header latest (slice_of o slice.new sps.now pps)
-        ≡ kept_header latest (slice_of o slice.old sps.now pps)) }
+    ensures kept { (o : Options) (pps : Pps) (latest : Option KeptHeader) →
+        kept_header latest (slice_of o slice.new sps.now pps)
+        ≡ kept_header latest (slice_of o slice.old sps.now pps) }
     ensures unit { slice.new.nalu ≡ slice.old.nalu }
     ensures id { slice.new.header.pic_parameter_set_id ≡ slice.old.header.pic_parameter_set_id }
 {
     if !slice.header().dependent_slice_segment_flag {
-        return Ok(true);
+        return true;
     }
     let Some(header) = kept else {
-        return Ok(false);
+        return false;
     };
     if !completes(header, slice.header(), sps) {
-        return Ok(false);
+        return false;
     }
-    let header = header.try_clone()?;
-    Ok(slice.replace_header(header).is_ok())
+    slice.header.complete(header);
+    true
 }
 
-/// Keeps the header of an independent slice segment for the dependent ones behind it.
+/// Keeps the header of an independent slice segment for the dependent ones behind it. Only the first one takes memory.
 #[tactic(auto, unfolding(crate::specs::Slices::slice_of, crate::specs::Slices::kept_of))]
 pub(crate) fn keep(kept: &mut Option<SliceHeader>, slice: &Slice<'_>) -> Result<(), AllocError>
     ensures kept { (o : Options) (sps : Sps) (pps : Pps) → OnOk result
@@ -60,8 +56,21 @@ pub(crate) fn keep(kept: &mut Option<SliceHeader>, slice: &Slice<'_>) -> Result<
         ≡ kept_header (option_map kept_of kept.old) (slice_of o slice.now sps pps)) }
     ensures stays { OnErr result (kept.new ≡ kept.old) }
 {
-    if !slice.header().dependent_slice_segment_flag {
-        *kept = Some(slice.header().try_clone()?);
+    if slice.header().dependent_slice_segment_flag {
+        return Ok(());
+    }
+    match kept {
+        Some(header) => put(header, slice.header()),
+        None => *kept = Some(slice.header().try_clone()?),
     }
     Ok(())
+}
+
+/// Puts a header in the place of a kept one, but for what dependent segments have of their own.
+#[tactic(auto, unfolding(crate::specs::Slices::kept_of))]
+fn put(kept: &mut SliceHeader, header: &SliceHeader)
+    ensures { kept_of kept.new ≡ kept_of header.now }
+{
+    kept.pic_parameter_set_id = header.pic_parameter_set_id;
+    kept.complete(header);
 }

@@ -24,7 +24,7 @@ use crate::current::{Current, Open};
 use crate::decode_error::DecodeError;
 use crate::driver::Driver;
 use crate::head::Head;
-use crate::references::reference_lists;
+use crate::references::build_lists;
 use hevc_backend::StatelessH265DecoderBackend;
 use hevc_options::Options;
 use hevc_refs::RefPicSet;
@@ -158,7 +158,7 @@ impl<B: StatelessH265DecoderBackend> Driver<B> {
             &set,
             slice,
         )?;
-        let lists = reference_lists(slice, pps, &set);
+        build_lists(&mut self.lists, slice, pps, &set);
         self.backend.decode_slice(
             number,
             &mut picture,
@@ -166,8 +166,8 @@ impl<B: StatelessH265DecoderBackend> Driver<B> {
             sps,
             pps,
             dpb,
-            &lists.ref_pic_list0,
-            &lists.ref_pic_list1,
+            &self.lists.ref_pic_list0,
+            &self.lists.ref_pic_list1,
         )?;
         self.walk.current = Current::Opened(Open {
             head: *head,

@@ -19,7 +19,7 @@ ghost use Rattle.hevc_driver.specs.Slices.{slice_of};
 use crate::beginning::max_pic_order_cnt_lsb;
 use crate::head::Head;
 use hevc_dpb::Dpb;
-use hevc_refs::{RefPicSet, ReferencePicLists, build_ref_pic_lists, derive_and_mark};
+use hevc_refs::{RefPicSet, ReferencePicLists, derive_and_mark};
 use hevc_types_a::ShortTermRefPicSet;
 use hevc_types_c::Sps;
 use hevc_types_d::{Pps, Slice, SliceHeader};
@@ -61,18 +61,23 @@ pub(crate) fn reference_set<H: Copy>(
     derive_and_mark(dpb, &head.picture, header, set, max_pic_order_cnt_lsb(sps))
 }
 
-/// The two reference picture lists of a slice (8.3.4).
-pub(crate) fn reference_lists(slice: &Slice<'_>, pps: &Pps, set: &RefPicSet) -> ReferencePicLists
+/// Makes `lists` the two reference picture lists of a slice (8.3.4).
+pub(crate) fn build_lists(
+    lists: &mut ReferencePicLists,
+    slice: &Slice<'_>,
+    pps: &Pps,
+    set: &RefPicSet,
+)
     ensures list0 { (o : Options) (sps : code_sps.Sps)
-        → plain_places (places_of result.ref_pic_list0)
+        → plain_places (places_of lists.new.ref_pic_list0)
         ≡ ref_pic_list0 (plain_set set.now) (slice_of o slice.now sps pps.now) }
     ensures list1 { (o : Options) (sps : code_sps.Sps)
-        → plain_places (places_of result.ref_pic_list1)
+        → plain_places (places_of lists.new.ref_pic_list1)
         ≡ ref_pic_list1 (plain_set set.now) (slice_of o slice.now sps pps.now) }
 {
-    build_ref_pic_lists(
+    lists.build(
         slice.header(),
         set,
         pps.scc_extension().curr_pic_ref_enabled_flag,
-    )
+    );
 }

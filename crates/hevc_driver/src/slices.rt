@@ -12,21 +12,20 @@ ghost use Rattle.hevc_driver.specs.Standings.{standing, traces, current_of, with
 ghost use Rattle.hevc_backend.specs.Told.{WhereTold};
 ghost use Rattle.hevc_driver.specs.declared.current.Current.TheVariants.{Opened};
 ghost use Rattle.hevc_driver.specs.Sound.{IsSound, IsNewest, IsLatest, HasRoom, Grows, AreNamed};
-ghost use Rattle.hevc_driver.specs.Takes.{Takes, Changes, Follows, ChecksFormat};
+ghost use Rattle.hevc_driver.specs.Takes.{Takes, Changes, Follows, given_up_by, ChecksFormat};
 ghost use Rattle.hevc_types_c.specs.declared.sps.Sps as code_sps;
 ghost use Rattle.hevc_types_d.specs.declared.pps.Pps as code_pps;
 ghost use Rattle.hevc_options.specs.declared.Options as code_options;
 
-use crate::current::{Current, Open};
+use crate::current::Current;
 use crate::decode_error::DecodeError;
 use crate::driver::Driver;
 use crate::kept::{complete, keep};
-use crate::references::reference_lists;
+use crate::references::build_lists;
 use hevc_backend::{NegotiationInfo, StatelessH265DecoderBackend};
 use hevc_options::Options;
 use hevc_types_c::Sps;
 use hevc_types_d::{Pps, Slice};
-use std::mem::replace;
 
 /// Whether a slice begins a picture.
 #[tactic(auto, unfolding(crate::specs::Slices::slice_of))]
@@ -96,13 +95,13 @@ impl<B: StatelessH265DecoderBackend> Driver<B> {
             (traces (B.log self.new.backend) self.new.walk)
             (CodedSlice (slice_of options slice.old sps.now pps.now))
             (standing self.old.walk) (standing self.new.walk) }
-        ensures slice { LeavesSlice result
+        ensures slice { LeavesSlice
             (whole_slice (option_map kept_of self.old.walk.kept)
             (slice_of options slice.old sps.now pps.now))
             (slice_of options slice.old sps.now pps.now)
             (slice_of options slice.new sps.now pps.now) }
     {
-        if !complete(&self.walk.kept, slice, sps)? {
+        if !complete(&self.walk.kept, slice, sps) {
             return Err(DecodeError::NoIndependentSlice);
         }
         keep(&mut self.walk.kept, slice)?;
@@ -160,28 +159,15 @@ impl<B: StatelessH265DecoderBackend> Driver<B> {
             (slice_of o slice.now sps.now pps.now)
             (standing self.old.walk) (standing self.new.walk) }
     {
-        match replace(&mut self.walk.current, Current::NoPicture) {
-            Current::Opened(opened) => self.continue_with(opened, slice, sps, pps),
-            Current::Skipped => {
-                self.walk.current = Current::Skipped;
-                Ok(())
-            }
-            Current::NoPicture => Ok(()),
+        let result = self.hand_slice(slice, sps, pps);
+        if result.is_err() {
+            self.walk.current = Current::NoPicture;
         }
+        result
     }
 
-    /// A later slice of an open picture.
-    fn continue_with(
-        &mut self,
-        mut opened: Open<B::Picture>,
-        slice: &Slice<'_>,
-        sps: &Sps,
-        pps: &Pps,
-    ) -> Result<(), DecodeError>
-        requires none { current_of self.old.walk.current ≡ NoPicture }
-        requires newest { IsNewest opened.head opened.set self.old.walk }
-        requires latest { WhereTold (B.log self.old.backend)
-            (λ t. IsLatest (Opened opened) t.picture) }
+    /// A later slice is handed over, where a picture is open. Where that is refused the picture is to be given up.
+    fn hand_slice(&mut self, slice: &Slice<'_>, sps: &Sps, pps: &Pps) -> Result<(), DecodeError>
         requires named { AreNamed slice.now sps.now pps.now }
         requires sound { IsSound (B.log self.old.backend) self.old.walk }
         ensures sound { IsSound (B.log self.new.backend) self.new.walk }
@@ -196,10 +182,15 @@ impl<B: StatelessH265DecoderBackend> Driver<B> {
             (traces (B.log self.old.backend) self.old.walk)
             (traces (B.log self.new.backend) self.new.walk)
             (slice_of o slice.now sps.now pps.now)
-            (with_open opened (standing self.old.walk)) (standing self.new.walk) }
+            (standing self.old.walk) (given_up_by result (standing self.new.walk)) }
     {
+        let opened = match &mut self.walk.current {
+            Current::Opened(opened) => opened,
+            Current::Skipped => return Ok(()),
+            Current::NoPicture => return Ok(()),
+        };
         check_format(self.walk.accepted, &sps.into())?;
-        let lists = reference_lists(slice, pps, &opened.set);
+        build_lists(&mut self.lists, slice, pps, &opened.set);
         self.backend.decode_slice(
             opened.head.number,
             &mut opened.picture,
@@ -207,10 +198,9 @@ impl<B: StatelessH265DecoderBackend> Driver<B> {
             sps,
             pps,
             &self.walk.dpb,
-            &lists.ref_pic_list0,
-            &lists.ref_pic_list1,
+            &self.lists.ref_pic_list0,
+            &self.lists.ref_pic_list1,
         )?;
-        self.walk.current = Current::Opened(opened);
         Ok(())
     }
 }

@@ -38,10 +38,10 @@ returns-in_err-begin_picture-clause-part g c o =
     (stops_at _ _ _ (begin_call p (plain_set c.args.set)) _ _ c.in_err-begin_picture.ensures.log refl (keeps_all _ _ refl) (tt, refl)))
 
 pub decode_slice-requires-clause-list0 : goal.decode_slice-requires-clause-list0
-decode_slice-requires-clause-list0 g c = list0_among _ c.args.set (slice_of (record { handle_cra_as_bla = false; highest_tid = 6 }) c.args.slice.now c.args.sps.now c.args.pps.now) _ (c.reference_lists-lists.ensures.list0 (record { handle_cra_as_bla = false; highest_tid = 6 }) c.args.sps.now) c.requires.newest.references
+decode_slice-requires-clause-list0 g c = list0_among _ c.args.set (slice_of (record { handle_cra_as_bla = false; highest_tid = 6 }) c.args.slice.now c.args.sps.now c.args.pps.now) _ (c.build_lists.ensures.list0 (record { handle_cra_as_bla = false; highest_tid = 6 }) c.args.sps.now) c.requires.newest.references
 
 pub decode_slice-requires-clause-list1 : goal.decode_slice-requires-clause-list1
-decode_slice-requires-clause-list1 g c = list1_among _ c.args.set (slice_of (record { handle_cra_as_bla = false; highest_tid = 6 }) c.args.slice.now c.args.sps.now c.args.pps.now) _ (c.reference_lists-lists.ensures.list1 (record { handle_cra_as_bla = false; highest_tid = 6 }) c.args.sps.now) c.requires.newest.references
+decode_slice-requires-clause-list1 g c = list1_among _ c.args.set (slice_of (record { handle_cra_as_bla = false; highest_tid = 6 }) c.args.slice.now c.args.sps.now c.args.pps.now) _ (c.build_lists.ensures.list1 (record { handle_cra_as_bla = false; highest_tid = 6 }) c.args.sps.now) c.requires.newest.references
 
 pub decode_slice-requires-clause-told : goal.decode_slice-requires-clause-told
 decode_slice-requires-clause-told g c =
@@ -72,8 +72,8 @@ returns-clause-part g c o =
           (does_then _ _ (traces (g.B.StatelessH265DecoderBackend.log c.begin_picture.new.self) c.args.self.now.walk) _ (walk.Called (begin_call p (plain_set c.args.set)) ∷ []) _
           (does_call _ _ _ (begin_picture_call c.args.head.now.number c.args.set) c.in_ok-begin_picture.ensures.log refl (keeps_more _ _ _ refl) tt)
           (subst (λ (made : walk.Call). Does c.args.timestamp (traces (g.B.StatelessH265DecoderBackend.log c.begin_picture.new.self) c.args.self.now.walk) (traces (g.B.StatelessH265DecoderBackend.log c.decode_slice.new.self) c.args.self.now.walk) (walk.Called made ∷ []))
-          (slice_made g.row.B-Handle.Denot o c.args.slice.now c.args.sps.now c.args.pps.now p (plain_set c.args.set) _ _ (c.reference_lists-lists.ensures.list0 o c.args.sps.now) (c.reference_lists-lists.ensures.list1 o c.args.sps.now))
-          (does_call c.args.timestamp (traces (g.B.StatelessH265DecoderBackend.log c.begin_picture.new.self) c.args.self.now.walk) (traces (g.B.StatelessH265DecoderBackend.log c.decode_slice.new.self) c.args.self.now.walk) (decode_slice_call c.args.head.now.number c.args.slice.now c.reference_lists-lists.result.ref_pic_list0 c.reference_lists-lists.result.ref_pic_list1) c.in_ok-decode_slice.ensures.log refl (keeps_more _ _ _ refl) tt)));
+          (slice_made g.row.B-Handle.Denot o c.args.slice.now c.args.sps.now c.args.pps.now p (plain_set c.args.set) _ _ (c.build_lists.ensures.list0 o c.args.sps.now) (c.build_lists.ensures.list1 o c.args.sps.now))
+          (does_call c.args.timestamp (traces (g.B.StatelessH265DecoderBackend.log c.begin_picture.new.self) c.args.self.now.walk) (traces (g.B.StatelessH265DecoderBackend.log c.decode_slice.new.self) c.args.self.now.walk) (decode_slice_call c.args.head.now.number c.args.slice.now c.build_lists.new.lists.ref_pic_list0 c.build_lists.new.lists.ref_pic_list1) c.in_ok-decode_slice.ensures.log refl (keeps_more _ _ _ refl) tt)));
       next = refl;
     }
 
@@ -86,7 +86,7 @@ returns-clause-sound g c =
       latency = s.latency;
       below = s.below;
       newest = record { newer = n.newer; counted = n.counted; references = n.references; negotiated = n.negotiated };
-      told = told_call (decode_slice_call c.args.head.now.number c.args.slice.now c.reference_lists-lists.result.ref_pic_list0 c.reference_lists-lists.result.ref_pic_list1) c.in_ok-decode_slice.ensures.log
+      told = told_call (decode_slice_call c.args.head.now.number c.args.slice.now c.build_lists.new.lists.ref_pic_list0 c.build_lists.new.lists.ref_pic_list1) c.in_ok-decode_slice.ensures.log
           (told_call (begin_picture_call c.args.head.now.number c.args.set) c.in_ok-begin_picture.ensures.log
           (told_call (new_picture_call c.args.head.now.number c.args.head.now.picture c.args.timestamp) c.in_ok-picture.ensures.log s.told (λ t h. record { handles = h.handles; sequence = h.sequence; picture = refl })) (λ t h. h)) (λ t h. h);
     }
