@@ -1,7 +1,7 @@
 -- A read of known bytes.
-use Rattle.std.proofs.Common.{◌≡◌, ℕ, ◌+◌, ◌-◌, ◌<◌, ◌≤◌, min, List, [], ◌++◌, length, take, drop, sym, ap, ◌∙◌, arith}
-use Rattle.std.proofs.lemmas.List.{take-append-drop, drop-drop, take_at, take_rest, length-drop, length-take, length-append, drop_all}
-use Rattle.std.proofs.Math.Seq.{length-take-le}
+use Rattle.std.proofs.Common.{◌≡◌, ℕ, ◌+◌, ◌-◌, ◌<◌, ◌≤◌, min, List, [], ◌++◌, length, take, drop, sym, ap, ◌∙◌, append_assoc, arith}
+use Rattle.std.proofs.lemmas.List.{take-append-drop, take-append-le, drop-drop, take-take, take_at, take_rest, length-drop, length-take, length-take-le, length-append, drop_all}
+use Rattle.std.proofs.Math.Seq.{take-append-add}
 
 -- what one read hands over, and what it leaves
 pub handed_over : (xs front rest : List ℕ) (at n : ℕ) → front ≡ take n (drop at xs) → n ≤ length xs - at
@@ -25,3 +25,20 @@ read_on xs front buf at n inside m e =
       handed_over xs front (drop n buf) at n part (omega arith),
       λ none room. drop_all (at + n) xs (omega (arith, simp (length-append, length-drop) at room)),
     )
+
+-- what was read behind the first bytes of a buffer stands behind them
+pub read_behind : (now buf rest more : List ℕ) (len at n : ℕ) → at ≤ length now → at + n ≤ len → n ≤ length buf
+    → take (at + n) (take len (take at now ++ (buf ++ rest) ++ more)) ≡ take at now ++ take n buf
+read_behind now buf rest more len at n inside room few =
+    let front : length (take at now) ≡ at = length-take-le at now inside in
+    take-take (at + n) len _ room
+    ∙ ap (take (at + n)) (append_assoc (take at now) (buf ++ rest) more)
+    ∙ ap (λ k. take (k + n) (take at now ++ ((buf ++ rest) ++ more))) (sym front)
+    ∙ take-append-add (take at now) ((buf ++ rest) ++ more) n
+    ∙ ap (λ l. take at now ++ l) (take-append-le n (buf ++ rest) more (simp length-append (omega (arith, few))) ∙ take-append-le n buf rest few)
+
+-- room behind the first bytes leaves them
+pub still_there : (items fresh : List ℕ) (at room : ℕ) → at ≤ length items → take at (take (at + room) items ++ fresh) ≡ take at items
+still_there items fresh at room inside =
+    take-append-le at (take (at + room) items) fresh (simp length-take (omega (arith, inside)))
+    ∙ take-take at (at + room) items (omega arith)

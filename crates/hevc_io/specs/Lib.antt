@@ -1,3 +1,5 @@
 pub mod Memory
+pub mod Prefix
 pub mod Standard
+pub mod Stops
 pub mod Writes

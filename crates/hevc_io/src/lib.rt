@@ -1,19 +1,28 @@
-//! Where a program has its words, its input and its output: a word of the command line, a source of
-//! bytes and a sink of bytes, over memory and over the system's readers and writers.
+//! Where a program has its words, its input and its output: the words of the command line, a source of
+//! bytes, which is read to its end, and a sink of bytes, which takes a whole text; over memory and over the
+//! system's readers and writers.
 #![tactic(auto)]
 
 mod fault_plan;
+mod input;
 mod memory;
+mod output;
 mod sink;
 mod source;
 mod standard;
+mod stop;
 mod word;
+mod words;
 
+pub use input::{InputError, read_all};
 pub use memory::{MemorySink, MemorySource};
+pub use output::write_all;
 pub use sink::{Sink, SinkError};
 pub use source::{Failed, Source};
 pub use standard::{StdSink, StdSource};
+pub use stop::Stop;
 pub use word::Word;
+pub use words::{LONGEST_WORD, WordsError, command_line};
 
 #[cfg(test)]
 mod tests;

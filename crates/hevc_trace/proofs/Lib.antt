@@ -1,4 +1,3 @@
-pub mod Bytes
 pub mod Joined
 pub mod Numbers
 pub mod Order

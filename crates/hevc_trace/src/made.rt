@@ -5,18 +5,16 @@ ghost use Rattle.std.specs.String.{string_bytes};
 ghost use Rattle.hevc_faults.specs.Faults.{Rose};
 ghost use Rattle.hevc_made.specs.Made.{made};
 ghost use Rattle.hevc_stream.specs.Options.{default_options};
-ghost use Rattle.hevc_trace.specs.Prefix.{AppendsPrefix, AppendsLess};
+ghost use Rattle.hevc_io.specs.Prefix.{AppendsPrefix, AppendsLess};
 ghost use Rattle.hevc_trace.specs.Report.{ending_of};
 ghost use Rattle.hevc_trace.specs.Status.{IsMade, status_of};
 ghost use Rattle.hevc_trace.specs.Summary.{summary_of};
 
-use crate::input::INPUT_LIMIT;
-use crate::output::write_all;
-use crate::program::{Report, wants_memory};
+use crate::program::{INPUT_LIMIT, Report, wants_memory};
 use crate::report::summary_text;
 use hevc_backend::Backend;
 use hevc_decoder::{Options, decode_stream_with};
-use hevc_io::{Sink, SinkError};
+use hevc_io::{Sink, SinkError, write_all};
 use hevc_made::make_stream;
 use std::alloc::{AllocError, Global};
 

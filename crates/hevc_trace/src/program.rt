@@ -12,20 +12,21 @@ ghost use Rattle.hevc_options.specs.Options.{options_of};
 ghost use Rattle.hevc_made.specs.Made.{made};
 ghost use Rattle.hevc_stream.specs.Options.{default_options};
 ghost use Rattle.hevc_trace.specs.Command.{command, pictures_to_make};
-ghost use Rattle.hevc_trace.specs.Prefix.{AppendsPrefix, AppendsLess};
+ghost use Rattle.hevc_io.specs.Prefix.{AppendsPrefix, AppendsLess};
 ghost use Rattle.hevc_trace.specs.Report.{ending_of, report_of};
 ghost use Rattle.hevc_trace.specs.Status.{status_of, IsDone, IsMade, WantsMemory};
 ghost use Rattle.hevc_trace.specs.Summary.{summary_of};
 
 use crate::command::{read_command, read_make};
-use crate::input::{INPUT_LIMIT, InputError, read_all};
 use crate::made::run_made;
-use crate::output::write_all;
 use crate::report::report_text;
 use hevc_backend::Backend;
 use hevc_decoder::{DecodeError, Options, Refused, decode_stream_with};
-use hevc_io::{Sink, SinkError, Source, Word};
+use hevc_io::{InputError, Sink, SinkError, Source, Word, read_all, write_all};
 use std::alloc::{AllocError, Global};
+
+/// The longest input that is taken, in bytes.
+pub const INPUT_LIMIT: usize = 268_435_456;
 
 /// Why a run has no status 0 or 1.
 #[derive(Clone, Copy)]
@@ -166,7 +167,7 @@ fn write_report<S: Source, K: Sink>(
     ensures long { IsErrOf result Stop.TooLong
         → (sink.new ≡ sink.old) × IfSome (S.left source.old) (λ s. INPUT_LIMIT < length s) }
 {
-    let input = match read_all(alloc, source) {
+    let input = match read_all(alloc, source, INPUT_LIMIT) {
         Ok(input) => input,
         Err(InputError::Failed) => return Err(Stop::Read),
         Err(InputError::TooLong) => return Err(Stop::TooLong),

@@ -1,6 +1,6 @@
 use Rattle.hevc_made.specs.Made.{made}
 use Rattle.hevc_trace.specs.Summary.{summary_of}
-use Rattle.hevc_trace.proofs.Bytes.{nothing_written}
+use Rattle.hevc_io.proofs.Written.{nothing_written}
 use Rattle.hevc_trace.proofs.Joined.{some_summary}
 use Rattle.hevc_trace.proofs.made.run_made.Goals as goal
 

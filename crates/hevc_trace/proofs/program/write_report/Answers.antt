@@ -1,9 +1,9 @@
 use Rattle.std.proofs.Common.{List, ℕ, Option, None, Some, IfSome, ap, subst, ◌∙◌}
 use Rattle.std.proofs.KnownBytes.{Consumes-whole}
 use Rattle.hevc_options.specs.Options.{options_of}
-use Rattle.hevc_trace.specs.Prefix.{AppendsLess}
+use Rattle.hevc_io.specs.Prefix.{AppendsLess}
 use Rattle.hevc_trace.specs.Report.{report_of}
-use Rattle.hevc_trace.proofs.Bytes.{nothing_written}
+use Rattle.hevc_io.proofs.Written.{nothing_written}
 use Rattle.hevc_trace.proofs.Joined.{some_report}
 use Rattle.hevc_trace.proofs.program.write_report.Goals as goal
 

@@ -1,5 +1,5 @@
 use Rattle.std.proofs.Common.{◌≤◌, All, length}
-use Rattle.hevc_trace.proofs.command_line.Given as goal
+use Rattle.hevc_io.proofs.words.command_line.Given as goal
 
 -- no word is longer than may be
 abbrev pub invariant-loop-number : goal.invariant-loop-number

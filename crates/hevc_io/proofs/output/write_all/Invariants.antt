@@ -1,6 +1,6 @@
 use Rattle.std.proofs.Common.{length, ◌-◌, ◌≤◌, take}
 use Rattle.std.specs.Io.KnownBytes.{Appends}
-use Rattle.hevc_trace.proofs.output.write_all.Given as goal
+use Rattle.hevc_io.proofs.output.write_all.Given as goal
 
 -- the first `done` bytes were written
 abbrev pub invariant-loop-done : goal.invariant-loop-done

@@ -1,6 +1,6 @@
 use Rattle.std.proofs.Common.{arith, rules}
-use Rattle.hevc_trace.proofs.Bytes.{written_more}
-use Rattle.hevc_trace.proofs.output.write_all.Goals as goal
+use Rattle.hevc_io.proofs.Written.{written_more}
+use Rattle.hevc_io.proofs.output.write_all.Goals as goal
 
 pub loop-done-preserved : goal.loop-done-preserved
 loop-done-preserved g c = record {

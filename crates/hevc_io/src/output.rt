@@ -2,12 +2,12 @@
 ghost use Rattle.std.specs.Prelude.{◌≤◌, OnOk, OnErr, IsErrOf};
 ghost use Rattle.std.specs.Io.KnownBytes.{Appends};
 ghost use Rattle.hevc_faults.specs.Faults.{Rose};
-ghost use Rattle.hevc_trace.specs.Prefix.{AppendsLess};
+ghost use Rattle.hevc_io.specs.Prefix.{AppendsLess};
 
-use hevc_io::{Sink, SinkError};
+use crate::sink::{Sink, SinkError};
 
 /// Writes a text in as many pieces as the sink takes.
-pub(crate) fn write_all<K: Sink>(sink: &mut K, text: &[u8]) -> Result<(), SinkError>
+pub fn write_all<K: Sink>(sink: &mut K, text: &[u8]) -> Result<(), SinkError>
     ensures all { OnOk result (Appends (K.written sink.old) (K.written sink.new) text.now) }
     ensures less { OnErr result (AppendsLess (K.written sink.old) (K.written sink.new) text.now) }
     ensures later { K.faults sink.old ≤ K.faults sink.new }
