@@ -4,6 +4,7 @@ ghost use Rattle.std.specs.Ordering.{nat_cmp};
 ghost use Rattle.std.specs.BTreeMap.{get};
 ghost use Rattle.hevc_spec.specs.Payload.{payload};
 ghost use Rattle.hevc_spec.specs.UnitTypes.{is_slice};
+ghost use Rattle.hevc_records.specs.SliceHeader.{default_slice_header};
 ghost use Rattle.hevc_bits.specs.FoundUnit.{bytes_of};
 ghost use Rattle.hevc_elements.specs.Words.{read, ReadsSet, MeansSet, NamesNoSet};
 ghost use Rattle.hevc_tables.specs.VpsTable.{video_parameter_set};
@@ -27,7 +28,7 @@ use hevc_slice_header::read_slice_header;
 use hevc_types_b::Vps;
 use hevc_types_c::Sps;
 use hevc_types_c::comparisons::sps_eq;
-use hevc_types_d::{Pps, Slice};
+use hevc_types_d::{Pps, Slice, SliceHeader};
 use std::alloc::{AllocError, Global};
 use std::collections::BTreeMap;
 
@@ -231,12 +232,55 @@ impl Parser {
         Ok(())
     }
 
-    /// Reads the slice segment header of a unit, of a stream of less than 2^60 bytes, by table 14 (7.3.6.1), with the sets that are
-    /// kept. What is kept stays. Its entry points take memory.
+    /// A slice segment of this unit whose header isn't read yet: that of `SliceHeader::new`.
+    pub fn new_slice<'a>(&self, nalu: Nalu<'a, NaluHeader>) -> Slice<'a>
+        ensures header { plain_slice_header result.header ≡ default_slice_header }
+        ensures unit { result.nalu ≡ nalu.entry }
+    {
+        Slice::new(SliceHeader::new(self.alloc), nalu)
+    }
+
+    /// Reads the header of a slice segment, a new one over a unit of a stream of less than 2^60 bytes, by table 14 (7.3.6.1), with the
+    /// sets that are kept. What is kept stays. Its entry points take memory.
     ///
     /// Errors: `WrongNaluType` first, where the unit is no slice (types 0 to 9 and 16 to 21); `OutOfBits` where the payload ends
     /// within an element; `OutOfRange` with table and row of the first element that isn't allowed; behind row 3, `MissingPps` where no
-    /// picture parameter set of the id that it names is kept; `NoMemory`.
+    /// picture parameter set of the id that it names is kept; `NoMemory`. The header is again that of `SliceHeader::new` then.
+    #[tactic(auto, using(hevc_elements::proofs::SetMeaning::set_meanings))]
+    pub fn read_slice(&self, slice: &mut Slice<'_>) -> Result<(), ParseError>
+        requires short { length slice.old.nalu.stream < 2 ^ 60 }
+        requires new { plain_slice_header slice.old.header ≡ default_slice_header }
+        ensures wrong_type { IsErrOf result ParseError.WrongNaluType
+            ↔ IsFalse (is_slice slice.old.nalu.header.nal_unit_type) }
+        ensures read { IsTrue (is_slice slice.old.nalu.header.nal_unit_type)
+            → ReadsSet (λ _. plain_slice_header slice.new.header) result
+            (read (slice_table (kept_by self.now) slice.old.nalu)
+            (payload (bytes_of slice.old.nalu))) }
+        ensures means { IsTrue (is_slice slice.old.nalu.header.nal_unit_type)
+            → MeansSet (λ _. plain_slice_header slice.new.header)
+            (slice_table (kept_by self.now) slice.old.nalu) result
+            (payload (bytes_of slice.old.nalu)) }
+        ensures names { IfErr result NamesNoSequenceSet }
+        ensures unit { slice.new.nalu ≡ slice.old.nalu }
+        ensures refused { OnErr result
+            (plain_slice_header slice.new.header ≡ default_slice_header) }
+        // Of the header's own short-term set negatives fall, positives rise, and none is 0 (7.4.8).
+        ensures predictions { IsInOrder slice.new.header.short_term_ref_pic_set }
+        // CurrRpsIdx is at most the number of the sequence set's short-term sets, and that number
+        // exactly where the header names none of them.
+        ensures current { OnOk result (HasCurrentSet (active_of (kept_by self.now))
+            (plain_slice_header slice.new.header)) }
+        // Each list whose order is told has an entry for each active place, each below
+        // NumPicTotalCurr.
+        ensures lists { OnOk result (HasLists (plain_slice_header slice.new.header)) }
+    {
+        let Slice { header, nalu } = slice;
+        read_slice_header(self.alloc, nalu, &self.sequence_sets, &self.picture_sets, header)
+    }
+
+    /// Reads the slice segment header of a unit, of a stream of less than 2^60 bytes, as `read_slice` does, and gives the slice segment.
+    ///
+    /// Errors: those of `read_slice`.
     #[tactic(auto, using(hevc_elements::proofs::SetMeaning::set_meanings))]
     pub fn parse_slice_header<'a>(
         &self,
@@ -265,8 +309,9 @@ impl Parser {
         // NumPicTotalCurr.
         ensures lists { IfOk result (λ slice. HasLists (plain_slice_header slice.header)) }
     {
-        let header = read_slice_header(self.alloc, &nalu, &self.sequence_sets, &self.picture_sets)?;
-        Ok(Slice::new(header, nalu))
+        let mut slice = self.new_slice(nalu);
+        self.read_slice(&mut slice)?;
+        Ok(slice)
     }
 
     /// The video parameter set of an id, if it is kept.

@@ -1,6 +1,6 @@
 -- The units of slice segments.
-use Rattle.std.proofs.Common.{◌≡◌, inl, ℕ, ◌≤◌, List, refl, sym, ◌∙◌, ap, subst, Option, Some, None, Ok, Err, Bool, true}
-use Rattle.std.specs.Prelude.{drop, option_map, option_and_then}
+use Rattle.std.proofs.Common.{◌≡◌, inl, ℕ, ◌≤◌, List, refl, sym, ◌∙◌, ap, subst, Option, Some, None, Result, Ok, Err, Bool, true}
+use Rattle.std.specs.Prelude.{IsTrue, drop, option_map, option_and_then}
 use Rattle.hevc_spec.specs.UnitTypes.{is_slice}
 use Rattle.hevc_spec.specs.UnitHeader.{UnitHeader, unit_header}
 use Rattle.hevc_spec.specs.Payload.{payload}
@@ -15,7 +15,8 @@ use Rattle.hevc_walk.specs.Meanings.{UnitCause, Meaning, CodedSlice, Refused, Mi
 use Rattle.hevc_elements.specs.declared.parse_error.ParseError.{ParseError}
 use Rattle.hevc_elements.specs.declared.parse_error.ParseError.TheVariants as parse
 use Rattle.hevc_elements.specs.Naming.{names_picture_set}
-use Rattle.hevc_elements.specs.Sets.{RefusesSet}
+use Rattle.hevc_elements.specs.Sets.{RefusesSet, ReadsSet}
+use Rattle.hevc_slice.specs.Slices.{slice_table}
 use Rattle.hevc_slice_header.specs.Answers.{NamesNoSequenceSet}
 use Rattle.hevc_stream.specs.Options.{Options}
 use Rattle.hevc_stream.specs.Kept.{Kept}
@@ -42,6 +43,12 @@ use Rattle.hevc_stateless.specs.States.{unit_at, AwaitsOrStays}
 use Rattle.hevc_stateless.specs.Refusals.{IsOfUnit, refusal_of}
 use Rattle.hevc_stateless.proofs.Passing.{refused_unit}
 use Rattle.hevc_stateless.proofs.Setting.{means}
+
+-- what was read of a slice segment was read of its unit
+pub of_unit : (given held : FoundUnit UnitHeader) → held ≡ given → (kept : Kept) (h : PlainSliceSegmentHeader) (r : Result (Unit {0}) ParseError)
+    → (IsTrue (is_slice held.header.nal_unit_type) → ReadsSet (λ (_ : Unit {0}). h) r (read (slice_table kept held) (payload (bytes_of held))))
+    → IsTrue (is_slice given.header.nal_unit_type) → ReadsSet (λ (_ : Unit {0}). h) r (read (slice_table kept given) (payload (bytes_of given)))
+of_unit given held same kept h r reads = subst (λ (u : FoundUnit UnitHeader). IsTrue (is_slice u.header.nal_unit_type) → ReadsSet (λ (_ : Unit {0}). h) r (read (slice_table kept u) (payload (bytes_of u)))) same reads
 
 -- the error of a slice's unit
 pub of_slice_unit : {A : Type 0} (e : ParseError) (reading : Reading A) → RefusesSet e reading → NamesNoSequenceSet e → IsOfUnit e

@@ -68,7 +68,11 @@ impl<B: StatelessH265DecoderBackend> Session<B> {
         ensures { result ≡ self.backend }
     {
         let Session {
-            driver: Driver { backend, walk: _ },
+            driver: Driver {
+                backend,
+                walk: _,
+                lists: _,
+            },
             state: _,
         } = self;
         backend

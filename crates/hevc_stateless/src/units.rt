@@ -149,10 +149,11 @@ impl<B: StatelessH265DecoderBackend> StatelessDecoder<B> {
         ensures state { AwaitsOrStays result self.old.session.state self.new.session.state }
     {
         let parser = self.kept.parser();
-        let mut slice = match parser.parse_slice_header(nalu) {
-            Ok(slice) => slice,
+        let mut slice = parser.new_slice(nalu);
+        match parser.read_slice(&mut slice) {
+            Ok(()) => {}
             Err(error) => return Err(refusal(error)),
-        };
+        }
         let id = slice.header.pic_parameter_set_id;
         let Some(pps) = parser.get_pps(id) else {
             return Err(DecodeError::MissingPps(id));

@@ -160,7 +160,11 @@ fn read(alloc: Global, sps: Sps, pps: Pps, stream: &[u8]) -> Result<SliceHeader,
     ppses.insert(0, pps).map_err(|_| ParseError::NoMemory)?;
     let mut position = 0;
     match Nalu::<NaluHeader>::next(stream, &mut position) {
-        Ok(unit) => read_slice_header(alloc, &unit, &spses, &ppses),
+        Ok(unit) => {
+            let mut header = SliceHeader::new(alloc);
+            read_slice_header(alloc, &unit, &spses, &ppses, &mut header)?;
+            Ok(header)
+        }
         Err(_) => Err(ParseError::NoMemory),
     }
 }
