@@ -275,7 +275,13 @@ impl Parser {
         ensures lists { OnOk result (HasLists (plain_slice_header slice.new.header)) }
     {
         let Slice { header, nalu } = slice;
-        read_slice_header(self.alloc, nalu, &self.sequence_sets, &self.picture_sets, header)
+        read_slice_header(
+            self.alloc,
+            nalu,
+            &self.sequence_sets,
+            &self.picture_sets,
+            header,
+        )
     }
 
     /// Reads the slice segment header of a unit, of a stream of less than 2^60 bytes, as `read_slice` does, and gives the slice segment.

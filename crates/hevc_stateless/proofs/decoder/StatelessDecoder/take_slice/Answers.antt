@@ -22,7 +22,7 @@ returns-in-Err-clause-part g c =
     let a = traces_of (g.B.StatelessH265DecoderBackend.log c.args.self.now.session.backend) c.args.self.now.session in
     let r = c.requires in
     rw c.refusal.ensures (subst (λ (k : Kept). Takes {T = Unit {0}} (Err (refusal_of c.in-Err.error)) c.args.timestamp a a (unit_at o k c.args.nalu.header (bytes_of c.args.nalu)).meaning c.args.self.now.session.standing c.args.self.now.session.standing) c.parser-parser.ensures
-    (segment_refused o q (bytes_of c.args.nalu) c.args.nalu.header r.parsed r.wanted r.typed (Unit {0}) c.args.timestamp a c.args.self.now.session.standing c.in-Err.error (of_unit c.args.nalu c.new_slice-slice.result.nalu c.new_slice-slice.ensures.unit (kept_by c.parser-parser.result.now) _ (Err c.in-Err.error) c.in-Err.ensures.read r.typed) c.in-Err.ensures.names))
+    (segment_refused o q (bytes_of c.args.nalu) c.args.nalu.header r.parsed r.wanted r.typed (Unit {0}) c.args.timestamp a c.args.self.now.session.standing c.in-Err.error (of_unit c.args.nalu c.new_slice-slice.result.nalu c.new_slice-slice.ensures.unit (kept_by c.parser-parser.result.now) (plain_slice_header c.read_slice.new.slice.header) (Err c.in-Err.error) c.in-Err.ensures.read r.typed) c.in-Err.ensures.names))
 
 pub returns-in_default-clause-part : goal.returns-in_default-clause-part
 returns-in_default-clause-part g c =
