@@ -1,5 +1,6 @@
 use Rattle.std.proofs.Common.{refl, ◌∙◌, ap, sym, subst, Ok}
 use Rattle.std.specs.Prelude.{IsSome}
+use Rattle.std.proofs.lemmas.Result.{err_from_is_err_and}
 use Rattle.hevc_bits.specs.FoundUnit.{bytes_of}
 use Rattle.hevc_spec.specs.UnitTypes.{is_idr}
 use Rattle.hevc_stream.specs.Options.{Options}
@@ -67,3 +68,14 @@ returns-clause-step g c t =
     (sym (ap (λ (v : View g.row.B.Denot g.row.B-Handle.Denot). g.B.StatelessH265DecoderBackend.log v.backend) c.resume.ensures))
     (later_step o k bytes h r.parsed r.wanted kept.0 kept.1 r.typed tt t (g.B.StatelessH265DecoderBackend.log c.args.self.now.session.backend) c.args.self.now.session c.resume.new.self (kept_of c.keep_sequence_set.new.self) (kept_of c.read_waiting.new.self)
     (sym c.awaiting_stream_info.ensures ∙ c.if-awaiting_stream_info.false) r.going c.resume.ensures kept.3 (c.in_ok-read_waiting.ensures.read ∙ ap (λ (x : Options). with_all_waited x (kept_of c.keep_sequence_set.new.self)) c.keep_sequence_set.ensures.options))
+
+pub returns-in_err-read_waiting-clause-faultless : goal.returns-in_err-read_waiting-clause-faultless
+returns-in_err-read_waiting-clause-faultless g c faultless = (
+  subst (λ (v : View g.row.B.Denot g.row.B-Handle.Denot). g.B.StatelessH265DecoderBackend.is_faultless v.backend) (sym c.resume.ensures) faultless,
+  (let error = err_from_is_err_and c.from_residual.result c.from_residual.ensures.1 in rw error.1 (rw error.2 (λ none. none))),
+)
+
+pub returns-in_err-read_waiting-clause-info : goal.returns-in_err-read_waiting-clause-info
+returns-in_err-read_waiting-clause-info g c =
+    let error = err_from_is_err_and c.from_residual.result c.from_residual.ensures.1 in
+    rw error.1 (rw error.2 tt)
