@@ -1,28 +1,45 @@
-"""Runs a program and `wc -l` over files, and prints their speed and the program's peak memory.
+"""Runs programs over files in turns, and measures their time and memory.
 
-measure.py PROGRAM FILE [FILE ..]
+measure.py PROGRAM FILE [FILE ..]  prints the speed of a program beside `wc -l`, and its peak memory
 """
 import os
 import subprocess
 import sys
 import time
+from typing import NamedTuple
 
 TURNS = 5
 
 
-def run(command, path):
-    """The least seconds of some turns, and the most memory in bytes."""
-    seconds, memory = [], 0
-    for _ in range(TURNS):
-        with open(path, "rb") as source:
-            start = time.perf_counter()
-            child = subprocess.Popen(command, stdin=source, stdout=subprocess.DEVNULL)
-            _, status, usage = os.wait4(child.pid, 0)
-            seconds.append(time.perf_counter() - start)
-        if status != 0:
-            sys.exit(f"{command} ended with {status}")
-        memory = max(memory, usage.ru_maxrss * 1024)
-    return min(seconds), memory
+class Run(NamedTuple):
+    """A run of a program: seconds by the clock, seconds of processor time, and the most memory in bytes."""
+
+    seconds: float
+    processor: float
+    memory: int
+
+
+def once(command, path):
+    """A run of a command with a file as its standard input."""
+    with open(path, "rb") as source:
+        start = time.perf_counter()
+        child = subprocess.Popen(command, stdin=source, stdout=subprocess.DEVNULL)
+        _, status, usage = os.wait4(child.pid, 0)
+        seconds = time.perf_counter() - start
+    if status != 0:
+        sys.exit(f"{command} ended with {status}")
+    return Run(seconds, usage.ru_utime + usage.ru_stime, usage.ru_maxrss * 1024)
+
+
+def least(runs):
+    """The least times of some runs, and the most memory."""
+    return Run(min(run.seconds for run in runs), min(run.processor for run in runs), max(run.memory for run in runs))
+
+
+def in_turns(measures):
+    """What each of some measures gives in each turn; a turn takes one of each."""
+    rounds = [[measure() for measure in measures] for _ in range(TURNS)]
+    return [list(column) for column in zip(*rounds)]
 
 
 def main():
@@ -30,11 +47,11 @@ def main():
     print("stream      MB     program MB/s   wc -l MB/s   ratio   peak memory / input")
     for path in files:
         size = os.path.getsize(path)
-        seconds, memory = run([program], path)
-        lines, _ = run(["wc", "-l"], path)
-        speed, reference = size / seconds / 1e6, size / lines / 1e6
+        ours, lines = map(least, in_turns([lambda: once([program], path), lambda: once(["wc", "-l"], path)]))
+        speed, reference = size / ours.seconds / 1e6, size / lines.seconds / 1e6
         name = os.path.basename(path)
-        print(f"{name:10} {size / 1e6:6.1f} {speed:12.0f} {reference:14.0f} {speed / reference:9.3f} {memory / size:12.2f}")
+        print(f"{name:10} {size / 1e6:6.1f} {speed:12.0f} {reference:14.0f} {speed / reference:9.3f} {ours.memory / size:12.2f}")
 
 
-main()
+if __name__ == "__main__":
+    main()

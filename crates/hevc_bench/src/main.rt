@@ -1,0 +1,25 @@
+//! The measured program: decodes an H.265 byte stream from standard input over a backend that keeps nothing, or cuts it
+//! into units alone, and prints how many there are.
+#![tactic(auto)]
+
+mod count;
+mod line;
+mod program;
+#[cfg(test)]
+mod tests;
+mod work;
+
+use hevc_io::{StdSink, StdSource, command_line};
+use program::run;
+use std::io;
+use std::process::ExitCode;
+
+fn main(rt: HostRuntime) -> ExitCode {
+    let words = match command_line(&rt, rt.alloc()) {
+        Ok(words) => words,
+        Err(error) => return ExitCode::from(error.status()),
+    };
+    let mut source = StdSource::new(rt.reader());
+    let mut sink = StdSink::new(io::writer(&rt));
+    ExitCode::from(run(rt.alloc(), &words, &mut source, &mut sink))
+}
