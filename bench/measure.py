@@ -1,7 +1,4 @@
-"""Runs programs over files in turns, and measures their time and memory.
-
-measure.py PROGRAM FILE [FILE ..]  prints the speed of a program beside `wc -l`, and its peak memory
-"""
+"""Runs programs over files in turns, and measures their time and memory."""
 import os
 import subprocess
 import sys
@@ -40,18 +37,3 @@ def in_turns(measures):
     """What each of some measures gives in each turn; a turn takes one of each."""
     rounds = [[measure() for measure in measures] for _ in range(TURNS)]
     return [list(column) for column in zip(*rounds)]
-
-
-def main():
-    program, files = sys.argv[1], sys.argv[2:]
-    print("stream      MB     program MB/s   wc -l MB/s   ratio   peak memory / input")
-    for path in files:
-        size = os.path.getsize(path)
-        ours, lines = map(least, in_turns([lambda: once([program], path), lambda: once(["wc", "-l"], path)]))
-        speed, reference = size / ours.seconds / 1e6, size / lines.seconds / 1e6
-        name = os.path.basename(path)
-        print(f"{name:10} {size / 1e6:6.1f} {speed:12.0f} {reference:14.0f} {speed / reference:9.3f} {ours.memory / size:12.2f}")
-
-
-if __name__ == "__main__":
-    main()

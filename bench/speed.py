@@ -1,6 +1,6 @@
 """Puts hevc_bench and hevc_trace beside the original and `wc -l` over the same files, in turns, by processor time, and prints a table.
 
-speed.py ORIGINAL BENCH TRACE FILE [FILE ..]
+speed.py ORIGINAL BENCH TRACE FILE [FILE ..]    (ORIGINAL may be empty)
 
 The original's program takes `--bench N FILE` and `--bench-cut-once N FILE`, reads the file, decodes or cuts it N times, and prints the processor
 time of these N runs as `cpu SECONDS`, without the reading. So decoding and cutting are `hevc_bench`'s time less that of `hevc_bench read`, which
@@ -23,7 +23,9 @@ HEAD = [
 
 
 def original(program, option, path):
-    """The original's processor time for one decoding or cutting, or none where it doesn't finish."""
+    """The original's processor time for one decoding or cutting, or none where it isn't there or doesn't finish."""
+    if not program:
+        return None
     command = [program, option, str(RUNS), path]
     text = subprocess.run(command, stdout=subprocess.PIPE, stderr=subprocess.DEVNULL, text=True, check=False).stdout
     found = re.search(r"\bcpu ([0-9.]+)", text)

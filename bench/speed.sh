@@ -1,12 +1,12 @@
 #!/usr/bin/env bash
 # hevc_bench and hevc_trace beside the original and `wc -l`, in turns, by processor time, as a table in Markdown; nothing of it is in the gate.
-# Builds hevc_bench and hevc_trace first, and of the original nothing: bench/speed.sh ORIGINAL FOLDER [BYTES]
-#   ORIGINAL  the original's program, with its options --bench and --bench-cut-once
+# Builds hevc_bench and hevc_trace first, and of the original nothing: bench/speed.sh FOLDER [BYTES] [ORIGINAL]
 #   FOLDER    the streams of bench/encoded.sh; those that are there are taken
 #   BYTES     how long the streams of bench/streams.py are that are made beside them
+#   ORIGINAL  the original's program, with its options --bench and --bench-cut-once; without it its columns are empty
 set -eu
 top=$(cd "$(dirname "$0")/.." && pwd)
-original=$1 streams=$2 bytes=${3:-20000000}
+streams=$1 bytes=${2:-20000000} original=${3:-}
 folder=$(mktemp -d)
 trap 'rm -rf "$folder"' EXIT
 for program in hevc_bench hevc_trace; do (cd "$top/crates/$program" && rt run </dev/null >/dev/null); done
