@@ -1,5 +1,5 @@
 //! The measured program: decodes an H.265 byte stream from standard input over a backend that keeps nothing, or cuts it
-//! into units alone, and prints how many there are.
+//! into units alone, or reads it alone, and prints how many pictures, units or bytes there are.
 #![tactic(auto)]
 
 mod count;
