@@ -1,5 +1,5 @@
-"""Runs a program over streams that are made to cost more than they should, beside a plain stream, and prints the time for each byte and
-the peak memory of each, also as multiples of those of the plain stream.
+"""Runs a program over streams that are made to cost more than they should, beside two plain streams, of small pictures and of larger
+ones, and prints the time for each byte and the peak memory of each, also as multiples of those of the plain streams.
 
 hostile.py PROGRAM FOLDER [BYTES] [SECONDS] [KIND ..]
 
@@ -24,6 +24,7 @@ CRA = bytes.fromhex("2a01ae1e80")
 SKIPPED = bytes.fromhex("1201db3c80")
 END_OF_BITSTREAM = bytes.fromhex("4a01")
 MESSAGE = bytes.fromhex("4e01")
+PLAIN = ["plain, small pictures", "plain, larger pictures"]
 MEMORY = 8 << 30
 
 
@@ -69,6 +70,11 @@ def entry_points(count):
     return unit("2601", "1" + "0" + ue(0) + ue(2) + "1" + ue(count) + ue(31) + offsets)
 
 
+def small_pictures():
+    """Sixteen pictures of rising order count, each in one slice of 5 bytes (TRAIL_R, I, no reference pictures)."""
+    return [unit("0201", "11011" + f"{count % 16:04b}" + "0111100") for count in range(1, 17)]
+
+
 def data(size):
     """Slice data of so many bytes, none of which is 0."""
     return bytes(0x40 | (place * 7 + 1) % 61 for place in range(size))
@@ -92,7 +98,8 @@ OTHER_SETS = START + sequence_set(64, 64, 0) + START + sequence_set(64, 64, 1)
 
 # What each kind is made of: a front, and what is repeated behind it.
 KINDS = {
-    "plain": repeated(START + IDR + data(676), behind_sets()),
+    PLAIN[0]: repeated(b"".join(START + each for each in small_pictures()), behind_sets(IDR)),
+    PLAIN[1]: repeated(START + IDR + data(676), behind_sets()),
     "zeros": repeated(b"\0" * 1000),
     "start codes alone": repeated(START * 300),
     "units of one byte": repeated(START + b"\x26"),
@@ -150,20 +157,25 @@ def main():
     program, folder = sys.argv[1:3]
     total = int(sys.argv[3]) if len(sys.argv) > 3 else 256_000_000
     patience = float(sys.argv[4]) if len(sys.argv) > 4 else 120
-    chosen = sys.argv[5:] or [kind for kind in KINDS if kind != "plain"]
+    chosen = sys.argv[5:] or [kind for kind in KINDS if kind not in PLAIN]
     path = os.path.join(folder, "stream")
-    print("kind                           MB  status   ns/byte   x plain   bytes/byte   x plain")
+    print("kind                           MB  status   ns/byte   x small  x larger   bytes/byte   x small  x larger")
     plain = {}
-    for kind in ["plain", *chosen]:
+    for kind in [*PLAIN, *chosen]:
         for part in (total // 4, total):
             size = write(path, KINDS[kind](part))
             status, seconds, memory = run(program, path, patience)
             figures = seconds / size * 1e9, memory / size
-            plain.setdefault(part, figures)
-            ratios = [own / of_plain for own, of_plain in zip(figures, plain[part])]
-            mark = "   above 10" if max(ratios) > 10 or status is None else ""
+            if kind in PLAIN:
+                plain[kind, part] = figures
+            ratios = [
+                [own / plain[each, part][place] if (each, part) in plain else float("nan") for each in PLAIN]
+                for place, own in enumerate(figures)
+            ]
+            mark = "   above 10" if max(ratios[0][0], ratios[1][0]) > 10 or status is None else ""
             told = "-" if status is None else status
-            print(f"{kind:25} {size / 1e6:8.1f} {told:>7} {figures[0]:9.2f} {ratios[0]:9.2f} {figures[1]:12.2f} {ratios[1]:9.2f}{mark}", flush=True)
+            times, rooms = (f"{figure:{width}.2f} {small:9.2f} {larger:9.2f}" for figure, width, (small, larger) in zip(figures, (9, 12), ratios))
+            print(f"{kind:25} {size / 1e6:8.1f} {told:>7} {times} {rooms}{mark}", flush=True)
             os.remove(path)
 
 

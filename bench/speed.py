@@ -4,7 +4,7 @@ speed.py ORIGINAL BENCH TRACE FILE [FILE ..]    (ORIGINAL may be empty)
 
 The original's program takes `--bench N FILE` and `--bench-cut-once N FILE`, reads the file, decodes or cuts it N times, and prints the processor
 time of these N runs as `cpu SECONDS`, without the reading. So decoding and cutting are `hevc_bench`'s time less that of `hevc_bench read`, which
-reads alone; a report is `hevc_trace`'s whole process, and once more less the reading.
+reads alone; a report is `hevc_trace`'s whole process, its reading and writing among them. Its memory is the most that the process has.
 """
 import os
 import re
@@ -17,8 +17,8 @@ from measure import in_turns, least, once
 RUNS = 4
 
 HEAD = [
-    "stream", "decode", "cut", "report", "report less reading", "ours: decode MB/s", "cut MB/s", "report MB/s", "original: decode MB/s", "cut MB/s",
-    "`wc -l` MB/s", "bytes a picture",
+    "stream", "decode", "cut", "report", "ours: decode MB/s", "cut MB/s", "report MB/s", "original: decode MB/s", "cut MB/s", "`wc -l` MB/s",
+    "report's memory, MB", "bytes a picture",
 ]
 
 
@@ -36,19 +36,11 @@ def least_or_none(times):
     return None if None in times else min(times)
 
 
-def report_sizes(program, path):
-    """How many bytes the slices of a report have, and how many pictures it has."""
-    slices, pictures = 0, 0
+def pictures_of(program, path):
+    """How many pictures a report has."""
     with open(path, "rb") as source:
-        report = subprocess.Popen([program], stdin=source, stdout=subprocess.PIPE, text=True)
-        for line in report.stdout:
-            words = line.split()
-            if words[0] == "slice":
-                slices += int(words[words.index("size") + 1])
-            elif words[0] == "pic":
-                pictures += 1
-    report.wait()
-    return slices, pictures
+        report = subprocess.run([program], stdin=source, stdout=subprocess.PIPE, check=True).stdout
+    return report.count(b"\npic ")
 
 
 def ratio(reference, ours):
@@ -74,14 +66,14 @@ def row(programs, path):
     read, decode, cut, report, lines = map(least, ours)
     their_decode, their_cut = least_or_none(decodes), least_or_none(cuts)
     size = os.path.getsize(path)
-    slices, pictures = report_sizes(trace, path)
-    rest = (report.memory - size - slices) / max(pictures, 1)
+    pictures = pictures_of(trace, path)
     decoding, cutting = decode.processor - read.processor, cut.processor - read.processor
     return [
         os.path.basename(path).removesuffix(".h265"), ratio(their_decode, decoding), ratio(their_cut, cutting),
-        ratio(their_decode, report.processor), ratio(their_decode, report.processor - read.processor),
+        ratio(their_decode, report.processor),
         speed(size, decoding), speed(size, cutting), speed(size, report.processor),
-        speed(size, their_decode), speed(size, their_cut), speed(size, lines.processor), f"{rest:.0f}",
+        speed(size, their_decode), speed(size, their_cut), speed(size, lines.processor), f"{report.memory / 1e6:.1f}",
+        f"{report.memory / max(pictures, 1):.0f}",
     ]
 
 

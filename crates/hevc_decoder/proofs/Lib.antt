@@ -11,3 +11,5 @@ pub mod Delivering
 pub mod Accepted
 pub mod Headers
 pub mod Walking
+pub mod Cutting
+pub mod Feeding

@@ -13,7 +13,7 @@ use Rattle.hevc_walk.specs.Fates.{times, output_numbers}
 use Rattle.hevc_walk.specs.Clean.{IsClean}
 use Rattle.hevc_walk_joined.proofs.Cuts.{calls_in-append, outputs_in-append}
 use Rattle.hevc_walk_fates.specs.Submissions.{submitted_in, submitted_numbers}
-use Rattle.hevc_walk_fates.proofs.Fates.{output_once, output_displayed}
+use Rattle.hevc_walk_fates.proofs.Fates.{output_once, output_by_fate}
 use Rattle.hevc_walk_fates.proofs.Submitted.{submitted_once}
 use Rattle.hevc_walk_bound.proofs.Bound.{clean_ok}
 use Rattle.hevc_walk_order.specs.DisplayOrder.{ComeInOrder, ComeInTurn}
@@ -33,7 +33,7 @@ use Rattle.hevc_decoder.specs.Answers.{without_unit, IsAnswer, AnswersOnly, IsNo
 use Rattle.hevc_decoder.specs.Names.{output_picture, shown_ticket, answer_of}
 use Rattle.hevc_decoder.specs.Scenes.{Trail}
 use Rattle.hevc_decoder.specs.Runs.{CallFollows, UpTo, EndsAt, Ends, Ended}
-use Rattle.hevc_decoder.specs.Headline.{Grew, Appended, IsFront, all_asked, AnswersError, AnswersVerdict, CutsCalls, NextIs, EndsCallsAt, EndsCalls, CutsOutputs, EndsOutputsAt, EndsOutputs, WantsFrame, AllSubmitted, SubmittedOnce, shown_numbers, ComeOutOnce, AreDisplayed}
+use Rattle.hevc_decoder.specs.Headline.{Grew, Appended, IsFront, all_asked, AnswersError, AnswersVerdict, CutsCalls, NextIs, EndsCallsAt, EndsCalls, CutsOutputs, EndsOutputsAt, EndsOutputs, WantsFrame, AllSubmitted, SubmittedOnce, shown_numbers, ComeOutOnce, AreForOutput}
 
 calls_up : (k : ℕ) (es : List (ℕ × Event)) → AllByRecursion (λ e. e.0 ≤ k) es → AllByRecursion (λ c. c.0 ≤ k) (calls_in es)
 calls_up k [] a = tt
@@ -267,17 +267,17 @@ module _ {H : Type 0} (us : List Meaning) (r : Result ℕ Refused) (old new : Tr
   stops_none : (m : ℕ) → answer_of (verdict us) ≡ Ok m → stop us ≡ None
   stops_none m e = full_refused (full us) (stop us) (length (pictures us)) m e
 
-  fates_by : (q : Result ℕ Refused) → Ends q us x.done x.rest → OnOk q (Appended old.shown new.shown (λ o. AreDisplayed us o))
+  fates_by : (q : Result ℕ Refused) → Ends q us x.done x.rest → OnOk q (Appended old.shown new.shown (λ o. AreForOutput us o))
   fates_by (Ok m) y = (
     x.does.out,
     x.does.shown,
     λ n.
         ap (times n) (sym (numbers_are ∙ ap (λ es. shown_numbers x.does.out ++ map (λ o. o.number) (outputs_in es)) y.1 ∙ append-nil (shown_numbers x.does.out)))
-        ∙ output_displayed us (stops_none m y.0) n,
+        ∙ output_by_fate us (stops_none m y.0) n,
   )
   fates_by (Err s) y = tt
 
-  pub fates_of : OnOk r (Appended old.shown new.shown (λ o. AreDisplayed us o))
+  pub fates_of : OnOk r (Appended old.shown new.shown (λ o. AreForOutput us o))
   fates_of = fates_by r x.ends
 
   order_by : (P : List OutputPicture → Type 0) → (stop us ≡ None → P (outputs us)) → (q : Result ℕ Refused) → Ends q us x.done x.rest → OnOk q (Appended old.shown new.shown (λ o. P (map output_picture o)))

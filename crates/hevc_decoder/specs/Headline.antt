@@ -6,7 +6,7 @@ use Rattle.hevc_walk.specs.Pictures.{Picture, pictures, stream}
 use Rattle.hevc_walk.specs.Walk as walk
 use Rattle.hevc_walk.specs.Refusals.{Refusal}
 use Rattle.hevc_walk.specs.Results.{OutputPicture, calls_below, outputs_below}
-use Rattle.hevc_walk.specs.Fates.{times, displayed_numbers, discarded_numbers}
+use Rattle.hevc_walk.specs.Fates.{times, numbers_for_output, discarded_numbers}
 use Rattle.hevc_walk_bound.specs.Stores.{StoresFew}
 use Rattle.hevc_dpb.specs.Entries.{IsPartOf}
 use Rattle.hevc_backend.specs.declared.call.Call.{Call}
@@ -138,9 +138,9 @@ shown_numbers shown = map (λ o. o.number) shown
 abbrev pub ComeOutOnce : {H : Type 0} → List (Shown H) → Type 0
 ComeOutOnce shown = (n : ℕ) → times n (shown_numbers shown) ≤ 1
 
--- those whose fate is to be displayed come out, and no others
-abbrev pub AreDisplayed : {H : Type 0} → List Meaning → List (Shown H) → Type 0
-AreDisplayed us shown = (n : ℕ) → times n (shown_numbers shown) ≡ times n (displayed_numbers (discarded_numbers us) (pictures us))
+-- those whose fate it is to be output come out, and no others
+abbrev pub AreForOutput : {H : Type 0} → List Meaning → List (Shown H) → Type 0
+AreForOutput us shown = (n : ℕ) → times n (shown_numbers shown) ≡ times n (numbers_for_output (discarded_numbers us) (pictures us))
 
 -- ---- the buffer
 

@@ -5,3 +5,4 @@ pub mod Scenes
 pub mod Gives
 pub mod Takes
 pub mod Runs
+pub mod Sources

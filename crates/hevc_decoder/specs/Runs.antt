@@ -1,5 +1,5 @@
 -- What a whole run did of the events that the units of a stream ask for.
-use Rattle.std.specs.Prelude.{◌≡◌, ℕ, ◌≤◌, List, [], ◌∷◌, ◌++◌, length, Result, Ok, Err}
+use Rattle.std.specs.Prelude.{◌≡◌, ℕ, ◌≤◌, List, [], ◌∷◌, ◌++◌, length, Result, Ok, Err, IfErr}
 use Rattle.std.specs.List.{AllByRecursion}
 use Rattle.hevc_spec.specs.Units.{NalUnit}
 use Rattle.hevc_walk.specs.Meanings.{Meaning}
@@ -72,3 +72,14 @@ pub record Ended {H : Type 0} (result : Result ℕ Refused) (us : List Meaning) 
   pub whole : events us ≡ done ++ rest
   pub does : DoesAll old new done
   pub ends : Ends result us done rest
+
+-- Units were taken, from unit `first` on: a run that stood in front of them stands behind them, at the next unit, or has ended.
+abbrev pub TakesPiece : {B H : Type 0} → Result ℕ Refused → Options → (first : ℕ) → List NalUnit → Scene B H → Scene B H → Type 0
+TakesPiece {B} {H} (Ok next) options first us old new = (begin : Scene B H) (all later : List NalUnit) → Reached options all first begin old (us ++ later) → Reached options all next begin new later
+TakesPiece {B} {H} (Err refused) options first us old new = (begin : Scene B H) (all later : List NalUnit) → Reached options all first begin old (us ++ later)
+    → Ended (Err refused) (meant options all) (trail_of begin) (trail_of new) × (refused.unit ≤ length all)
+
+-- These units are the last: a run that stood in front of them has ended.
+abbrev pub EndsRun : {B H : Type 0} → Result ℕ Refused → Options → (first : ℕ) → List NalUnit → Scene B H → Scene B H → Type 0
+EndsRun {B} {H} result options first us old new = (begin : Scene B H) (all : List NalUnit) → Reached options all first begin old us
+    → Ended result (meant options all) (trail_of begin) (trail_of new) × IfErr result (λ refused. refused.unit ≤ length all)

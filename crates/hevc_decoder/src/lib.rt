@@ -2,13 +2,17 @@
 #![tactic(auto)]
 
 mod decoded;
+mod feed;
+mod source;
 mod stream;
 #[cfg(test)]
 mod tests;
 mod units;
+mod window;
 
 pub use decoded::{Decoded, Refused, Shown};
 pub use hevc_stateless::{
     DecodeError, DecoderEvent, Frame, Options, StatelessDecoder, StatelessH265DecoderBackend,
 };
+pub use source::decode_source_with;
 pub use stream::{decode_stream, decode_stream_with};

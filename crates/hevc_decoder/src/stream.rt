@@ -11,7 +11,7 @@ ghost use Rattle.hevc_options.specs.Options.{options_of};
 ghost use Rattle.hevc_driver.specs.Answers.{CountsErrors, KeepsFaultless};
 ghost use Rattle.hevc_driver.specs.Calls.{call_of};
 ghost use Rattle.hevc_decoder.specs.Answers.{AnswersOnly, FindsRoom, IsOkOrNoMemory, without_unit};
-ghost use Rattle.hevc_decoder.specs.Headline.{Grew, Appended, IsFront, all_asked, AnswersVerdict, EndsCalls, EndsOutputs, WantsFrame, AllSubmitted, SubmittedOnce, ComeOutOnce, AreDisplayed, NeverStoreMore};
+ghost use Rattle.hevc_decoder.specs.Headline.{Grew, Appended, IsFront, all_asked, AnswersVerdict, EndsCalls, EndsOutputs, WantsFrame, AllSubmitted, SubmittedOnce, ComeOutOnce, AreForOutput, NeverStoreMore};
 ghost use Rattle.hevc_decoder.specs.Names.{output_picture};
 
 use crate::decoded::{Decoded, Shown};
@@ -63,10 +63,10 @@ pub fn decode_stream_with<B: StatelessH265DecoderBackend>(
         (λ l. Appended shown.old.items shown.new.items (λ o. AllSubmitted l o)) }
     ensures submitted_once { Grew (B.log backend) (B.log result.backend) (λ l. SubmittedOnce l) }
 
-    // No picture comes out twice; where the stream is decoded whole, those whose fate is to be displayed come out.
+    // No picture comes out twice; where the stream is decoded whole, those whose fate it is to be output come out.
     ensures once { Appended shown.old.items shown.new.items (λ o. ComeOutOnce o) }
     ensures fates { OnOk result.result (Appended shown.old.items shown.new.items
-        (λ o. AreDisplayed (meanings (options_of options) stream.now) o)) }
+        (λ o. AreForOutput (meanings (options_of options) stream.now) o)) }
 
     // On Ok sequence by sequence comes out, and each that keeps the order that it declares in display order.
     ensures in_turn { OnOk result.result (Appended shown.old.items shown.new.items
@@ -131,7 +131,7 @@ pub fn decode_stream<B: StatelessH265DecoderBackend>(
     ensures submitted_once { Grew (B.log backend) (B.log result.backend) (λ l. SubmittedOnce l) }
     ensures once { Appended shown.old.items shown.new.items (λ o. ComeOutOnce o) }
     ensures fates { OnOk result.result (Appended shown.old.items shown.new.items
-        (λ o. AreDisplayed (meanings default_options stream.now) o)) }
+        (λ o. AreForOutput (meanings default_options stream.now) o)) }
     ensures in_turn { OnOk result.result (Appended shown.old.items shown.new.items
         (λ o. ComeInTurn (meanings default_options stream.now) (map output_picture o))) }
     ensures display_order { OnOk result.result (Appended shown.old.items shown.new.items

@@ -1,10 +1,12 @@
 mod calling;
+mod pieces;
 mod plans;
 mod states;
 
 use crate::{DecodeError, Refused, Shown, decode_stream};
-use calling::{numbers_by_events, numbers_of_stream};
+use calling::{numbers_by_events, numbers_of_source, numbers_of_stream};
 use hevc_backend::Backend;
+use hevc_io::MemorySource;
 use std::alloc::Global;
 use std::process::Abort;
 use std::test::Fail;
@@ -114,12 +116,17 @@ fn a_frame_that_is_missing_is_told_at_the_picture_that_wants_it(
 }
 
 #[test]
-fn events_and_whole_streams_give_the_same_pictures(rt: HostRuntime) -> Result<(), Fail> {
+fn events_streams_and_sources_give_the_same_pictures(rt: HostRuntime) -> Result<(), Fail> {
     let alloc = rt.alloc();
     let numbers = numbers_by_events(alloc, TWO_PICTURES).or(Err("refused"))?;
     assert_eq!(rt; numbers.as_slice(), [0u64, 1].as_slice());
     let numbers = numbers_of_stream(alloc, TWO_PICTURES)?.or(Err("refused"))?;
     assert_eq!(rt; numbers.as_slice(), [0u64, 1].as_slice());
+    let mut bytes = Vec::with_capacity(alloc, 52)?;
+    bytes.extend_from_slice(TWO_PICTURES)?;
+    let mut source = MemorySource::new(bytes, Vec::new(alloc));
+    let read = numbers_of_source(alloc, &mut source).or(Err("failed"))?;
+    assert_eq!(rt; read.or(Err("refused"))?.as_slice(), [0u64, 1].as_slice());
     Ok(())
 }
 

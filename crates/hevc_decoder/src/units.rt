@@ -1,5 +1,5 @@
 //! The units of a stream, one by one.
-ghost use Rattle.std.specs.Prelude.{◌≡◌, ◌+◌, ◌≤◌, ◌<◌, ◌^◌, ◌++◌, [], length, map, vec_len, vec_capacity, true, false, IfErr};
+ghost use Rattle.std.specs.Prelude.{◌≡◌, ◌+◌, ◌≤◌, ◌<◌, ◌^◌, ◌++◌, [], length, map, vec_len, vec_capacity, true, false, IfOk, IfErr, OnOk};
 ghost use Rattle.hevc_spec.specs.Units.{units};
 ghost use Rattle.hevc_bits.specs.FoundUnit.{bytes_of};
 ghost use Rattle.hevc_stream.specs.Kept.{none_kept};
@@ -11,7 +11,7 @@ ghost use Rattle.hevc_decoder.specs.Answers.{without_unit};
 ghost use Rattle.hevc_decoder.specs.Names.{shown_at};
 ghost use Rattle.hevc_decoder.specs.Scenes.{scene, trail_of};
 ghost use Rattle.hevc_decoder.specs.Gives.{Gives, GivesWhole, Closes, is_check_events};
-ghost use Rattle.hevc_decoder.specs.Runs.{Ended};
+ghost use Rattle.hevc_decoder.specs.Runs.{TakesPiece, EndsRun, Ended};
 
 use crate::decoded::{Refused, Shown};
 use hevc_bits::{Nalu, NaluHeader, UnitError};
@@ -114,6 +114,89 @@ fn close<B: StatelessH265DecoderBackend>(
     flushed
 }
 
+/// Takes the units of a piece of a stream, the first of which is unit `first`, and gives the number of the next one.
+pub(crate) fn take_piece<B: StatelessH265DecoderBackend>(
+    decoder: &mut StatelessDecoder<B>,
+    piece: &[u8],
+    first: u64,
+    shown: &mut Vec<Shown<B::Handle>>,
+) -> Result<u64, Refused>
+    requires short { first + length piece.now < 2 ^ 60 }
+    requires empty { (view_of decoder.old).queue ≡ [] }
+    ensures empty { OnOk result ((view_of decoder.new).queue ≡ []) }
+    ensures few { IfOk result (λ next. next ≤ first + length piece.now) }
+    ensures cause { CountsErrors (B.counts (view_of decoder.old).backend)
+        (B.counts (view_of decoder.new).backend) (without_unit result) }
+    ensures faultless { KeepsFaultless (B.is_faultless (view_of decoder.old).backend)
+        (B.is_faultless (view_of decoder.new).backend) (without_unit result) }
+    ensures takes { TakesPiece result (set_for decoder.old) first (units piece.now)
+        (scene B.log decoder.old shown.old.items) (scene B.log decoder.new shown.new.items) }
+    ensures options { set_for decoder.new ≡ set_for decoder.old }
+{
+    let mut position = 0;
+    let mut unit = first;
+    loop {
+        let nalu = match Nalu::next(piece, &mut position) {
+            Ok(nalu) => nalu,
+            Err(error) => match error {
+                UnitError::NoNal => return Ok(unit),
+                UnitError::TruncatedNalu
+                | UnitError::InvalidNaluType(_)
+                | UnitError::TemporalIdZero => {
+                    let error = error.into();
+                    return Err(Refused { unit, error });
+                }
+            },
+        };
+        if let Err(error) = take_unit(decoder, &nalu, unit, shown) {
+            return Err(Refused { unit, error });
+        }
+        position = nalu.offset() + nalu.size();
+        unit += 1;
+    }
+}
+
+/// Behind the last of so many units. Gives the number of pictures.
+fn finish<B: StatelessH265DecoderBackend>(
+    decoder: &mut StatelessDecoder<B>,
+    unit: u64,
+    shown: &mut Vec<Shown<B::Handle>>,
+) -> Result<u64, Refused>
+    requires empty { (view_of decoder.old).queue ≡ [] }
+    ensures cause { CountsErrors (B.counts (view_of decoder.old).backend)
+        (B.counts (view_of decoder.new).backend) (without_unit result) }
+    ensures faultless { KeepsFaultless (B.is_faultless (view_of decoder.old).backend)
+        (B.is_faultless (view_of decoder.new).backend) (without_unit result) }
+    ensures ends { EndsRun result (set_for decoder.old) unit []
+        (scene B.log decoder.old shown.old.items) (scene B.log decoder.new shown.new.items) }
+{
+    let pictures = decoder.num_pictures();
+    match close(decoder, unit, shown) {
+        Ok(()) => Ok(pictures),
+        Err(error) => Err(Refused { unit, error }),
+    }
+}
+
+/// Takes the last units of a stream, the first of which is unit `first`, and gives the number of the stream's pictures.
+pub(crate) fn take_last<B: StatelessH265DecoderBackend>(
+    decoder: &mut StatelessDecoder<B>,
+    piece: &[u8],
+    first: u64,
+    shown: &mut Vec<Shown<B::Handle>>,
+) -> Result<u64, Refused>
+    requires short { first + length piece.now < 2 ^ 60 }
+    requires empty { (view_of decoder.old).queue ≡ [] }
+    ensures cause { CountsErrors (B.counts (view_of decoder.old).backend)
+        (B.counts (view_of decoder.new).backend) (without_unit result) }
+    ensures faultless { KeepsFaultless (B.is_faultless (view_of decoder.old).backend)
+        (B.is_faultless (view_of decoder.new).backend) (without_unit result) }
+    ensures ends { EndsRun result (set_for decoder.old) first (units piece.now)
+        (scene B.log decoder.old shown.old.items) (scene B.log decoder.new shown.new.items) }
+{
+    let unit = take_piece(decoder, piece, first, shown)?;
+    finish(decoder, unit, shown)
+}
+
 /// Takes all units of a stream, and gives the number of its pictures.
 pub(crate) fn take_units<B: StatelessH265DecoderBackend>(
     decoder: &mut StatelessDecoder<B>,
@@ -132,30 +215,5 @@ pub(crate) fn take_units<B: StatelessH265DecoderBackend>(
         (trail_of (scene B.log decoder.new shown.new.items)) }
     ensures unit { IfErr result (λ refused. refused.unit ≤ length (units stream.now)) }
 {
-    let mut position = 0;
-    let mut unit = 0;
-    loop {
-        let nalu = match Nalu::next(stream, &mut position) {
-            Ok(nalu) => nalu,
-            Err(error) => match error {
-                UnitError::NoNal => break,
-                UnitError::TruncatedNalu
-                | UnitError::InvalidNaluType(_)
-                | UnitError::TemporalIdZero => {
-                    let error = error.into();
-                    return Err(Refused { unit, error });
-                }
-            },
-        };
-        if let Err(error) = take_unit(decoder, &nalu, unit, shown) {
-            return Err(Refused { unit, error });
-        }
-        position = nalu.offset() + nalu.size();
-        unit += 1;
-    }
-    let pictures = decoder.num_pictures();
-    match close(decoder, unit, shown) {
-        Ok(()) => Ok(pictures),
-        Err(error) => Err(Refused { unit, error }),
-    }
+    take_last(decoder, stream, 0, shown)
 }

@@ -8,11 +8,11 @@ use Rattle.hevc_dpb.specs.declared.finds.Sought.{Sought}
 use Rattle.hevc_dpb.specs.declared.finds.Sought.TheVariants.{Count, CountModulo, ShortTermCount}
 
 abbrev pub HasModulus : Sought → Type 0
-HasModulus (Count poc) = ⊤
-HasModulus (CountModulo poc modulus) = pos 0 <ℤ modulus
-HasModulus (ShortTermCount poc) = ⊤
+HasModulus (Count order_count) = ⊤
+HasModulus (CountModulo order_count modulus) = pos 0 <ℤ modulus
+HasModulus (ShortTermCount order_count) = ⊤
 
 abbrev pub fits : Sought → Entry → Bool
-fits (Count poc) e = is_reference e.mark && int_eq e.order_count poc
-fits (CountModulo poc modulus) e = is_reference e.mark && int_eq (int_rem_euclid e.order_count modulus) (int_rem_euclid poc modulus)
-fits (ShortTermCount poc) e = is_short_term e.mark && int_eq e.order_count poc
+fits (Count order_count) e = is_reference e.mark && int_eq e.order_count order_count
+fits (CountModulo order_count modulus) e = is_reference e.mark && int_eq (int_rem_euclid e.order_count modulus) (int_rem_euclid order_count modulus)
+fits (ShortTermCount order_count) e = is_short_term e.mark && int_eq e.order_count order_count

@@ -1,5 +1,5 @@
 -- What is written of the calls and the outputs is the report on the stream.
-use Rattle.std.proofs.Common.{◌≡◌, ℕ, suc, ◌+◌, ◌<◌, Bool, true, false, cond, nat_lt, nat_eq, List, [], ◌∷◌, ◌++◌, map, length, take, codes, decimal, Some, Result, Ok, Err, refl, sym, ap, ap₂, subst, ◌∙◌, is_ok, arith, length-append}
+use Rattle.std.proofs.Common.{◌≡◌, ℕ, suc, ◌+◌, ◌<◌, Bool, true, false, cond, nat_lt, nat_eq, List, [], ◌∷◌, ◌++◌, map, length, take, codes, decimal, Option, None, Some, IfSome, Result, Ok, Err, refl, sym, ap, ap₂, subst, ◌∙◌, is_ok, arith, length-append}
 use Rattle.std.proofs.lemmas.List.{map-append}
 use Rattle.std.proofs.lemmas.List.Elements.{filter-append}
 use Rattle.std.proofs.lemmas.Bool.Decides.{nat_tests}
@@ -148,6 +148,11 @@ pub report_is : (options : Options) (stream : List ℕ) (empty after log : List 
 report_is options stream empty after log none given shown result p q r s b m c o a counted =
     let us = meanings options stream in
     text_is us log shown result (whole_of us empty after log none given shown result p q r s b m c o a) counted
+
+-- what follows of the bytes that a source had left, where it tells them
+pub told_by : (left : Option (List ℕ)) (P Q R S : List ℕ → Type 0) → ((s : List ℕ) → P s → Q s → R s → S s) → IfSome left P → IfSome left Q → IfSome left R → IfSome left S
+told_by None P Q R S follows p q r = tt
+told_by (Some s) P Q R S follows p q r = follows s p q r
 
 -- ---- a summary
 

@@ -1,8 +1,9 @@
-//! The program: decodes an H.265 byte stream from standard input over a backend that records its
-//! calls, and prints the calls and the pictures that come out.
+//! The program: decodes an H.265 byte stream from standard input, and prints the calls that a backend is asked for and
+//! the pictures that come out.
 #![tactic(auto)]
 
 mod command;
+mod history;
 mod made;
 mod program;
 mod report;

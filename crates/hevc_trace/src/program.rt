@@ -1,5 +1,5 @@
 //! The top call: from the words of the command line to the status.
-ghost use Rattle.std.specs.Prelude.{◌≡◌, ◌≤◌, ◌<◌, ◌⊎◌, ◌↔◌, ℕ, List, length, IfOk, IfSome, IsErrOf, IsTrue, OnErr, is_ok, true};
+ghost use Rattle.std.specs.Prelude.{◌≡◌, ◌≤◌, ◌<◌, ◌⊎◌, ◌↔◌, ℕ, List, length, IfOk, IfSome, IsErrOf, IsTrue, OnErr, OnOk, is_ok, true};
 ghost use Rattle.std.specs.declared.option.Option.TheVariants.{None, Some};
 ghost use Rattle.std.specs.String.{string_bytes};
 ghost use Rattle.std.specs.Io.KnownBytes.{Appends, IsAtEnd};
@@ -9,6 +9,7 @@ ghost use Rattle.hevc_walk.specs.Results.{outputs};
 ghost use Rattle.hevc_walk_order.specs.DisplayOrder.{ComeInOrder, ComeInTurn};
 ghost use Rattle.hevc_stream.specs.Stream.{meanings};
 ghost use Rattle.hevc_options.specs.Options.{options_of};
+ghost use Rattle.hevc_decoder.specs.Sources.{OfSource};
 ghost use Rattle.hevc_made.specs.Made.{made};
 ghost use Rattle.hevc_stream.specs.Options.{default_options};
 ghost use Rattle.hevc_trace.specs.Command.{command, pictures_to_make};
@@ -19,23 +20,13 @@ ghost use Rattle.hevc_trace.specs.Summary.{summary_of};
 
 use crate::command::{read_command, read_make};
 use crate::made::run_made;
-use crate::report::report_text;
-use hevc_backend::Backend;
-use hevc_decoder::{DecodeError, Options, Refused, decode_stream_with};
-use hevc_io::{InputError, Sink, SinkError, Source, Word, read_all, write_all};
-use std::alloc::{AllocError, Global};
+use crate::report::{ReportBackend, push_rest};
+use hevc_decoder::{DecodeError, Decoded, Options, Refused, decode_source_with};
+use hevc_io::{Sink, Source, Stop, Word, write_all};
+use std::alloc::Global;
 
 /// The longest input that is taken, in bytes.
 pub const INPUT_LIMIT: usize = 268_435_456;
-
-/// Why a run has no status 0 or 1.
-#[derive(Clone, Copy)]
-enum Stop {
-    Read,
-    Write,
-    NoMemory,
-    TooLong,
-}
 
 /// A report, and whether the stream was decoded.
 #[derive(Drop)]
@@ -44,7 +35,7 @@ pub(crate) struct Report {
     pub(crate) is_decoded: bool,
 }
 
-/// Decodes the source's stream over a backend that records its calls, and writes the report. `words`
+/// Decodes the source's stream as it comes, over a backend that reports its calls, and writes the report. `words`
 /// are those of the command line behind the program's name; they are a command, which tells the options
 /// that the stream is decoded with, or are refused. By `make N` a made stream of N pictures, from 1 to 100000,
 /// takes the place of the source's, and one line that of the report. Answers the status of the program:
@@ -128,10 +119,7 @@ pub fn run<S: Source, K: Sink>(alloc: Global, words: &[Word], source: &mut S, si
     match write_report(alloc, options, source, sink) {
         Ok(true) => 0,
         Ok(false) => 1,
-        Err(Stop::Read) => 3,
-        Err(Stop::Write) => 4,
-        Err(Stop::NoMemory) => 5,
-        Err(Stop::TooLong) => 6,
+        Err(stop) => stop.status(),
     }
 }
 
@@ -167,47 +155,44 @@ fn write_report<S: Source, K: Sink>(
     ensures long { IsErrOf result Stop.TooLong
         → (sink.new ≡ sink.old) × IfSome (S.left source.old) (λ s. INPUT_LIMIT < length s) }
 {
-    let input = match read_all(alloc, source, INPUT_LIMIT) {
-        Ok(input) => input,
-        Err(InputError::Failed) => return Err(Stop::Read),
-        Err(InputError::TooLong) => return Err(Stop::TooLong),
-        Err(InputError::NoMemory) => return Err(Stop::NoMemory),
-    };
-    let Ok(report) = report_on(alloc, options, &input) else {
-        return Err(Stop::NoMemory);
-    };
-    match write_all(sink, report.text.as_bytes()) {
-        Ok(()) => Ok(report.is_decoded),
-        Err(SinkError::Failed) => Err(Stop::Write),
-        Err(SinkError::NoMemory) => Err(Stop::NoMemory),
-    }
+    let report = report_on(alloc, options, source)?;
+    write_all(sink, report.text.as_bytes())?;
+    Ok(report.is_decoded)
 }
 
-/// The report on a stream.
-fn report_on(alloc: Global, options: Options, stream: &[u8]) -> Result<Report, AllocError>
-    requires { length stream.now ≤ INPUT_LIMIT }
-    ensures text { IfOk result (λ report.
-        string_bytes report.text ≡ report_of (options_of options) stream.now) }
-    ensures decoded { IfOk result (λ report.
-        report.is_decoded ≡ is_ok (ending_of (options_of options) stream.now)) }
-    ensures clean { IfOk result (λ report.
-        IsClean (meanings (options_of options) stream.now) → report.is_decoded ≡ true) }
-    ensures in_turn { IfOk result (λ report. report.is_decoded ≡ true
-        → ComeInTurn (meanings (options_of options) stream.now)
-        (outputs (meanings (options_of options) stream.now))) }
-    ensures display_order { IfOk result (λ report. report.is_decoded ≡ true
-        → ComeInOrder (meanings (options_of options) stream.now)
-        (outputs (meanings (options_of options) stream.now))) }
+/// The report on the stream that a source has left.
+fn report_on<S: Source>(alloc: Global, options: Options, source: &mut S) -> Result<Report, Stop>
+    ensures end { OnOk result (IsAtEnd (S.left source.new)) }
+    ensures text { OfSource result (S.left source.old) (λ report s.
+        string_bytes report.text ≡ report_of (options_of options) s) }
+    ensures decoded { OfSource result (S.left source.old) (λ report s.
+        report.is_decoded ≡ is_ok (ending_of (options_of options) s)) }
+    ensures limit { OfSource result (S.left source.old) (λ _ s. length s ≤ INPUT_LIMIT) }
+    ensures clean { OfSource result (S.left source.old) (λ report s.
+        IsClean (meanings (options_of options) s) → report.is_decoded ≡ true) }
+    ensures in_turn { OfSource result (S.left source.old) (λ report s.
+        report.is_decoded ≡ true → ComeInTurn (meanings (options_of options) s)
+        (outputs (meanings (options_of options) s))) }
+    ensures display_order { OfSource result (S.left source.old) (λ report s.
+        report.is_decoded ≡ true → ComeInOrder (meanings (options_of options) s)
+        (outputs (meanings (options_of options) s))) }
+    ensures read { IsErrOf result Stop.Read → Rose (S.faults source.old) (S.faults source.new) }
+    ensures long { IsErrOf result Stop.TooLong
+        → IfSome (S.left source.old) (λ s. INPUT_LIMIT < length s) }
+    ensures writes_nothing { IsErrOf result Stop.Write → ⊥ }
 {
     let mut shown = Vec::new(alloc);
-    let decoded = decode_stream_with(alloc, Backend::new(alloc), options, stream, &mut shown);
-    if wants_memory(decoded.result) {
-        return Err(AllocError);
+    let backend = ReportBackend::new(alloc);
+    let decoded = decode_source_with(alloc, backend, options, source, INPUT_LIMIT, &mut shown)?;
+    let Decoded { backend, result } = decoded;
+    if wants_memory(result) {
+        return Err(Stop::NoMemory);
     }
-    let text = report_text(alloc, decoded.backend.calls(), &shown, decoded.result)?;
+    let mut text = backend.into_text();
+    push_rest(&mut text, &shown, result)?;
     Ok(Report {
         text,
-        is_decoded: decoded.result.is_ok(),
+        is_decoded: result.is_ok(),
     })
 }
 

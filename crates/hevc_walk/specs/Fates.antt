@@ -24,7 +24,7 @@ abbrev pub discarded_numbers : List Meaning → List ℕ
 discarded_numbers us = discarded_in (covered_stream us).first_set (covered_stream us).pictures
 
 pub data Fate : Type 0 where
-  Skipped Hidden Discarded Displayed : Fate
+  Skipped Hidden Discarded ForOutput : Fate
 
 abbrev pub among : ℕ → List ℕ → Bool
 among n [] = false
@@ -32,20 +32,20 @@ among n (m ∷ ms) = m == n || among n ms
 
 -- what becomes of a picture, where these are discarded
 abbrev pub fate_by : List ℕ → Picture → Fate
-fate_by discarded p = if p.skipped then Skipped else if not p.pic_output_flag then Hidden else if among p.number discarded then Discarded else Displayed
+fate_by discarded p = if p.skipped then Skipped else if not p.pic_output_flag then Hidden else if among p.number discarded then Discarded else ForOutput
 
 -- what becomes of a picture of these units
 abbrev pub fate : List Meaning → Picture → Fate
 fate us p = fate_by (discarded_numbers us) p
 
-abbrev pub is_displayed : Fate → Bool
-is_displayed Displayed = true
-is_displayed f = false
+abbrev pub is_fated_for_output : Fate → Bool
+is_fated_for_output ForOutput = true
+is_fated_for_output f = false
 
--- the numbers of the pictures whose fate is to be displayed
-abbrev pub displayed_numbers : List ℕ → List Picture → List ℕ
-displayed_numbers discarded [] = []
-displayed_numbers discarded (p ∷ before) = if is_displayed (fate_by discarded p) then p.number ∷ displayed_numbers discarded before else displayed_numbers discarded before
+-- the numbers of the pictures whose fate it is to be output
+abbrev pub numbers_for_output : List ℕ → List Picture → List ℕ
+numbers_for_output discarded [] = []
+numbers_for_output discarded (p ∷ before) = if is_fated_for_output (fate_by discarded p) then p.number ∷ numbers_for_output discarded before else numbers_for_output discarded before
 
 abbrev pub one : Bool → ℕ
 one true = 1

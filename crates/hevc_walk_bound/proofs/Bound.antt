@@ -15,7 +15,7 @@ use Rattle.hevc_walk.specs.Results.{verdict, full_or, stop_or, full, full_at_end
 use Rattle.hevc_walk.specs.Fates.{one}
 use Rattle.hevc_walk.specs.Clean.{num_members, AllClean, IsClean}
 use Rattle.hevc_walk_fates.proofs.Numbers.{Numbered, covered-numbered, covered_all, stream-numbered}
-use Rattle.hevc_walk_fates.proofs.Counts.{one-le, shown_as, waits_as, in_output_order-as, needed-as, has-as}
+use Rattle.hevc_walk_fates.proofs.Counts.{one-le, output_as, waits_as, in_output_order-as, needed-as, has-as}
 use Rattle.hevc_walk_fates.proofs.Accepted.{accepted_is}
 use Rattle.hevc_walk_bound.specs.Stores.{StoresFew}
 
@@ -138,17 +138,17 @@ numbers-kept n true true e = omega arith
 numbers-kept n true false e = omega arith
 numbers-kept n false r e = omega arith
 
-numbers-showing : (n : ℕ) (shown es : List Entry) → numbers_as n (after_output shown es) ≤ numbers_as n es
+numbers-output : (n : ℕ) (output es : List Entry) → numbers_as n (after_output output es) ≤ numbers_as n es
 unfolding numbers_as
-numbers-showing n shown [] = omega arith
-numbers-showing n shown (e ∷ es) =
-    let h = numbers-append n (left_of (has_number e.number shown) e) (after_output shown es) in
-    let k = numbers-kept n (has_number e.number shown) (is_reference e.mark) e in
-    let r = numbers-showing n shown es in
+numbers-output n output [] = omega arith
+numbers-output n output (e ∷ es) =
+    let h = numbers-append n (left_of (has_number e.number output) e) (after_output output es) in
+    let k = numbers-kept n (has_number e.number output) (is_reference e.mark) e in
+    let r = numbers-output n output es in
     by_sum h k r
   where
-    by_sum : numbers_as n (left_of (has_number e.number shown) e ++ after_output shown es) ≡ numbers_as n (left_of (has_number e.number shown) e) + numbers_as n (after_output shown es)
-        → numbers_as n (left_of (has_number e.number shown) e) ≤ one (eqb e.number n) → numbers_as n (after_output shown es) ≤ numbers_as n es → numbers_as n (left_of (has_number e.number shown) e ++ after_output shown es) ≤ one (eqb e.number n) + numbers_as n es
+    by_sum : numbers_as n (left_of (has_number e.number output) e ++ after_output output es) ≡ numbers_as n (left_of (has_number e.number output) e) + numbers_as n (after_output output es)
+        → numbers_as n (left_of (has_number e.number output) e) ≤ one (eqb e.number n) → numbers_as n (after_output output es) ≤ numbers_as n es → numbers_as n (left_of (has_number e.number output) e ++ after_output output es) ≤ one (eqb e.number n) + numbers_as n es
     by_sum h k r = omega (arith, h, k, r)
 
 -- the lists have as many members as the header
@@ -202,24 +202,24 @@ marks-few p first es once few = by_sum (named-few (all_members (reference_set p 
     by_sum : {a b c d : ℕ} → b ≤ c → a ≤ b → c ≤ d → a ≤ d
     by_sum h k l = omega (arith, h, k, l)
 
-has_of : (n : ℕ) (es : List Entry) → 1 ≤ shown_as n es → has_number n es ≡ true
+has_of : (n : ℕ) (es : List Entry) → 1 ≤ output_as n es → has_number n es ≡ true
 has_of n es h = by_test (has_number n es) (has-as n es)
   where
-    by_test : (b : Bool) → cond b (1 ≤ shown_as n es) (shown_as n es ≡ 0) → b ≡ true
+    by_test : (b : Bool) → cond b (1 ≤ output_as n es) (output_as n es ≡ 0) → b ≡ true
     by_test true k = refl
     by_test false k = absurd (omega (arith, h, k))
 
 eqb-same : (n : ℕ) → eqb n n ≡ true
 eqb-same n = grind (arith, nat_tests)
 
--- once all that waits is shown, only what has a mark is left
-left-few : (shown xs : List Entry) → ((n : ℕ) → 1 ≤ waits_as n xs → has_number n shown ≡ true) → length (after_output shown (filter is_needed xs)) ≤ marks xs
+-- once all that waits is output, only what has a mark is left
+left-few : (output xs : List Entry) → ((n : ℕ) → 1 ≤ waits_as n xs → has_number n output ≡ true) → length (after_output output (filter is_needed xs)) ≤ marks xs
 unfolding marks
-left-few shown [] h = omega arith
-left-few shown (e ∷ xs) h = by_tests e.needed_for_output (is_reference e.mark) refl refl (left-few shown xs (λ n k. h n (omega (arith, k))))
+left-few output [] h = omega arith
+left-few output (e ∷ xs) h = by_tests e.needed_for_output (is_reference e.mark) refl refl (left-few output xs (λ n k. h n (omega (arith, k))))
   where
     goal : Bool → Bool → Type 0
-    goal w r = length (after_output shown (cond (w || r) (e ∷ filter is_needed xs) (filter is_needed xs))) ≤ one r + marks xs
+    goal w r = length (after_output output (cond (w || r) (e ∷ filter is_needed xs) (filter is_needed xs))) ≤ one r + marks xs
 
     kept_few : (b r : Bool) → b ≡ true → length (cond b (cond r (record e { needed_for_output = false } ∷ []) []) (e ∷ [])) ≤ one r
     kept_few true true is = omega arith
@@ -230,14 +230,14 @@ left-few shown (e ∷ xs) h = by_tests e.needed_for_output (is_reference e.mark)
     one_few true = omega arith
     one_few false = omega arith
 
-    sum : (ys : List Entry) (k : ℕ) → length ys ≤ k → length (after_output shown (filter is_needed xs)) ≤ marks xs → length (ys ++ after_output shown (filter is_needed xs)) ≤ k + marks xs
-    sum ys k few rest = let l = length-append ys (after_output shown (filter is_needed xs)) in omega (arith, few, rest, l)
+    sum : (ys : List Entry) (k : ℕ) → length ys ≤ k → length (after_output output (filter is_needed xs)) ≤ marks xs → length (ys ++ after_output output (filter is_needed xs)) ≤ k + marks xs
+    sum ys k few rest = let l = length-append ys (after_output output (filter is_needed xs)) in omega (arith, few, rest, l)
 
-    by_tests : (w r : Bool) → e.needed_for_output ≡ w → is_reference e.mark ≡ r → length (after_output shown (filter is_needed xs)) ≤ marks xs → goal w r
+    by_tests : (w r : Bool) → e.needed_for_output ≡ w → is_reference e.mark ≡ r → length (after_output output (filter is_needed xs)) ≤ marks xs → goal w r
     by_tests true r w_is r_is rest =
         let first : 1 ≤ waits_as e.number (e ∷ xs) = subst (λ (b : Bool). 1 ≤ one (b && eqb e.number e.number) + waits_as e.number xs) (sym w_is) (subst (λ (b : Bool). 1 ≤ one b + waits_as e.number xs) (sym (eqb-same e.number)) (omega arith)) in
-        sum (left_of (has_number e.number shown) e) (one r) (subst (λ (x : Bool). length (left_of (has_number e.number shown) e) ≤ one x) r_is (kept_few (has_number e.number shown) (is_reference e.mark) (h e.number first))) rest
-    by_tests false true w_is r_is rest = sum (left_of (has_number e.number shown) e) 1 (subst (λ (x : Bool). length (cond (has_number e.number shown) (cond x (record e { needed_for_output = false } ∷ []) []) (e ∷ [])) ≤ 1) (sym r_is) (one_few (has_number e.number shown))) rest
+        sum (left_of (has_number e.number output) e) (one r) (subst (λ (x : Bool). length (left_of (has_number e.number output) e) ≤ one x) r_is (kept_few (has_number e.number output) (is_reference e.mark) (h e.number first))) rest
+    by_tests false true w_is r_is rest = sum (left_of (has_number e.number output) e) 1 (subst (λ (x : Bool). length (cond (has_number e.number output) (cond x (record e { needed_for_output = false } ∷ []) []) (e ∷ [])) ≤ 1) (sym r_is) (one_few (has_number e.number output))) rest
     by_tests false false w_is r_is rest = omega (arith, rest)
 
 shortest_front-ends : {X : Type 0} (passes : List X → Bool) (xs : List X) → (passes (shortest_front passes xs) ≡ true) ⊎ (shortest_front passes xs ≡ xs)
@@ -259,8 +259,8 @@ room-bound : (p : Head) (xs : Buffer) → marks xs ≤ p.limits.max_dec_pic_buff
 unfolding due_outputs needs_bumping
 room-bound p xs few = ⊎_elim
     (λ h. rule-false (needs_additional_bumping p.limits left) p.limits.max_dec_pic_buffering_minus1 (length left) h)
-    (λ h. by_whole (subst (λ (shown : List Entry). length (after_output shown es) ≤ marks xs) (sym h) (left-few (in_output_order es) xs (λ n k. has_of n (in_output_order es) (subst (λ (m : ℕ). 1 ≤ m) (sym (in_output_order-as n es ∙ needed-as n xs)) k)))))
-    (shortest_front-ends (λ shown. not (needs_bumping p.limits (after_output shown es))) (in_output_order es))
+    (λ h. by_whole (subst (λ (output : List Entry). length (after_output output es) ≤ marks xs) (sym h) (left-few (in_output_order es) xs (λ n k. has_of n (in_output_order es) (subst (λ (m : ℕ). 1 ≤ m) (sym (in_output_order-as n es ∙ needed-as n xs)) k)))))
+    (shortest_front-ends (λ output. not (needs_bumping p.limits (after_output output es))) (in_output_order es))
   where
     es : Buffer
     es = filter is_needed xs
@@ -331,7 +331,7 @@ finish-numbers n (Some q) s = by_test q.skipped
     by_test : (b : Bool) → numbers_as n (cond b (nothing s) (store_picture q s)).next.buffer ≤ numbers_as n s.buffer + one (eqb q.number n)
     by_test true = omega arith
     by_test false =
-        let h = numbers-showing n (due_outputs (needs_additional_bumping q.limits) (with_stored q s.buffer)) (with_stored q s.buffer) in
+        let h = numbers-output n (due_outputs (needs_additional_bumping q.limits) (with_stored q s.buffer)) (with_stored q s.buffer) in
         let k = numbers-append n (map with_latency s.buffer) (entry_of q ∷ []) in
         let l = numbers-map n with_latency keeps-with_latency s.buffer in
         let m = last in
@@ -361,7 +361,7 @@ begin-numbers n p first s = by_tests (is_decoded p) p.no_output_of_prior_pics p.
     by_tests true false true = let h = numbers-none n in omega (arith, h)
     by_tests true false false =
         let es = filter is_needed (with_marks p first s.buffer) in
-        let h = numbers-showing n (due_outputs (needs_bumping p.limits) es) es in
+        let h = numbers-output n (due_outputs (needs_bumping p.limits) es) es in
         let k = numbers-filter n (with_marks p first s.buffer) in
         let l = numbers-marked n p first s.buffer in
         omega (arith, h, k, l)

@@ -13,9 +13,9 @@ pub one-le : (b : Bool) → one b ≤ 1
 one-le true = omega arith
 one-le false = omega arith
 
-abbrev pub shown_as : ℕ → List Entry → ℕ
-shown_as n [] = 0
-shown_as n (e ∷ es) = one (eqb e.number n) + shown_as n es
+abbrev pub output_as : ℕ → List Entry → ℕ
+output_as n [] = 0
+output_as n (e ∷ es) = one (eqb e.number n) + output_as n es
 
 abbrev pub waits_as : ℕ → Buffer → ℕ
 waits_as n [] = 0
@@ -31,7 +31,7 @@ given-append n [] ys = omega arith
 given-append n (Called call ∷ xs) ys = given-append n xs ys
 given-append n (Output number count ∷ xs) ys = let h = given-append n xs ys in omega (arith, h)
 
-given-output : (n : ℕ) (es : List Entry) → given n (map output_of es) ≡ shown_as n es
+given-output : (n : ℕ) (es : List Entry) → given n (map output_of es) ≡ output_as n es
 given-output n [] = refl
 given-output n (e ∷ es) = ap (λ (m : ℕ). one (eqb e.number n) + m) (given-output n es)
 
@@ -39,27 +39,27 @@ waits-append : (n : ℕ) (xs ys : Buffer) → waits_as n (xs ++ ys) ≡ waits_as
 waits-append n [] ys = omega arith
 waits-append n (e ∷ xs) ys = let h = waits-append n xs ys in omega (arith, h)
 
-placed-as : (n : ℕ) (e : Entry) (es : Buffer) → shown_as n (placed e es) ≡ one (eqb e.number n) + shown_as n es
+placed-as : (n : ℕ) (e : Entry) (es : Buffer) → output_as n (placed e es) ≡ one (eqb e.number n) + output_as n es
 placed-as n e [] = refl
 placed-as n e (f ∷ fs) = by_test (int_lt f.order_count e.order_count) (placed e fs) (placed-as n e fs)
   where
-    by_test : (b : Bool) (p : List Entry) → shown_as n p ≡ one (eqb e.number n) + shown_as n fs → shown_as n (cond b (f ∷ p) (e ∷ f ∷ fs)) ≡ one (eqb e.number n) + (one (eqb f.number n) + shown_as n fs)
+    by_test : (b : Bool) (p : List Entry) → output_as n p ≡ one (eqb e.number n) + output_as n fs → output_as n (cond b (f ∷ p) (e ∷ f ∷ fs)) ≡ one (eqb e.number n) + (one (eqb f.number n) + output_as n fs)
     by_test true p h = omega (arith, h)
     by_test false p h = refl
 
-pub in_output_order-as : (n : ℕ) (es : Buffer) → shown_as n (in_output_order es) ≡ waits_as n es
+pub in_output_order-as : (n : ℕ) (es : Buffer) → output_as n (in_output_order es) ≡ waits_as n es
 in_output_order-as n [] = refl
 in_output_order-as n (e ∷ es) = by_test e.needed_for_output (in_output_order-as n es)
   where
-    by_test : (b : Bool) → shown_as n (in_output_order es) ≡ waits_as n es → shown_as n (cond b (placed e (in_output_order es)) (in_output_order es)) ≡ one (b && eqb e.number n) + waits_as n es
+    by_test : (b : Bool) → output_as n (in_output_order es) ≡ waits_as n es → output_as n (cond b (placed e (in_output_order es)) (in_output_order es)) ≡ one (b && eqb e.number n) + waits_as n es
     by_test true h = placed-as n e (in_output_order es) ∙ ap (λ (m : ℕ). one (eqb e.number n) + m) h
     by_test false h = omega (arith, h)
 
-shortest_front-as : (n : ℕ) (passes : List Entry → Bool) (es : List Entry) → shown_as n (shortest_front passes es) ≤ shown_as n es
+shortest_front-as : (n : ℕ) (passes : List Entry → Bool) (es : List Entry) → output_as n (shortest_front passes es) ≤ output_as n es
 shortest_front-as n passes [] = omega arith
 shortest_front-as n passes (e ∷ es) = by_test (passes []) (shortest_front (λ front. passes (e ∷ front)) es) (shortest_front-as n (λ front. passes (e ∷ front)) es)
   where
-    by_test : (b : Bool) (s : List Entry) → shown_as n s ≤ shown_as n es → shown_as n (cond b [] (e ∷ s)) ≤ one (eqb e.number n) + shown_as n es
+    by_test : (b : Bool) (s : List Entry) → output_as n s ≤ output_as n es → output_as n (cond b [] (e ∷ s)) ≤ one (eqb e.number n) + output_as n es
     by_test true s h = omega arith
     by_test false s h = omega (arith, h)
 
@@ -73,12 +73,12 @@ none_by true w = refl
 none_by false true = refl
 none_by false false = refl
 
-kept-as : (n : ℕ) (shown : List Entry) (e : Entry) → waits_as n (left_of (has_number e.number shown) e) ≡ cond (has_number n shown) 0 (one (e.needed_for_output && eqb e.number n))
-kept-as n shown e = kept_by n e (has_number e.number shown) (is_reference e.mark) ∙ by_test (eqb e.number n) refl
+kept-as : (n : ℕ) (output : List Entry) (e : Entry) → waits_as n (left_of (has_number e.number output) e) ≡ cond (has_number n output) 0 (one (e.needed_for_output && eqb e.number n))
+kept-as n output e = kept_by n e (has_number e.number output) (is_reference e.mark) ∙ by_test (eqb e.number n) refl
   where
-    by_test : (c : Bool) → eqb e.number n ≡ c → cond (has_number e.number shown) 0 (one (e.needed_for_output && c)) ≡ cond (has_number n shown) 0 (one (e.needed_for_output && c))
-    by_test true is = ap (λ (m : ℕ). cond (has_number m shown) 0 (one (e.needed_for_output && true))) (equal_numbers e.number n is)
-    by_test false is = none_by (has_number e.number shown) e.needed_for_output ∙ sym (none_by (has_number n shown) e.needed_for_output)
+    by_test : (c : Bool) → eqb e.number n ≡ c → cond (has_number e.number output) 0 (one (e.needed_for_output && c)) ≡ cond (has_number n output) 0 (one (e.needed_for_output && c))
+    by_test true is = ap (λ (m : ℕ). cond (has_number m output) 0 (one (e.needed_for_output && true))) (equal_numbers e.number n is)
+    by_test false is = none_by (has_number e.number output) e.needed_for_output ∙ sym (none_by (has_number n output) e.needed_for_output)
 
 cond-sum : (b : Bool) (x y : ℕ) → cond b 0 x + cond b 0 y ≡ cond b 0 (x + y)
 cond-sum true x y = refl
@@ -88,33 +88,33 @@ cond-zero : (b : Bool) → waits_as 0 [] ≡ cond b 0 0
 cond-zero true = refl
 cond-zero false = refl
 
-after_output-as : (n : ℕ) (shown es : List Entry) → waits_as n (after_output shown es) ≡ cond (has_number n shown) 0 (waits_as n es)
-after_output-as n shown [] = cond-zero (has_number n shown)
-after_output-as n shown (e ∷ es) =
-    waits-append n (left_of (has_number e.number shown) e) (after_output shown es)
-    ∙ ap (λ (m : ℕ). m + waits_as n (after_output shown es)) (kept-as n shown e)
-    ∙ ap (λ (m : ℕ). cond (has_number n shown) 0 (one (e.needed_for_output && eqb e.number n)) + m) (after_output-as n shown es)
-    ∙ cond-sum (has_number n shown) (one (e.needed_for_output && eqb e.number n)) (waits_as n es)
+after_output-as : (n : ℕ) (output es : List Entry) → waits_as n (after_output output es) ≡ cond (has_number n output) 0 (waits_as n es)
+after_output-as n output [] = cond-zero (has_number n output)
+after_output-as n output (e ∷ es) =
+    waits-append n (left_of (has_number e.number output) e) (after_output output es)
+    ∙ ap (λ (m : ℕ). m + waits_as n (after_output output es)) (kept-as n output e)
+    ∙ ap (λ (m : ℕ). cond (has_number n output) 0 (one (e.needed_for_output && eqb e.number n)) + m) (after_output-as n output es)
+    ∙ cond-sum (has_number n output) (one (e.needed_for_output && eqb e.number n)) (waits_as n es)
 
-pub has-as : (n : ℕ) (es : List Entry) → cond (has_number n es) (1 ≤ shown_as n es) (shown_as n es ≡ 0)
+pub has-as : (n : ℕ) (es : List Entry) → cond (has_number n es) (1 ≤ output_as n es) (output_as n es ≡ 0)
 has-as n [] = refl
 has-as n (e ∷ es) = by_test (eqb e.number n) (has_number n es) (has-as n es)
   where
-    by_test : (b h : Bool) → cond h (1 ≤ shown_as n es) (shown_as n es ≡ 0) → cond (b || h) (1 ≤ one b + shown_as n es) (one b + shown_as n es ≡ 0)
+    by_test : (b h : Bool) → cond h (1 ≤ output_as n es) (output_as n es ≡ 0) → cond (b || h) (1 ≤ one b + output_as n es) (one b + output_as n es ≡ 0)
     by_test true h k = omega arith
     by_test false true k = omega (arith, k)
     by_test false false k = omega (arith, k)
 
-bumping-as : (n : ℕ) (shown es : List Entry) → shown_as n shown ≤ waits_as n es → waits_as n es ≤ 1 → shown_as n shown + waits_as n (after_output shown es) ≡ waits_as n es
-bumping-as n shown es few once = by_test (has_number n shown) (shown_as n shown) (waits_as n es) (waits_as n (after_output shown es)) (has-as n shown) (after_output-as n shown es) few once
+bumping-as : (n : ℕ) (output es : List Entry) → output_as n output ≤ waits_as n es → waits_as n es ≤ 1 → output_as n output + waits_as n (after_output output es) ≡ waits_as n es
+bumping-as n output es few once = by_test (has_number n output) (output_as n output) (waits_as n es) (waits_as n (after_output output es)) (has-as n output) (after_output-as n output es) few once
   where
     by_test : (b : Bool) (s w left : ℕ) → cond b (1 ≤ s) (s ≡ 0) → left ≡ cond b 0 w → s ≤ w → w ≤ 1 → s + left ≡ w
     by_test true s w left h k few once = omega arith
     by_test false s w left h k few once = omega arith
 
-due_outputs-as : (n : ℕ) (rule : Buffer → Bool) (es : Buffer) → waits_as n es ≤ 1 → shown_as n (due_outputs rule es) + waits_as n (after_output (due_outputs rule es) es) ≡ waits_as n es
+due_outputs-as : (n : ℕ) (rule : Buffer → Bool) (es : Buffer) → waits_as n es ≤ 1 → output_as n (due_outputs rule es) + waits_as n (after_output (due_outputs rule es) es) ≡ waits_as n es
 unfolding due_outputs
-due_outputs-as n rule es once = bumping-as n (shortest_front (λ shown. not (rule (after_output shown es))) (in_output_order es)) es (subst (λ (m : ℕ). shown_as n (shortest_front (λ shown. not (rule (after_output shown es))) (in_output_order es)) ≤ m) (in_output_order-as n es) (shortest_front-as n (λ shown. not (rule (after_output shown es))) (in_output_order es))) once
+due_outputs-as n rule es once = bumping-as n (shortest_front (λ output. not (rule (after_output output es))) (in_output_order es)) es (subst (λ (m : ℕ). output_as n (shortest_front (λ output. not (rule (after_output output es))) (in_output_order es)) ≤ m) (in_output_order-as n es) (shortest_front-as n (λ output. not (rule (after_output output es))) (in_output_order es))) once
 
 pub needed-as : (n : ℕ) (es : Buffer) → waits_as n (filter is_needed es) ≡ waits_as n es
 needed-as n [] = refl
@@ -180,12 +180,12 @@ unfolding with_stored
 with_stored-as n q es = waits-append n (map with_latency es) (entry_of q ∷ []) ∙ ap (λ (m : ℕ). m + (one (q.pic_output_flag && eqb q.number n) + 0)) (map-as n with_latency keeps-with_latency es) ∙ omega arith
 
 -- whether a picture of this number is to be output once it is over
-abbrev pub to_show : ℕ → Head → ℕ
-to_show n q = one (not q.skipped && q.pic_output_flag && eqb q.number n)
+abbrev pub for_output : ℕ → Head → ℕ
+for_output n q = one (not q.skipped && q.pic_output_flag && eqb q.number n)
 
 abbrev pub to_come : ℕ → Option Head → ℕ
 to_come n None = 0
-to_come n (Some q) = to_show n q
+to_come n (Some q) = for_output n q
 
 abbrev Balanced : ℕ → Part Store → ℕ → Type 0
 Balanced n part total = given n part.events + waits_as n part.next.buffer ≡ total

@@ -8,9 +8,9 @@ use Rattle.hevc_walk.specs.ReferenceSets.{RefPicSet}
 use Rattle.hevc_walk.specs.Walk.{Event, Called, Output, Store, output_by, finish, change_format, begin_picture, is_decoded, picture_part, latest_head, store, reference_set_of, picture_events, decode_slices, slice_call, at_unit, closing}
 use Rattle.hevc_walk.specs.Refusals.{Refusal, stop, covered_stream}
 use Rattle.hevc_walk.specs.Results.{ending, events, outputs_in}
-use Rattle.hevc_walk.specs.Fates.{one, times, discarded_by, discarded_in, discarded_numbers, Skipped, Hidden, Discarded, Displayed, fate_by, among, is_displayed, displayed_numbers, output_numbers}
+use Rattle.hevc_walk.specs.Fates.{one, times, discarded_by, discarded_in, discarded_numbers, Skipped, Hidden, Discarded, ForOutput, fate_by, among, is_fated_for_output, numbers_for_output, output_numbers}
 use Rattle.hevc_walk_fates.proofs.Accepted.{equal_numbers}
-use Rattle.hevc_walk_fates.proofs.Counts.{one-le, given, given-append, waits_as, to_show, to_come, finish-balanced, change-balanced, begin-balanced, output_drain}
+use Rattle.hevc_walk_fates.proofs.Counts.{one-le, given, given-append, waits_as, for_output, to_come, finish-balanced, change-balanced, begin-balanced, output_drain}
 use Rattle.hevc_walk_fates.proofs.Numbers.{Numbered, covered-numbered, covered_all}
 
 pub given_in : ℕ → List (ℕ × Event) → ℕ
@@ -60,24 +60,24 @@ over n (p ∷ before) = to_come n (latest_head before) + over n before
 
 abbrev pub all : ℕ → List Picture → ℕ
 all n [] = 0
-all n (p ∷ before) = to_show n p.head + all n before
+all n (p ∷ before) = for_output n p.head + all n before
 
 pub over-all : (n : ℕ) (ps : List Picture) → to_come n (latest_head ps) + over n ps ≡ all n ps
 over-all n [] = omega arith
-over-all n (p ∷ before) = ap (λ (m : ℕ). to_show n p.head + m) (over-all n before)
+over-all n (p ∷ before) = ap (λ (m : ℕ). for_output n p.head + m) (over-all n before)
 
 other_number : (m n : ℕ) → m + 1 ≤ n → eqb m n ≡ false
 other_number m n h = grind (arith, nat_tests)
 
-none_shown : (a b : Bool) → one (a && b && false) ≡ 0
-none_shown true true = refl
-none_shown true false = refl
-none_shown false b = refl
+none_for_output : (a b : Bool) → one (a && b && false) ≡ 0
+none_for_output true true = refl
+none_for_output true false = refl
+none_for_output false b = refl
 
 all-above : (n : ℕ) (ps : List Picture) → Numbered ps → (context ps).number ≤ n → all n ps ≡ 0
 all-above n [] h above = refl
 all-above n (p ∷ before) h above =
-    let first : to_show n p.head ≡ 0 = ap (λ (b : Bool). one (not p.skipped && p.pic_output_flag && b)) (other_number p.number n above) ∙ none_shown (not p.skipped) p.pic_output_flag in
+    let first : for_output n p.head ≡ 0 = ap (λ (b : Bool). one (not p.skipped && p.pic_output_flag && b)) (other_number p.number n above) ∙ none_for_output (not p.skipped) p.pic_output_flag in
     let rest : all n before ≡ 0 = all-above n before h.1 (let k = h.0 in omega (arith, k, above)) in
     omega (arith, first, rest)
 
@@ -85,7 +85,7 @@ pub all-once : (n : ℕ) (ps : List Picture) → Numbered ps → all n ps ≤ 1
 all-once n [] h = omega arith
 all-once n (p ∷ before) h = by_test (eqb p.number n) refl (all-once n before h.1)
   where
-    by_test : (c : Bool) → eqb p.number n ≡ c → all n before ≤ 1 → to_show n p.head + all n before ≤ 1
+    by_test : (c : Bool) → eqb p.number n ≡ c → all n before ≤ 1 → for_output n p.head + all n before ≤ 1
     by_test true is k =
         let same = equal_numbers p.number n is in
         let number = h.0 in
@@ -93,7 +93,7 @@ all-once n (p ∷ before) h = by_test (eqb p.number n) refl (all-once n before h
         let few = one-le (not p.skipped && p.pic_output_flag && eqb p.number n) in
         omega (arith, rest, few)
     by_test false is k =
-        let first : to_show n p.head ≡ 0 = ap (λ (b : Bool). one (not p.skipped && p.pic_output_flag && b)) is ∙ none_shown (not p.skipped) p.pic_output_flag in
+        let first : for_output n p.head ≡ 0 = ap (λ (b : Bool). one (not p.skipped && p.pic_output_flag && b)) is ∙ none_for_output (not p.skipped) p.pic_output_flag in
         omega (arith, first, k)
 
 pub balance : (n : ℕ) (set : Option (ℕ × Format)) (ps : List Picture) → Numbered ps → given_in n (picture_events set ps) + (times n (discarded_in set ps) + waits_as n (store set ps).buffer) ≡ over n ps
@@ -181,14 +181,14 @@ among-times n (m ∷ ms) = by_test (eqb m n) (among n ms) (among-times n ms)
     by_test false true k = omega (arith, k)
     by_test false false k = omega (arith, k)
 
--- one picture among the displayed
-displayed_numbers-one : (n : ℕ) (ms : List ℕ) (p : Picture) → one (is_displayed (fate_by ms p) && eqb p.number n) ≡ cond (among n ms) 0 (to_show n p.head)
-displayed_numbers-one n ms p = by_number (eqb p.number n) refl
+-- one picture among those for output
+numbers_for_output-one : (n : ℕ) (ms : List ℕ) (p : Picture) → one (is_fated_for_output (fate_by ms p) && eqb p.number n) ≡ cond (among n ms) 0 (for_output n p.head)
+numbers_for_output-one n ms p = by_number (eqb p.number n) refl
   where
     Is : Bool → ℕ → Bool → Bool → Bool → Type 0
-    Is c m s o a = one (is_displayed (cond s Skipped (cond (not o) Hidden (cond (among m ms) Discarded Displayed))) && c) ≡ cond a 0 (one (not s && o && c))
+    Is c m s o a = one (is_fated_for_output (cond s Skipped (cond (not o) Hidden (cond (among m ms) Discarded ForOutput))) && c) ≡ cond a 0 (one (not s && o && c))
 
-    same_tests : (s o a : Bool) → one (is_displayed (cond s Skipped (cond (not o) Hidden (cond a Discarded Displayed))) && true) ≡ cond a 0 (one (not s && o && true))
+    same_tests : (s o a : Bool) → one (is_fated_for_output (cond s Skipped (cond (not o) Hidden (cond a Discarded ForOutput))) && true) ≡ cond a 0 (one (not s && o && true))
     same_tests true o true = refl
     same_tests true o false = refl
     same_tests false true true = refl
@@ -196,7 +196,7 @@ displayed_numbers-one n ms p = by_number (eqb p.number n) refl
     same_tests false false true = refl
     same_tests false false false = refl
 
-    no_tests : (s o a b : Bool) → one (is_displayed (cond s Skipped (cond (not o) Hidden (cond a Discarded Displayed))) && false) ≡ cond b 0 (one (not s && o && false))
+    no_tests : (s o a b : Bool) → one (is_fated_for_output (cond s Skipped (cond (not o) Hidden (cond a Discarded ForOutput))) && false) ≡ cond b 0 (one (not s && o && false))
     no_tests true o a true = refl
     no_tests true o a false = refl
     no_tests false true true true = refl
@@ -214,29 +214,29 @@ cond-sum : (b : Bool) (x y : ℕ) → cond b 0 x + cond b 0 y ≡ cond b 0 (x + 
 cond-sum true x y = refl
 cond-sum false x y = refl
 
-displayed_numbers-times : (n : ℕ) (ms : List ℕ) (ps : List Picture) → times n (displayed_numbers ms ps) ≡ cond (among n ms) 0 (all n ps)
-displayed_numbers-times n ms [] = by_test (among n ms)
+numbers_for_output-times : (n : ℕ) (ms : List ℕ) (ps : List Picture) → times n (numbers_for_output ms ps) ≡ cond (among n ms) 0 (all n ps)
+numbers_for_output-times n ms [] = by_test (among n ms)
   where
     by_test : (b : Bool) → times n [] ≡ cond b 0 0
     by_test true = refl
     by_test false = refl
-displayed_numbers-times n ms (p ∷ before) = by_test (is_displayed (fate_by ms p)) ∙ ap (λ (m : ℕ). m + times n (displayed_numbers ms before)) (displayed_numbers-one n ms p) ∙ ap (λ (m : ℕ). cond (among n ms) 0 (to_show n p.head) + m) (displayed_numbers-times n ms before) ∙ cond-sum (among n ms) (to_show n p.head) (all n before)
+numbers_for_output-times n ms (p ∷ before) = by_test (is_fated_for_output (fate_by ms p)) ∙ ap (λ (m : ℕ). m + times n (numbers_for_output ms before)) (numbers_for_output-one n ms p) ∙ ap (λ (m : ℕ). cond (among n ms) 0 (for_output n p.head) + m) (numbers_for_output-times n ms before) ∙ cond-sum (among n ms) (for_output n p.head) (all n before)
   where
-    by_test : (b : Bool) → times n (cond b (p.number ∷ displayed_numbers ms before) (displayed_numbers ms before)) ≡ one (b && eqb p.number n) + times n (displayed_numbers ms before)
+    by_test : (b : Bool) → times n (cond b (p.number ∷ numbers_for_output ms before) (numbers_for_output ms before)) ≡ one (b && eqb p.number n) + times n (numbers_for_output ms before)
     by_test true = refl
     by_test false = omega arith
 
--- where nothing stops, what is output is what is displayed
-pub output_displayed : (us : List Meaning) → stop us ≡ None → (n : ℕ) → times n (output_numbers us) ≡ times n (displayed_numbers (discarded_numbers us) (pictures us))
-output_displayed us none n =
+-- where nothing stops, what is output is what is for output
+pub output_by_fate : (us : List Meaning) → stop us ≡ None → (n : ℕ) → times n (output_numbers us) ≡ times n (numbers_for_output (discarded_numbers us) (pictures us))
+output_by_fate us none n =
     let h = covered-numbered 0 nothing_yet us tt in
     let all_is : covered_stream us ≡ stream_from 0 nothing_yet us = covered_all 0 nothing_yet us none in
     let whole : given_in n (events us) + times n (discarded_numbers us) ≡ all n (covered_stream us).pictures = subst (λ (s : Option Refusal). given_in n (picture_events (covered_stream us).first_set (covered_stream us).pictures ++ ending s (length us) (covered_stream us)) + times n (discarded_numbers us) ≡ all n (covered_stream us).pictures) (sym none) (ended_whole n (length us) (covered_stream us) h) in
     let once = all-once n (covered_stream us).pictures h in
     let is = given_in-numbers n (events us) in
     by_test (among n (discarded_numbers us)) (times n (output_numbers us)) (times n (discarded_numbers us)) (all n (covered_stream us).pictures) (among-times n (discarded_numbers us)) (omega (arith, whole, is)) once
-    ∙ sym (displayed_numbers-times n (discarded_numbers us) (covered_stream us).pictures)
-    ∙ ap (λ (v : Stream). times n (displayed_numbers (discarded_numbers us) v.pictures)) all_is
+    ∙ sym (numbers_for_output-times n (discarded_numbers us) (covered_stream us).pictures)
+    ∙ ap (λ (v : Stream). times n (numbers_for_output (discarded_numbers us) v.pictures)) all_is
   where
     by_test : (b : Bool) (g l a : ℕ) → cond b (1 ≤ l) (l ≡ 0) → g + l ≡ a → a ≤ 1 → g ≡ cond b 0 a
     by_test true g l a h whole once = omega arith

@@ -237,15 +237,15 @@ submitted_once us n =
     omega (arith, few, once, is)
 
 -- what is to be output is submitted
-shown-submitted : (s o c : Bool) → one (not s && o && c) ≤ one (not s && c)
-shown-submitted true o c = omega arith
-shown-submitted false true c = omega arith
-shown-submitted false false true = omega arith
-shown-submitted false false false = omega arith
+output-submitted : (s o c : Bool) → one (not s && o && c) ≤ one (not s && c)
+output-submitted true o c = omega arith
+output-submitted false true c = omega arith
+output-submitted false false true = omega arith
+output-submitted false false false = omega arith
 
 come-handed : (n : ℕ) (q : Option Head) → to_come n q ≤ handed n q
 come-handed n None = omega arith
-come-handed n (Some q) = shown-submitted q.skipped q.pic_output_flag (eqb q.number n)
+come-handed n (Some q) = output-submitted q.skipped q.pic_output_flag (eqb q.number n)
 
 over-submitted : (n : ℕ) (ps : List Picture) → over n ps ≤ over_submitted n ps
 unfolding over_submitted

@@ -1,11 +1,11 @@
-//! Each picture has one fate, and those whose fate is to be displayed are output once.
+//! Each picture has one fate, and those for output are output once.
 #![tactic(auto)]
 
 ghost use Rattle.std.specs.Prelude.{◌≡◌, ◌≤◌, ℕ, List, None};
 ghost use Rattle.hevc_walk.specs.Meanings.{Meaning};
 ghost use Rattle.hevc_walk.specs.Pictures.{pictures};
 ghost use Rattle.hevc_walk.specs.Refusals.{stop};
-ghost use Rattle.hevc_walk.specs.Fates.{times, output_numbers, displayed_numbers, discarded_numbers};
+ghost use Rattle.hevc_walk.specs.Fates.{times, output_numbers, numbers_for_output, discarded_numbers};
 ghost use Rattle.hevc_walk_fates.specs.Submissions.{submitted_numbers};
 
 /// No picture is output twice.
@@ -13,11 +13,11 @@ pub fn output_once()
     ensures { (us : List Meaning) (n : ℕ) → times n (output_numbers us) ≤ 1 }
 {}
 
-/// Where no unit is refused, the pictures that are output are those whose fate is to be displayed.
-pub fn displayed_are_output()
+/// Where no unit is refused, the pictures that are output are those whose fate it is.
+pub fn outputs_by_fate()
     ensures { (us : List Meaning) → stop us ≡ None → (n : ℕ)
         → times n (output_numbers us)
-        ≡ times n (displayed_numbers (discarded_numbers us) (pictures us)) }
+        ≡ times n (numbers_for_output (discarded_numbers us) (pictures us)) }
 {}
 
 /// No picture is submitted twice.

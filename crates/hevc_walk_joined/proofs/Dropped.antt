@@ -47,10 +47,10 @@ calls-raised k [] = refl
 calls-raised k ((u, Called call) ∷ es) = ap (λ l. (raised k u, call) ∷ l) (calls-raised k es)
 calls-raised k ((u, Output number count) ∷ es) = calls-raised k es
 
-shown-raised : (k : ℕ) (es : List (ℕ × Event)) → outputs_in (map (raised_event k) es) ≡ map (raised_output k) (outputs_in es)
-shown-raised k [] = refl
-shown-raised k ((u, Called call) ∷ es) = shown-raised k es
-shown-raised k ((u, Output number count) ∷ es) = ap (λ (l : List OutputPicture). record { number = number; order_count = count; unit = raised k u } ∷ l) (shown-raised k es)
+output-raised : (k : ℕ) (es : List (ℕ × Event)) → outputs_in (map (raised_event k) es) ≡ map (raised_output k) (outputs_in es)
+output-raised k [] = refl
+output-raised k ((u, Called call) ∷ es) = output-raised k es
+output-raised k ((u, Output number count) ∷ es) = ap (λ (l : List OutputPicture). record { number = number; order_count = count; unit = raised k u } ∷ l) (output-raised k es)
 
 refused-raised : (k u v : ℕ) (cause : Option Cause) (later later' : Result ℕ Refusal) → raised k u ≡ v → later ≡ raised_verdict k later' → refused_at v cause later ≡ raised_verdict k (refused_at u cause later')
 refused-raised k u v None later later' h is = is
@@ -78,7 +78,7 @@ pub dropped_outputs : (front back : List Meaning) → outputs (front ++ Other �
 dropped_outputs front back =
     sym (ap outputs_in (events-same (front ++ Other ∷ back)))
     ∙ ap outputs_in (events-dropped 0 at_first front back)
-    ∙ shown-raised (0 + length front) (events_from at_first 0 (front ++ back))
+    ∙ output-raised (0 + length front) (events_from at_first 0 (front ++ back))
     ∙ ap (map (raised_output (0 + length front))) (ap outputs_in (events-same (front ++ back)))
     ∙ ap (λ (k : ℕ). map (raised_output k) (outputs (front ++ back))) (zero-add (length front))
 

@@ -4,7 +4,7 @@ use Rattle.std.specs.Prelude.{int_le}
 use Rattle.hevc_walk.specs.Meanings.{Format, Meaning}
 use Rattle.hevc_walk.specs.Pictures.{Picture}
 use Rattle.hevc_walk.specs.Buffer.{Buffer, is_reference}
-use Rattle.hevc_walk_order.specs.Sequences.{Sequence, pictures_of, is_shown, shown_of}
+use Rattle.hevc_walk_order.specs.Sequences.{Sequence, pictures_of, is_for_output, pictures_for_output}
 use Rattle.hevc_walk_order.specs.DisplayOrder.{entries_before, needed_behind, HasRoom, HaveRoom, KeepsOrder}
 use Rattle.hevc_walk_order.specs.Bounds.{NeverFull, KeepsBounds}
 use Rattle.hevc_walk_order.proofs.Each.{pairs-filter, pairs_all, all_pairs}
@@ -35,7 +35,7 @@ order-by_bounds us q h = record {
   latency = λ some. absurd (none q.first.limits.max_latency_increase_plus1 h.latency some);
   room = have_room _ q.rest (q.first ∷ q.before) h.room;
   next = h.next;
-  distinct = pairs_all (λ a b. a.order_count ≢ b.order_count) (shown_of q) (pairs-filter (λ a b. a.order_count ≢ b.order_count) is_shown (pictures_of q) (all_pairs (λ a b. a.order_count ≢ b.order_count) (pictures_of q) h.distinct));
+  distinct = pairs_all (λ a b. a.order_count ≢ b.order_count) (pictures_for_output q) (pairs-filter (λ a b. a.order_count ≢ b.order_count) is_for_output (pictures_of q) (all_pairs (λ a b. a.order_count ≢ b.order_count) (pictures_of q) h.distinct));
   few_precede = h.few_precede;
 }
   where

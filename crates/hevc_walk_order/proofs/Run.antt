@@ -12,7 +12,7 @@ use Rattle.hevc_walk.specs.Buffer.{Entry, Buffer, draining, in_output_order, aft
 use Rattle.hevc_walk.specs.ReferenceSets.{with_marks}
 use Rattle.hevc_walk.specs.Walk.{Event, Part, ◌>>=◌, nothing, Store, output_by, finish, store_picture, change_format, begin_picture, is_decoded, picture_part, prepare, latest_head, store, store_before, first_store, reference_set_of, picture_events, decode_slices, at_unit, closing}
 use Rattle.hevc_walk_fates.proofs.Accepted.{accepted_is}
-use Rattle.hevc_walk_order.specs.Sequences.{is_shown, begins}
+use Rattle.hevc_walk_order.specs.Sequences.{is_for_output, begins}
 use Rattle.hevc_walk_order.specs.DisplayOrder.{latency_pictures, picture_key, entries_before, needed_behind}
 use Rattle.hevc_walk_order.proofs.Each.{each-append, each-right, each-weaker, each-both, each-filter, each-map, each-of_map, filter-all, filter-none, Pairs, pairs-right}
 use Rattle.hevc_walk_order.proofs.Keys.{Key, sort, each-sort, Below, below-sort, Differ, at_least, at_least-all, at_least-filter, has, without, left-moves, each-moves, Waits, Ordered, waits-none, waits-fewer, waits-more, waits-bump, waits-drain, at_least-waits}
@@ -98,8 +98,8 @@ wait-begins set p [] h is = wait-first set p
 wait-begins set p (q ∷ before) h is = wait-starts set p (q ∷ before) h is
 
 -- the pictures of a sequence that are to be output
-abbrev pub shown_keys : List Picture → List Key
-shown_keys ps = map picture_key (filter is_shown ps)
+abbrev pub keys_for_output : List Picture → List Key
+keys_for_output ps = map picture_key (filter is_for_output ps)
 
 -- how many of these pictures behind a number aren't skipped
 abbrev pub after : ℕ → List Picture → ℕ
@@ -108,7 +108,7 @@ after n (p ∷ ps) = cond (not p.skipped && nat_lt n p.number) 1 0 + after n ps
 
 -- A picture of this count may still come: it is reached by few of those that are over, and each of these is late by few.
 abbrev pub Near : Limits → List Picture → ℤ → Type 0
-Near limits ps c = (at_least c (shown_keys ps) ≤ limits.max_num_reorder) × (0 < limits.max_latency_increase_plus1 → Each (λ k. c ≤ℤ k.1 → after k.0 ps < latency_pictures limits) (shown_keys ps))
+Near limits ps c = (at_least c (keys_for_output ps) ≤ limits.max_num_reorder) × (0 < limits.max_latency_increase_plus1 → Each (λ k. c ≤ℤ k.1 → after k.0 ps < latency_pictures limits) (keys_for_output ps))
 
 -- and there was room
 abbrev pub Allowed : Limits → (ℤ → Type 0) → List Picture → ℤ → Type 0
@@ -119,7 +119,7 @@ IsAged ps w = w.1 ≤ after w.0.0 ps
 
 -- What is so within a sequence, whose pictures that are over are these, once its latest picture has begun.
 pub record Stands (limits : Limits) (room : ℤ → Type 0) (ps : List Picture) (out : List Key) (ws : List Aged) : Type 0 where
-  pub waits : Waits (Allowed limits room ps) (shown_keys ps) out (keys_of ws)
+  pub waits : Waits (Allowed limits room ps) (keys_for_output ps) out (keys_of ws)
   pub ages : Each (IsAged ps) ws
   pub quiet : is_due limits ws ≡ false
 
@@ -133,18 +133,18 @@ pub record IsOwn (limits : Limits) (format : Format) (test : ℕ → Bool) (p : 
 -- and of its place behind those before it
 pub record Fits (limits : Limits) (p : Picture) (ps : List Picture) : Type 0 where
   pub numbers : Each (λ b. b.number < p.number) ps
-  pub differs : is_shown p ≡ true → Each (Differ (picture_key p)) (shown_keys ps)
-  pub near : is_shown p ≡ true → Near limits ps p.order_count
+  pub differs : is_for_output p ≡ true → Each (Differ (picture_key p)) (keys_for_output ps)
+  pub near : is_for_output p ≡ true → Near limits ps p.order_count
 
-shown-less : (P : Key → Type 0) (p : Picture) (ps : List Picture) → Each P (shown_keys (p ∷ ps)) → Each P (shown_keys ps)
-shown-less P p ps h = by_test (is_shown p) h
+output-less : (P : Key → Type 0) (p : Picture) (ps : List Picture) → Each P (keys_for_output (p ∷ ps)) → Each P (keys_for_output ps)
+output-less P p ps h = by_test (is_for_output p) h
   where
-    by_test : (b : Bool) → Each P (map picture_key (cond b (p ∷ filter is_shown ps) (filter is_shown ps))) → Each P (shown_keys ps)
+    by_test : (b : Bool) → Each P (map picture_key (cond b (p ∷ filter is_for_output ps) (filter is_for_output ps))) → Each P (keys_for_output ps)
     by_test true h = h.1
     by_test false h = h
 
 near-fewer : (limits : Limits) (p : Picture) (ps : List Picture) (c : ℤ) → Near limits (p ∷ ps) c → Near limits ps c
-near-fewer limits p ps c h = (by_test (is_shown p) h.0, λ some. each-weaker (λ k. c ≤ℤ k.1 → after k.0 (p ∷ ps) < latency_pictures limits) (λ k. c ≤ℤ k.1 → after k.0 ps < latency_pictures limits) (λ k e l. less (cond (not p.skipped && nat_lt k.0 p.number) 1 0) (after k.0 ps) (e l)) (shown_keys ps) (shown-less (λ k. c ≤ℤ k.1 → after k.0 (p ∷ ps) < latency_pictures limits) p ps (h.1 some)))
+near-fewer limits p ps c h = (by_test (is_for_output p) h.0, λ some. each-weaker (λ k. c ≤ℤ k.1 → after k.0 (p ∷ ps) < latency_pictures limits) (λ k. c ≤ℤ k.1 → after k.0 ps < latency_pictures limits) (λ k e l. less (cond (not p.skipped && nat_lt k.0 p.number) 1 0) (after k.0 ps) (e l)) (keys_for_output ps) (output-less (λ k. c ≤ℤ k.1 → after k.0 (p ∷ ps) < latency_pictures limits) p ps (h.1 some)))
   where
     less : (m n : ℕ) → m + n < latency_pictures limits → n < latency_pictures limits
     less m n l = omega (arith, l)
@@ -152,10 +152,10 @@ near-fewer limits p ps c h = (by_test (is_shown p) h.0, λ some. each-weaker (λ
     fewer : (m n : ℕ) → m + n ≤ limits.max_num_reorder → n ≤ limits.max_num_reorder
     fewer m n l = omega (arith, l)
 
-    by_test : (b : Bool) → at_least c (map picture_key (cond b (p ∷ filter is_shown ps) (filter is_shown ps))) ≤ limits.max_num_reorder → at_least c (shown_keys ps) ≤ limits.max_num_reorder
-    by_test true l = fewer (at_least c (picture_key p ∷ [])) (at_least c (shown_keys ps)) (joined l)
+    by_test : (b : Bool) → at_least c (map picture_key (cond b (p ∷ filter is_for_output ps) (filter is_for_output ps))) ≤ limits.max_num_reorder → at_least c (keys_for_output ps) ≤ limits.max_num_reorder
+    by_test true l = fewer (at_least c (picture_key p ∷ [])) (at_least c (keys_for_output ps)) (joined l)
       where
-        joined : at_least c (picture_key p ∷ shown_keys ps) ≤ limits.max_num_reorder → at_least c (picture_key p ∷ []) + at_least c (shown_keys ps) ≤ limits.max_num_reorder
+        joined : at_least c (picture_key p ∷ keys_for_output ps) ≤ limits.max_num_reorder → at_least c (picture_key p ∷ []) + at_least c (keys_for_output ps) ≤ limits.max_num_reorder
         joined l = omega (arith, l)
     by_test false l = l
 
@@ -175,7 +175,7 @@ abbrev Due : Limits → Buffer → List Entry → ℤ → Type 0
 Due limits es gone c = (needs_additional_bumping limits (after_output gone es) ≡ true) ⊎ (Each (λ k. c ≤ℤ k.1) (waiting (after_output gone es)) → ⊥)
 
 -- As a picture is output the rule holds, so that no picture of its count or a lower one may still come.
-early : (limits : Limits) (room : ℤ → Type 0) (ps : List Picture) (out : List Key) (es : Buffer) → Waits (Allowed limits room ps) (shown_keys ps) out (waiting es) → Each (IsAged ps) (aged es)
+early : (limits : Limits) (room : ℤ → Type 0) (ps : List Picture) (out : List Key) (es : Buffer) → Waits (Allowed limits room ps) (keys_for_output ps) out (waiting es) → Each (IsAged ps) (aged es)
     → (gone : List Entry) (x : Entry) (rest : List Entry) → gone ++ x ∷ rest ≡ in_output_order es → (c : ℤ) → Allowed limits room ps c → Due limits es gone c → x.order_count <ℤ c
 early limits room ps out es w ages gone x rest e c may due = by_test (int_lt x.order_count c) refl
   where
@@ -203,7 +203,7 @@ early limits room ps out es w ages gone x rest e c may due = by_test (int_lt x.o
         let e1 : length (keys_of left) ≡ length left = length-map left aged_key in
         let e2 : at_least c (keys_of left) ≡ length (keys_of left) = at_least-all c (keys_of left) (above l) in
         let e3 : at_least c (keys_of left) ≤ at_least c (waiting es) = subst (λ (ks : List Key). at_least c ks ≤ at_least c (waiting es)) (sym left_is) (at_least-filter c (λ k. not (has k.0 (keys gone))) (waiting es)) in
-        let e4 : at_least c (waiting es) ≤ at_least c (shown_keys ps) = at_least-waits (Allowed limits room ps) (shown_keys ps) out (waiting es) c w in
+        let e4 : at_least c (waiting es) ≤ at_least c (keys_for_output ps) = at_least-waits (Allowed limits room ps) (keys_for_output ps) out (waiting es) c w in
         not_many limits.max_num_reorder (length left) (let e5 = may.0.0 in omega (arith, e1, e2, e3, e4, e5))
       where
         not_many : (r n : ℕ) → n ≤ r → nat_lt r n ≡ false
@@ -219,7 +219,7 @@ early limits room ps out es w ages gone x rest e c may due = by_test (int_lt x.o
         aged_left)
       where
         bounded : Each (λ k. c ≤ℤ k.1 → after k.0 ps < latency_pictures limits) (keys_of left)
-        bounded = subst (λ (ks : List Key). Each (λ k. c ≤ℤ k.1 → after k.0 ps < latency_pictures limits) ks) (sym left_is) (each-filter (λ k. c ≤ℤ k.1 → after k.0 ps < latency_pictures limits) (λ k. not (has k.0 (keys gone))) (waiting es) (each-right (λ k. c ≤ℤ k.1 → after k.0 ps < latency_pictures limits) out (waiting es) (each-moves (λ k. c ≤ℤ k.1 → after k.0 ps < latency_pictures limits) (shown_keys ps) (out ++ waiting es) w.same (may.0.1 some))))
+        bounded = subst (λ (ks : List Key). Each (λ k. c ≤ℤ k.1 → after k.0 ps < latency_pictures limits) ks) (sym left_is) (each-filter (λ k. c ≤ℤ k.1 → after k.0 ps < latency_pictures limits) (λ k. not (has k.0 (keys gone))) (waiting es) (each-right (λ k. c ≤ℤ k.1 → after k.0 ps < latency_pictures limits) out (waiting es) (each-moves (λ k. c ≤ℤ k.1 → after k.0 ps < latency_pictures limits) (keys_for_output ps) (out ++ waiting es) w.same (may.0.1 some))))
 
         aged_left : Each (IsAged ps) left
         aged_left = subst (λ (vs : List Aged). Each (IsAged ps) vs) (sym (aged-after gone es)) (each-filter (IsAged ps) (λ v. not (has v.0.0 (keys gone))) (aged es) ages)
@@ -253,11 +253,11 @@ early limits room ps out es w ages gone x rest e c may due = by_test (int_lt x.o
     by_test false h = absurd (⊎_elim (λ holds. clash (is_due limits left) (sym (rule-is limits (after_output gone es)) ∙ holds) (never (not_below h))) (λ refuted. refuted (above (not_below h))) due)
 
 -- what stands once what is due is output
-bump-stands : (limits : Limits) (room : ℤ → Type 0) (test : ℕ → Bool) (ps : List Picture) (out : List Key) (rule : Buffer → Bool) (es : Buffer) → Waits (Allowed limits room ps) (shown_keys ps) out (waiting es) → Each (IsAged ps) (aged es) → Each (Inside test) (shown_keys ps)
+bump-stands : (limits : Limits) (room : ℤ → Type 0) (test : ℕ → Bool) (ps : List Picture) (out : List Key) (rule : Buffer → Bool) (es : Buffer) → Waits (Allowed limits room ps) (keys_for_output ps) out (waiting es) → Each (IsAged ps) (aged es) → Each (Inside test) (keys_for_output ps)
     → ((gone : List Entry) → rule (after_output gone es) ≡ true → (c : ℤ) → Allowed limits room ps c → Due limits es gone c) → ((bs : Buffer) → rule bs ≡ false → needs_additional_bumping limits bs ≡ false)
     → Stands limits room ps (out ++ passing test (keys (due_outputs rule es))) (aged (after_output (due_outputs rule es) es))
 bump-stands limits room test ps out rule es w ages inside is_due_as is_quiet_as = record {
-  waits = subst (λ (l : List Key). Waits (Allowed limits room ps) (shown_keys ps) (out ++ l) (waiting (after_output due es))) (sym passed) (subst (λ (l : List Key). Waits (Allowed limits room ps) (shown_keys ps) (out ++ keys due) l) (sym (waiting-after due es)) (waits-bump (Allowed limits room ps) (shown_keys ps) out (waiting es) (keys due) (keys (due_rest rule es)) w (due-front rule es) given));
+  waits = subst (λ (l : List Key). Waits (Allowed limits room ps) (keys_for_output ps) (out ++ l) (waiting (after_output due es))) (sym passed) (subst (λ (l : List Key). Waits (Allowed limits room ps) (keys_for_output ps) (out ++ keys due) l) (sym (waiting-after due es)) (waits-bump (Allowed limits room ps) (keys_for_output ps) out (waiting es) (keys due) (keys (due_rest rule es)) w (due-front rule es) given));
   ages = subst (λ (vs : List Aged). Each (IsAged ps) vs) (sym (aged-after due es)) (each-filter (IsAged ps) (λ v. not (has v.0.0 (keys due))) (aged es) ages);
   quiet = due-quiet limits rule es w.differ is_quiet_as;
 }
@@ -269,15 +269,15 @@ bump-stands limits room test ps out rule es w ages inside is_due_as is_quiet_as 
     given = due-each (λ k. (c : ℤ) → Allowed limits room ps c → k.1 <ℤ c) rule es (λ gone x rest e holds c may. early limits room ps out es w ages gone x rest e c may (is_due_as gone holds c may))
 
     passed : passing test (keys due) ≡ keys due
-    passed = filter-all (λ (k : Key). test k.0) (keys due) (each-due (Inside test) rule es (inside-waits (Allowed limits room ps) test (shown_keys ps) out (waiting es) w inside))
+    passed = filter-all (λ (k : Key). test k.0) (keys due) (each-due (Inside test) rule es (inside-waits (Allowed limits room ps) test (keys_for_output ps) out (waiting es) w inside))
 
 -- less room
 stands-fewer : (limits : Limits) (room more : ℤ → Type 0) → ((c : ℤ) → more c → room c) → (ps : List Picture) (out : List Key) (ws : List Aged) → Stands limits room ps out ws → Stands limits more ps out ws
-stands-fewer limits room more f ps out ws s = record { waits = waits-fewer (Allowed limits room ps) (Allowed limits more ps) (λ c h. (h.0, f c h.1)) (shown_keys ps) out (keys_of ws) s.waits; ages = s.ages; quiet = s.quiet }
+stands-fewer limits room more f ps out ws s = record { waits = waits-fewer (Allowed limits room ps) (Allowed limits more ps) (λ c h. (h.0, f c h.1)) (keys_for_output ps) out (keys_of ws) s.waits; ages = s.ages; quiet = s.quiet }
 
 -- as a picture is to be decoded
 begin-stands : (limits : Limits) (room more : ℤ → Type 0) → ((c : ℤ) → more c → room c) → (test : ℕ → Bool) (ps : List Picture) (out : List Key) (es : Buffer) → Each (λ e. is_needed e ≡ true) es → ((c : ℤ) → more c → length (needed_behind c es) < limits.max_dec_pic_buffering_minus1 + 1)
-    → Each (Inside test) (shown_keys ps) → Stands limits room ps out (aged es) → Stands limits more ps (out ++ passing test (keys (due_outputs (needs_bumping limits) es))) (aged (after_output (due_outputs (needs_bumping limits) es) es))
+    → Each (Inside test) (keys_for_output ps) → Stands limits room ps out (aged es) → Stands limits more ps (out ++ passing test (keys (due_outputs (needs_bumping limits) es))) (aged (after_output (due_outputs (needs_bumping limits) es) es))
 unfolding needs_bumping
 begin-stands limits room more f test ps out es needed few inside s =
     let t : Stands limits more ps out (aged es) = stands-fewer limits room more f ps out (aged es) s in
@@ -294,14 +294,14 @@ begin-stands limits room more f test ps out es needed few inside s =
     by_rule gone c may true is holds = inl is
     by_rule gone c may false is holds = inr (λ all. full limits.max_dec_pic_buffering_minus1 (length (after_output gone es)) (length (needed_behind c es)) holds (after-few c gone es needed all) (few c may.1))
 
-hidden : (p : Picture) → p.skipped ≡ true → is_shown p ≡ false
+hidden : (p : Picture) → p.skipped ≡ true → is_for_output p ≡ false
 hidden p e = ap (λ (b : Bool). p.pic_output_flag && not b) e ∙ by_flag p.pic_output_flag
   where
     by_flag : (b : Bool) → b && false ≡ false
     by_flag true = refl
     by_flag false = refl
 
-flagged : (p : Picture) → p.skipped ≡ false → is_shown p ≡ p.pic_output_flag
+flagged : (p : Picture) → p.skipped ≡ false → is_for_output p ≡ p.pic_output_flag
 flagged p e = ap (λ (b : Bool). p.pic_output_flag && not b) e ∙ by_flag p.pic_output_flag
   where
     by_flag : (b : Bool) → b && true ≡ b
@@ -325,13 +325,13 @@ after-stored n p ps e below = sym (ap (λ (b : Bool). cond (not b && nat_lt n p.
     by_test false h = absurd (cc h)
 
 -- a picture of the sequence is over
-finish-stands : (limits : Limits) (room : ℤ → Type 0) (format : Format) (test : ℕ → Bool) (p : Picture) (ps : List Picture) (out : List Key) (s : Store) → IsOwn limits format test p → Fits limits p ps → (is_shown p ≡ true → room p.order_count) → Each (Inside test) (shown_keys (p ∷ ps))
+finish-stands : (limits : Limits) (room : ℤ → Type 0) (format : Format) (test : ℕ → Bool) (p : Picture) (ps : List Picture) (out : List Key) (s : Store) → IsOwn limits format test p → Fits limits p ps → (is_for_output p ≡ true → room p.order_count) → Each (Inside test) (keys_for_output (p ∷ ps))
     → Stands limits room ps out (aged s.buffer) → Stands limits room (p ∷ ps) (out ++ passing test (outs (finish (Some p.head) s).events)) (aged (finish (Some p.head) s).next.buffer)
 finish-stands limits room format test p ps out s is fits roomy inside st = by_skipped p.skipped refl
   where
     skipped_case : p.skipped ≡ true → Stands limits room (p ∷ ps) (out ++ []) (aged s.buffer)
     skipped_case e = record {
-      waits = subst (λ (l : List Key). Waits (Allowed limits room (p ∷ ps)) (shown_keys (p ∷ ps)) l (waiting s.buffer)) (sym (append-nil out)) (subst (λ (b : Bool). Waits (Allowed limits room (p ∷ ps)) (map picture_key (cond b (p ∷ filter is_shown ps) (filter is_shown ps))) out (waiting s.buffer)) (sym (hidden p e)) (waits-fewer (Allowed limits room ps) (Allowed limits room (p ∷ ps)) (λ c h. (near-fewer limits p ps c h.0, h.1)) (shown_keys ps) out (waiting s.buffer) st.waits));
+      waits = subst (λ (l : List Key). Waits (Allowed limits room (p ∷ ps)) (keys_for_output (p ∷ ps)) l (waiting s.buffer)) (sym (append-nil out)) (subst (λ (b : Bool). Waits (Allowed limits room (p ∷ ps)) (map picture_key (cond b (p ∷ filter is_for_output ps) (filter is_for_output ps))) out (waiting s.buffer)) (sym (hidden p e)) (waits-fewer (Allowed limits room ps) (Allowed limits room (p ∷ ps)) (λ c h. (near-fewer limits p ps c h.0, h.1)) (keys_for_output ps) out (waiting s.buffer) st.waits));
       ages = each-weaker (IsAged ps) (IsAged (p ∷ ps)) (λ w h. subst (λ (n : ℕ). w.1 ≤ n) (sym (after-skipped w.0.0 p ps e)) h) (aged s.buffer) st.ages;
       quiet = st.quiet;
     }
@@ -339,15 +339,15 @@ finish-stands limits room format test p ps out s is fits roomy inside st = by_sk
     es : Buffer
     es = stored p.head s
 
-    stored_waits : p.skipped ≡ false → Waits (Allowed limits room (p ∷ ps)) (shown_keys (p ∷ ps)) out (waiting s.buffer ++ stored_key p.head)
-    stored_waits e = subst (λ (b : Bool). Waits (Allowed limits room (p ∷ ps)) (map picture_key (cond b (p ∷ filter is_shown ps) (filter is_shown ps))) out (waiting s.buffer ++ stored_key p.head)) (sym (flagged p e)) (by_flag p.pic_output_flag refl)
+    stored_waits : p.skipped ≡ false → Waits (Allowed limits room (p ∷ ps)) (keys_for_output (p ∷ ps)) out (waiting s.buffer ++ stored_key p.head)
+    stored_waits e = subst (λ (b : Bool). Waits (Allowed limits room (p ∷ ps)) (map picture_key (cond b (p ∷ filter is_for_output ps) (filter is_for_output ps))) out (waiting s.buffer ++ stored_key p.head)) (sym (flagged p e)) (by_flag p.pic_output_flag refl)
       where
-        by_flag : (b : Bool) → p.pic_output_flag ≡ b → Waits (Allowed limits room (p ∷ ps)) (map picture_key (cond b (p ∷ filter is_shown ps) (filter is_shown ps))) out (waiting s.buffer ++ cond b (picture_key p ∷ []) [])
-        by_flag true f = waits-fewer (Allowed limits room ps) (Allowed limits room (p ∷ ps)) (λ c h. (near-fewer limits p ps c h.0, h.1)) (picture_key p ∷ shown_keys ps) out (waiting s.buffer ++ picture_key p ∷ []) (waits-more (Allowed limits room ps) (shown_keys ps) out (waiting s.buffer) (picture_key p) st.waits (fits.differs (flagged p e ∙ f)) (fits.near (flagged p e ∙ f), roomy (flagged p e ∙ f)))
-        by_flag false f = subst (λ (l : List Key). Waits (Allowed limits room (p ∷ ps)) (shown_keys ps) out l) (sym (append-nil (waiting s.buffer))) (waits-fewer (Allowed limits room ps) (Allowed limits room (p ∷ ps)) (λ c h. (near-fewer limits p ps c h.0, h.1)) (shown_keys ps) out (waiting s.buffer) st.waits)
+        by_flag : (b : Bool) → p.pic_output_flag ≡ b → Waits (Allowed limits room (p ∷ ps)) (map picture_key (cond b (p ∷ filter is_for_output ps) (filter is_for_output ps))) out (waiting s.buffer ++ cond b (picture_key p ∷ []) [])
+        by_flag true f = waits-fewer (Allowed limits room ps) (Allowed limits room (p ∷ ps)) (λ c h. (near-fewer limits p ps c h.0, h.1)) (picture_key p ∷ keys_for_output ps) out (waiting s.buffer ++ picture_key p ∷ []) (waits-more (Allowed limits room ps) (keys_for_output ps) out (waiting s.buffer) (picture_key p) st.waits (fits.differs (flagged p e ∙ f)) (fits.near (flagged p e ∙ f), roomy (flagged p e ∙ f)))
+        by_flag false f = subst (λ (l : List Key). Waits (Allowed limits room (p ∷ ps)) (keys_for_output ps) out l) (sym (append-nil (waiting s.buffer))) (waits-fewer (Allowed limits room ps) (Allowed limits room (p ∷ ps)) (λ c h. (near-fewer limits p ps c h.0, h.1)) (keys_for_output ps) out (waiting s.buffer) st.waits)
 
     numbers_below : Each (λ k. k.0 < p.number) (waiting s.buffer)
-    numbers_below = each-right (λ k. k.0 < p.number) out (waiting s.buffer) (each-moves (λ k. k.0 < p.number) (shown_keys ps) (out ++ waiting s.buffer) st.waits.same (each-map (λ k. k.0 < p.number) picture_key (filter is_shown ps) (each-filter (λ b. b.number < p.number) is_shown ps fits.numbers)))
+    numbers_below = each-right (λ k. k.0 < p.number) out (waiting s.buffer) (each-moves (λ k. k.0 < p.number) (keys_for_output ps) (out ++ waiting s.buffer) st.waits.same (each-map (λ k. k.0 < p.number) picture_key (filter is_for_output ps) (each-filter (λ b. b.number < p.number) is_for_output ps fits.numbers)))
 
     stored_ages : p.skipped ≡ false → Each (IsAged (p ∷ ps)) (map older (aged s.buffer) ++ stored_aged p.head)
     stored_ages e = each-append (IsAged (p ∷ ps)) (map older (aged s.buffer)) (stored_aged p.head)
@@ -365,7 +365,7 @@ finish-stands limits room format test p ps out s is fits roomy inside st = by_sk
         by_flag false = tt
 
     stored_case : p.skipped ≡ false → Stands limits room (p ∷ ps) (out ++ passing test (keys (due_outputs (needs_additional_bumping limits) es))) (aged (after_output (due_outputs (needs_additional_bumping limits) es) es))
-    stored_case e = bump-stands limits room test (p ∷ ps) out (needs_additional_bumping limits) es (subst (λ (l : List Key). Waits (Allowed limits room (p ∷ ps)) (shown_keys (p ∷ ps)) out l) (sym (waiting-stored p.head s.buffer)) (stored_waits e)) (subst (λ (vs : List Aged). Each (IsAged (p ∷ ps)) vs) (sym (aged-stored p.head s.buffer)) (stored_ages e)) inside (λ gone holds c may. inl holds) (λ bs h. h)
+    stored_case e = bump-stands limits room test (p ∷ ps) out (needs_additional_bumping limits) es (subst (λ (l : List Key). Waits (Allowed limits room (p ∷ ps)) (keys_for_output (p ∷ ps)) out l) (sym (waiting-stored p.head s.buffer)) (stored_waits e)) (subst (λ (vs : List Aged). Each (IsAged (p ∷ ps)) vs) (sym (aged-stored p.head s.buffer)) (stored_ages e)) inside (λ gone holds c may. inl holds) (λ bs h. h)
 
     due_is : stored_due p.head s ≡ due_outputs (needs_additional_bumping limits) es
     due_is = ap (λ (l : Limits). due_outputs (needs_additional_bumping l) es) is.limits_are
@@ -408,7 +408,7 @@ needed-each (e ∷ es) = by_test (is_needed e) refl (needed-each es)
 -- what stands once a picture of the sequence begins
 begin-behind : (limits : Limits) (room more : ℤ → Type 0) → ((c : ℤ) → more c → room c) → (format : Format) (test : ℕ → Bool) (p : Picture) (ps : List Picture) (out : List Key) (s : Store) → IsOwn limits format test p → p.starts_sequence ≡ false
     → ((c : ℤ) → more c → p.skipped ≡ false → length (needed_behind c (kept p.head p.first s)) < p.limits.max_dec_pic_buffering_minus1 + 1)
-    → Each (Inside test) (shown_keys ps) → Stands limits room ps out (aged s.buffer) → Stands limits more ps (out ++ passing test (outs (begin_picture p.head p.first s).events)) (aged (begin_picture p.head p.first s).next.buffer)
+    → Each (Inside test) (keys_for_output ps) → Stands limits room ps out (aged s.buffer) → Stands limits more ps (out ++ passing test (outs (begin_picture p.head p.first s).events)) (aged (begin_picture p.head p.first s).next.buffer)
 begin-behind limits room more f format test p ps out s is within few inside st = by_skipped p.skipped refl
   where
     es : Buffer
@@ -429,7 +429,7 @@ begin-behind limits room more f format test p ps out s is within few inside st =
 
 pub stands-more : (limits : Limits) (room more : ℤ → Type 0) → ((c : ℤ) → more c → room c) → (format : Format) (test : ℕ → Bool) (set : Option (ℕ × Format)) (p h : Picture) (t ps : List Picture) → IsOwn limits format test h → IsOwn limits format test p → p.starts_sequence ≡ false
     → ((c : ℤ) → more c → p.skipped ≡ false → length (needed_behind c (entries_before set p (h ∷ t))) < p.limits.max_dec_pic_buffering_minus1 + 1)
-    → Fits limits h ps → (is_shown h ≡ true → room h.order_count) → Each (Inside test) (shown_keys (h ∷ ps)) → Stands limits room ps (output test set (h ∷ t)) (wait set (h ∷ t)) → Stands limits more (h ∷ ps) (output test set (p ∷ h ∷ t)) (wait set (p ∷ h ∷ t))
+    → Fits limits h ps → (is_for_output h ≡ true → room h.order_count) → Each (Inside test) (keys_for_output (h ∷ ps)) → Stands limits room ps (output test set (h ∷ t)) (wait set (h ∷ t)) → Stands limits more (h ∷ ps) (output test set (p ∷ h ∷ t)) (wait set (p ∷ h ∷ t))
 stands-more limits room more further format test set p h t ps is_h is_p within few fits roomy inside stands = subst (λ (l : List Key). Stands limits more (h ∷ ps) l (wait set (p ∷ h ∷ t))) (sym whole) c
   where
     s : Store
@@ -464,15 +464,15 @@ stands-more limits room more further format test set p h t ps is_h is_p within f
         ∙ sym (append_assoc out (passing test (outs f.events)) (passing test (outs begun.events)))
 
 -- and as the sequence ends all are output
-behind-drain : (limits : Limits) (room : ℤ → Type 0) (test : ℕ → Bool) (ps : List Picture) (out : List Key) (part : Part Store) → Each (Inside test) (shown_keys ps) → Stands limits room ps (out ++ passing test (outs part.events)) (aged part.next.buffer) → Ordered (shown_keys ps) (out ++ passing test (outs part.events ++ sort (waiting part.next.buffer)))
+behind-drain : (limits : Limits) (room : ℤ → Type 0) (test : ℕ → Bool) (ps : List Picture) (out : List Key) (part : Part Store) → Each (Inside test) (keys_for_output ps) → Stands limits room ps (out ++ passing test (outs part.events)) (aged part.next.buffer) → Ordered (keys_for_output ps) (out ++ passing test (outs part.events ++ sort (waiting part.next.buffer)))
 behind-drain limits room test ps out part inside b =
     let w : List Key = waiting part.next.buffer in
-    let e : passing test (outs part.events ++ sort w) ≡ passing test (outs part.events) ++ sort w = passing-append test (outs part.events) (sort w) ∙ ap (λ (l : List Key). passing test (outs part.events) ++ l) (filter-all (λ (k : Key). test k.0) (sort w) (each-sort (Inside test) w (inside-waits (Allowed limits room ps) test (shown_keys ps) (out ++ passing test (outs part.events)) w b.waits inside))) in
-    subst (λ (l : List Key). Ordered (shown_keys ps) l) (append_assoc out (passing test (outs part.events)) (sort w) ∙ ap (λ (l : List Key). out ++ l) (sym e)) (waits-drain (Allowed limits room ps) (shown_keys ps) (out ++ passing test (outs part.events)) w b.waits)
+    let e : passing test (outs part.events ++ sort w) ≡ passing test (outs part.events) ++ sort w = passing-append test (outs part.events) (sort w) ∙ ap (λ (l : List Key). passing test (outs part.events) ++ l) (filter-all (λ (k : Key). test k.0) (sort w) (each-sort (Inside test) w (inside-waits (Allowed limits room ps) test (keys_for_output ps) (out ++ passing test (outs part.events)) w b.waits inside))) in
+    subst (λ (l : List Key). Ordered (keys_for_output ps) l) (append_assoc out (passing test (outs part.events)) (sort w) ∙ ap (λ (l : List Key). out ++ l) (sym e)) (waits-drain (Allowed limits room ps) (keys_for_output ps) (out ++ passing test (outs part.events)) w b.waits)
 
 pub stands-closing : (limits : Limits) (room : ℤ → Type 0) (format : Format) (test : ℕ → Bool) (set : Option (ℕ × Format)) (h : Picture) (t ps : List Picture) → IsOwn limits format test h
-    → Fits limits h ps → (is_shown h ≡ true → room h.order_count) → Each (Inside test) (shown_keys (h ∷ ps)) → Stands limits room ps (output test set (h ∷ t)) (wait set (h ∷ t)) → Ordered (shown_keys (h ∷ ps)) (output test set (h ∷ t) ++ passing test (outs (closing (Some h.head) (store set (h ∷ t))).events))
-stands-closing limits room format test set h t ps is fits roomy inside stands = subst (λ (l : List Key). Ordered (shown_keys (h ∷ ps)) (out ++ passing test l)) (sym g.0) (behind-drain limits room test (h ∷ ps) out f inside b)
+    → Fits limits h ps → (is_for_output h ≡ true → room h.order_count) → Each (Inside test) (keys_for_output (h ∷ ps)) → Stands limits room ps (output test set (h ∷ t)) (wait set (h ∷ t)) → Ordered (keys_for_output (h ∷ ps)) (output test set (h ∷ t) ++ passing test (outs (closing (Some h.head) (store set (h ∷ t))).events))
+stands-closing limits room format test set h t ps is fits roomy inside stands = subst (λ (l : List Key). Ordered (keys_for_output (h ∷ ps)) (out ++ passing test l)) (sym g.0) (behind-drain limits room test (h ∷ ps) out f inside b)
   where
     out : List Key
     out = output test set (h ∷ t)
@@ -487,8 +487,8 @@ stands-closing limits room format test set h t ps is fits roomy inside stands = 
     g = then-gives f (output_by draining) (outs f.events) (sort (waiting f.next.buffer)) [] refl (drain-gives f.next)
 
 pub stands-next : (limits : Limits) (room : ℤ → Type 0) (format : Format) (test : ℕ → Bool) (set : Option (ℕ × Format)) (n h : Picture) (t ps : List Picture) → IsOwn limits format test h → IsHead n.head → n.starts_sequence ≡ true → n.no_output_of_prior_pics ≡ false
-    → Fits limits h ps → (is_shown h ≡ true → room h.order_count) → Each (Inside test) (shown_keys (h ∷ ps)) → Stands limits room ps (output test set (h ∷ t)) (wait set (h ∷ t)) → Ordered (shown_keys (h ∷ ps)) (output test set (n ∷ h ∷ t)) × (wait set (n ∷ h ∷ t) ≡ [])
-stands-next limits room format test set n h t ps is head_is starts discards fits roomy inside stands = (subst (λ (l : List Key). Ordered (shown_keys (h ∷ ps)) l) (sym whole) (behind-drain limits room test (h ∷ ps) out f inside b), g.1)
+    → Fits limits h ps → (is_for_output h ≡ true → room h.order_count) → Each (Inside test) (keys_for_output (h ∷ ps)) → Stands limits room ps (output test set (h ∷ t)) (wait set (h ∷ t)) → Ordered (keys_for_output (h ∷ ps)) (output test set (n ∷ h ∷ t)) × (wait set (n ∷ h ∷ t) ≡ [])
+stands-next limits room format test set n h t ps is head_is starts discards fits roomy inside stands = (subst (λ (l : List Key). Ordered (keys_for_output (h ∷ ps)) l) (sym whole) (behind-drain limits room test (h ∷ ps) out f inside b), g.1)
   where
     out : List Key
     out = output test set (h ∷ t)

@@ -8,7 +8,7 @@ use Rattle.std.proofs.lemmas.List.Elements.{All-from_recursion, recursion_from_A
 use Rattle.hevc_walk.specs.Meanings.{Format, Limits, Meaning, same_format}
 use Rattle.hevc_walk.specs.Pictures.{Picture, stream}
 use Rattle.hevc_walk_fates.proofs.Accepted.{same_format-equal}
-use Rattle.hevc_walk_order.specs.Sequences.{Sequence, earliest, pictures_of, is_shown, shown_of}
+use Rattle.hevc_walk_order.specs.Sequences.{Sequence, earliest, pictures_of, is_for_output, pictures_for_output}
 use Rattle.hevc_walk_order.specs.DisplayOrder.{FewPrecede, latency_pictures, decoded_between, entries_before, needed_behind, HasRoom, HaveRoom, KeepsOrder}
 use Rattle.hevc_walk_order.specs.Bounds.{NeverFull, KeepsBounds}
 use Rattle.hevc_walk_order.specs.Tests.{same_limits, pairs_pass, other_counts, few_precede, comes_soon, keeps_latency, has_room, have_room, never_full, keeps_prior, is_uniform, keeps_order, keeps_bounds}
@@ -90,10 +90,10 @@ soon-tells : (limits : Limits) (all : List Picture) (a b : Picture) → Decides 
 soon-tells limits all a b = where-tells (int_lt a.order_count b.order_count) (nat_lt (decoded_between b.number a.number all) (latency_pictures limits)) (below-tells a.order_count b.order_count) (lt-tells (decoded_between b.number a.number all) (latency_pictures limits))
 
 abbrev KeepsLatency : Sequence → Type 0
-KeepsLatency q = 0 < q.first.limits.max_latency_increase_plus1 → AllPairs (λ a b. a.order_count <ℤ b.order_count → decoded_between b.number a.number (pictures_of q) < latency_pictures q.first.limits) (shown_of q)
+KeepsLatency q = 0 < q.first.limits.max_latency_increase_plus1 → AllPairs (λ a b. a.order_count <ℤ b.order_count → decoded_between b.number a.number (pictures_of q) < latency_pictures q.first.limits) (pictures_for_output q)
 
 latency-tells : (q : Sequence) → Decides (keeps_latency q) (KeepsLatency q)
-latency-tells q = where-tells (nat_lt 0 q.first.limits.max_latency_increase_plus1) (pairs_pass (comes_soon q.first.limits (pictures_of q)) (shown_of q)) (lt-tells 0 q.first.limits.max_latency_increase_plus1) (pairs-tell (comes_soon q.first.limits (pictures_of q)) (λ a b. a.order_count <ℤ b.order_count → decoded_between b.number a.number (pictures_of q) < latency_pictures q.first.limits) (soon-tells q.first.limits (pictures_of q)) (shown_of q))
+latency-tells q = where-tells (nat_lt 0 q.first.limits.max_latency_increase_plus1) (pairs_pass (comes_soon q.first.limits (pictures_of q)) (pictures_for_output q)) (lt-tells 0 q.first.limits.max_latency_increase_plus1) (pairs-tell (comes_soon q.first.limits (pictures_of q)) (λ a b. a.order_count <ℤ b.order_count → decoded_between b.number a.number (pictures_of q) < latency_pictures q.first.limits) (soon-tells q.first.limits (pictures_of q)) (pictures_for_output q))
 
 room-tells : (set : Option (ℕ × Format)) (c : ℤ) (ps before : List Picture) → Decides (has_room set c ps before) (HasRoom set c ps before)
 room-tells set c [] before = (λ h. tt, λ h. refl)
@@ -104,7 +104,7 @@ room-tells set c (p ∷ ps) before =
 
 rooms-tell : (set : Option (ℕ × Format)) (ps before : List Picture) → Decides (have_room set ps before) (HaveRoom set ps before)
 rooms-tell set [] before = (λ h. tt, λ h. refl)
-rooms-tell set (p ∷ ps) before = Decides-and (not (is_shown p) || has_room set p.order_count (p ∷ ps) before) (have_room set ps before) (if-tells (is_shown p) (has_room set p.order_count (p ∷ ps) before) (room-tells set p.order_count (p ∷ ps) before)) (rooms-tell set ps before)
+rooms-tell set (p ∷ ps) before = Decides-and (not (is_for_output p) || has_room set p.order_count (p ∷ ps) before) (have_room set ps before) (if-tells (is_for_output p) (has_room set p.order_count (p ∷ ps) before) (room-tells set p.order_count (p ∷ ps) before)) (rooms-tell set ps before)
 
 never-tells : (set : Option (ℕ × Format)) (ps before : List Picture) → Decides (never_full set ps before) (NeverFull set ps before)
 never-tells set [] before = (λ h. tt, λ h. refl)
@@ -136,12 +136,12 @@ pub order-tells : (us : List Meaning) (q : Sequence) → Decides (keeps_order us
 order-tells us q = Decides-like (keeps_order us q)
     (λ h. record { limits = h.0.0.0.0.0.0; format = h.0.0.0.0.0.1; latency = h.0.0.0.0.1; room = h.0.0.0.1; next = h.0.0.1; distinct = h.0.1; few_precede = h.1 })
     (λ k. ((((((k.limits, k.format), k.latency), k.room), k.next), k.distinct), k.few_precede))
-    (six-tell (is_uniform q) (keeps_latency q) (have_room (stream us).first_set q.rest (q.first ∷ q.before)) (keeps_prior (earliest q.later)) (pairs_pass other_counts (shown_of q)) (few_precede q.first.limits.max_num_reorder (shown_of q))
-    (uniform-tells q) (latency-tells q) (rooms-tell (stream us).first_set q.rest (q.first ∷ q.before)) (prior-tells (earliest q.later)) (pairs-tell other_counts (λ a b. a.order_count ≢ b.order_count) counts-tell (shown_of q)) (few-tells q.first.limits.max_num_reorder (shown_of q)))
+    (six-tell (is_uniform q) (keeps_latency q) (have_room (stream us).first_set q.rest (q.first ∷ q.before)) (keeps_prior (earliest q.later)) (pairs_pass other_counts (pictures_for_output q)) (few_precede q.first.limits.max_num_reorder (pictures_for_output q))
+    (uniform-tells q) (latency-tells q) (rooms-tell (stream us).first_set q.rest (q.first ∷ q.before)) (prior-tells (earliest q.later)) (pairs-tell other_counts (λ a b. a.order_count ≢ b.order_count) counts-tell (pictures_for_output q)) (few-tells q.first.limits.max_num_reorder (pictures_for_output q)))
 
 pub bounds-tell : (us : List Meaning) (q : Sequence) → Decides (keeps_bounds us q) (KeepsBounds us q)
 bounds-tell us q = Decides-like (keeps_bounds us q)
     (λ h. record { limits = h.0.0.0.0.0.0; format = h.0.0.0.0.0.1; latency = h.0.0.0.0.1; room = h.0.0.0.1; next = h.0.0.1; distinct = h.0.1; few_precede = h.1 })
     (λ k. ((((((k.limits, k.format), k.latency), k.room), k.next), k.distinct), k.few_precede))
-    (six-tell (is_uniform q) (eqb q.first.limits.max_latency_increase_plus1 0) (never_full (stream us).first_set q.rest (q.first ∷ q.before)) (keeps_prior (earliest q.later)) (pairs_pass other_counts (pictures_of q)) (few_precede q.first.limits.max_num_reorder (shown_of q))
-    (uniform-tells q) (Decides-eqb q.first.limits.max_latency_increase_plus1 0) (never-tells (stream us).first_set q.rest (q.first ∷ q.before)) (prior-tells (earliest q.later)) (pairs-tell other_counts (λ a b. a.order_count ≢ b.order_count) counts-tell (pictures_of q)) (few-tells q.first.limits.max_num_reorder (shown_of q)))
+    (six-tell (is_uniform q) (eqb q.first.limits.max_latency_increase_plus1 0) (never_full (stream us).first_set q.rest (q.first ∷ q.before)) (keeps_prior (earliest q.later)) (pairs_pass other_counts (pictures_of q)) (few_precede q.first.limits.max_num_reorder (pictures_for_output q))
+    (uniform-tells q) (Decides-eqb q.first.limits.max_latency_increase_plus1 0) (never-tells (stream us).first_set q.rest (q.first ∷ q.before)) (prior-tells (earliest q.later)) (pairs-tell other_counts (λ a b. a.order_count ≢ b.order_count) counts-tell (pictures_of q)) (few-tells q.first.limits.max_num_reorder (pictures_for_output q)))

@@ -4,7 +4,7 @@ use Rattle.std.specs.Ordering.{int_eq}
 use Rattle.std.specs.List.{list_all}
 use Rattle.hevc_walk.specs.Meanings.{Format, Limits, Meaning, same_format}
 use Rattle.hevc_walk.specs.Pictures.{Picture, stream}
-use Rattle.hevc_walk_order.specs.Sequences.{Sequence, earliest, pictures_of, is_shown, shown_of}
+use Rattle.hevc_walk_order.specs.Sequences.{Sequence, earliest, pictures_of, is_for_output, pictures_for_output}
 use Rattle.hevc_walk_order.specs.DisplayOrder.{latency_pictures, decoded_between, entries_before, needed_behind}
 
 abbrev pub same_limits : Limits → Limits → Bool
@@ -26,7 +26,7 @@ abbrev pub comes_soon : Limits → List Picture → Picture → Picture → Bool
 comes_soon limits all a b = not (int_lt a.order_count b.order_count) || nat_lt (decoded_between b.number a.number all) (latency_pictures limits)
 
 abbrev pub keeps_latency : Sequence → Bool
-keeps_latency q = not (nat_lt 0 q.first.limits.max_latency_increase_plus1) || pairs_pass (comes_soon q.first.limits (pictures_of q)) (shown_of q)
+keeps_latency q = not (nat_lt 0 q.first.limits.max_latency_increase_plus1) || pairs_pass (comes_soon q.first.limits (pictures_of q)) (pictures_for_output q)
 
 abbrev pub has_room : Option (ℕ × Format) → ℤ → List Picture → List Picture → Bool
 has_room set c [] before = true
@@ -34,7 +34,7 @@ has_room set c (p ∷ ps) before = (p.skipped || nat_lt (length (needed_behind c
 
 abbrev pub have_room : Option (ℕ × Format) → List Picture → List Picture → Bool
 have_room set [] before = true
-have_room set (p ∷ ps) before = (not (is_shown p) || has_room set p.order_count (p ∷ ps) before) && have_room set ps before
+have_room set (p ∷ ps) before = (not (is_for_output p) || has_room set p.order_count (p ∷ ps) before) && have_room set ps before
 
 abbrev pub never_full : Option (ℕ × Format) → List Picture → List Picture → Bool
 never_full set [] before = true
@@ -51,8 +51,8 @@ is_uniform q = list_all (λ p. same_limits p.limits q.first.limits) q.rest && li
 
 -- the test of KeepsOrder
 abbrev pub keeps_order : List Meaning → Sequence → Bool
-keeps_order us q = is_uniform q && keeps_latency q && have_room (stream us).first_set q.rest (q.first ∷ q.before) && keeps_prior (earliest q.later) && pairs_pass other_counts (shown_of q) && few_precede q.first.limits.max_num_reorder (shown_of q)
+keeps_order us q = is_uniform q && keeps_latency q && have_room (stream us).first_set q.rest (q.first ∷ q.before) && keeps_prior (earliest q.later) && pairs_pass other_counts (pictures_for_output q) && few_precede q.first.limits.max_num_reorder (pictures_for_output q)
 
 -- the test of KeepsBounds
 abbrev pub keeps_bounds : List Meaning → Sequence → Bool
-keeps_bounds us q = is_uniform q && q.first.limits.max_latency_increase_plus1 == 0 && never_full (stream us).first_set q.rest (q.first ∷ q.before) && keeps_prior (earliest q.later) && pairs_pass other_counts (pictures_of q) && few_precede q.first.limits.max_num_reorder (shown_of q)
+keeps_bounds us q = is_uniform q && q.first.limits.max_latency_increase_plus1 == 0 && never_full (stream us).first_set q.rest (q.first ∷ q.before) && keeps_prior (earliest q.later) && pairs_pass other_counts (pictures_of q) && few_precede q.first.limits.max_num_reorder (pictures_for_output q)

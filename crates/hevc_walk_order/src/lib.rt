@@ -11,7 +11,7 @@ ghost use Rattle.hevc_walk.specs.Meanings.{Meaning};
 ghost use Rattle.hevc_walk.specs.Pictures.{pictures};
 ghost use Rattle.hevc_walk.specs.Refusals.{stop};
 ghost use Rattle.hevc_walk.specs.Results.{outputs, verdict};
-ghost use Rattle.hevc_walk_order.specs.Sequences.{Sequence, IsSequence, sequences, pictures_of, shown_of, outputs_of};
+ghost use Rattle.hevc_walk_order.specs.Sequences.{Sequence, IsSequence, sequences, pictures_of, pictures_for_output, outputs_of};
 ghost use Rattle.hevc_walk_order.specs.DisplayOrder.{KeepsOrder, AreInOrder, ComeInOrder, ComeInTurn};
 ghost use Rattle.hevc_walk_order.specs.Bounds.{KeepsBounds};
 ghost use Rattle.hevc_walk_order.specs.Tests.{keeps_order, keeps_bounds};
@@ -36,7 +36,7 @@ pub fn bounds_keep_order()
     ensures order { (us : List Meaning) (q : Sequence) → KeepsBounds us q → KeepsOrder us q }
     ensures outputs { (us : List Meaning) (n : ℕ) → verdict us ≡ Ok n
         → (q : Sequence) → IsSequence us q → KeepsBounds us q
-        → AreInOrder (shown_of q) (outputs_of q (outputs us)) }
+        → AreInOrder (pictures_for_output q) (outputs_of q (outputs us)) }
 {}
 
 /// Where no unit is refused, sequence by sequence is output, whatever they declare.

@@ -1,11 +1,12 @@
-//! Callers of the decoder: one that gives units and takes events, and one that gives a whole stream.
+//! Callers of the decoder: one that gives units and takes events, one that gives a whole stream, and one that gives a source.
 ghost use Rattle.std.specs.Prelude.{◌<◌, ◌≤◌, ◌^◌, IfOk, length};
 
 use crate::{
-    DecodeError, DecoderEvent, Refused, StatelessDecoder, StatelessH265DecoderBackend,
-    decode_stream,
+    DecodeError, DecoderEvent, Options, Refused, Shown, StatelessDecoder,
+    StatelessH265DecoderBackend, decode_source_with, decode_stream,
 };
 use hevc_backend::SilentBackend;
+use hevc_io::{InputError, Source};
 use std::alloc::{AllocError, Global};
 
 /// The numbers of a stream's pictures in output order, told by events.
@@ -67,9 +68,28 @@ pub(crate) fn numbers_of_stream(
     if let Err(refused) = decoded.result {
         return Ok(Err(refused));
     }
+    Ok(Ok(numbers(alloc, &shown)?))
+}
+
+/// The same of a stream of at most 2^40 bytes that comes in pieces, as from a file or a pipe.
+pub(crate) fn numbers_of_source<S: Source>(
+    alloc: Global,
+    source: &mut S,
+) -> Result<Result<Vec<u64>, Refused>, InputError> {
+    let mut shown = Vec::new(alloc);
+    let backend = SilentBackend::new();
+    let decoded = decode_source_with(alloc, backend, Options::new(), source, 1 << 40, &mut shown)?;
+    if let Err(refused) = decoded.result {
+        return Ok(Err(refused));
+    }
+    Ok(Ok(numbers(alloc, &shown)?))
+}
+
+/// The numbers of these outputs.
+fn numbers<H>(alloc: Global, shown: &[Shown<H>]) -> Result<Vec<u64>, AllocError> {
     let mut numbers = Vec::new(alloc);
-    for output in &shown {
+    for output in shown {
         numbers.push(output.number)?;
     }
-    Ok(Ok(numbers))
+    Ok(numbers)
 }

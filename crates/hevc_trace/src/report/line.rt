@@ -1,61 +1,21 @@
 //! One line of the report.
 ghost use Rattle.std.specs.Prelude.{◌≡◌, ◌++◌, OnOk};
 ghost use Rattle.std.specs.String.{string_bytes};
+ghost use Rattle.hevc_bits.specs.NaluType.{nalu_type_number};
 ghost use Rattle.hevc_backend.specs.Negotiation.{format_of};
 ghost use Rattle.hevc_refs.specs.Lists.{plain_places};
-ghost use Rattle.hevc_trace.specs.Lines.{log_line, shown_line};
-ghost use Rattle.hevc_trace.specs.Report.{sequence_line, slice_line};
+ghost use Rattle.hevc_trace.specs.Lines.{shown_line};
+ghost use Rattle.hevc_trace.specs.Report.{sequence_line, picture_line, slice_line, submission_line};
 
 use super::list::push_list;
-use hevc_backend::{Call, NegotiationInfo};
+use hevc_backend::NegotiationInfo;
+use hevc_bits::NaluType;
 use hevc_decoder::Shown;
 use hevc_refs::RefPicListEntry;
 use std::alloc::AllocError;
 
-/// Adds the line of a call. Where the slices of a picture come there is none.
-#[tactic(auto, using(std::proofs::Common::append_assoc))]
-pub(crate) fn push_call(text: &mut String, call: &Call<u64>) -> Result<(), AllocError>
-    ensures { OnOk result (string_bytes text.new ≡ string_bytes text.old ++ log_line call.now) }
-{
-    match call {
-        Call::NewSequence { info } => push_sequence(text, info),
-        Call::NewPicture {
-            number,
-            nalu_type,
-            pic_order_cnt_val,
-            pic_output_flag,
-            ..
-        } => {
-            let kind = *nalu_type as u8;
-            let output = u8::from(*pic_output_flag);
-            writeln!(
-                text,
-                "pic {number} type {kind} poc {pic_order_cnt_val} output {output}"
-            )
-        }
-        Call::BeginPicture { .. } => Ok(()),
-        Call::DecodeSlice {
-            number,
-            address,
-            bytes,
-            list0,
-            list1,
-        } => {
-            let size = bytes.as_slice().len();
-            push_slice(
-                text,
-                *number,
-                *address,
-                size,
-                list0.as_slice(),
-                list1.as_slice(),
-            )
-        }
-        Call::SubmitPicture { number, handle } => writeln!(text, "submit {number} handle {handle}"),
-    }
-}
-
-fn push_sequence(text: &mut String, info: &NegotiationInfo) -> Result<(), AllocError>
+/// Adds the line of a sequence of this format.
+pub(crate) fn push_sequence(text: &mut String, info: &NegotiationInfo) -> Result<(), AllocError>
     ensures { OnOk result
         (string_bytes text.new ≡ string_bytes text.old ++ sequence_line (format_of info.now)) }
 {
@@ -72,8 +32,30 @@ fn push_sequence(text: &mut String, info: &NegotiationInfo) -> Result<(), AllocE
     )
 }
 
+/// Adds the line of a picture that begins: its number, the type of its first slice, its order count, and
+/// whether it is to be output.
+pub(crate) fn push_picture(
+    text: &mut String,
+    number: u64,
+    nalu_type: NaluType,
+    order_count: i32,
+    is_output: bool,
+) -> Result<(), AllocError>
+    ensures { OnOk result (string_bytes text.new ≡ string_bytes text.old
+        ++ picture_line number (nalu_type_number nalu_type) order_count is_output) }
+{
+    let kind = nalu_type as u8;
+    let output = u8::from(is_output);
+    writeln!(
+        text,
+        "pic {number} type {kind} poc {order_count} output {output}"
+    )
+}
+
+/// Adds the line of a slice: its picture's number, its address, how many bytes its unit has, and its
+/// reference picture lists.
 #[tactic(auto, using(std::proofs::Common::append_assoc))]
-fn push_slice(
+pub(crate) fn push_slice(
     text: &mut String,
     number: u64,
     address: u32,
@@ -89,6 +71,14 @@ fn push_slice(
     text.push_str(" list1 ")?;
     push_list(text, list1)?;
     text.push_str("\n")
+}
+
+/// Adds the line of a picture that is whole: its number and its handle.
+pub(crate) fn push_submission(text: &mut String, number: u64, handle: u64) -> Result<(), AllocError>
+    ensures { OnOk result
+        (string_bytes text.new ≡ string_bytes text.old ++ submission_line number handle) }
+{
+    writeln!(text, "submit {number} handle {handle}")
 }
 
 /// Adds the line of an output.

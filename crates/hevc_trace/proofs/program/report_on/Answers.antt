@@ -1,29 +1,21 @@
-use Rattle.std.proofs.Common.{ap, sym, ◌∙◌, true≢false}
-use Rattle.hevc_backend.specs.Recording.{Recording}
-use Rattle.hevc_stream.specs.Stream.{meanings}
+use Rattle.std.proofs.Common.{ℕ, List, ◌++◌, refl, ap, sym, ◌∙◌, true≢false, length}
+use Rattle.std.specs.List.{flat_map}
 use Rattle.hevc_options.specs.Options.{options_of}
-use Rattle.hevc_trace.proofs.Joined.{report_is}
-use Rattle.hevc_trace.proofs.Order.{come_in_turn, come_in_order}
+use Rattle.hevc_trace.specs.Lines.{shown_line}
+use Rattle.hevc_trace.specs.Report.{last_line}
+use Rattle.hevc_trace.proofs.Joined.{told_by, report_is}
 use Rattle.hevc_trace.proofs.program.report_on.Goals as goal
 
--- what is written is the report on the stream
+-- what is written is the report on what the source had left
 pub returns-clause-text : goal.returns-clause-text
-returns-clause-text c =
-    let decoded = c.decode_stream_with-decoded in
-    let asked = decoded.ensures in
-    let failing = λ (r : Recording). r.failing in
-    let free = λ (r : Recording). r.free in
-    let log = λ (r : Recording). r.log in
-    c.in_ok-text.ensures ∙ report_is (options_of c.args.options) c.args.stream.now c.new.result.log decoded.result.backend.log c.calls.result.now c.new-shown.result.items decoded.new.shown.items c.deref.result.now decoded.result.result
-    (ap log c.new.ensures) c.calls.ensures.log c.new-shown.ensures.items c.deref.ensures.value (asked.faultless (ap failing c.new.ensures, ap free c.new.ensures)).1
-    (λ m. true≢false (sym (c.wants_memory.ensures.1 m) ∙ c.if-wants_memory.false)) asked.whole_calls asked.whole_outputs asked.answer c.calls.ensures.handles
-
-pub returns-clause-in_turn : goal.returns-clause-in_turn
-returns-clause-in_turn c is =
-    let decoded = c.decode_stream_with-decoded in
-    come_in_turn (meanings (options_of c.args.options) c.args.stream.now) decoded.result.result decoded.ensures.answer (sym c.is_ok.ensures.value ∙ is)
-
-pub returns-clause-display_order : goal.returns-clause-display_order
-returns-clause-display_order c is =
-    let decoded = c.decode_stream_with-decoded in
-    come_in_order (meanings (options_of c.args.options) c.args.stream.now) decoded.result.result decoded.ensures.answer (sym c.is_ok.ensures.value ∙ is)
+returns-clause-text g c =
+    let asked = c.in_ok-decoded.ensures in
+    let decoded = c.in_ok-decoded.decoded in
+    let shown = c.deref.result.now in
+    let given = c.decode_source_with.new.shown.items in
+    told_by (g.S.Source.left c.args.source.now) _ _ _ _
+    (λ s calls outputs answer.
+    c.in_ok-push_rest.ensures ∙ ap (λ (l : List ℕ). l ++ flat_map shown_line shown ++ last_line (length shown) decoded.result) c.into_text-text.ensures.lines
+    ∙ report_is (options_of c.args.options) s c.new-backend.result.log decoded.backend.log decoded.backend.log c.new-shown.result.items given shown decoded.result
+    c.new-backend.ensures.log refl c.new-shown.ensures.items c.deref.ensures.value (asked.faultless tt).1 (λ m. true≢false (sym (c.wants_memory.ensures.1 m) ∙ c.if-wants_memory.false)) calls outputs answer c.into_text-text.ensures.handles)
+    asked.whole_calls asked.whole_outputs asked.answer

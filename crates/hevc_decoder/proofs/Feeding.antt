@@ -1,0 +1,176 @@
+-- A stream that comes in pieces, cut before start codes, is taken as the whole is.
+use Rattle.std.proofs.Common.{◌≡◌, inl, inr, ◌⊎◌, ℕ, ◌+◌, ◌≤◌, true, List, [], ◌∷◌, ◌++◌, take, drop, length, refl, sym, ◌∙◌, ap, subst, append_assoc, append-nil, map, Option, Some, None, Result, Ok, Err, IfErr, IfSome}
+use Rattle.std.proofs.lemmas.List.{take-append-drop}
+use Rattle.hevc_spec.specs.Units.{NalUnit, begins_with_start_code, units_at, units_from, kept_bytes, units}
+use Rattle.std.specs.Io.KnownBytes.{Consumes, IsAtEnd}
+use Rattle.std.proofs.KnownBytes.{Consumes-trans}
+use Rattle.hevc_walk.specs.Meanings.{Meaning}
+use Rattle.hevc_walk.specs.Pictures.{stream}
+use Rattle.hevc_walk.specs.Results.{walk_events, outputs, outputs_in}
+use Rattle.hevc_walk_units.specs.Units.{events_from}
+use Rattle.hevc_walk_joined.proofs.Cuts.{outputs_in-append}
+use Rattle.hevc_stream.specs.Options.{Options}
+use Rattle.hevc_stream.specs.Kept.{Kept, none_kept}
+use Rattle.hevc_stream.specs.Stream.{meanings, meanings_behind, kept_behind_all}
+use Rattle.hevc_moments.specs.Stands.{meant, standing_after, kept_after}
+use Rattle.hevc_moments.proofs.Keeping.{meant_behind, length_meant}
+use Rattle.hevc_stateless.specs.Views.{at_beginning}
+use Rattle.hevc_decoder.specs.declared.decoded.Refused.{Refused}
+use Rattle.hevc_decoder.specs.Names.{output_picture}
+use Rattle.hevc_decoder.specs.Headline.{Appended, IsFront}
+use Rattle.hevc_decoder.specs.Scenes.{Scene, trail_of}
+use Rattle.hevc_decoder.specs.Runs.{Reached, TakesPiece, EndsRun, Ended}
+use Rattle.hevc_decoder.specs.Sources.{ComeOutFirst, Drained, Fed, Stopped, FedTo}
+use Rattle.hevc_decoder.proofs.Cutting.{units_joined, units_moved}
+use Rattle.hevc_decoder.proofs.Running.{events_are}
+use Rattle.hevc_decoder.proofs.Promises.{outputs_of}
+use Rattle.hevc_decoder.proofs.Walking.{begins}
+
+-- ---- parts of a stream
+
+begins_more : (xs ys : List ℕ) → begins_with_start_code xs ≡ true → begins_with_start_code (xs ++ ys) ≡ true
+begins_more [] ys e = absurd (cc e)
+begins_more (a ∷ []) ys e = absurd (cc e)
+begins_more (a ∷ b ∷ []) ys e = absurd (cc e)
+begins_more (a ∷ b ∷ c ∷ xs) ys e = e
+
+-- a stream may be cut in front of a start code, or of its first byte
+abbrev pub MayBeCut : (front rest : List ℕ) → Type 0
+MayBeCut front rest = (front ≡ []) ⊎ (begins_with_start_code rest ≡ true)
+
+parted_at : (o : Options) (k : Kept) (xs ys : List ℕ) → begins_with_start_code ys ≡ true → meanings_behind o k (units_at kept_bytes 0 (xs ++ ys)) ≡ meanings_behind o k (units_at kept_bytes 0 xs ++ units_at kept_bytes 0 ys)
+parted_at o k xs ys e =
+    ap (meanings_behind o k) (units_joined 0 xs ys e)
+    ∙ meant_behind o k (units_at kept_bytes 0 xs) (units_at kept_bytes (0 + length xs) ys)
+    ∙ ap (λ ms. meanings_behind o k (units_at kept_bytes 0 xs) ++ ms) (units_moved o (0 + length xs) 0 ys (kept_behind_all o k (units_at kept_bytes 0 xs)))
+    ∙ sym (meant_behind o k (units_at kept_bytes 0 xs) (units_at kept_bytes 0 ys))
+
+parted : (o : Options) (k : Kept) (xs ys : List ℕ) → MayBeCut xs ys → meanings_behind o k (units (xs ++ ys)) ≡ meanings_behind o k (units xs ++ units ys)
+unfolding units_from
+parted o k xs ys (inl none) = subst (λ (front : List ℕ). meanings_behind o k (units_at kept_bytes 0 (front ++ ys)) ≡ meanings_behind o k (units_at kept_bytes 0 front ++ units_at kept_bytes 0 ys)) (sym none) refl
+parted o k xs ys (inr e) = parted_at o k xs ys e
+
+-- what a window means behind some units, cut once more
+window_parted : (o : Options) (front : List NalUnit) (xs ys later : List ℕ) → MayBeCut xs ys → meant o (front ++ units ((xs ++ ys) ++ later)) ≡ meant o (front ++ (units xs ++ units (ys ++ later)))
+window_parted o front xs ys later cut =
+    meant_behind o none_kept front (units ((xs ++ ys) ++ later))
+    ∙ ap (λ ms. meant o front ++ ms) (ap (λ (bytes : List ℕ). meanings_behind o (kept_behind_all o none_kept front) (units bytes)) (append_assoc xs ys later) ∙ parted o (kept_behind_all o none_kept front) xs (ys ++ later) (cut_more cut))
+    ∙ sym (meant_behind o none_kept front (units xs ++ units (ys ++ later)))
+  where
+    cut_more : MayBeCut xs ys → MayBeCut xs (ys ++ later)
+    cut_more (inl none) = inl none
+    cut_more (inr e) = inr (begins_more ys later e)
+
+-- ---- runs
+
+-- units that come behind those that were taken
+reached_over : {B H : Type 0} (o : Options) (front more : List NalUnit) (k : ℕ) (begin now : Scene B H) → Reached o front k begin now [] → Reached o (front ++ more) k begin now more
+reached_over o front more k begin now x = record { front = x.front; whole = ap (λ us. us ++ more) (x.whole ∙ append-nil x.front); place = x.place; stands = x.stands; empty = x.empty; few = x.few; does = x.does }
+
+pub fed_first : {B H : Type 0} (o : Options) (now : Scene B H) (backend : B) → now.seen.view ≡ at_beginning backend → now.seen.kept ≡ none_kept → Fed o [] [] 0 now now
+fed_first o now backend view kept = record { front = []; reached = begins o [] now backend view kept; cut = λ later. refl }
+
+pub fed_more : {B H : Type 0} (o : Options) (given window got : List ℕ) (k : ℕ) (begin now : Scene B H) → Fed o given window k begin now → Fed o (given ++ got) (window ++ got) k begin now
+fed_more o given window got k begin now x = record {
+  front = x.front;
+  reached = x.reached;
+  cut = λ later. ap (meanings o) (append_assoc given got later) ∙ x.cut (got ++ later) ∙ ap (λ (bytes : List ℕ). meant o (x.front ++ units bytes)) (sym (append_assoc window got later));
+}
+
+module _ {B H : Type 0} (o : Options) (given xs ys : List ℕ) (first : ℕ) (begin old new : Scene B H) (cut : MayBeCut xs ys) (x : Fed o given (xs ++ ys) first begin old) where
+  means : (later : List ℕ) → meanings o (given ++ later) ≡ meant o (x.front ++ (units xs ++ units (ys ++ later)))
+  means later = x.cut later ∙ window_parted o x.front xs ys later cut
+
+  taken : (next : ℕ) → TakesPiece (Ok next) o first (units xs) old new → Fed o given ys next begin new
+  taken next takes = record {
+    front = x.front ++ units xs;
+    reached = takes begin (x.front ++ units xs) [] (subst (λ us. Reached o (x.front ++ units xs) first begin old us) (sym (append-nil (units xs))) (reached_over o x.front (units xs) first begin old x.reached));
+    cut = λ later. means later ∙ ap (meant o) (sym (append_assoc x.front (units xs) (units (ys ++ later))));
+  }
+
+  -- all units, of which these are the later ones
+  abbrev all : List ℕ → List NalUnit
+  all later = x.front ++ (units xs ++ units (ys ++ later))
+
+  stopped : (refused : Refused) → TakesPiece (Err refused) o first (units xs) old new → Stopped o given refused begin new
+  stopped refused takes = record {
+    ended = λ later. subst (λ (us : List Meaning). Ended (Err refused) us (trail_of begin) (trail_of new)) (sym (means later)) (at later).0;
+    within = λ later. subst (λ (n : ℕ). refused.unit ≤ n) (sym (length_meant o none_kept (all later)) ∙ ap (λ (ms : List Meaning). length ms) (sym (means later)) ∙ length_meant o none_kept (units (given ++ later))) (at later).1;
+  }
+    where
+      at : (later : List ℕ) → Ended (Err refused) (meant o (all later)) (trail_of begin) (trail_of new) × (refused.unit ≤ length (all later))
+      at later = takes begin (all later) (units (ys ++ later)) (reached_over o x.front (units xs ++ units (ys ++ later)) first begin old x.reached)
+
+  pub fed_on : (r : Result ℕ Refused) → TakesPiece r o first (units xs) old new → FedTo r o given ys begin new
+  fed_on (Ok next) takes = taken next takes
+  fed_on (Err refused) takes = stopped refused takes
+
+may_be_cut : (n : ℕ) (bytes : List ℕ) → (n ≡ 0) ⊎ (begins_with_start_code (drop n bytes) ≡ true) → MayBeCut (take n bytes) (drop n bytes)
+may_be_cut n bytes (inl none) = inl (subst (λ (m : ℕ). take m bytes ≡ []) (sym none) refl)
+may_be_cut n bytes (inr e) = inr e
+
+-- the units of the first so many bytes of the window
+pub window_fed : {B H : Type 0} (o : Options) (given window : List ℕ) (first n : ℕ) (begin old new : Scene B H) → (n ≡ 0) ⊎ (begins_with_start_code (drop n window) ≡ true) → Fed o given window first begin old
+    → (r : Result ℕ Refused) → TakesPiece r o first (units (take n window)) old new → FedTo r o given (drop n window) begin new
+window_fed o given window first n begin old new cut x =
+    fed_on o given (take n window) (drop n window) first begin old new (may_be_cut n window cut) (subst (λ (bytes : List ℕ). Fed o given bytes first begin old) (sym (take-append-drop n window)) x)
+
+-- the last units
+pub fed_whole : {B H : Type 0} (o : Options) (given window : List ℕ) (first : ℕ) (begin old new : Scene B H) (r : Result ℕ Refused) → Fed o given window first begin old → EndsRun r o first (units window) old new
+    → Ended r (meanings o given) (trail_of begin) (trail_of new) × IfErr r (λ refused. refused.unit ≤ length (units given))
+fed_whole {B} {H} o given window first begin old new r x ends =
+    let all = x.front ++ units window in
+    let y = ends begin all (reached_over o x.front (units window) first begin old x.reached) in
+    let means : meanings o given ≡ meant o all = ap (meanings o) (sym (append-nil given)) ∙ x.cut [] ∙ ap (λ (bytes : List ℕ). meant o (x.front ++ units bytes)) (append-nil window) in
+    let size : length all ≡ length (units given) = sym (length_meant o none_kept all) ∙ ap (λ (ms : List Meaning). length ms) (sym means) ∙ length_meant o none_kept (units given) in
+    (subst (λ (us : List Meaning). Ended r us (trail_of begin) (trail_of new)) (sym means) y.0, subst (λ (n : ℕ). IfErr r (λ refused. refused.unit ≤ n)) size y.1)
+
+-- ---- what came out so far
+
+reached_front : {B H : Type 0} (o : Options) (all later : List NalUnit) (k : ℕ) (begin now : Scene B H) → Reached o all k begin now later → Appended begin.shown now.shown (λ out. IsFront (map output_picture out) (outputs (meant o all)))
+reached_front o all later k begin now x =
+    let ms = meant o x.front in
+    let back = meanings_behind o (kept_after o x.front) later in (
+      x.does.out,
+      x.does.shown,
+      (
+        outputs_in (events_from (standing_after ms) k back),
+        ap outputs_in (events_are o all k begin now later x) ∙ outputs_in-append (walk_events (stream ms)) (events_from (standing_after ms) k back) ∙ ap (λ l. l ++ outputs_in (events_from (standing_after ms) k back)) (sym x.does.given),
+      ),
+    )
+
+pub fed_front : {B H : Type 0} (o : Options) (given window : List ℕ) (k : ℕ) (begin now : Scene B H) (a b : Option (List ℕ)) → Fed o given window k begin now → Consumes a b given → ComeOutFirst o a begin.shown now.shown
+fed_front o given window k begin now None b x gave = tt
+fed_front o given window k begin now (Some s) None x gave = absurd gave
+fed_front o given window k begin now (Some s) (Some later) x gave =
+    subst (λ (us : List Meaning). Appended begin.shown now.shown (λ out. IsFront (map output_picture out) (outputs us))) (sym (ap (meanings o) gave ∙ x.cut later))
+    (reached_front o (x.front ++ units (window ++ later)) (units (window ++ later)) k begin now (reached_over o x.front (units (window ++ later)) k begin now x.reached))
+
+pub stopped_front : {B H : Type 0} (o : Options) (given : List ℕ) (refused : Refused) (begin now : Scene B H) (a b : Option (List ℕ)) → Stopped o given refused begin now → Consumes a b given → ComeOutFirst o a begin.shown now.shown
+stopped_front o given refused begin now None b x gave = tt
+stopped_front o given refused begin now (Some s) None x gave = absurd gave
+stopped_front o given refused begin now (Some s) (Some later) x gave =
+    subst (λ (bytes : List ℕ). Appended begin.shown now.shown (λ out. IsFront (map output_picture out) (outputs (meanings o bytes)))) (sym gave) (outputs_of (meanings o (given ++ later)) (Err refused) (trail_of begin) (trail_of now) (x.ended later))
+
+-- ---- at the end of the source
+
+all_given : (s given rest : List ℕ) → s ≡ given ++ rest → rest ≡ [] → s ≡ given
+all_given s given rest is none = is ∙ ap (λ (bytes : List ℕ). given ++ bytes) none ∙ append-nil given
+
+pub at_end : (P : List ℕ → Type 0) (given : List ℕ) (a b : Option (List ℕ)) → Consumes a b given → IsAtEnd b → P given → IfSome a P
+at_end P given None b gave end holds = tt
+at_end P given (Some s) None gave end holds = absurd gave
+at_end P given (Some s) (Some rest) gave end holds = subst P (sym (all_given s given rest gave end)) holds
+
+-- the last units were taken
+pub source_whole : {B H : Type 0} (o : Options) (limit : ℕ) (given window : List ℕ) (first : ℕ) (begin old new : Scene B H) (r : Result ℕ Refused) (a b : Option (List ℕ)) → Fed o given window first begin old → EndsRun r o first (units window) old new
+    → Consumes a b given → length given ≤ limit → Drained o limit a b r (trail_of begin) (trail_of new)
+source_whole o limit given window first begin old new r a b x ends gave short =
+    let whole = fed_whole o given window first begin old new r x ends in
+    record { stream = given; gave = gave; short = short; ended = whole.0; within = whole.1 }
+
+-- a unit was refused, and the rest was skipped
+pub source_stopped : {B H : Type 0} (o : Options) (limit : ℕ) (given more : List ℕ) (refused : Refused) (begin now : Scene B H) (a b d : Option (List ℕ)) → Stopped o given refused begin now → Consumes a b given → Consumes b d more
+    → length (given ++ more) ≤ limit → Drained o limit a d (Err refused) (trail_of begin) (trail_of now)
+source_stopped o limit given more refused begin now a b d x gave rest short =
+    record { stream = given ++ more; gave = Consumes-trans a b d given more gave rest; short = short; ended = x.ended more; within = x.within more }
