@@ -1,7 +1,8 @@
-"""Runs programs over files in turns, and measures their time and memory."""
+"""Runs programs over files in turns, and measures their time; and their memory."""
 import os
 import subprocess
 import sys
+import tempfile
 import time
 from typing import NamedTuple
 
@@ -9,11 +10,10 @@ TURNS = 5
 
 
 class Run(NamedTuple):
-    """A run of a program: seconds by the clock, seconds of processor time, and the most memory in bytes."""
+    """A run of a program: seconds by the clock, and seconds of processor time."""
 
     seconds: float
     processor: float
-    memory: int
 
 
 def once(command, path):
@@ -25,12 +25,19 @@ def once(command, path):
         seconds = time.perf_counter() - start
     if status != 0:
         sys.exit(f"{command} ended with {status}")
-    return Run(seconds, usage.ru_utime + usage.ru_stime, usage.ru_maxrss * 1024)
+    return Run(seconds, usage.ru_utime + usage.ru_stime)
+
+
+def peak(command, path):
+    """The most memory in bytes that a run has, by GNU time: of a child of this process the system tells at least what this one has."""
+    with open(path, "rb") as source, tempfile.NamedTemporaryFile("r") as told:
+        subprocess.run(["/usr/bin/time", "-f", "%M", "-o", told.name, *command], stdin=source, stdout=subprocess.DEVNULL, check=True)
+        return int(told.read()) * 1024
 
 
 def least(runs):
-    """The least times of some runs, and the most memory."""
-    return Run(min(run.seconds for run in runs), min(run.processor for run in runs), max(run.memory for run in runs))
+    """The least times of some runs."""
+    return Run(min(run.seconds for run in runs), min(run.processor for run in runs))
 
 
 def in_turns(measures):

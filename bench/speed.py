@@ -11,7 +11,7 @@ import re
 import subprocess
 import sys
 
-from measure import in_turns, least, once
+from measure import in_turns, least, once, peak
 
 # How many times the original decodes or cuts a stream in a run.
 RUNS = 4
@@ -66,14 +66,13 @@ def row(programs, path):
     read, decode, cut, report, lines = map(least, ours)
     their_decode, their_cut = least_or_none(decodes), least_or_none(cuts)
     size = os.path.getsize(path)
-    pictures = pictures_of(trace, path)
+    pictures, memory = pictures_of(trace, path), peak([trace], path)
     decoding, cutting = decode.processor - read.processor, cut.processor - read.processor
     return [
         os.path.basename(path).removesuffix(".h265"), ratio(their_decode, decoding), ratio(their_cut, cutting),
         ratio(their_decode, report.processor),
         speed(size, decoding), speed(size, cutting), speed(size, report.processor),
-        speed(size, their_decode), speed(size, their_cut), speed(size, lines.processor), f"{report.memory / 1e6:.1f}",
-        f"{report.memory / max(pictures, 1):.0f}",
+        speed(size, their_decode), speed(size, their_cut), speed(size, lines.processor), f"{memory / 1e6:.1f}", f"{memory / max(pictures, 1):.0f}",
     ]
 
 

@@ -54,7 +54,7 @@ impl<B: StatelessH265DecoderBackend> StatelessDecoder<B> {
         }
     }
 
-    /// Takes the first unit of the input, of less than 2^60 bytes, with the time at which its picture is to be shown, in the caller's
+    /// Takes the first unit of the input, of less than 2^60 bytes, with the time at which its picture is to be output, in the caller's
     /// unit. The answer is the place behind the unit, in bytes: 3 at least.
     ///
     /// Errors: `NoNal`, there is none; those of the unit's header; `CheckEvents`, a format is awaited, from here on where the unit opened
@@ -79,7 +79,7 @@ impl<B: StatelessH265DecoderBackend> StatelessDecoder<B> {
         Ok(nalu.offset() + nalu.size())
     }
 
-    /// Takes a unit that was found in a stream of less than 2^60 bytes, with the time at which its picture is to be shown, in the
+    /// Takes a unit that was found in a stream of less than 2^60 bytes, with the time at which its picture is to be output, in the
     /// caller's unit. Its bytes are not searched again, so it may be given once more at no cost.
     ///
     /// Errors: `CheckEvents`, a format is awaited, from here on where the unit opened its negotiation, and the unit is to be given once

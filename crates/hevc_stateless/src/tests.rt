@@ -39,7 +39,7 @@ fn accept(decoder: &mut StatelessDecoder<Backend>) -> bool {
 }
 
 /// The number of the next picture that came out.
-fn shown(decoder: &mut StatelessDecoder<Backend>) -> Option<u64> {
+fn next_number(decoder: &mut StatelessDecoder<Backend>) -> Option<u64> {
     match decoder.next_event() {
         Some(DecoderEvent::FrameReady(frame)) => Some(frame.number),
         _ => None,
@@ -81,8 +81,8 @@ fn a_picture_set_waits_for_its_sequence_set(rt: HostRuntime) -> Result<(), Fail>
     assert!(rt; decoder.decode(0, SEQUENCE_SET) == Ok(29));
     assert!(rt; decoder.decode(5, IDR) == Ok(7));
     assert!(rt; decoder.flush() == Ok(()));
-    assert!(rt; shown(&mut decoder) == Some(0));
-    assert!(rt; shown(&mut decoder).is_none());
+    assert!(rt; next_number(&mut decoder) == Some(0));
+    assert!(rt; next_number(&mut decoder).is_none());
     Ok(())
 }
 
@@ -101,10 +101,10 @@ fn behind_a_flush_an_idr_picture_is_waited_for(rt: HostRuntime) -> Result<(), Fa
     assert!(rt; decoder.decode(0, IDR) == Ok(7));
     assert!(rt; decoder.decode(0, LATER) == Ok(9));
     assert!(rt; decoder.flush() == Ok(()));
-    assert!(rt; shown(&mut decoder) == Some(0));
-    assert!(rt; shown(&mut decoder) == Some(1));
-    assert!(rt; shown(&mut decoder) == Some(2));
-    assert!(rt; shown(&mut decoder) == Some(3));
+    assert!(rt; next_number(&mut decoder) == Some(0));
+    assert!(rt; next_number(&mut decoder) == Some(1));
+    assert!(rt; next_number(&mut decoder) == Some(2));
+    assert!(rt; next_number(&mut decoder) == Some(3));
     Ok(())
 }
 
@@ -153,8 +153,8 @@ fn a_refusal_leaves_the_decoder_where_it_stood(rt: HostRuntime) -> Result<(), Fa
     assert!(rt; decoder.decode(0, LATER) == full);
     assert!(rt; decoder.decode(0, LATER) == Ok(9));
     assert!(rt; decoder.flush() == Ok(()));
-    assert!(rt; shown(&mut decoder) == Some(0));
-    assert!(rt; shown(&mut decoder) == Some(1));
+    assert!(rt; next_number(&mut decoder) == Some(0));
+    assert!(rt; next_number(&mut decoder) == Some(1));
     Ok(())
 }
 
@@ -165,9 +165,9 @@ fn another_format_is_negotiated_behind_what_waits(rt: HostRuntime) -> Result<(),
     assert!(rt; begin(&mut decoder) == Ok(9));
     assert!(rt; decoder.decode(0, IDR) == Ok(7));
     assert!(rt; decoder.decode(0, WIDE_SET) == Ok(29));
-    assert!(rt; shown(&mut decoder).is_none());
+    assert!(rt; next_number(&mut decoder).is_none());
     assert!(rt; decoder.decode(0, IDR) == Err(DecodeError::CheckEvents));
-    assert!(rt; shown(&mut decoder) == Some(0));
+    assert!(rt; next_number(&mut decoder) == Some(0));
     assert!(rt; matches!(decoder.next_event(), Some(DecoderEvent::FormatChanged)));
     assert!(rt; accept(&mut decoder));
     let calls = decoder.backend().calls().len();

@@ -49,7 +49,7 @@ format_is s = record { max_num_pics = dpb_size_few (max_luma_ps_of_level s.profi
 
 limits_are : (wanted : ℕ) (s : PlainSps) → IsSequenceSet s → IsLimits (limits_of_set wanted s)
 limits_are wanted s h = record {
-  max_num_reorder = at_or (λ n. n < 256) s.max_num_reorder_pics (highest_sub_layer wanted s) 0 h.0.reorder (omega arith);
+  max_num_reorder_pics = at_or (λ n. n < 256) s.max_num_reorder_pics (highest_sub_layer wanted s) 0 h.0.reorder (omega arith);
   max_latency_increase_plus1 = at_or (λ n. n < 256) s.max_latency_increase_plus1 (highest_sub_layer wanted s) 0 h.0.latency (omega arith);
   max_dec_pic_buffering_minus1 = at_or (λ n. n < 256) s.max_dec_pic_buffering_minus1 (highest_sub_layer wanted s) 0 (All-weaker (λ n. n ≤ 16) (λ n. n < 256) (λ n few. omega arith) s.max_dec_pic_buffering_minus1 h.0.buffering) (omega arith);
 }

@@ -27,7 +27,7 @@ of_highest wanted s numbers = slice_index_or numbers (highest_sub_layer wanted s
 -- what a set declares for the highest sub-layer that is decoded, where sub-layers up to this one are wanted (C.5.2.2)
 abbrev pub limits_of_set : ℕ → PlainSps → Limits
 limits_of_set wanted s = record {
-  max_num_reorder = of_highest wanted s s.max_num_reorder_pics;
+  max_num_reorder_pics = of_highest wanted s s.max_num_reorder_pics;
   max_latency_increase_plus1 = of_highest wanted s s.max_latency_increase_plus1;
   max_dec_pic_buffering_minus1 = of_highest wanted s s.max_dec_pic_buffering_minus1;
 }

@@ -77,11 +77,11 @@ draining es = record { outputs = in_output_order es; left = [] }
 
 -- its latency count is at least SpsMaxLatencyPictures (7-9)
 abbrev pub is_late : Limits → Entry → Bool
-is_late limits e = e.needed_for_output && nat_le (limits.max_num_reorder + limits.max_latency_increase_plus1 - 1) e.latency_count
+is_late limits e = e.needed_for_output && nat_le (limits.max_num_reorder_pics + limits.max_latency_increase_plus1 - 1) e.latency_count
 
 -- additional bumping, once a picture is stored (C.5.2.3)
 unfoldable pub needs_additional_bumping : Limits → Buffer → Bool
-needs_additional_bumping limits es = nat_lt limits.max_num_reorder (count_by (λ e. e.needed_for_output) es) || (nat_lt 0 limits.max_latency_increase_plus1 && list_any (is_late limits) es)
+needs_additional_bumping limits es = nat_lt limits.max_num_reorder_pics (count_by (λ e. e.needed_for_output) es) || (nat_lt 0 limits.max_latency_increase_plus1 && list_any (is_late limits) es)
 
 -- before a picture is decoded (C.5.2.2)
 unfoldable pub needs_bumping : Limits → Buffer → Bool

@@ -20,7 +20,7 @@ same_format a b = a.coded_width == b.coded_width && a.coded_height == b.coded_he
 -- sps_max_num_reorder_pics, sps_max_latency_increase_plus1 and sps_max_dec_pic_buffering_minus1
 -- (7.4.3.2.1) of the highest sub-layer that is decoded, HighestTid (C.5.2.2)
 pub record Limits : Type 0 where
-  pub max_num_reorder : ℕ
+  pub max_num_reorder_pics : ℕ
   pub max_latency_increase_plus1 : ℕ
   pub max_dec_pic_buffering_minus1 : ℕ
 

@@ -9,7 +9,7 @@ pub record IsFormat (f : Format) : Type 0 where
 -- Each is a byte: the first and the last by 7.4.3.2.1, the latency number because none above 255 is
 -- read here.
 pub record IsLimits (limits : Limits) : Type 0 where
-  pub max_num_reorder : limits.max_num_reorder < 2 ^ 8
+  pub max_num_reorder_pics : limits.max_num_reorder_pics < 2 ^ 8
   pub max_latency_increase_plus1 : limits.max_latency_increase_plus1 < 2 ^ 8
   pub max_dec_pic_buffering_minus1 : limits.max_dec_pic_buffering_minus1 < 2 ^ 8
 

@@ -28,7 +28,7 @@ stored_capped p es = stored_entries p es
 late_at : (t n : ℕ) → t < 2 ^ 9 → nat_le t (min n (2 ^ 31 - 1)) ≡ nat_le t n
 late_at t n h = grind (arith, nat_tests)
 
-some_late : (limits : Limits) (es : Buffer) → limits.max_num_reorder + limits.max_latency_increase_plus1 - 1 < 2 ^ 9 → list_any (is_late limits) (map capped es) ≡ list_any (is_late limits) es
+some_late : (limits : Limits) (es : Buffer) → limits.max_num_reorder_pics + limits.max_latency_increase_plus1 - 1 < 2 ^ 9 → list_any (is_late limits) (map capped es) ≡ list_any (is_late limits) es
 some_late limits [] h = refl
 some_late limits (e ∷ es) h =
     ap (λ b. (e.needed_for_output && b) || list_any (is_late limits) (map capped es)) (late_at _ e.latency_count h)
@@ -41,8 +41,8 @@ num_from n (e ∷ es) = num_from (n + cond e.needed_for_output 1 0) es
 pub additional_capped : (limits : Limits) (es : Buffer) → IsLimits limits → needs_additional_bumping limits (map capped es) ≡ needs_additional_bumping limits es
 unfolding needs_additional_bumping
 additional_capped limits es h =
-    ap (λ n. nat_lt limits.max_num_reorder n || (nat_lt 0 limits.max_latency_increase_plus1 && list_any (is_late limits) (map capped es))) (num_from 0 es)
-    ∙ ap (λ b. nat_lt limits.max_num_reorder (count_by (λ e. e.needed_for_output) es) || (nat_lt 0 limits.max_latency_increase_plus1 && b)) (some_late limits es (omega (arith, h.max_num_reorder, h.max_latency_increase_plus1)))
+    ap (λ n. nat_lt limits.max_num_reorder_pics n || (nat_lt 0 limits.max_latency_increase_plus1 && list_any (is_late limits) (map capped es))) (num_from 0 es)
+    ∙ ap (λ b. nat_lt limits.max_num_reorder_pics (count_by (λ e. e.needed_for_output) es) || (nat_lt 0 limits.max_latency_increase_plus1 && b)) (some_late limits es (omega (arith, h.max_num_reorder_pics, h.max_latency_increase_plus1)))
 
 pub bumping_capped : (limits : Limits) (es : Buffer) → IsLimits limits → needs_bumping limits (map capped es) ≡ needs_bumping limits es
 unfolding needs_bumping

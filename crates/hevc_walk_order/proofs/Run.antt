@@ -108,7 +108,7 @@ after n (p ∷ ps) = cond (not p.skipped && nat_lt n p.number) 1 0 + after n ps
 
 -- A picture of this count may still come: it is reached by few of those that are over, and each of these is late by few.
 abbrev pub Near : Limits → List Picture → ℤ → Type 0
-Near limits ps c = (at_least c (keys_for_output ps) ≤ limits.max_num_reorder) × (0 < limits.max_latency_increase_plus1 → Each (λ k. c ≤ℤ k.1 → after k.0 ps < latency_pictures limits) (keys_for_output ps))
+Near limits ps c = (at_least c (keys_for_output ps) ≤ limits.max_num_reorder_pics) × (0 < limits.max_latency_increase_plus1 → Each (λ k. c ≤ℤ k.1 → after k.0 ps < latency_pictures limits) (keys_for_output ps))
 
 -- and there was room
 abbrev pub Allowed : Limits → (ℤ → Type 0) → List Picture → ℤ → Type 0
@@ -149,13 +149,13 @@ near-fewer limits p ps c h = (by_test (is_for_output p) h.0, λ some. each-weake
     less : (m n : ℕ) → m + n < latency_pictures limits → n < latency_pictures limits
     less m n l = omega (arith, l)
 
-    fewer : (m n : ℕ) → m + n ≤ limits.max_num_reorder → n ≤ limits.max_num_reorder
+    fewer : (m n : ℕ) → m + n ≤ limits.max_num_reorder_pics → n ≤ limits.max_num_reorder_pics
     fewer m n l = omega (arith, l)
 
-    by_test : (b : Bool) → at_least c (map picture_key (cond b (p ∷ filter is_for_output ps) (filter is_for_output ps))) ≤ limits.max_num_reorder → at_least c (keys_for_output ps) ≤ limits.max_num_reorder
+    by_test : (b : Bool) → at_least c (map picture_key (cond b (p ∷ filter is_for_output ps) (filter is_for_output ps))) ≤ limits.max_num_reorder_pics → at_least c (keys_for_output ps) ≤ limits.max_num_reorder_pics
     by_test true l = fewer (at_least c (picture_key p ∷ [])) (at_least c (keys_for_output ps)) (joined l)
       where
-        joined : at_least c (picture_key p ∷ keys_for_output ps) ≤ limits.max_num_reorder → at_least c (picture_key p ∷ []) + at_least c (keys_for_output ps) ≤ limits.max_num_reorder
+        joined : at_least c (picture_key p ∷ keys_for_output ps) ≤ limits.max_num_reorder_pics → at_least c (picture_key p ∷ []) + at_least c (keys_for_output ps) ≤ limits.max_num_reorder_pics
         joined l = omega (arith, l)
     by_test false l = l
 
@@ -204,7 +204,7 @@ early limits room ps out es w ages gone x rest e c may due = by_test (int_lt x.o
         let e2 : at_least c (keys_of left) ≡ length (keys_of left) = at_least-all c (keys_of left) (above l) in
         let e3 : at_least c (keys_of left) ≤ at_least c (waiting es) = subst (λ (ks : List Key). at_least c ks ≤ at_least c (waiting es)) (sym left_is) (at_least-filter c (λ k. not (has k.0 (keys gone))) (waiting es)) in
         let e4 : at_least c (waiting es) ≤ at_least c (keys_for_output ps) = at_least-waits (Allowed limits room ps) (keys_for_output ps) out (waiting es) c w in
-        not_many limits.max_num_reorder (length left) (let e5 = may.0.0 in omega (arith, e1, e2, e3, e4, e5))
+        not_many limits.max_num_reorder_pics (length left) (let e5 = may.0.0 in omega (arith, e1, e2, e3, e4, e5))
       where
         not_many : (r n : ℕ) → n ≤ r → nat_lt r n ≡ false
         not_many r n h = grind (arith, nat_tests)

@@ -65,15 +65,15 @@ pairs-tell {X = X} test R each xs = Decides-like (pairs_pass test xs) (pairs_all
     by_recursion (x ∷ xs) = Decides-and (list_all (test x) xs) (pairs_pass test xs) (Decides-like (list_all (test x) xs) (recursion_from_All (R x) xs) (All-from_recursion (R x) xs) (all-tells (test x) (R x) (each x) xs)) (by_recursion xs)
 
 limits_of : ℕ → ℕ → ℕ → Limits
-limits_of m n k = record { max_num_reorder = m; max_latency_increase_plus1 = n; max_dec_pic_buffering_minus1 = k }
+limits_of m n k = record { max_num_reorder_pics = m; max_latency_increase_plus1 = n; max_dec_pic_buffering_minus1 = k }
 
 limits-tell : (a b : Limits) → Decides (same_limits a b) (a ≡ b)
 unfolding limits_of
 limits-tell a b = Decides-like (same_limits a b)
-    (λ h. ap (λ m. limits_of m a.max_latency_increase_plus1 a.max_dec_pic_buffering_minus1) h.0.0 ∙ ap (λ n. limits_of b.max_num_reorder n a.max_dec_pic_buffering_minus1) h.0.1 ∙ ap (λ k. limits_of b.max_num_reorder b.max_latency_increase_plus1 k) h.1)
-    (λ h. ((ap (λ (l : Limits). l.max_num_reorder) h, ap (λ (l : Limits). l.max_latency_increase_plus1) h), ap (λ (l : Limits). l.max_dec_pic_buffering_minus1) h))
-    (Decides-and (eqb a.max_num_reorder b.max_num_reorder && eqb a.max_latency_increase_plus1 b.max_latency_increase_plus1) (eqb a.max_dec_pic_buffering_minus1 b.max_dec_pic_buffering_minus1)
-    (Decides-and (eqb a.max_num_reorder b.max_num_reorder) (eqb a.max_latency_increase_plus1 b.max_latency_increase_plus1) (Decides-eqb a.max_num_reorder b.max_num_reorder) (Decides-eqb a.max_latency_increase_plus1 b.max_latency_increase_plus1))
+    (λ h. ap (λ m. limits_of m a.max_latency_increase_plus1 a.max_dec_pic_buffering_minus1) h.0.0 ∙ ap (λ n. limits_of b.max_num_reorder_pics n a.max_dec_pic_buffering_minus1) h.0.1 ∙ ap (λ k. limits_of b.max_num_reorder_pics b.max_latency_increase_plus1 k) h.1)
+    (λ h. ((ap (λ (l : Limits). l.max_num_reorder_pics) h, ap (λ (l : Limits). l.max_latency_increase_plus1) h), ap (λ (l : Limits). l.max_dec_pic_buffering_minus1) h))
+    (Decides-and (eqb a.max_num_reorder_pics b.max_num_reorder_pics && eqb a.max_latency_increase_plus1 b.max_latency_increase_plus1) (eqb a.max_dec_pic_buffering_minus1 b.max_dec_pic_buffering_minus1)
+    (Decides-and (eqb a.max_num_reorder_pics b.max_num_reorder_pics) (eqb a.max_latency_increase_plus1 b.max_latency_increase_plus1) (Decides-eqb a.max_num_reorder_pics b.max_num_reorder_pics) (Decides-eqb a.max_latency_increase_plus1 b.max_latency_increase_plus1))
     (Decides-eqb a.max_dec_pic_buffering_minus1 b.max_dec_pic_buffering_minus1))
 
 format-tells : (a b : Format) → Decides (same_format a b) (a ≡ b)
@@ -136,12 +136,12 @@ pub order-tells : (us : List Meaning) (q : Sequence) → Decides (keeps_order us
 order-tells us q = Decides-like (keeps_order us q)
     (λ h. record { limits = h.0.0.0.0.0.0; format = h.0.0.0.0.0.1; latency = h.0.0.0.0.1; room = h.0.0.0.1; next = h.0.0.1; distinct = h.0.1; few_precede = h.1 })
     (λ k. ((((((k.limits, k.format), k.latency), k.room), k.next), k.distinct), k.few_precede))
-    (six-tell (is_uniform q) (keeps_latency q) (have_room (stream us).first_set q.rest (q.first ∷ q.before)) (keeps_prior (earliest q.later)) (pairs_pass other_counts (pictures_for_output q)) (few_precede q.first.limits.max_num_reorder (pictures_for_output q))
-    (uniform-tells q) (latency-tells q) (rooms-tell (stream us).first_set q.rest (q.first ∷ q.before)) (prior-tells (earliest q.later)) (pairs-tell other_counts (λ a b. a.order_count ≢ b.order_count) counts-tell (pictures_for_output q)) (few-tells q.first.limits.max_num_reorder (pictures_for_output q)))
+    (six-tell (is_uniform q) (keeps_latency q) (have_room (stream us).first_set q.rest (q.first ∷ q.before)) (keeps_prior (earliest q.later)) (pairs_pass other_counts (pictures_for_output q)) (few_precede q.first.limits.max_num_reorder_pics (pictures_for_output q))
+    (uniform-tells q) (latency-tells q) (rooms-tell (stream us).first_set q.rest (q.first ∷ q.before)) (prior-tells (earliest q.later)) (pairs-tell other_counts (λ a b. a.order_count ≢ b.order_count) counts-tell (pictures_for_output q)) (few-tells q.first.limits.max_num_reorder_pics (pictures_for_output q)))
 
 pub bounds-tell : (us : List Meaning) (q : Sequence) → Decides (keeps_bounds us q) (KeepsBounds us q)
 bounds-tell us q = Decides-like (keeps_bounds us q)
     (λ h. record { limits = h.0.0.0.0.0.0; format = h.0.0.0.0.0.1; latency = h.0.0.0.0.1; room = h.0.0.0.1; next = h.0.0.1; distinct = h.0.1; few_precede = h.1 })
     (λ k. ((((((k.limits, k.format), k.latency), k.room), k.next), k.distinct), k.few_precede))
-    (six-tell (is_uniform q) (eqb q.first.limits.max_latency_increase_plus1 0) (never_full (stream us).first_set q.rest (q.first ∷ q.before)) (keeps_prior (earliest q.later)) (pairs_pass other_counts (pictures_of q)) (few_precede q.first.limits.max_num_reorder (pictures_for_output q))
-    (uniform-tells q) (Decides-eqb q.first.limits.max_latency_increase_plus1 0) (never-tells (stream us).first_set q.rest (q.first ∷ q.before)) (prior-tells (earliest q.later)) (pairs-tell other_counts (λ a b. a.order_count ≢ b.order_count) counts-tell (pictures_of q)) (few-tells q.first.limits.max_num_reorder (pictures_for_output q)))
+    (six-tell (is_uniform q) (eqb q.first.limits.max_latency_increase_plus1 0) (never_full (stream us).first_set q.rest (q.first ∷ q.before)) (keeps_prior (earliest q.later)) (pairs_pass other_counts (pictures_of q)) (few_precede q.first.limits.max_num_reorder_pics (pictures_for_output q))
+    (uniform-tells q) (Decides-eqb q.first.limits.max_latency_increase_plus1 0) (never-tells (stream us).first_set q.rest (q.first ∷ q.before)) (prior-tells (earliest q.later)) (pairs-tell other_counts (λ a b. a.order_count ≢ b.order_count) counts-tell (pictures_of q)) (few-tells q.first.limits.max_num_reorder_pics (pictures_for_output q)))

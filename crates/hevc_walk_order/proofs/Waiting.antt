@@ -215,7 +215,7 @@ abbrev pub late : Limits → Aged → Bool
 late limits a = nat_le (latency_pictures limits) a.1
 
 abbrev pub too_many : Limits → List Aged → Bool
-too_many limits ws = nat_lt limits.max_num_reorder (length ws)
+too_many limits ws = nat_lt limits.max_num_reorder_pics (length ws)
 
 abbrev pub too_late : Limits → List Aged → Bool
 too_late limits ws = nat_lt 0 limits.max_latency_increase_plus1 && list_any (late limits) ws
@@ -244,11 +244,11 @@ aged-late limits (e ∷ es) = by_test e.needed_for_output (aged-late limits es)
 pub rule-is : (limits : Limits) (es : Buffer) → needs_additional_bumping limits es ≡ is_due limits (aged es)
 unfolding needs_additional_bumping
 rule-is limits es =
-    ap (λ (n : ℕ). nat_lt limits.max_num_reorder n || (nat_lt 0 limits.max_latency_increase_plus1 && list_any (is_late limits) es)) (aged-count es)
+    ap (λ (n : ℕ). nat_lt limits.max_num_reorder_pics n || (nat_lt 0 limits.max_latency_increase_plus1 && list_any (is_late limits) es)) (aged-count es)
     ∙ ap (λ (t : Bool). too_many limits (aged es) || (nat_lt 0 limits.max_latency_increase_plus1 && t)) (aged-late limits es)
 
 pub due-nothing : (limits : Limits) → is_due limits [] ≡ false
-due-nothing limits = by_tests (nat_lt limits.max_num_reorder 0) (nat_lt 0 limits.max_latency_increase_plus1) (never limits.max_num_reorder)
+due-nothing limits = by_tests (nat_lt limits.max_num_reorder_pics 0) (nat_lt 0 limits.max_latency_increase_plus1) (never limits.max_num_reorder_pics)
   where
     never : (n : ℕ) → nat_lt n 0 ≡ false
     never n = grind (arith, nat_tests)

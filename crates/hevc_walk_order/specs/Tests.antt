@@ -8,7 +8,7 @@ use Rattle.hevc_walk_order.specs.Sequences.{Sequence, earliest, pictures_of, is_
 use Rattle.hevc_walk_order.specs.DisplayOrder.{latency_pictures, decoded_between, entries_before, needed_behind}
 
 abbrev pub same_limits : Limits → Limits → Bool
-same_limits a b = a.max_num_reorder == b.max_num_reorder && a.max_latency_increase_plus1 == b.max_latency_increase_plus1 && a.max_dec_pic_buffering_minus1 == b.max_dec_pic_buffering_minus1
+same_limits a b = a.max_num_reorder_pics == b.max_num_reorder_pics && a.max_latency_increase_plus1 == b.max_latency_increase_plus1 && a.max_dec_pic_buffering_minus1 == b.max_dec_pic_buffering_minus1
 
 -- a test of each element and each later one
 abbrev pub pairs_pass : {X : Type 0} → (X → X → Bool) → List X → Bool
@@ -51,8 +51,8 @@ is_uniform q = list_all (λ p. same_limits p.limits q.first.limits) q.rest && li
 
 -- the test of KeepsOrder
 abbrev pub keeps_order : List Meaning → Sequence → Bool
-keeps_order us q = is_uniform q && keeps_latency q && have_room (stream us).first_set q.rest (q.first ∷ q.before) && keeps_prior (earliest q.later) && pairs_pass other_counts (pictures_for_output q) && few_precede q.first.limits.max_num_reorder (pictures_for_output q)
+keeps_order us q = is_uniform q && keeps_latency q && have_room (stream us).first_set q.rest (q.first ∷ q.before) && keeps_prior (earliest q.later) && pairs_pass other_counts (pictures_for_output q) && few_precede q.first.limits.max_num_reorder_pics (pictures_for_output q)
 
 -- the test of KeepsBounds
 abbrev pub keeps_bounds : List Meaning → Sequence → Bool
-keeps_bounds us q = is_uniform q && q.first.limits.max_latency_increase_plus1 == 0 && never_full (stream us).first_set q.rest (q.first ∷ q.before) && keeps_prior (earliest q.later) && pairs_pass other_counts (pictures_of q) && few_precede q.first.limits.max_num_reorder (pictures_for_output q)
+keeps_bounds us q = is_uniform q && q.first.limits.max_latency_increase_plus1 == 0 && never_full (stream us).first_set q.rest (q.first ∷ q.before) && keeps_prior (earliest q.later) && pairs_pass other_counts (pictures_of q) && few_precede q.first.limits.max_num_reorder_pics (pictures_for_output q)

@@ -27,7 +27,7 @@ pub fn kept_order()
 /// An IDR picture, a P picture of order count 4, and I pictures of 2 and 1: two pictures precede the last and follow
 /// it in output order, where one is declared. It is output behind a picture of a greater order count.
 pub fn broken_order()
-    ensures breaks { All (λ q. FewPrecede q.first.limits.max_num_reorder (pictures_for_output q) → ⊥)
+    ensures breaks { All (λ q. FewPrecede q.first.limits.max_num_reorder_pics (pictures_for_output q) → ⊥)
         (sequences reordered_too_far) }
     ensures tested { map (keeps_order reordered_too_far) (sequences reordered_too_far)
         ≡ false ∷ [] }
@@ -52,7 +52,7 @@ pub fn kept_latency()
 pub fn broken_latency()
     ensures breaks { All (λ q. KeepsOrder (late_stream 1) q → ⊥) (sequences (late_stream 1)) }
     ensures tested { map (keeps_order (late_stream 1)) (sequences (late_stream 1)) ≡ false ∷ [] }
-    ensures few_precede { All (λ q. FewPrecede q.first.limits.max_num_reorder (pictures_for_output q))
+    ensures few_precede { All (λ q. FewPrecede q.first.limits.max_num_reorder_pics (pictures_for_output q))
         (sequences (late_stream 1)) }
     ensures counts { output_counts (late_stream 1)
         ≡ (pos 0 ∷ pos 2 ∷ pos 4 ∷ pos 3 ∷ pos 8 ∷ []) ∷ [] }
@@ -72,7 +72,7 @@ pub fn kept_room()
 pub fn broken_room()
     ensures breaks { All (λ q. KeepsOrder overfull_stream q → ⊥) (sequences overfull_stream) }
     ensures tested { map (keeps_order overfull_stream) (sequences overfull_stream) ≡ false ∷ [] }
-    ensures few_precede { All (λ q. FewPrecede q.first.limits.max_num_reorder (pictures_for_output q))
+    ensures few_precede { All (λ q. FewPrecede q.first.limits.max_num_reorder_pics (pictures_for_output q))
         (sequences overfull_stream) }
     ensures outputs { output overfull_stream
         ≡ (0, pos 0, 4) ∷ (2, pos 3, 5) ∷ (3, pos 1, 6) ∷ (1, pos 4, 6) ∷ [] }

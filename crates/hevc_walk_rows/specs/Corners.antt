@@ -13,7 +13,7 @@ sets = plain_sets plain_format
 
 -- the same with other limits
 abbrev pub limited : ℕ → ℕ → ℕ → NamedSets
-limited reorder latency_plus1 buffering = record sets { limits = record { max_num_reorder = reorder; max_latency_increase_plus1 = latency_plus1; max_dec_pic_buffering_minus1 = buffering } }
+limited reorder latency_plus1 buffering = record sets { limits = record { max_num_reorder_pics = reorder; max_latency_increase_plus1 = latency_plus1; max_dec_pic_buffering_minus1 = buffering } }
 
 -- an I slice of a picture of this type and these low bits that refers to nothing
 abbrev pub intra : ℕ → NamedSets → ℕ → Slice

@@ -22,7 +22,7 @@ tight_format = record plain_format { coded_width = 192; coded_height = 192; max_
 abbrev pub plain_sets : Format → NamedSets
 plain_sets format = record {
   format = format;
-  limits = record { max_num_reorder = 1; max_latency_increase_plus1 = 0; max_dec_pic_buffering_minus1 = 4 };
+  limits = record { max_num_reorder_pics = 1; max_latency_increase_plus1 = 0; max_dec_pic_buffering_minus1 = 4 };
   max_pic_order_cnt_lsb = 16;
   short_term_ref_pic_sets = [];
   pps_curr_pic_ref_enabled_flag = false;
@@ -30,7 +30,7 @@ plain_sets format = record {
 
 -- reordering that waits for more pictures than there is room for
 abbrev pub tight_sets : NamedSets
-tight_sets = record (plain_sets tight_format) { limits = record { max_num_reorder = 16; max_latency_increase_plus1 = 0; max_dec_pic_buffering_minus1 = 16 } }
+tight_sets = record (plain_sets tight_format) { limits = record { max_num_reorder_pics = 16; max_latency_increase_plus1 = 0; max_dec_pic_buffering_minus1 = 16 } }
 
 abbrev pub one_place : ListRule
 one_place = record { num_ref_idx_active = 1; list_entry = None }

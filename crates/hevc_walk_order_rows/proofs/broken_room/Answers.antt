@@ -22,7 +22,7 @@ returns-clause-verdict c = refl
 
 pub returns-clause-few_precede : goal.returns-clause-few_precede
 unfolding head order_count_in_range nearest due_outputs needs_additional_bumping needs_bumping with_stored reference_set with_marks ref_pic_list0 ref_pic_list1 finish store_picture change_format begin_picture make_room start_decoding
-returns-clause-few_precede c = All-from_recursion (λ q. FewPrecede q.first.limits.max_num_reorder (pictures_for_output q)) (sequences overfull_stream) ((few _ _ refl, (few _ _ refl, (few _ _ refl, (few _ _ refl, tt)))), tt)
+returns-clause-few_precede c = All-from_recursion (λ q. FewPrecede q.first.limits.max_num_reorder_pics (pictures_for_output q)) (sequences overfull_stream) ((few _ _ refl, (few _ _ refl, (few _ _ refl, (few _ _ refl, tt)))), tt)
 
 pub returns-clause-breaks : goal.returns-clause-breaks
 unfolding head order_count_in_range nearest due_outputs needs_additional_bumping needs_bumping with_stored reference_set with_marks ref_pic_list0 ref_pic_list1 finish store_picture change_format begin_picture make_room start_decoding
