@@ -12,7 +12,8 @@ use std::marker::Model;
 /// For how many bytes at least a read has room.
 const BLOCK: usize = 262_144;
 
-/// The bytes of a source that were read and not yet decoded. Their memory is used again, so it grows with the longest unit alone.
+/// The bytes of a source that were read and not yet decoded. Their memory is used again, so it grows with the most bytes between two
+/// start codes alone.
 #[derive(Drop)]
 pub(crate) struct Window {
     bytes: Vec<u8>,

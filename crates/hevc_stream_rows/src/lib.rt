@@ -10,7 +10,7 @@ ghost use Rattle.hevc_walk.specs.Refusals.{ChangedMidPicture, DpbFull};
 ghost use Rattle.hevc_walk.specs.Results.{calls, verdict};
 ghost use Rattle.hevc_stream.specs.Options.{default_options};
 ghost use Rattle.hevc_stream.specs.Stream.{meanings};
-ghost use Rattle.hevc_walk_rows.specs.Streams.{plain_format, deep_format, p4, cra, dependent, plain, encoded, crowded, leading, ended_by, equal_counts, without_reference, dependent_alone, dependent_behind, output, new_pictures, idr_bytes, p4_bytes, p2_bytes};
+ghost use Rattle.hevc_walk_rows.specs.Streams.{plain_format, deep_format, p4, cra, dependent, plain, encoded, crowded, leading, ended_by, equal_counts, without_reference, dependent_alone, dependent_behind, told_outputs, new_pictures, idr_bytes, p4_bytes, p2_bytes};
 ghost use Rattle.hevc_stream_rows.specs.Worked.{plain_stream, encoded_stream, waiting_stream, still_waiting_stream, read_later_stream, in_order_stream, cut_sets_stream, cut_set_stream, not_read_again_stream, read_again_stream, resized_stream, mid_picture_stream, crowded_stream, ends_early_stream, missing_set_stream, no_sets_yet_stream, truncated_stream, unspecified_stream, no_temporal_id_stream, end_cut_stream, many_sub_layers_stream, no_level_stream, long_latency_stream, leading_stream, sequence_ends_stream, bitstream_ends_stream, equal_counts_stream, without_reference_stream, dependent_alone_stream, dependent_behind_stream, before_sets_stream, cra_within_stream, sub_layers_stream, cut_pps_bytes, other_pps_bytes, idr_of, sets_then, waiting_behind, wide_format, later_idr_at_1, sub_layer_p2, handled, cra_as_bla, up_to};
 
 /// An IDR picture and two P pictures: what the units mean, and what the walk makes of it.
@@ -31,7 +31,7 @@ pub fn plain_pictures()
           }),
         )
         ∷ (4, DecodeSlice 2 0 p2_bytes (Some (DpbEntry 0) ∷ []) []) ∷ (5, SubmitPicture 2) ∷ [] }
-    ensures outputs { output (meanings default_options plain_stream)
+    ensures outputs { told_outputs (meanings default_options plain_stream)
         ≡ (0, pos 0, 4) ∷ (2, pos 2, 5) ∷ (1, pos 4, 5) ∷ [] }
     ensures verdict { verdict (meanings default_options plain_stream) ≡ Ok 3 }
 {}
@@ -39,7 +39,7 @@ pub fn plain_pictures()
 /// As an encoder writes it, with a video set, a message and a B slice, and a zero byte before each start code.
 pub fn encoder_stream()
     ensures encoded { meanings default_options encoded_stream ≡ encoded }
-    ensures outputs { output (meanings default_options encoded_stream)
+    ensures outputs { told_outputs (meanings default_options encoded_stream)
         ≡ (0, pos 0, 6) ∷ (2, pos 2, 7) ∷ (1, pos 4, 7) ∷ [] }
     ensures verdict { verdict (meanings default_options encoded_stream) ≡ Ok 3 }
 {}
@@ -84,7 +84,7 @@ pub fn changed_sizes()
     ensures mid_picture { meanings default_options mid_picture_stream
         ≡ sets_then plain_format
         (idr_of plain_format ∷ sets_then wide_format (later_idr_at_1 wide_format ∷ [])) }
-    ensures outputs { output (meanings default_options resized_stream)
+    ensures outputs { told_outputs (meanings default_options resized_stream)
         ≡ (0, pos 0, 5) ∷ (1, pos 0, 6) ∷ [] }
     ensures mid_picture_verdict { verdict (meanings default_options mid_picture_stream)
         ≡ Err (record { unit = 5; cause = ChangedMidPicture plain_format wide_format }) }
@@ -133,7 +133,7 @@ pub fn random_access()
     ensures sequence_ends { meanings default_options sequence_ends_stream ≡ ended_by EndOfSequence }
     ensures bitstream_ends { meanings default_options bitstream_ends_stream
         ≡ ended_by EndOfBitstream }
-    ensures outputs { output (meanings default_options leading_stream) ≡ (0, pos 8, 6) ∷ [] }
+    ensures outputs { told_outputs (meanings default_options leading_stream) ≡ (0, pos 8, 6) ∷ [] }
 {}
 
 /// Pictures of one order count, and a P slice without a reference picture.
@@ -159,12 +159,12 @@ pub fn options()
         ≡ sets_then plain_format (idr_of plain_format ∷ p4 ∷ Other ∷ []) }
     ensures with_sub_layer { meanings (up_to 1) sub_layers_stream
         ≡ sets_then plain_format (idr_of plain_format ∷ p4 ∷ CodedSlice sub_layer_p2 ∷ []) }
-    ensures as_cra_outputs { output (meanings default_options cra_within_stream)
+    ensures as_cra_outputs { told_outputs (meanings default_options cra_within_stream)
         ≡ (0, pos 0, 4) ∷ (1, pos 4, 5) ∷ (2, pos 8, 5) ∷ [] }
-    ensures as_bla_outputs { output (meanings cra_as_bla cra_within_stream)
+    ensures as_bla_outputs { told_outputs (meanings cra_as_bla cra_within_stream)
         ≡ (0, pos 0, 4) ∷ (2, pos 8, 5) ∷ [] }
     ensures as_bla_verdict { verdict (meanings cra_as_bla cra_within_stream) ≡ Ok 3 }
-    ensures lowest_outputs { output (meanings (up_to 0) sub_layers_stream)
+    ensures lowest_outputs { told_outputs (meanings (up_to 0) sub_layers_stream)
         ≡ (0, pos 0, 5) ∷ (1, pos 4, 5) ∷ [] }
     ensures lowest_verdict { verdict (meanings (up_to 0) sub_layers_stream) ≡ Ok 2 }
     ensures with_sub_layer_pictures { new_pictures (meanings (up_to 1) sub_layers_stream)

@@ -3,7 +3,7 @@
 
 ghost use Rattle.std.specs.Prelude.{◌≡◌, pos, List, [], ◌∷◌, All, Ok, map, true, false};
 ghost use Rattle.hevc_walk.specs.Results.{verdict};
-ghost use Rattle.hevc_walk_rows.specs.Streams.{output};
+ghost use Rattle.hevc_walk_rows.specs.Streams.{told_outputs};
 ghost use Rattle.hevc_walk_order.specs.Sequences.{Sequence, sequences, pictures_for_output};
 ghost use Rattle.hevc_walk_order.specs.DisplayOrder.{KeepsOrder, FewPrecede};
 ghost use Rattle.hevc_walk_order.specs.Bounds.{KeepsBounds};
@@ -17,7 +17,7 @@ pub fn kept_order()
     ensures keeps { All (KeepsOrder two_sequences) (sequences two_sequences) }
     ensures bounds { All (KeepsBounds two_sequences) (sequences two_sequences) }
     ensures tested { map (keeps_order two_sequences) (sequences two_sequences) ≡ true ∷ true ∷ [] }
-    ensures outputs { output two_sequences
+    ensures outputs { told_outputs two_sequences
         ≡ (1, pos 2, 4) ∷ (0, pos 4, 4) ∷ (2, pos 0, 6) ∷ (4, pos 2, 7) ∷ (3, pos 4, 7) ∷ [] }
     ensures counts { output_counts two_sequences
         ≡ (pos 0 ∷ pos 2 ∷ pos 4 ∷ []) ∷ (pos 2 ∷ pos 4 ∷ []) ∷ [] }
@@ -31,7 +31,7 @@ pub fn broken_order()
         (sequences reordered_too_far) }
     ensures tested { map (keeps_order reordered_too_far) (sequences reordered_too_far)
         ≡ false ∷ [] }
-    ensures outputs { output reordered_too_far
+    ensures outputs { told_outputs reordered_too_far
         ≡ (0, pos 0, 4) ∷ (2, pos 2, 5) ∷ (3, pos 1, 6) ∷ (1, pos 4, 6) ∷ [] }
     ensures verdict { verdict reordered_too_far ≡ Ok 4 }
 {}
@@ -64,7 +64,7 @@ pub fn kept_room()
     ensures keeps { All (KeepsOrder full_stream) (sequences full_stream) }
     ensures tested { map (keeps_order full_stream) (sequences full_stream) ≡ true ∷ [] }
     ensures no_bounds { map (keeps_bounds full_stream) (sequences full_stream) ≡ false ∷ [] }
-    ensures outputs { output full_stream ≡ (0, pos 0, 4) ∷ (1, pos 1, 5) ∷ (2, pos 2, 5) ∷ [] }
+    ensures outputs { told_outputs full_stream ≡ (0, pos 0, 4) ∷ (1, pos 1, 5) ∷ (2, pos 2, 5) ∷ [] }
     ensures verdict { verdict full_stream ≡ Ok 3 }
 {}
 
@@ -74,7 +74,7 @@ pub fn broken_room()
     ensures tested { map (keeps_order overfull_stream) (sequences overfull_stream) ≡ false ∷ [] }
     ensures few_precede { All (λ q. FewPrecede q.first.limits.max_num_reorder_pics (pictures_for_output q))
         (sequences overfull_stream) }
-    ensures outputs { output overfull_stream
+    ensures outputs { told_outputs overfull_stream
         ≡ (0, pos 0, 4) ∷ (2, pos 3, 5) ∷ (3, pos 1, 6) ∷ (1, pos 4, 6) ∷ [] }
     ensures verdict { verdict overfull_stream ≡ Ok 4 }
 {}

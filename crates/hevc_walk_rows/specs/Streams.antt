@@ -183,8 +183,8 @@ abbrev pub deeper_mid_picture : List Meaning
 deeper_mid_picture = SequenceSet plain_format ∷ Other ∷ idr (plain_sets plain_format) ∷ SequenceSet deep_format ∷ Other ∷ later_idr (plain_sets deep_format) ∷ []
 
 -- number, order count and unit of each output
-abbrev pub output : List Meaning → List (ℕ × ℤ × ℕ)
-output us = map (λ o. (o.number, o.order_count, o.unit)) (outputs us)
+abbrev pub told_outputs : List Meaning → List (ℕ × ℤ × ℕ)
+told_outputs us = map (λ o. (o.number, o.order_count, o.unit)) (outputs us)
 
 abbrev pub slices_in : List (ℕ × Call) → List (ℕ × List (Option RefPicListEntry) × List (Option RefPicListEntry))
 slices_in [] = []

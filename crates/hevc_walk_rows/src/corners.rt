@@ -8,7 +8,7 @@ ghost use Rattle.hevc_walk.specs.Walk.{NewSequence, NewPicture, BeginPicture, De
 ghost use Rattle.hevc_walk.specs.Refusals.{UnitRefused, NoIndependentSlice, PocOutOfRange};
 ghost use Rattle.hevc_walk.specs.Results.{calls, verdict};
 ghost use Rattle.hevc_walk.specs.Fates.{Skipped, Hidden, Discarded, ForOutput};
-ghost use Rattle.hevc_walk_rows.specs.Streams.{plain_format, deep_format, output, slice_lists, new_pictures, idr_bytes, p4_bytes};
+ghost use Rattle.hevc_walk_rows.specs.Streams.{plain_format, deep_format, told_outputs, slice_lists, new_pictures, idr_bytes, p4_bytes};
 ghost use Rattle.hevc_walk_rows.specs.Corners.{long_terms, screen, latent, roomless, unneeded, without_prior, with_prior, rasl_first, tid0, broken_link, open_gop, handled_cra, handled_rasl, dependent_p, other_set, fewer_sets, far_count, refused_slice, set_of_sps, reference_sets, fates};
 
 /// Long-term pictures are found before short-term ones, by their low bits or by their whole order count, and what no list
@@ -53,27 +53,27 @@ pub fn current_picture()
 
 /// A picture is output once as many were stored behind it as SpsMaxLatencyPictures says, hidden ones too.
 pub fn latency()
-    ensures outputs { output latent ≡ (0, pos 0, 6) ∷ [] }
+    ensures outputs { told_outputs latent ≡ (0, pos 0, 6) ∷ [] }
     ensures fates { fates latent ≡ Hidden ∷ Hidden ∷ Hidden ∷ Hidden ∷ ForOutput ∷ [] }
 {}
 
 /// Pictures are output before one is decoded, until the buffer has room; those that aren't needed leave first.
 pub fn room()
-    ensures bumped { output roomless ≡ (0, pos 0, 4) ∷ (2, pos 2, 5) ∷ (1, pos 4, 5) ∷ [] }
-    ensures left { output unneeded ≡ (0, pos 0, 5) ∷ (2, pos 2, 5) ∷ [] }
+    ensures bumped { told_outputs roomless ≡ (0, pos 0, 4) ∷ (2, pos 2, 5) ∷ (1, pos 4, 5) ∷ [] }
+    ensures left { told_outputs unneeded ≡ (0, pos 0, 5) ∷ (2, pos 2, 5) ∷ [] }
 {}
 
 /// An IDR picture discards what waits where its flag says so.
 pub fn prior_pictures()
-    ensures without { output without_prior ≡ (0, pos 0, 4) ∷ (2, pos 0, 5) ∷ [] }
+    ensures without { told_outputs without_prior ≡ (0, pos 0, 4) ∷ (2, pos 0, 5) ∷ [] }
     ensures without_fates { fates without_prior ≡ ForOutput ∷ Discarded ∷ ForOutput ∷ [] }
-    ensures with_them { output with_prior ≡ (0, pos 0, 4) ∷ (1, pos 4, 4) ∷ (2, pos 0, 5) ∷ [] }
+    ensures with_them { told_outputs with_prior ≡ (0, pos 0, 4) ∷ (1, pos 4, 4) ∷ (2, pos 0, 5) ∷ [] }
 {}
 
 /// RASL pictures before any IRAP picture are decoded; the first one isn't output.
 pub fn leading_alone()
     ensures pictures { new_pictures rasl_first ≡ (0, 9, pos 6, false) ∷ (1, 9, pos 4, true) ∷ [] }
-    ensures outputs { output rasl_first ≡ (1, pos 4, 4) ∷ [] }
+    ensures outputs { told_outputs rasl_first ≡ (1, pos 4, 4) ∷ [] }
 {}
 
 /// Order counts are taken from the latest picture of temporal id 0 that is no leading and no sub-layer non-reference one.
@@ -85,7 +85,7 @@ pub fn earlier_pictures()
 
 /// At a BLA picture what waits is output, and its RASL pictures are skipped; those of a CRA picture within a sequence aren't.
 pub fn random_access()
-    ensures broken_link { output broken_link ≡ (0, pos 0, 4) ∷ (1, pos 4, 4) ∷ (2, pos 8, 6) ∷ [] }
+    ensures broken_link { told_outputs broken_link ≡ (0, pos 0, 4) ∷ (1, pos 4, 4) ∷ (2, pos 8, 6) ∷ [] }
     ensures skipped { fates broken_link ≡ Skipped ∷ ForOutput ∷ ForOutput ∷ ForOutput ∷ [] }
     ensures open_gop { new_pictures open_gop
         ≡ (0, 19, pos 0, true) ∷ (1, 21, pos 8, true) ∷ (2, 9, pos 6, true) ∷ [] }
@@ -122,7 +122,7 @@ pub fn far_counts()
         ∷ (2, NewPicture 0 19 (pos 0) true 0) ∷ (2, BeginPicture 0 no_references)
         ∷ (2, DecodeSlice 0 0 idr_bytes [] [])
         ∷ (3, SubmitPicture 0) ∷ (3, NewSequence deep_format) ∷ [] }
-    ensures outputs { output far_count ≡ (0, pos 0, 3) ∷ [] }
+    ensures outputs { told_outputs far_count ≡ (0, pos 0, 3) ∷ [] }
     ensures verdict { verdict far_count ≡ Err (record { unit = 3; cause = PocOutOfRange }) }
 {}
 
@@ -131,7 +131,7 @@ pub fn refused_units()
     ensures calls { calls refused_slice
         ≡ (0, NewSequence plain_format) ∷ (2, NewPicture 0 19 (pos 0) true 0) ∷
         (2, BeginPicture 0 no_references) ∷ (2, DecodeSlice 0 0 idr_bytes [] []) ∷ [] }
-    ensures outputs { output refused_slice ≡ [] }
+    ensures outputs { told_outputs refused_slice ≡ [] }
     ensures verdict { verdict refused_slice
         ≡ Err (record { unit = 3; cause = UnitRefused OutOfBits }) }
 {}

@@ -12,7 +12,7 @@ ghost use Rattle.hevc_walk.specs.Walk.{NewSequence, NewPicture, BeginPicture, De
 ghost use Rattle.hevc_walk.specs.Refusals.{NoIndependentSlice, ChangedMidPicture, DpbFull};
 ghost use Rattle.hevc_walk.specs.Results.{calls, calls_of_unit, so_far, verdict};
 ghost use Rattle.hevc_walk.specs.Meanings.{EndOfSequence, EndOfBitstream};
-ghost use Rattle.hevc_walk_rows.specs.Streams.{plain_format, deep_format, plain, leading, ended_by, equal_counts, without_reference, encoded, dependent_alone, dependent_behind, crowded, crowded_refused, waiting, three_waiting, deeper, deeper_without_prior, deeper_mid_picture, output, slice_lists, new_pictures, idr_bytes, p4_bytes, p2_bytes, dependent_bytes};
+ghost use Rattle.hevc_walk_rows.specs.Streams.{plain_format, deep_format, plain, leading, ended_by, equal_counts, without_reference, encoded, dependent_alone, dependent_behind, crowded, crowded_refused, waiting, three_waiting, deeper, deeper_without_prior, deeper_mid_picture, told_outputs, slice_lists, new_pictures, idr_bytes, p4_bytes, p2_bytes, dependent_bytes};
 
 /// An IDR picture and two P pictures, the second between the first two in output order.
 pub fn plain_stream()
@@ -34,7 +34,7 @@ pub fn plain_stream()
         )
         ∷ (4, DecodeSlice 2 0 p2_bytes (Some (DpbEntry 0) ∷ []) [])
         ∷ (5, SubmitPicture 2) ∷ [] }
-    ensures outputs { output plain ≡ (0, pos 0, 4) ∷ (2, pos 2, 5) ∷ (1, pos 4, 5) ∷ [] }
+    ensures outputs { told_outputs plain ≡ (0, pos 0, 4) ∷ (2, pos 2, 5) ∷ (1, pos 4, 5) ∷ [] }
     ensures verdict { verdict plain ≡ Ok 3 }
 {}
 
@@ -42,22 +42,22 @@ pub fn plain_stream()
 pub fn skipped_leading()
     ensures pictures { new_pictures leading ≡ (0, 21, pos 8, true) ∷ [] }
     ensures slices { slice_lists leading ≡ (0, [], []) ∷ [] }
-    ensures outputs { output leading ≡ (0, pos 8, 6) ∷ [] }
+    ensures outputs { told_outputs leading ≡ (0, pos 8, 6) ∷ [] }
     ensures verdict { verdict leading ≡ Ok 3 }
 {}
 
 /// A CRA picture behind an end of sequence discards what waits; behind an end of bitstream it doesn't.
 pub fn ends()
-    ensures sequence { output (ended_by EndOfSequence) ≡ (0, pos 0, 5) ∷ (2, pos 8, 6) ∷ [] }
+    ensures sequence { told_outputs (ended_by EndOfSequence) ≡ (0, pos 0, 5) ∷ (2, pos 8, 6) ∷ [] }
     ensures sequence_verdict { verdict (ended_by EndOfSequence) ≡ Ok 3 }
-    ensures bitstream { output (ended_by EndOfBitstream)
+    ensures bitstream { told_outputs (ended_by EndOfBitstream)
         ≡ (0, pos 0, 5) ∷ (1, pos 4, 5) ∷ (2, pos 8, 6) ∷ [] }
     ensures bitstream_verdict { verdict (ended_by EndOfBitstream) ≡ Ok 3 }
 {}
 
 /// Pictures of one order count are output in the order in which they were stored.
 pub fn ties()
-    ensures stream { output equal_counts ≡ (0, pos 0, 4) ∷ (1, pos 0, 4) ∷ [] }
+    ensures stream { told_outputs equal_counts ≡ (0, pos 0, 4) ∷ (1, pos 0, 4) ∷ [] }
     ensures verdict { verdict equal_counts ≡ Ok 2 }
     ensures drained { draining three_waiting
         ≡ record {
@@ -89,7 +89,7 @@ pub fn encoder_stream()
     ensures slices { slice_lists encoded
         ≡ (0, [], []) ∷ (1, Some (DpbEntry 0) ∷ [], []) ∷
         (2, Some (DpbEntry 0) ∷ [], Some (DpbEntry 1) ∷ []) ∷ [] }
-    ensures outputs { output encoded ≡ (0, pos 0, 6) ∷ (2, pos 2, 7) ∷ (1, pos 4, 7) ∷ [] }
+    ensures outputs { told_outputs encoded ≡ (0, pos 0, 6) ∷ (2, pos 2, 7) ∷ (1, pos 4, 7) ∷ [] }
     ensures verdict { verdict encoded ≡ Ok 3 }
 {}
 
@@ -102,7 +102,7 @@ pub fn dependent_slices()
         ∷ (2, NewPicture 0 19 (pos 0) true 0) ∷ (2, BeginPicture 0 no_references)
         ∷ (2, DecodeSlice 0 0 idr_bytes [] [])
         ∷ (3, DecodeSlice 0 0 dependent_bytes [] []) ∷ (4, SubmitPicture 0) ∷ [] }
-    ensures outputs { output dependent_behind ≡ (0, pos 0, 4) ∷ [] }
+    ensures outputs { told_outputs dependent_behind ≡ (0, pos 0, 4) ∷ [] }
     ensures verdict { verdict dependent_behind ≡ Ok 1 }
 {}
 
@@ -124,8 +124,8 @@ pub fn changed_depth()
         ∷ (5, NewPicture 1 19 (pos 0) true 0) ∷ (5, BeginPicture 1 no_references)
         ∷ (5, DecodeSlice 1 0 idr_bytes [] [])
         ∷ (6, SubmitPicture 1) ∷ [] }
-    ensures outputs { output deeper ≡ (0, pos 0, 5) ∷ (1, pos 0, 6) ∷ [] }
-    ensures without_prior { output deeper_without_prior
+    ensures outputs { told_outputs deeper ≡ (0, pos 0, 5) ∷ (1, pos 0, 6) ∷ [] }
+    ensures without_prior { told_outputs deeper_without_prior
         ≡ (0, pos 0, 6) ∷ (1, pos 4, 6) ∷ (2, pos 0, 7) ∷ [] }
     ensures mid_picture { verdict deeper_mid_picture
         ≡ Err (record { unit = 5; cause = ChangedMidPicture plain_format deep_format }) }

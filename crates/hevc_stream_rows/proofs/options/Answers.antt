@@ -6,7 +6,7 @@ use Rattle.hevc_walk.specs.ReferenceSets.{reference_set, with_marks}
 use Rattle.hevc_walk.specs.ReferenceLists.{ref_pic_list0, ref_pic_list1}
 use Rattle.hevc_walk.specs.Walk.{finish, store_picture, change_format, begin_picture, make_room, start_decoding}
 use Rattle.hevc_walk.specs.Results.{verdict}
-use Rattle.hevc_walk_rows.specs.Streams.{new_pictures, output}
+use Rattle.hevc_walk_rows.specs.Streams.{new_pictures, told_outputs}
 use Rattle.hevc_stream_rows.proofs.Computed.{computed}
 use Rattle.hevc_stream_rows.proofs.options.Goals as goal
 
@@ -24,11 +24,11 @@ returns-clause-with_sub_layer c = computed.with_sub_layer
 
 pub returns-clause-as_cra_outputs : goal.returns-clause-as_cra_outputs
 unfolding head order_count_in_range nearest due_outputs needs_additional_bumping needs_bumping with_stored reference_set with_marks ref_pic_list0 ref_pic_list1 finish store_picture change_format begin_picture make_room start_decoding
-returns-clause-as_cra_outputs c = ap output computed.as_cra
+returns-clause-as_cra_outputs c = ap told_outputs computed.as_cra
 
 pub returns-clause-as_bla_outputs : goal.returns-clause-as_bla_outputs
 unfolding head order_count_in_range nearest due_outputs needs_additional_bumping needs_bumping with_stored reference_set with_marks ref_pic_list0 ref_pic_list1 finish store_picture change_format begin_picture make_room start_decoding
-returns-clause-as_bla_outputs c = ap output computed.as_bla
+returns-clause-as_bla_outputs c = ap told_outputs computed.as_bla
 
 pub returns-clause-as_bla_verdict : goal.returns-clause-as_bla_verdict
 unfolding head order_count_in_range nearest due_outputs needs_additional_bumping needs_bumping with_stored reference_set with_marks ref_pic_list0 ref_pic_list1 finish store_picture change_format begin_picture make_room start_decoding
@@ -36,7 +36,7 @@ returns-clause-as_bla_verdict c = ap verdict computed.as_bla
 
 pub returns-clause-lowest_outputs : goal.returns-clause-lowest_outputs
 unfolding head order_count_in_range nearest due_outputs needs_additional_bumping needs_bumping with_stored reference_set with_marks ref_pic_list0 ref_pic_list1 finish store_picture change_format begin_picture make_room start_decoding
-returns-clause-lowest_outputs c = ap output computed.lowest
+returns-clause-lowest_outputs c = ap told_outputs computed.lowest
 
 pub returns-clause-lowest_verdict : goal.returns-clause-lowest_verdict
 unfolding head order_count_in_range nearest due_outputs needs_additional_bumping needs_bumping with_stored reference_set with_marks ref_pic_list0 ref_pic_list1 finish store_picture change_format begin_picture make_room start_decoding
