@@ -1,7 +1,7 @@
-"""Runs a program over streams that are made to cost more than they should, beside two plain streams, of small pictures and of larger
-ones, and prints the time for each byte and the peak memory of each, also as multiples of those of the plain streams.
+"""Runs a program over streams that are made to cost more than they should, beside two plain streams, of an encoder over a still picture
+and of larger pictures, and prints the time for each byte and the peak memory of each, also as multiples of those of the plain streams.
 
-hostile.py PROGRAM FOLDER [BYTES] [SECONDS] [KIND ..]
+hostile.py PROGRAM FOLDER [BYTES] [SECONDS] [KIND ..], where the folder has the encoder's stream, as still.h265
 
 Each kind is run over a quarter of BYTES and over BYTES, so that what isn't linear shows. A run is given up after SECONDS, and has at most
 8 GB of memory.
@@ -24,7 +24,7 @@ CRA = bytes.fromhex("2a01ae1e80")
 SKIPPED = bytes.fromhex("1201db3c80")
 END_OF_BITSTREAM = bytes.fromhex("4a01")
 MESSAGE = bytes.fromhex("4e01")
-PLAIN = ["plain, small pictures", "plain, larger pictures"]
+PLAIN = ["plain, still picture", "plain, larger pictures"]
 MEMORY = 8 << 30
 
 
@@ -98,8 +98,8 @@ OTHER_SETS = START + sequence_set(64, 64, 0) + START + sequence_set(64, 64, 1)
 
 # What each kind is made of: a front, and what is repeated behind it.
 KINDS = {
-    PLAIN[0]: repeated(b"".join(START + each for each in small_pictures()), behind_sets(IDR)),
     PLAIN[1]: repeated(START + IDR + data(676), behind_sets()),
+    "plain, smallest pictures": repeated(b"".join(START + each for each in small_pictures()), behind_sets(IDR)),
     "zeros": repeated(b"\0" * 1000),
     "start codes alone": repeated(START * 300),
     "units of one byte": repeated(START + b"\x26"),
@@ -159,7 +159,9 @@ def main():
     patience = float(sys.argv[4]) if len(sys.argv) > 4 else 120
     chosen = sys.argv[5:] or [kind for kind in KINDS if kind not in PLAIN]
     path = os.path.join(folder, "stream")
-    print("kind                           MB  status   ns/byte   x small  x larger   bytes/byte   x small  x larger")
+    with open(os.path.join(folder, "still.h265"), "rb") as still:
+        KINDS[PLAIN[0]] = repeated(still.read())
+    print("kind                           MB  status   ns/byte   x still  x larger   bytes/byte   x still  x larger")
     plain = {}
     for kind in [*PLAIN, *chosen]:
         for part in (total // 4, total):
@@ -174,7 +176,7 @@ def main():
             ]
             mark = "   above 10" if max(ratios[0][0], ratios[1][0]) > 10 or status is None else ""
             told = "-" if status is None else status
-            times, rooms = (f"{figure:{width}.2f} {small:9.2f} {larger:9.2f}" for figure, width, (small, larger) in zip(figures, (9, 12), ratios))
+            times, rooms = (f"{figure:{width}.2f} {still:9.2f} {larger:9.2f}" for figure, width, (still, larger) in zip(figures, (9, 12), ratios))
             print(f"{kind:25} {size / 1e6:8.1f} {told:>7} {times} {rooms}{mark}", flush=True)
             os.remove(path)
 

@@ -19,7 +19,7 @@ abbrev pub Logs : {T X : Type 0} → Option (List X) → Option (List X) → Res
 Logs before now (Ok value) call = now ≡ logged before (call value ∷ [])
 Logs before now (Err error) call = now ≡ before
 
--- the count has not fallen, and has risen or stands at its last value
+-- the count is no lower, and is higher unless it was at its greatest value
 abbrev pub Counted : ℕ → ℕ → Type 0
 Counted before now = (before ≤ now) × Rose before now
 

@@ -11,7 +11,7 @@ TakesBit (Ok b) old new = bits old ≡ b ∷ bits new
 TakesBit (Err OutOfBits) old new = (bits old ≡ []) × (new ≡ old)
 TakesBit (Err OutOfRange) old new = ⊥
 
--- The result is what was found, and the reader stands behind it. A refused read leaves the reader as it was.
+-- The result is what was found, and the reader stands behind it; on a refusal the reader hasn't moved.
 abbrev pub Finds : {X : Type 0} → (X → ℕ) → Result X BitError → Place → Place → Found → Type 0
 Finds value (Ok x) old new f = f ≡ found (value x) (bits new)
 Finds value (Err OutOfBits) old new f = (f ≡ ended) × (new ≡ old)

@@ -11,7 +11,7 @@ use crate::word::Word;
 use std::marker::Model;
 
 /// A reader of the payload bits of a byte slice: its bits, most significant first, without each 03 that stands directly
-/// behind two zero bytes (7.3.1.1). A refused read leaves the reader as it was.
+/// behind two zero bytes (7.3.1.1). A read that is refused doesn't move the reader.
 #[derive(Drop)]
 pub struct NaluReader<'a> {
     word: Word<'a>,
@@ -209,7 +209,7 @@ impl<'a> NaluReader<'a> {
         false
     }
 
-    /// Whether a one stands behind the next bit in the loaded byte, or a byte that isn't 0 behind that.
+    /// Whether the loaded byte has a one after its next bit, or a byte that isn't 0 follows it.
     fn holds_more(&self) -> bool
         requires { 0 < length self.now.loaded }
         ensures { result ≡ has_more self.now }

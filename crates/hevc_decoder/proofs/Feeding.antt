@@ -1,6 +1,7 @@
 -- A stream that comes in pieces, cut before start codes, is taken as the whole is.
 use Rattle.std.proofs.Common.{◌≡◌, inl, inr, ◌⊎◌, ℕ, ◌+◌, ◌≤◌, true, List, [], ◌∷◌, ◌++◌, take, drop, length, refl, sym, ◌∙◌, ap, subst, append_assoc, append-nil, map, Option, Some, None, Result, Ok, Err, IfErr, IfSome}
 use Rattle.std.proofs.lemmas.List.{take-append-drop}
+use Rattle.hevc_bits.proofs.StartCodes.{begins_at}
 use Rattle.hevc_spec.specs.Units.{NalUnit, begins_with_start_code, units_at, units_from, kept_bytes, units}
 use Rattle.std.specs.Io.KnownBytes.{Consumes, IsAtEnd}
 use Rattle.std.proofs.KnownBytes.{Consumes-trans}
@@ -21,6 +22,7 @@ use Rattle.hevc_decoder.specs.Headline.{Appended, IsFront}
 use Rattle.hevc_decoder.specs.Scenes.{Scene, trail_of}
 use Rattle.hevc_decoder.specs.Runs.{Reached, TakesPiece, EndsRun, Ended}
 use Rattle.hevc_decoder.specs.Sources.{ComeOutFirst, Drained, Fed, Stopped, FedTo}
+use Rattle.hevc_decoder.specs.Windows.{EndsBehind, IsLastStart}
 use Rattle.hevc_decoder.proofs.Cutting.{units_joined, units_moved}
 use Rattle.hevc_decoder.proofs.Running.{events_are}
 use Rattle.hevc_decoder.proofs.Promises.{outputs_of}
@@ -105,15 +107,15 @@ module _ {B H : Type 0} (o : Options) (given xs ys : List ℕ) (first : ℕ) (be
   fed_on (Ok next) takes = taken next takes
   fed_on (Err refused) takes = stopped refused takes
 
-may_be_cut : (n : ℕ) (bytes : List ℕ) → (n ≡ 0) ⊎ (begins_with_start_code (drop n bytes) ≡ true) → MayBeCut (take n bytes) (drop n bytes)
-may_be_cut n bytes (inl none) = inl (subst (λ (m : ℕ). take m bytes ≡ []) (sym none) refl)
-may_be_cut n bytes (inr e) = inr e
+may_be_cut : (seen n : ℕ) (bytes : List ℕ) → (n ≡ 0) ⊎ EndsBehind bytes seen n → MayBeCut (take n bytes) (drop n bytes)
+may_be_cut seen n bytes (inl none) = inl (subst (λ (m : ℕ). take m bytes ≡ []) (sym none) refl)
+may_be_cut seen n bytes (inr ends) = inr (begins_at bytes n ends.1)
 
 -- the units of the first so many bytes of the window
-pub window_fed : {B H : Type 0} (o : Options) (given window : List ℕ) (first n : ℕ) (begin old new : Scene B H) → (n ≡ 0) ⊎ (begins_with_start_code (drop n window) ≡ true) → Fed o given window first begin old
+pub window_fed : {B H : Type 0} (o : Options) (given window : List ℕ) (first seen n : ℕ) (begin old new : Scene B H) → IsLastStart window seen n → Fed o given window first begin old
     → (r : Result ℕ Refused) → TakesPiece r o first (units (take n window)) old new → FedTo r o given (drop n window) begin new
-window_fed o given window first n begin old new cut x =
-    fed_on o given (take n window) (drop n window) first begin old new (may_be_cut n window cut) (subst (λ (bytes : List ℕ). Fed o given bytes first begin old) (sym (take-append-drop n window)) x)
+window_fed o given window first seen n begin old new last x =
+    fed_on o given (take n window) (drop n window) first begin old new (may_be_cut seen n window last.0) (subst (λ (bytes : List ℕ). Fed o given bytes first begin old) (sym (take-append-drop n window)) x)
 
 -- the last units
 pub fed_whole : {B H : Type 0} (o : Options) (given window : List ℕ) (first : ℕ) (begin old new : Scene B H) (r : Result ℕ Refused) → Fed o given window first begin old → EndsRun r o first (units window) old new

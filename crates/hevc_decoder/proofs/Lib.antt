@@ -13,3 +13,4 @@ pub mod Headers
 pub mod Walking
 pub mod Cutting
 pub mod Feeding
+pub mod Windows

@@ -6,3 +6,4 @@ pub mod Gives
 pub mod Takes
 pub mod Runs
 pub mod Sources
+pub mod Windows

@@ -9,6 +9,7 @@ ghost use Rattle.hevc_stateless.specs.Views.{at_beginning};
 ghost use Rattle.hevc_decoder.specs.Answers.{without_unit};
 ghost use Rattle.hevc_decoder.specs.Scenes.{scene, trail_of};
 ghost use Rattle.hevc_decoder.specs.Sources.{ComeOutFirst, Drained, FedTo, FeedsOn};
+ghost use Rattle.hevc_decoder.specs.Windows.{HasOneUnit, HasOneUnitIn};
 
 use crate::decoded::{Refused, Shown};
 use crate::units::{take_last, take_piece};
@@ -18,7 +19,7 @@ use hevc_stateless::{StatelessDecoder, StatelessH265DecoderBackend};
 use std::alloc::Global;
 
 /// Takes the units of the window that are whole, and gives the number of the next one. Of the window `seen` bytes were looked through
-/// before.
+/// before; no more than one unit is left in it.
 fn take_whole<B: StatelessH265DecoderBackend>(
     decoder: &mut StatelessDecoder<B>,
     window: &mut Window,
@@ -27,6 +28,7 @@ fn take_whole<B: StatelessH265DecoderBackend>(
     shown: &mut Vec<Shown<B::Handle>>,
 ) -> Result<u64, Refused>
     requires short { unit + length window.old < 2 ^ 60 }
+    requires seen { HasOneUnitIn seen window.old }
     requires empty { (view_of decoder.old).queue ≡ [] }
     ensures empty { OnOk result ((view_of decoder.new).queue ≡ []) }
     ensures few { IfOk result (λ next. next + length window.new ≤ unit + length window.old) }
@@ -36,6 +38,7 @@ fn take_whole<B: StatelessH265DecoderBackend>(
         (B.is_faultless (view_of decoder.new).backend) (without_unit result) }
     ensures feeds { FeedsOn result (set_for decoder.old) unit window.old window.new
         (scene B.log decoder.old shown.old.items) (scene B.log decoder.new shown.new.items) }
+    ensures left { OnOk result (HasOneUnit window.new) }
     ensures options { set_for decoder.new ≡ set_for decoder.old }
 {
     let cut = whole_units(window.as_slice(), seen);
@@ -67,6 +70,7 @@ fn feed<B: StatelessH265DecoderBackend, S: Source>(
     ensures end { IfOk result (λ fed. OnOk fed (IsAtEnd (S.left source.new))) }
     ensures few { IfOk result (λ fed. IfOk fed
         (λ unit. unit + length window.new ≤ left.old)) }
+    ensures left { IfOk result (λ fed. OnOk fed (HasOneUnit window.new)) }
     ensures empty { IfOk result (λ fed. OnOk fed ((view_of decoder.new).queue ≡ [])) }
     ensures cause { IfOk result (λ fed. CountsErrors (B.counts (view_of decoder.old).backend)
         (B.counts (view_of decoder.new).backend) (without_unit fed)) }

@@ -1,8 +1,8 @@
 //! What was read of a source and isn't decoded yet.
 ghost use Rattle.std.specs.Prelude.{◌≡◌, ◌≤◌, ◌<◌, ◌+◌, ◌⊎◌, ◌++◌, [], ℕ, List, length, drop, true, IfOk, OnOk, OnErr, IsErrOf};
 ghost use Rattle.std.specs.Io.KnownBytes.{Consumes, IsAtEnd};
-ghost use Rattle.hevc_spec.specs.Units.{begins_with_start_code};
 ghost use Rattle.hevc_faults.specs.Faults.{Rose};
+ghost use Rattle.hevc_decoder.specs.Windows.{IsLastStart};
 
 use hevc_io::{InputError, Source};
 use memchr::memrchr;
@@ -124,7 +124,7 @@ impl Window {
 /// bytes, or 0 where there is none.
 pub(crate) fn whole_units(bytes: &[u8], seen: usize) -> usize
     ensures within { result ≤ length bytes.now }
-    ensures cut { (result ≡ 0) ⊎ (begins_with_start_code (drop result bytes.now) ≡ true) }
+    ensures last { IsLastStart bytes.now seen result }
 {
     let mut end = bytes.len();
     while end > seen {

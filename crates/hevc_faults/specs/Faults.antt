@@ -1,7 +1,7 @@
 -- Counts of faults, which never fall and stand still at the last value of a `u64`.
 use Rattle.std.specs.Prelude.{ℕ, ◌+◌, ◌-◌, ◌^◌, ◌≤◌, min, OnErr, Result}
 
--- the count has risen, or stands at its last value
+-- the count is higher now, or at the greatest value that it can have
 abbrev pub Rose : ℕ → ℕ → Type 0
 Rose before now = min (before + 1) (2 ^ 64 - 1) ≤ now
 

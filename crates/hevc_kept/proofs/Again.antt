@@ -1,10 +1,13 @@
 -- Units that wait can't be read for as long as the sequence sets that they name stay.
 use Rattle.std.proofs.Common.{◌≡◌, ℕ, Bool, true, false, List, [], ◌∷◌, ◌++◌, Option, Some, None, Ok, refl, ap, sym, subst, ◌∙◌, append_assoc, arith}
-use Rattle.std.specs.Prelude.{◌||◌, ◌&&◌, ◌==◌, fold, IfSome, option_to_list, if◌then◌else◌}
+use Rattle.std.specs.Prelude.{◌||◌, ◌&&◌, ◌==◌, min, fold, IfSome, option_to_list, if◌then◌else◌}
 use Rattle.std.specs.List.{list_all}
 use Rattle.std.proofs.lemmas.List.{append-nil}
+use Rattle.std.proofs.lemmas.List.Folds.{list_any-append}
 use Rattle.std.proofs.lemmas.Bool.Decides.{nat_tests}
-use Rattle.std.proofs.lemmas.Nat.Bits.{bit_at-zero}
+use Rattle.std.specs.Int.{bit_at}
+use Rattle.std.specs.Int.Bits.{bit_and}
+use Rattle.std.proofs.lemmas.Nat.Bits.{bit_at-zero, bit_at_and}
 use mathlib.Core.Path.{fun_ext}
 use Rattle.hevc_spec.specs.UnitHeader.{UnitHeader, unit_header}
 use Rattle.hevc_records.specs.Sps.{PlainSps}
@@ -16,7 +19,7 @@ use Rattle.hevc_stream.specs.Stream.{with_picture_set_unit, with_waited, with_al
 use Rattle.hevc_stream_laws.specs.UnitMeans.{spells, breaks_off, is_video_set, is_sequence_set, is_picture_set, is_slice_segment, ends_sequence, ends_bitstream, comes_first, is_other, Means, is_faulty, is_unwanted, is_wanted}
 use Rattle.hevc_stream_laws.proofs.OneContent.{means_content}
 use Rattle.hevc_stream_laws.proofs.KeptWell.{same_picture_set}
-use Rattle.hevc_kept.specs.Settled.{named_set, has_id, is_among, is_unread, is_settled}
+use Rattle.hevc_kept.specs.Settled.{named_set, has_id, is_none_or_among, is_id, is_named_by, names_no_other, is_among, is_unread, is_settled}
 use Rattle.hevc_kept.proofs.Named.{any_temporal_id}
 
 -- ---- tests
@@ -46,9 +49,65 @@ all_weaker : {A : Type 0} (p q : A → Bool) → ((x : A) → p x ≡ true → q
 all_weaker p q by [] e = refl
 all_weaker p q by (x ∷ xs) e = both (p x) (q x) (list_all p xs) (list_all q xs) (by x) (all_weaker p q by xs) e
 
+all_by_both : {A : Type 0} (p q r : A → Bool) → ((x : A) → p x ≡ true → q x ≡ true → r x ≡ true) → (xs : List A) → list_all p xs ≡ true → list_all q xs ≡ true → list_all r xs ≡ true
+all_by_both p q r by [] e f = refl
+all_by_both p q r by (x ∷ xs) e f =
+    let first = both_true (p x) (list_all p xs) e in
+    let second = both_true (q x) (list_all q xs) f in
+    rw (by x first.0 second.0) (all_by_both p q r by xs first.1 second.1)
+
 all_push : {A : Type 0} (p : A → Bool) (xs : List A) (x : A) → list_all p xs ≡ true → p x ≡ true → list_all p (xs ++ x ∷ []) ≡ true
 all_push p [] x all one = rw one refl
 all_push p (y ∷ xs) x all one = both (p y) (p y) (list_all p xs) (list_all p (xs ++ x ∷ [])) (λ e. e) (λ more. all_push p xs x more one) all
+
+-- ---- the ids that units name
+
+covered_by : (ids : ℕ) (units : List (List ℕ)) → ((k : ℕ) → is_named_by units k ≡ true → has_id ids k ≡ true) → list_all (names_no_other ids) units ≡ true
+covered_by ids [] all = refl
+covered_by ids (bytes ∷ units) all =
+    rw (first (named_set bytes) (λ k e. all k (or_left (is_id k (named_set bytes)) (is_named_by units k) e)))
+    (covered_by ids units (λ k e. all k (or_right (is_id k (named_set bytes)) (is_named_by units k) e)))
+  where
+    first : (o : Option ℕ) → ((k : ℕ) → is_id k o ≡ true → has_id ids k ≡ true) → is_none_or_among ids o ≡ true
+    first None is = refl
+    first (Some k) is = is k (grind (arith, nat_tests))
+
+-- the ids that units name
+pub covered_by_names : (ids : ℕ) (units : List (List ℕ)) → ((k : ℕ) → has_id ids k ≡ is_named_by units k) → list_all (names_no_other ids) units ≡ true
+covered_by_names ids units are = covered_by ids units (λ k e. are k ∙ e)
+
+-- the ids that units name, and one more unit
+pub one_more : (ids more : ℕ) (units : List (List ℕ)) (bytes : List ℕ) (named : Option ℕ) → named ≡ named_set bytes → ((k : ℕ) → has_id more k ≡ (is_id k named || has_id ids k)) → ((k : ℕ) → has_id ids k ≡ is_named_by units k)
+    → (k : ℕ) → has_id more k ≡ is_named_by (units ++ bytes ∷ []) k
+one_more ids more units bytes named is marks are k =
+    marks k ∙ ap (λ (b : Bool). is_id k named || b) (are k) ∙ ap (λ (o : Option ℕ). is_id k o || is_named_by units k) is
+    ∙ turned (is_id k (named_set bytes)) (is_named_by units k) ∙ sym (list_any-append (λ b. is_id k (named_set b)) units (bytes ∷ []))
+  where
+    turned : (a b : Bool) → (a || b) ≡ (b || (a || false))
+    turned true true = refl
+    turned true false = refl
+    turned false true = refl
+    turned false false = refl
+
+-- one more unit and its id, or none
+module _ (ids more : ℕ) (bytes : List ℕ) (marks : (k : ℕ) → has_id more k ≡ (is_id k (named_set bytes) || has_id ids k)) where
+  still_covered : (o : Option ℕ) → is_none_or_among ids o ≡ true → is_none_or_among more o ≡ true
+  still_covered None e = refl
+  still_covered (Some k) e = marks k ∙ or_right (is_id k (named_set bytes)) (has_id ids k) e
+
+  now_covered : (o : Option ℕ) → named_set bytes ≡ o → is_none_or_among more o ≡ true
+  now_covered None e = refl
+  now_covered (Some k) e =
+      let is : is_id k (named_set bytes) ≡ true = ap (is_id k) e ∙ grind (arith, nat_tests) in
+      marks k ∙ or_left (is_id k (named_set bytes)) (has_id ids k) is
+
+  pub covered_pushed : (units items : List (List ℕ)) (unit : List ℕ) (pushed : Bool) → list_all (names_no_other ids) units ≡ true → unit ≡ bytes
+      → items ≡ (if pushed then units ++ unit ∷ [] else units) → list_all (names_no_other more) items ≡ true
+  covered_pushed units items unit true all same to =
+      ap (list_all (names_no_other more)) (to ∙ ap (λ (u : List ℕ). units ++ u ∷ []) same)
+      ∙ all_push (names_no_other more) units bytes (all_weaker (names_no_other ids) (names_no_other more) (λ b. still_covered (named_set b)) units all) (now_covered (named_set bytes) refl)
+  covered_pushed units items unit false all same to =
+      ap (list_all (names_no_other more)) to ∙ all_weaker (names_no_other ids) (names_no_other more) (λ b. still_covered (named_set b)) units all
 
 -- ---- what can't be read
 
@@ -168,6 +227,25 @@ module _ (options : Options) where
   -- where no sequence set changed, all that wait can't be read
   all_unread : (kept : Kept) (units : List (List ℕ)) → list_all (is_settled 0 options kept) units ≡ true → list_all (unread_with kept) units ≡ true
   all_unread kept units all = all_weaker (is_settled 0 options kept) (unread_with kept) (λ bytes e. ap (λ (b : Bool). b || unread_with kept bytes) (sym (none_among (named_set bytes))) ∙ e) units all
+
+  -- where no sequence set changed that they name, it is as if none had changed
+  module _ (changed named : ℕ) (apart : bit_and changed named ≡ 0) (kept : Kept) where
+    not_among : (k : ℕ) → has_id named k ≡ true → has_id changed k ≡ false
+    not_among k e =
+        let second : bit_at named k ≡ 1 = grind (arith, nat_tests) in
+        let least : min (bit_at changed k) (bit_at named k) ≡ 0 = sym (bit_at_and changed named k) ∙ ap (λ (n : ℕ). bit_at n k) apart ∙ bit_at-zero k in
+        let first : bit_at changed k ≡ 0 = omega (arith, least, second) in
+        ap (λ (n : ℕ). n == 1) first
+
+    unnamed : (o : Option ℕ) → is_none_or_among named o ≡ true → is_among changed o ≡ false
+    unnamed None e = refl
+    unnamed (Some k) e = not_among k e
+
+    one_apart : (bytes : List ℕ) → is_settled changed options kept bytes ≡ true → names_no_other named bytes ≡ true → is_settled 0 options kept bytes ≡ true
+    one_apart bytes e c = or_right (is_among 0 (named_set bytes)) (unread_with kept bytes) (ap (λ (b : Bool). b || unread_with kept bytes) (sym (unnamed (named_set bytes) c)) ∙ e)
+
+    pub settled_apart : (units : List (List ℕ)) → list_all (is_settled changed options kept) units ≡ true → list_all (names_no_other named) units ≡ true → list_all (is_settled 0 options kept) units ≡ true
+    settled_apart units all covered = all_by_both (is_settled changed options kept) (names_no_other named) (is_settled 0 options kept) one_apart units all covered
 
   -- ---- all units that wait are tried once more
 

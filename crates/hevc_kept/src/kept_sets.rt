@@ -8,11 +8,11 @@ ghost use Rattle.hevc_stream.specs.Stream.{kept_behind, with_all_waited};
 ghost use Rattle.hevc_options.specs.Options.{options_of};
 ghost use Rattle.hevc_slice.specs.Kept.{kept_by};
 ghost use Rattle.hevc_kept.specs.CutUnits.{is_wanted};
-ghost use Rattle.hevc_kept.specs.Settled.{is_settled};
+ghost use Rattle.hevc_kept.specs.Settled.{names_no_other, is_settled};
 ghost use Rattle.hevc_kept.specs.Takes.{ReadsPictureSet};
 
-use crate::set_ids::{is_among, with_id};
-use crate::waiting_unit::WaitingUnit;
+use crate::set_ids::{is_among, with_id, with_named};
+use crate::waiting_unit::{WaitingUnit, named_by};
 use hevc_bits::{Nalu, NaluHeader};
 use hevc_options::Options;
 use hevc_sets::read_sps;
@@ -30,9 +30,12 @@ pub struct KeptSets {
     options: Options,
     parser: Parser,
     waiting: VecDeque<WaitingUnit>,
+    /// The ids of the sequence sets that units which wait name, and maybe more: a bit for each.
+    named: u16,
     /// The ids of the sequence sets that changed since all units that wait were tried: a bit for each.
     changed: u16,
     ghost wanted: { IsTrue (list_all (is_wanted options.highest_tid) waiting.items) },
+    ghost covered: { IsTrue (list_all (names_no_other named) waiting.items) },
     ghost settled: { IsTrue (list_all (is_settled changed (options_of options) (kept_by parser)) waiting.items) },
 }
 
@@ -50,6 +53,7 @@ impl KeptSets {
             options,
             parser: Parser::new(alloc),
             waiting: VecDeque::new(alloc),
+            named: 0,
             changed: 0,
         }
     }
@@ -117,7 +121,7 @@ impl KeptSets {
     }
 
     /// Tries all units that wait once more, in their order: each is read now and its set kept, or waits on. One whose sequence set is
-    /// as it was at the last try waits on unread, so where no sequence set changed, none is looked at.
+    /// as it was at the last try waits on unread, and where that holds of all, none is looked at.
     ///
     /// Errors: want of memory at some unit. The units before it were tried; it and those behind it wait on, in their order.
     pub fn read_waiting(&mut self) -> Result<(), AllocError>
@@ -127,15 +131,9 @@ impl KeptSets {
             (StopsReading (options_in self.old) (kept_of self.old) (kept_of self.new)) }
         ensures options { options_in self.new ≡ options_in self.old }
     {
-        if self.changed == 0 {
-            return Ok(());
-        }
-        let count = self.waiting.len();
-        for tried in 0..count {
-            if self.try_first().is_err() {
-                self.waiting.rotate_left(count - tried);
-                return Err(AllocError);
-            }
+        if self.changed & self.named != 0 {
+            self.try_all()?;
+            self.named = named_by(&self.waiting);
         }
         self.changed = 0;
         Ok(())
@@ -158,7 +156,27 @@ impl KeptSets {
         let _header = nalu.header();
         if !read_picture_set(&mut self.parser, nalu)? {
             let unit = WaitingUnit::copy_of(self.alloc, nalu)?;
+            self.named = with_named(self.named, unit.named());
             self.waiting.push_back(unit)?;
+        }
+        Ok(())
+    }
+
+    /// Looks at all units that wait, in their order, and tries those once more whose sequence set changed. On want of memory at some unit
+    /// it and those behind it wait on, in their order.
+    fn try_all(&mut self) -> Result<(), AllocError>
+        ensures tried { OnOk result
+            (kept_of self.new ≡ with_all_waited (options_in self.old) (kept_of self.old)) }
+        ensures stopped { OnErr result
+            (StopsReading (options_in self.old) (kept_of self.old) (kept_of self.new)) }
+        ensures options { options_in self.new ≡ options_in self.old }
+    {
+        let count = self.waiting.len();
+        for tried in 0..count {
+            if self.try_first().is_err() {
+                self.waiting.rotate_left(count - tried);
+                return Err(AllocError);
+            }
         }
         Ok(())
     }

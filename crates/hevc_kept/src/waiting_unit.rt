@@ -8,13 +8,15 @@ ghost use Rattle.hevc_bits.specs.FoundUnit.{bytes_of};
 ghost use Rattle.hevc_records.specs.Pps.{PlainPps};
 ghost use Rattle.hevc_tables.specs.PpsTable.{ids};
 ghost use Rattle.hevc_stream_laws.specs.KeptWell.{sequence_set_named_in};
-ghost use Rattle.hevc_kept.specs.Settled.{named_set};
+ghost use Rattle.hevc_kept.specs.Settled.{named_set, has_id, is_named_by};
 
+use crate::set_ids::with_named;
 use hevc_bits::{Nalu, NaluHeader, NaluReader};
 use hevc_elements::ParseError;
 use hevc_elements::rows::ue_u8;
 use hevc_spec::Row;
 use std::alloc::{AllocError, Global};
+use std::collections::VecDeque;
 use std::marker::Model;
 
 /// The unit of a picture set, kept behind a start code.
@@ -76,6 +78,17 @@ impl WaitingUnit {
     {
         self.named
     }
+}
+
+/// The ids of the sequence sets that units name: a bit for each.
+pub(crate) fn named_by(units: &VecDeque<WaitingUnit>) -> u16
+    ensures { (k : ℕ) → has_id result k ≡ is_named_by units.now.items k }
+{
+    let mut ids = 0;
+    for unit in units {
+        ids = with_named(ids, unit.named());
+    }
+    ids
 }
 
 /// The id of the sequence set that the payload of a picture set names, if it tells one that is allowed.

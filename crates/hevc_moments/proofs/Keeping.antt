@@ -24,6 +24,7 @@ use Rattle.hevc_tables.specs.SliceHeaderTable.{ActiveSets, active_sets, slice_se
 use Rattle.hevc_stream.specs.Contents.{Content, refused, video_set, sequence_set, picture_set, unread_picture_set, slice, end_of_sequence, end_of_bitstream, nothing, content_read, picture_set_read, content_by_type, content, coded_content}
 use Rattle.hevc_stream.specs.Stream.{with_picture_set_unit, with_waited, with_content, meaning_of, meaning, meanings_behind, kept_behind, kept_behind_all, with_all_waited}
 use Rattle.hevc_stateless.specs.States.{is_sequence_set, is_parameter_set}
+use Rattle.hevc_stateless.proofs.Coding.{isnt, segment_isnt}
 
 -- ---- one more unit
 
@@ -100,17 +101,10 @@ module _ (o : Options) (k : Kept) (bytes : List ℕ) (h : UnitHeader) (parsed : 
   unfolding content
   set_is_same set = rw parsed (wanted_or_not (nat_lt o.highest_tid (temporal_id h)) (by_type (h.nal_unit_type == 32) (h.nal_unit_type == 33) (h.nal_unit_type == 34) refl refl refl set))
 
-  isnt : (n : ℕ) → is_parameter_set h.nal_unit_type ≡ false → is_parameter_set n ≡ true → (h.nal_unit_type == n) ≡ false
-  isnt n p q = by (h.nal_unit_type == n) refl
-    where
-      by : (b : Bool) → (h.nal_unit_type == n) ≡ b → b ≡ false
-      by true e = let same : h.nal_unit_type ≡ n = grind (arith, nat_tests, e) in absurd (cc (sym p ∙ ap is_parameter_set same ∙ q))
-      by false e = refl
-
   -- any other means nothing before it
   pub other_is_nothing : is_parameter_set h.nal_unit_type ≡ false → k.has_sequence_set ≡ false → content o k bytes ≡ nothing
   unfolding content
-  other_is_nothing other none = rw (parsed, isnt 32 other refl, isnt 33 other refl, isnt 34 other refl, none) (by (nat_lt o.highest_tid (temporal_id h)))
+  other_is_nothing other none = rw (parsed, isnt h.nal_unit_type 32 other refl, isnt h.nal_unit_type 33 other refl, isnt h.nal_unit_type 34 other refl, none) (by (nat_lt o.highest_tid (temporal_id h)))
     where
       by : (b : Bool) → (if b then nothing else nothing) ≡ nothing
       by true = refl
@@ -190,11 +184,7 @@ module _ (o : Options) (k : Kept) (bytes : List ℕ) (h : UnitHeader) (parsed : 
   set_again (video_set set) is negotiated = absurd (cc (sym (ap (λ (c : Content). is_sequence_set (meaning_of o k bytes c)) (is k)) ∙ negotiated))
   set_again (picture_set set) is negotiated = absurd (cc (sym (ap (λ (c : Content). is_sequence_set (meaning_of o k bytes c)) (is k)) ∙ negotiated))
   set_again unread_picture_set is negotiated = absurd (cc (sym (ap (λ (c : Content). is_sequence_set (meaning_of o k bytes c)) (is k)) ∙ negotiated))
-  set_again (slice g segment) is negotiated = absurd (cc (sym (ap (λ (c : Content). is_sequence_set (meaning_of o k bytes c)) (is k) ∙ isnt (active_sets k.sequence_sets k.picture_sets segment.pic_parameter_set_id)) ∙ negotiated))
-    where
-      isnt : (sets : Option ActiveSets) → is_sequence_set (slice_segment_meaning o g bytes segment sets) ≡ false
-      isnt (Some sets) = refl
-      isnt None = refl
+  set_again (slice g segment) is negotiated = absurd (cc (sym (ap (λ (c : Content). is_sequence_set (meaning_of o k bytes c)) (is k) ∙ segment_isnt o bytes g segment (active_sets k.sequence_sets k.picture_sets segment.pic_parameter_set_id)) ∙ negotiated))
   set_again end_of_sequence is negotiated = absurd (cc (sym (ap (λ (c : Content). is_sequence_set (meaning_of o k bytes c)) (is k)) ∙ negotiated))
   set_again end_of_bitstream is negotiated = absurd (cc (sym (ap (λ (c : Content). is_sequence_set (meaning_of o k bytes c)) (is k)) ∙ negotiated))
   set_again nothing is negotiated = absurd (cc (sym (ap (λ (c : Content). is_sequence_set (meaning_of o k bytes c)) (is k)) ∙ negotiated))

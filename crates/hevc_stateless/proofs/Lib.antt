@@ -1,6 +1,6 @@
 mod Rooms
 mod Calling
-mod Coding
+pub mod Coding
 mod Flushing
 mod Passing
 mod Setting

@@ -42,8 +42,8 @@ pub(crate) struct Report {
 ///
 /// | status | where |
 /// |---|---|
-/// | 0 | all was read and written, and the stream was decoded |
-/// | 1 | all was read and written, and the stream was refused, with the cause in the last line of the report |
+/// | 0 | the report is written, and the stream was decoded to its end |
+/// | 1 | the report is written, and its last line tells why the stream was refused |
 /// | 2 | the words are no command; nothing is read or written |
 /// | 3 | the source failed; nothing is written |
 /// | 4 | the sink failed |

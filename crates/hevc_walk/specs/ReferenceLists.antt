@@ -35,7 +35,7 @@ entry_index (Some entries) i = get_or entries i 0
 abbrev pub list_places : ListRule → List (Option RefPicListEntry) → List (Option RefPicListEntry)
 list_places rule base = map (λ i. get_or base (entry_index rule.list_entry i % length base) None) (numbers_below rule.num_ref_idx_active)
 
--- the last place of list 0 is the current picture, where the list isn't changed and has no place for all
+-- an unchanged list 0 that has no place for all ends in the current picture
 abbrev pub with_current : Slice → List (Option RefPicListEntry) → List (Option RefPicListEntry)
 with_current s places = if s.pps_curr_pic_ref_enabled_flag && is_none s.list0.list_entry && nat_lt s.list0.num_ref_idx_active s.num_pic_total_curr then take (s.list0.num_ref_idx_active - 1) places ++ Some CurrentPicture ∷ [] else places
 

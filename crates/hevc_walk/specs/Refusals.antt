@@ -24,7 +24,7 @@ pub record Refusal : Type 0 where
 abbrev pub refusal_of_picture : Head → Option Cause
 refusal_of_picture p = if order_count_in_range p then None else Some PocOutOfRange
 
--- the refusal of a later slice: the accepted format is that of its picture (7.4.2.4.2)
+-- the refusal of a later slice, whose picture has the format that was accepted (7.4.2.4.2)
 abbrev pub refusal_of_later : Head → Slice → Option Cause
 refusal_of_later p s = if p.skipped || same_format p.format s.format then None else Some (ChangedMidPicture p.format s.format)
 
@@ -36,7 +36,7 @@ abbrev pub refusal_of_slice : List Picture → Option Slice → Option Cause
 refusal_of_slice before None = Some NoIndependentSlice
 refusal_of_slice before (Some s) = refusal_of_whole before s
 
--- the refusal of a unit behind units that have none
+-- why a unit is refused, where those before it aren't
 abbrev pub refusal : Stream → Meaning → Option Cause
 refusal v (CodedSlice s) = refusal_of_slice v.pictures (whole_slice v.kept s)
 refusal v (Refused cause) = Some (UnitRefused cause)

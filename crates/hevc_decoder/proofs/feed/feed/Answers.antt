@@ -7,6 +7,8 @@ use Rattle.hevc_stateless.specs.Decoders.{view_of, set_for}
 use Rattle.hevc_stateless.specs.Views.{View}
 use Rattle.hevc_decoder.specs.Scenes.{scene}
 use Rattle.hevc_decoder.specs.Sources.{Fed, FeedsOn}
+use Rattle.hevc_decoder.specs.Windows.{HasOneUnit, HasOneUnitIn}
+use Rattle.hevc_decoder.proofs.Windows.{one_seen}
 use Rattle.hevc_decoder.proofs.Feeding.{fed_first, fed_more, fed_front}
 use Rattle.hevc_decoder.proofs.feed.feed.Goals as goal
 
@@ -17,6 +19,7 @@ loop-count-init g c =
     let none = ap (λ (bytes : List ℕ). length bytes) c.requires.fresh in
     record {
       fed = ([], Consumes-nil (g.S.Source.left c.args.source.now), omega arith, subst (λ (window : List ℕ). Fed o [] window 0 now now) (sym c.requires.fresh) (fed_first o now (view_of c.args.decoder.now).backend c.requires.beginning c.requires.nothing));
+      one = subst (λ (window : List ℕ). HasOneUnit window) (sym c.requires.fresh) (λ place behind stands. absurd (omega (arith, stands.0)));
       few = omega (arith, none);
       empty = ap (λ (v : View g.row.B.Denot g.row.B-Handle.Denot). v.queue) c.requires.beginning;
       counts = refl;
@@ -59,6 +62,7 @@ loop-count-preserved g c =
     let feeds : FeedsOn (Ok c.in-Ok.next) o c.loop-count.unit c.read.new.self c.take_whole.new.window now new = subst (λ (p : Options). FeedsOn (Ok c.in-Ok.next) p c.loop-count.unit c.read.new.self c.take_whole.new.window now new) c.loop-count.invariant.options c.in-Ok.ensures.feeds in
     record {
       fed = (fed.0 ++ more.0, Consumes-trans _ _ _ _ _ fed.1 more.3, omega (arith, both, fed.2, more.2, c.if-count-left.false), feeds begin (fed.0 ++ more.0) there);
+      one = c.in-Ok.ensures.left;
       few = omega (arith, c.loop-count.invariant.few, c.in-Ok.ensures.few, c.in_ok-count.ensures.bound, c.if-count-left.false);
       empty = c.in-Ok.ensures.empty;
       counts = c.in-Ok.ensures.cause ∙ c.loop-count.invariant.counts;
@@ -80,3 +84,9 @@ returns-in-Err-clause-fed g c =
     let there : Fed o (fed.0 ++ more.0) c.read.new.self c.loop-count.unit begin now = subst (λ (window : List ℕ). Fed o (fed.0 ++ more.0) window c.loop-count.unit begin now) (sym more.1) (fed_more o fed.0 c.loop-count.window more.0 c.loop-count.unit begin now fed.3) in
     let feeds : FeedsOn (Err c.in-Err.refused) o c.loop-count.unit c.read.new.self c.take_whole.new.window now new = subst (λ (p : Options). FeedsOn (Err c.in-Err.refused) p c.loop-count.unit c.read.new.self c.take_whole.new.window now new) c.loop-count.invariant.options c.in-Err.ensures.feeds in
     (fed.0 ++ more.0, Consumes-trans _ _ _ _ _ fed.1 more.3, omega (arith, both, fed.2, more.2, c.if-count-left.false), feeds begin (fed.0 ++ more.0) there)
+
+pub take_whole-requires-clause-seen : goal.take_whole-requires-clause-seen
+take_whole-requires-clause-seen g c =
+    let more = c.in_ok-count.ensures.more in
+    let seen = one_seen c.loop-count.window more.0 c.loop-count.invariant.one in
+    subst (λ (n : ℕ). HasOneUnitIn n c.read.new.self) (sym c.len-seen.ensures) (subst (λ (window : List ℕ). HasOneUnitIn (length c.loop-count.window) window) (sym more.1) seen)

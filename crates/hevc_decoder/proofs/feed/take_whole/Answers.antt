@@ -1,11 +1,13 @@
-use Rattle.std.proofs.Common.{◌≡◌, ℕ, ◌⊎◌, true, List, take, drop, subst, sym, Ok, Err}
+use Rattle.std.proofs.Common.{ℕ, List, take, subst, sym, Ok, Err}
 use Rattle.std.proofs.lemmas.Result.{err_from_is_err_and}
-use Rattle.hevc_spec.specs.Units.{begins_with_start_code, units}
+use Rattle.hevc_spec.specs.Units.{units}
 use Rattle.hevc_stateless.specs.Decoders.{set_for}
 use Rattle.hevc_decoder.specs.Scenes.{scene}
 use Rattle.hevc_decoder.specs.Runs.{TakesPiece}
 use Rattle.hevc_decoder.specs.Sources.{Fed}
+use Rattle.hevc_decoder.specs.Windows.{HasOneUnit, IsLastStart}
 use Rattle.hevc_decoder.proofs.Feeding.{window_fed}
+use Rattle.hevc_decoder.proofs.Windows.{one_left}
 use Rattle.hevc_decoder.proofs.feed.take_whole.Goals as goal
 
 pub returns-in_err-next-clause-feeds : goal.returns-in_err-next-clause-feeds
@@ -17,9 +19,9 @@ returns-in_err-next-clause-feeds g c begin given x =
     let old = scene logs c.args.decoder.now c.args.shown.now.items in
     let new = scene logs c.take_piece.new.decoder c.take_piece.new.shown.items in
     let p = err_from_is_err_and c.from_residual.result c.from_residual.ensures.1 in
-    let cut : (n ≡ 0) ⊎ (begins_with_start_code (drop n window) ≡ true) = subst (λ (bytes : List ℕ). (n ≡ 0) ⊎ (begins_with_start_code (drop n bytes) ≡ true)) c.as_slice.ensures c.whole_units-cut.ensures.cut in
+    let last : IsLastStart window c.args.seen n = subst (λ (bytes : List ℕ). IsLastStart bytes c.args.seen n) c.as_slice.ensures c.whole_units-cut.ensures.last in
     let takes : TakesPiece (Err c.in_err-next.field-0.0) o c.args.unit (units (take n window)) old new = subst (λ (bytes : List ℕ). TakesPiece (Err c.in_err-next.field-0.0) o c.args.unit (units (take n bytes)) old new) c.as_slice-2.ensures c.in_err-next.ensures.takes in
-    rw (p.1, p.2) (window_fed o given window c.args.unit n begin old new cut x (Err c.in_err-next.field-0.0) takes)
+    rw (p.1, p.2) (window_fed o given window c.args.unit c.args.seen n begin old new last x (Err c.in_err-next.field-0.0) takes)
 
 pub returns-clause-feeds : goal.returns-clause-feeds
 returns-clause-feeds g c begin given x =
@@ -29,6 +31,13 @@ returns-clause-feeds g c begin given x =
     let n = c.whole_units-cut.result in
     let old = scene logs c.args.decoder.now c.args.shown.now.items in
     let new = scene logs c.take_piece.new.decoder c.take_piece.new.shown.items in
-    let cut : (n ≡ 0) ⊎ (begins_with_start_code (drop n window) ≡ true) = subst (λ (bytes : List ℕ). (n ≡ 0) ⊎ (begins_with_start_code (drop n bytes) ≡ true)) c.as_slice.ensures c.whole_units-cut.ensures.cut in
+    let last : IsLastStart window c.args.seen n = subst (λ (bytes : List ℕ). IsLastStart bytes c.args.seen n) c.as_slice.ensures c.whole_units-cut.ensures.last in
     let takes : TakesPiece (Ok c.in_ok-next.next) o c.args.unit (units (take n window)) old new = subst (λ (bytes : List ℕ). TakesPiece (Ok c.in_ok-next.next) o c.args.unit (units (take n bytes)) old new) c.as_slice-2.ensures c.in_ok-next.ensures.takes in
-    subst (λ (rest : List ℕ). Fed o given rest c.in_ok-next.next begin new) (sym c.drop_front.ensures) (window_fed o given window c.args.unit n begin old new cut x (Ok c.in_ok-next.next) takes)
+    subst (λ (rest : List ℕ). Fed o given rest c.in_ok-next.next begin new) (sym c.drop_front.ensures) (window_fed o given window c.args.unit c.args.seen n begin old new last x (Ok c.in_ok-next.next) takes)
+
+pub returns-clause-left : goal.returns-clause-left
+returns-clause-left g c =
+    let window = c.args.window.now in
+    let n = c.whole_units-cut.result in
+    let last : IsLastStart window c.args.seen n = subst (λ (bytes : List ℕ). IsLastStart bytes c.args.seen n) c.as_slice.ensures c.whole_units-cut.ensures.last in
+    subst (λ (rest : List ℕ). HasOneUnit rest) (sym c.drop_front.ensures) (one_left window c.args.seen n last c.requires.seen)

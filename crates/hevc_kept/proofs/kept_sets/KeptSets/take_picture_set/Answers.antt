@@ -1,11 +1,13 @@
-use Rattle.std.proofs.Common.{◌≡◌, ℕ, true, false, List, ◌++◌, ◌∷◌, [], ap, sym, ◌∙◌, rules}
+use Rattle.std.proofs.Common.{◌≡◌, ℕ, true, false, List, ◌++◌, ◌∷◌, [], ap, sym, subst, refl, Option, ◌∙◌, rules}
 use Rattle.std.specs.declared.alloc.AllocError.{AllocError}
 use Rattle.hevc_bits.specs.FoundUnit.{bytes_of}
 use Rattle.hevc_slice.specs.Kept.{kept_by}
 use Rattle.hevc_kept.specs.Kept.{kept_of, options_in}
 use Rattle.hevc_options.specs.Options.{options_of}
 use Rattle.std.specs.Result.{is_ok}
-use Rattle.hevc_kept.proofs.Again.{settled_by_sets, settled_pushed}
+use Rattle.std.specs.Prelude.{◌||◌}
+use Rattle.hevc_kept.specs.Settled.{has_id, is_id}
+use Rattle.hevc_kept.proofs.Again.{settled_by_sets, settled_pushed, covered_pushed}
 use Rattle.hevc_kept.proofs.CutAgain.{has_header}
 use Rattle.hevc_kept.proofs.Waiting.{waited_by}
 use Rattle.hevc_kept.proofs.Sets.{behind_read, behind_unread, behind_picture_set, unread_behind, sets_stay}
@@ -50,3 +52,10 @@ invariant_of-self-else-not-branch-clause-settled c =
     let old = kept_by c.args.self.now.parser in
     let new = kept_by c.read_picture_set.new.parser in
     settled_by_sets (options_of c.args.self.now.options) c.args.self.now.changed old new (sets_stay c.args.nalu.now.header (bytes_of c.args.nalu.now) c.read_picture_set.result old new c.read_picture_set.ensures) c.args.self.now.waiting.items c.args.self.now.settled
+
+pub invariant_of-self-then-not-branch-clause-covered : goal.invariant_of-self-then-not-branch-clause-covered
+invariant_of-self-then-not-branch-clause-covered c =
+    let self = c.args.self.now in
+    let unit = c.in_ok-unit.unit in
+    covered_pushed self.named c.with_named-self.result unit (subst (λ (id : Option ℕ). (k : ℕ) → has_id c.with_named-self.result k ≡ (is_id k id || has_id self.named k)) c.named.ensures.value c.with_named-self.ensures)
+    self.waiting.items c.push_back.new.self.items unit (is_ok c.push_back.result) self.covered refl c.push_back.ensures.items

@@ -1,7 +1,7 @@
 use Rattle.std.proofs.Common.{◌≡◌, ◌-◌, length}
 use Rattle.hevc_kept.specs.Kept.{kept_of, options_in}
 use Rattle.hevc_kept.proofs.Waiting.{IsUnderway}
-use Rattle.hevc_kept.proofs.kept_sets.KeptSets.read_waiting.Given as goal
+use Rattle.hevc_kept.proofs.kept_sets.KeptSets.try_all.Given as goal
 
 abbrev pub invariant-loop-tried : goal.invariant-loop-tried
 invariant-loop-tried l = record {
