@@ -22,7 +22,8 @@ use Rattle.hevc_decoder.specs.Headline.{Appended, IsFront}
 use Rattle.hevc_decoder.specs.Scenes.{Scene, trail_of}
 use Rattle.hevc_decoder.specs.Runs.{Reached, TakesPiece, EndsRun, Ended}
 use Rattle.hevc_decoder.specs.Sources.{ComeOutFirst, Drained, Fed, Stopped, FedTo}
-use Rattle.hevc_decoder.specs.Windows.{EndsBehind, IsLastStart}
+use Rattle.hevc_decoder.specs.Windows.{IsLastStart}
+use Rattle.hevc_decoder.proofs.Windows.{EndsBehind}
 use Rattle.hevc_decoder.proofs.Cutting.{units_joined, units_moved}
 use Rattle.hevc_decoder.proofs.Running.{events_are}
 use Rattle.hevc_decoder.proofs.Promises.{outputs_of}

@@ -1,13 +1,13 @@
 -- Where the last start code of a window stands.
 use Rattle.std.proofs.Common.{◌≡◌, ◌≤◌, ◌<◌, ◌+◌, ◌-◌, ℕ, Bool, true, false, List, ◌++◌, take, drop, get_or, length, refl, sym, ap, subst, ◌∙◌, arith}
-use Rattle.std.specs.Prelude.{nat_le, ◌==◌}
+use Rattle.std.specs.Prelude.{◌⊎◌, nat_le, ◌==◌}
 use Rattle.std.proofs.lemmas.Bool.{eqb-true}
 use Rattle.std.proofs.lemmas.Bool.Decides.{nat_tests}
 use Rattle.std.proofs.lemmas.List.{get_or-drop, get_or-take, length-take}
 use Rattle.std.proofs.Math.ListN.{length-drop, get_or-append}
 use Rattle.memchr.specs.Find.{Nowhere, Passes, is_byte}
-use Rattle.hevc_bits.specs.StartCode.{StandsAt}
-use Rattle.hevc_decoder.specs.Windows.{EndsBehind, IsLastStart, HasOneUnitIn, HasOneUnit}
+use Rattle.hevc_bits.specs.StartCode.{StandsAt, NoneStands}
+use Rattle.hevc_decoder.specs.Windows.{IsLastStart}
 
 -- the bytes of a window from one place to another
 abbrev part : List ℕ → (from to : ℕ) → List ℕ
@@ -19,6 +19,10 @@ part_at bytes from to place low high =
 
 length-part : (bytes : List ℕ) (from to : ℕ) → to ≤ length bytes → length (part bytes from to) ≡ to - from
 length-part bytes from to within = length-take (to - from) (drop from bytes) ∙ grind (arith, length-drop from bytes, within)
+
+-- a start code stands at a place, and ends behind the bytes that were seen
+abbrev pub EndsBehind : List ℕ → (seen place : ℕ) → Type 0
+EndsBehind bytes seen place = (seen ≤ place + 2) × StandsAt bytes place
 
 -- no start code ends behind a place
 abbrev pub NoneBehind : List ℕ → (seen place : ℕ) → Type 0
@@ -65,11 +69,15 @@ second bytes one above stands =
     let same : one - 1 ≡ one - 2 + 1 = omega (arith, above) in
     ap (λ (k : ℕ). get_or bytes k 0) same ∙ stands.2
 
+-- it is the last start code
+pub last_start : (bytes : List ℕ) (seen found : ℕ) → (found ≡ 0) ⊎ EndsBehind bytes seen found → NoneBehind bytes seen (found + 3) → IsLastStart bytes seen found
+last_start bytes seen found there none = (there, λ k low high stands. none k (omega (arith, low)) (omega (arith, low), stands))
+
 -- ---- what is left in the window
 
 -- behind the last start code, and in front of it where none was seen, no other stands
-pub one_left : (window : List ℕ) (seen found : ℕ) → IsLastStart window seen found → HasOneUnitIn seen window → HasOneUnit (drop found window)
-one_left window seen found last before place behind stands = by_place (nat_le seen (found + place + 2)) refl
+pub one_left : (window : List ℕ) (seen found : ℕ) → IsLastStart window seen found → NoneStands window 1 (seen - 2) → NoneStands (drop found window) 1 (length (drop found window))
+one_left window seen found last before place behind within stands = by_place (nat_le seen (found + place + 2)) refl
   where
     moved : (k v : ℕ) → get_or (drop found window) (place + k) 0 ≡ v → get_or window (found + place + k) 0 ≡ v
     moved k v e = let same : found + (place + k) ≡ found + place + k = omega arith in ap (λ (n : ℕ). get_or window n 0) (sym same) ∙ sym (get_or-drop found window (place + k) 0) ∙ e
@@ -80,13 +88,17 @@ one_left window seen found last before place behind stands = by_place (nat_le se
         (omega (arith, stands.0, long), sym (get_or-drop found window place 0) ∙ stands.1, moved 1 0 stands.2, moved 2 1 stands.3)
 
     by_place : (b : Bool) → nat_le seen (found + place + 2) ≡ b → ⊥
-    by_place true t = last.1 (found + place) (omega (arith, behind)) (grind (arith, nat_tests, t), there)
-    by_place false t = before (found + place) (omega (arith, behind)) (grind (arith, nat_tests, t)) there
+    by_place true t =
+        let low : seen ≤ found + place + 2 = grind (arith, nat_tests, t) in
+        last.1 (found + place) (omega (arith, behind, low)) (omega (arith, there.0)) there
+    by_place false t =
+        let low : found + place + 2 < seen = grind (arith, nat_tests, t) in
+        before (found + place) (omega (arith, behind)) (omega (arith, low)) there
 
 -- more bytes come behind a window
-pub one_seen : (window more : List ℕ) → HasOneUnit window → HasOneUnitIn (length window) (window ++ more)
+pub one_seen : (window more : List ℕ) → NoneStands window 1 (length window) → NoneStands (window ++ more) 1 (length window - 2)
 one_seen window more one place behind seen stands =
-    one place behind (seen, at place (omega (arith, seen)) ∙ stands.1, at (place + 1) (omega (arith, seen)) ∙ stands.2, at (place + 2) seen ∙ stands.3)
+    one place behind (omega (arith, seen)) (omega (arith, seen), at place (omega (arith, seen)) ∙ stands.1, at (place + 1) (omega (arith, seen)) ∙ stands.2, at (place + 2) (omega (arith, seen)) ∙ stands.3)
   where
     at : (k : ℕ) → k < length window → get_or window k 0 ≡ get_or (window ++ more) k 0
     at k within = sym (get_or-append window more 0 k within)

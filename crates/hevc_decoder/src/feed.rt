@@ -1,6 +1,7 @@
 //! The units of a stream, taken as a source hands it over.
-ghost use Rattle.std.specs.Prelude.{◌≡◌, ◌+◌, ◌≤◌, ◌<◌, ◌^◌, [], ℕ, List, length, IfOk, OnErr, OnOk, IsErrOf};
+ghost use Rattle.std.specs.Prelude.{◌≡◌, ◌+◌, ◌-◌, ◌≤◌, ◌<◌, ◌^◌, [], ℕ, List, length, IfOk, OnErr, OnOk, IsErrOf};
 ghost use Rattle.std.specs.Io.KnownBytes.{Consumes, IsAtEnd};
+ghost use Rattle.hevc_bits.specs.StartCode.{NoneStands};
 ghost use Rattle.hevc_faults.specs.Faults.{Rose};
 ghost use Rattle.hevc_stream.specs.Kept.{none_kept};
 ghost use Rattle.hevc_driver.specs.Answers.{CountsErrors, KeepsFaultless};
@@ -9,7 +10,6 @@ ghost use Rattle.hevc_stateless.specs.Views.{at_beginning};
 ghost use Rattle.hevc_decoder.specs.Answers.{without_unit};
 ghost use Rattle.hevc_decoder.specs.Scenes.{scene, trail_of};
 ghost use Rattle.hevc_decoder.specs.Sources.{ComeOutFirst, Drained, FedTo, FeedsOn};
-ghost use Rattle.hevc_decoder.specs.Windows.{HasOneUnit, HasOneUnitIn};
 
 use crate::decoded::{Refused, Shown};
 use crate::units::{take_last, take_piece};
@@ -28,7 +28,7 @@ fn take_whole<B: StatelessH265DecoderBackend>(
     shown: &mut Vec<Shown<B::Handle>>,
 ) -> Result<u64, Refused>
     requires short { unit + length window.old < 2 ^ 60 }
-    requires seen { HasOneUnitIn seen window.old }
+    requires seen { NoneStands window.old 1 (seen - 2) }
     requires empty { (view_of decoder.old).queue ≡ [] }
     ensures empty { OnOk result ((view_of decoder.new).queue ≡ []) }
     ensures few { IfOk result (λ next. next + length window.new ≤ unit + length window.old) }
@@ -38,7 +38,7 @@ fn take_whole<B: StatelessH265DecoderBackend>(
         (B.is_faultless (view_of decoder.new).backend) (without_unit result) }
     ensures feeds { FeedsOn result (set_for decoder.old) unit window.old window.new
         (scene B.log decoder.old shown.old.items) (scene B.log decoder.new shown.new.items) }
-    ensures left { OnOk result (HasOneUnit window.new) }
+    ensures left { OnOk result (NoneStands window.new 1 (length window.new)) }
     ensures options { set_for decoder.new ≡ set_for decoder.old }
 {
     let cut = whole_units(window.as_slice(), seen);
@@ -70,7 +70,8 @@ fn feed<B: StatelessH265DecoderBackend, S: Source>(
     ensures end { IfOk result (λ fed. OnOk fed (IsAtEnd (S.left source.new))) }
     ensures few { IfOk result (λ fed. IfOk fed
         (λ unit. unit + length window.new ≤ left.old)) }
-    ensures left { IfOk result (λ fed. OnOk fed (HasOneUnit window.new)) }
+    ensures left { IfOk result (λ fed. OnOk fed
+        (NoneStands window.new 1 (length window.new))) }
     ensures empty { IfOk result (λ fed. OnOk fed ((view_of decoder.new).queue ≡ [])) }
     ensures cause { IfOk result (λ fed. CountsErrors (B.counts (view_of decoder.old).backend)
         (B.counts (view_of decoder.new).backend) (without_unit fed)) }

@@ -1,4 +1,4 @@
-use Rattle.std.proofs.Common.{ℕ, List, [], ◌++◌, length, refl, sym, ◌∙◌, ap, subst, arith, rules, Ok, Err}
+use Rattle.std.proofs.Common.{ℕ, ◌-◌, List, [], ◌++◌, length, refl, sym, ◌∙◌, ap, subst, arith, rules, Ok, Err}
 use Rattle.std.proofs.lemmas.List.{length-append}
 use Rattle.std.proofs.lemmas.Result.{err_from_is_err_and}
 use Rattle.std.proofs.KnownBytes.{Consumes-nil, Consumes-trans}
@@ -7,7 +7,7 @@ use Rattle.hevc_stateless.specs.Decoders.{view_of, set_for}
 use Rattle.hevc_stateless.specs.Views.{View}
 use Rattle.hevc_decoder.specs.Scenes.{scene}
 use Rattle.hevc_decoder.specs.Sources.{Fed, FeedsOn}
-use Rattle.hevc_decoder.specs.Windows.{HasOneUnit, HasOneUnitIn}
+use Rattle.hevc_bits.specs.StartCode.{NoneStands}
 use Rattle.hevc_decoder.proofs.Windows.{one_seen}
 use Rattle.hevc_decoder.proofs.Feeding.{fed_first, fed_more, fed_front}
 use Rattle.hevc_decoder.proofs.feed.feed.Goals as goal
@@ -19,7 +19,7 @@ loop-count-init g c =
     let none = ap (λ (bytes : List ℕ). length bytes) c.requires.fresh in
     record {
       fed = ([], Consumes-nil (g.S.Source.left c.args.source.now), omega arith, subst (λ (window : List ℕ). Fed o [] window 0 now now) (sym c.requires.fresh) (fed_first o now (view_of c.args.decoder.now).backend c.requires.beginning c.requires.nothing));
-      one = subst (λ (window : List ℕ). HasOneUnit window) (sym c.requires.fresh) (λ place behind stands. absurd (omega (arith, stands.0)));
+      one = subst (λ (window : List ℕ). NoneStands window 1 (length window)) (sym c.requires.fresh) (λ place behind within stands. absurd (omega (arith, within)));
       few = omega (arith, none);
       empty = ap (λ (v : View g.row.B.Denot g.row.B-Handle.Denot). v.queue) c.requires.beginning;
       counts = refl;
@@ -89,4 +89,4 @@ pub take_whole-requires-clause-seen : goal.take_whole-requires-clause-seen
 take_whole-requires-clause-seen g c =
     let more = c.in_ok-count.ensures.more in
     let seen = one_seen c.loop-count.window more.0 c.loop-count.invariant.one in
-    subst (λ (n : ℕ). HasOneUnitIn n c.read.new.self) (sym c.len-seen.ensures) (subst (λ (window : List ℕ). HasOneUnitIn (length c.loop-count.window) window) (sym more.1) seen)
+    subst (λ (n : ℕ). NoneStands c.read.new.self 1 (n - 2)) (sym c.len-seen.ensures) (subst (λ (window : List ℕ). NoneStands window 1 (length c.loop-count.window - 2)) (sym more.1) seen)

@@ -1,11 +1,12 @@
-use Rattle.std.proofs.Common.{ℕ, List, take, subst, sym, Ok, Err}
+use Rattle.std.proofs.Common.{length, ℕ, List, take, subst, sym, Ok, Err}
 use Rattle.std.proofs.lemmas.Result.{err_from_is_err_and}
 use Rattle.hevc_spec.specs.Units.{units}
 use Rattle.hevc_stateless.specs.Decoders.{set_for}
 use Rattle.hevc_decoder.specs.Scenes.{scene}
 use Rattle.hevc_decoder.specs.Runs.{TakesPiece}
 use Rattle.hevc_decoder.specs.Sources.{Fed}
-use Rattle.hevc_decoder.specs.Windows.{HasOneUnit, IsLastStart}
+use Rattle.hevc_bits.specs.StartCode.{NoneStands}
+use Rattle.hevc_decoder.specs.Windows.{IsLastStart}
 use Rattle.hevc_decoder.proofs.Feeding.{window_fed}
 use Rattle.hevc_decoder.proofs.Windows.{one_left}
 use Rattle.hevc_decoder.proofs.feed.take_whole.Goals as goal
@@ -40,4 +41,4 @@ returns-clause-left g c =
     let window = c.args.window.now in
     let n = c.whole_units-cut.result in
     let last : IsLastStart window c.args.seen n = subst (λ (bytes : List ℕ). IsLastStart bytes c.args.seen n) c.as_slice.ensures c.whole_units-cut.ensures.last in
-    subst (λ (rest : List ℕ). HasOneUnit rest) (sym c.drop_front.ensures) (one_left window c.args.seen n last c.requires.seen)
+    subst (λ (rest : List ℕ). NoneStands rest 1 (length rest)) (sym c.drop_front.ensures) (one_left window c.args.seen n last c.requires.seen)

@@ -1,5 +1,5 @@
 use Rattle.std.proofs.Common.{◌≤◌, ◌+◌, ℕ, length}
-use Rattle.hevc_decoder.specs.Windows.{EndsBehind}
+use Rattle.hevc_decoder.proofs.Windows.{EndsBehind}
 use Rattle.hevc_decoder.proofs.window.whole_units.Given as goal
 
 -- no start code ends behind the place where the last 1 was found
