@@ -118,9 +118,19 @@ fn read_ids(r: &mut NaluReader<'_>, pps: &mut Pps) -> Result<(), ParseError>
 {
     let id = ue_u8(r, Row(11, 1), 0, 63)?;
     let sequence_set_id = ue_u8(r, Row(11, 2), 0, 15)?;
+    set_ids(pps, id, sequence_set_id);
+    Ok(())
+}
+
+/// Fills in rows 1 and 2.
+fn set_ids(pps: &mut Pps, id: u8, sequence_set_id: u8)
+    ensures { plain_pps pps.new ≡ record (plain_pps pps.old) {
+      pic_parameter_set_id = id;
+      seq_parameter_set_id = sequence_set_id;
+    } }
+{
     pps.pic_parameter_set_id = id;
     pps.seq_parameter_set_id = sequence_set_id;
-    Ok(())
 }
 
 /// Rows 3 to 35 of table 11.

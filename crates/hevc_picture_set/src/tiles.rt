@@ -28,8 +28,16 @@ pub(crate) fn read_tiles(r: &mut NaluReader<'_>, sps: &Sps, pps: &mut Pps) -> Re
     } else {
         read_told_tiles(r, sps, pps)?;
     }
-    pps.loop_filter_across_tiles_enabled_flag = flag(r, Row(11, 19))?;
+    let across = flag(r, Row(11, 19))?;
+    set_filter_across_tiles(pps, across);
     Ok(())
+}
+
+/// Fills in row 19.
+fn set_filter_across_tiles(pps: &mut Pps, across: bool)
+    ensures { plain_pps pps.new ≡ record (plain_pps pps.old) { loop_filter_across_tiles_enabled_flag = across } }
+{
+    pps.loop_filter_across_tiles_enabled_flag = across;
 }
 
 /// Rows 14 to 16 of table 11.
@@ -45,10 +53,23 @@ fn read_tile_counts(r: &mut NaluReader<'_>, sps: &Sps, pps: &mut Pps) -> Result<
     let columns = ue_u8(r, Row(11, 14), 0, most_columns)?;
     let rows = ue_u8(r, Row(11, 15), 0, most_rows)?;
     let uniform = flag(r, Row(11, 16))?;
-    pps.num_tile_columns_minus1 = columns;
-    pps.num_tile_rows_minus1 = rows;
-    pps.uniform_spacing_flag = uniform;
+    set_tile_counts(pps, columns, rows, uniform);
     Ok(())
+}
+
+/// Fills in rows 14 to 16.
+fn set_tile_counts(pps: &mut Pps, columns_minus1: u8, rows_minus1: u8, uniform: bool)
+    requires columns { columns_minus1 ≤ 19 }
+    requires rows { rows_minus1 ≤ 21 }
+    ensures { plain_pps pps.new ≡ record (plain_pps pps.old) {
+      num_tile_columns_minus1 = columns_minus1;
+      num_tile_rows_minus1 = rows_minus1;
+      uniform_spacing_flag = uniform;
+    } }
+{
+    pps.num_tile_columns_minus1 = columns_minus1;
+    pps.num_tile_rows_minus1 = rows_minus1;
+    pps.uniform_spacing_flag = uniform;
 }
 
 /// The width of a picture in coding tree blocks.

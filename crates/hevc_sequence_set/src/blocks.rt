@@ -1,4 +1,5 @@
 //! The sizes of blocks (7.3.2.2.1, rows 20 to 24 of table 5).
+ghost use Rattle.std.specs.Prelude.{◌≡◌, ◌≤◌, ◌+◌, min};
 ghost use Rattle.hevc_elements.specs.Words.{Fills};
 ghost use Rattle.hevc_tables.specs.SpsTable as table;
 ghost use Rattle.hevc_types_c.specs.Sps.{plain_sps};
@@ -22,6 +23,28 @@ pub(crate) fn read_blocks(r: &mut NaluReader<'_>, sps: &mut Sps) -> Result<(), P
     let ctb = min_cb + u32::from(diff_cb);
     let max_tb = u32::from(min_tb_minus2) + 2 + u32::from(diff_tb);
     check(r, Row(5, 24), max_tb <= ctb.min(5))?;
+    set_blocks(sps, min_cb_minus3, diff_cb, min_tb_minus2, diff_tb);
+    Ok(())
+}
+
+/// The sizes of blocks, and what follows from them.
+#[tactic(auto, unfolding(hevc_tables::specs::SpsTable::with_block_sizes, hevc_tables::specs::SpsTable::with_picture_size))]
+fn set_blocks(sps: &mut Sps, min_cb_minus3: u8, diff_cb: u8, min_tb_minus2: u8, diff_tb: u8)
+    requires least_cb { min_cb_minus3 ≤ 3 }
+    requires more_cb { diff_cb ≤ 6 }
+    requires least_tb { min_tb_minus2 ≤ 3 }
+    requires more_tb { diff_tb ≤ 3 }
+    requires within { min_tb_minus2 + 2 + diff_tb ≤ min (min_cb_minus3 + 3 + diff_cb) 5 }
+    ensures { plain_sps sps.new ≡ table.with_block_sizes (record (plain_sps sps.old) {
+      log2_min_luma_coding_block_size_minus3 = min_cb_minus3;
+      log2_diff_max_min_luma_coding_block_size = diff_cb;
+      log2_min_luma_transform_block_size_minus2 = min_tb_minus2;
+      log2_diff_max_min_luma_transform_block_size = diff_tb;
+    }) }
+{
+    let min_cb = u32::from(min_cb_minus3) + 3;
+    let ctb = min_cb + u32::from(diff_cb);
+    let max_tb = u32::from(min_tb_minus2) + 2 + u32::from(diff_tb);
     let across = u32::from(sps.pic_width_in_luma_samples).div_ceil(1 << ctb);
     let down = u32::from(sps.pic_height_in_luma_samples).div_ceil(1 << ctb);
     sps.log2_min_luma_coding_block_size_minus3 = min_cb_minus3;
@@ -35,5 +58,4 @@ pub(crate) fn read_blocks(r: &mut NaluReader<'_>, sps: &mut Sps) -> Result<(), P
     sps.pic_height_in_ctbs_y = down;
     sps.pic_size_in_ctbs_y = across * down;
     sps.max_tb_log2_size_y = max_tb;
-    Ok(())
 }

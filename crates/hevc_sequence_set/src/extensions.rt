@@ -1,7 +1,10 @@
 //! The extensions of a set (7.3.2.2.1, rows 43 to 50 of table 5).
+ghost use Rattle.std.specs.Prelude.{◌≡◌};
 ghost use Rattle.hevc_elements.specs.Words.{Fills};
 ghost use Rattle.hevc_tables.specs.SpsTable as table;
 ghost use Rattle.hevc_types_c.specs.Sps.{plain_sps};
+ghost use Rattle.hevc_types_c.specs.SpsRangeExtension.{plain_sps_range_extension};
+ghost use Rattle.hevc_types_c.specs.SpsSccExtension.{plain_sps_scc_extension};
 
 use crate::frame::half_range;
 use crate::range_extension::read_sps_range_extension;
@@ -11,7 +14,7 @@ use hevc_bits::NaluReader;
 use hevc_elements::ParseError;
 use hevc_elements::rows::{flag, skip, zero};
 use hevc_spec::Row;
-use hevc_types_c::Sps;
+use hevc_types_c::{Sps, SpsRangeExtension, SpsSccExtension};
 
 /// Rows 43 to 50 of table 5.
 #[tactic(auto, unfolding(hevc_tables::specs::SpsTable::extensions, hevc_spec::specs::Rows::when))]
@@ -19,12 +22,19 @@ pub(crate) fn read_extensions(r: &mut NaluReader<'_>, sps: &mut Sps) -> Result<(
     ensures { Fills plain_sps table.extensions result sps.old sps.new r.old r.new }
 {
     let present = flag(r, Row(5, 43))?;
-    sps.extension_present_flag = present;
+    set_extension_present(sps, present);
     if present {
         read_extension_data(r, sps)
     } else {
         Ok(())
     }
+}
+
+/// Fills in row 43.
+fn set_extension_present(sps: &mut Sps, present: bool)
+    ensures { plain_sps sps.new ≡ record (plain_sps sps.old) { extension_present_flag = present } }
+{
+    sps.extension_present_flag = present;
 }
 
 /// Rows 44 to 50 of table 5.
@@ -52,22 +62,42 @@ fn read_extension_flags(r: &mut NaluReader<'_>, sps: &mut Sps) -> Result<(), Par
     zero(r, Row(5, 46))?;
     let screen_content = flag(r, Row(5, 47))?;
     skip(r, Row(5, 48), 4)?;
-    sps.range_extension_flag = range;
-    sps.scc_extension_flag = screen_content;
+    set_extension_flags(sps, range, screen_content);
     Ok(())
 }
 
+/// Fills in rows 44 and 47.
+fn set_extension_flags(sps: &mut Sps, range: bool, screen_content: bool)
+    ensures { plain_sps sps.new ≡ record (plain_sps sps.old) {
+      range_extension_flag = range;
+      scc_extension_flag = screen_content;
+    } }
+{
+    sps.range_extension_flag = range;
+    sps.scc_extension_flag = screen_content;
+}
+
 /// Row 49 of table 5.
-#[tactic(auto, unfolding(hevc_tables::specs::SpsTable::range_extension, hevc_tables::specs::SpsTable::with_half_ranges))]
+#[tactic(auto, unfolding(hevc_tables::specs::SpsTable::range_extension))]
 fn read_range_extension(r: &mut NaluReader<'_>, sps: &mut Sps) -> Result<(), ParseError>
     ensures { Fills plain_sps table.range_extension result sps.old sps.new r.old r.new }
 {
     let range_extension = read_sps_range_extension(r)?;
+    set_range_extension(sps, range_extension);
+    Ok(())
+}
+
+/// Fills in the range extension, and what follows from it.
+#[tactic(auto, unfolding(hevc_tables::specs::SpsTable::with_half_ranges))]
+fn set_range_extension(sps: &mut Sps, range_extension: SpsRangeExtension)
+    ensures { plain_sps sps.new ≡ table.with_half_ranges (record (plain_sps sps.old) {
+      range_extension = plain_sps_range_extension range_extension;
+    }) }
+{
     let precise = range_extension.high_precision_offsets_enabled_flag;
     sps.range_extension = range_extension;
     sps.wp_offset_half_range_y = half_range(precise, sps.bit_depth_luma_minus8);
     sps.wp_offset_half_range_c = half_range(precise, sps.bit_depth_chroma_minus8);
-    Ok(())
 }
 
 /// Row 50 of table 5.
@@ -81,6 +111,15 @@ fn read_scc_extension(r: &mut NaluReader<'_>, sps: &mut Sps) -> Result<(), Parse
         bit_depth_chroma_minus8: sps.bit_depth_chroma_minus8,
     };
     let scc_extension = read_sps_scc_extension(r, format)?;
-    sps.scc_extension = scc_extension;
+    set_scc_extension(sps, scc_extension);
     Ok(())
+}
+
+/// Fills in the screen content coding extension.
+fn set_scc_extension(sps: &mut Sps, scc_extension: SpsSccExtension)
+    ensures { plain_sps sps.new ≡ record (plain_sps sps.old) {
+      scc_extension = plain_sps_scc_extension scc_extension;
+    } }
+{
+    sps.scc_extension = scc_extension;
 }

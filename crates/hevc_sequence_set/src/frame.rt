@@ -1,5 +1,5 @@
 //! The size and the depth of pictures (7.3.2.2.1, rows 6 to 15 of table 5).
-ghost use Rattle.std.specs.Prelude.{◌≡◌, ◌≤◌, ◌<◌};
+ghost use Rattle.std.specs.Prelude.{◌≡◌, ◌≤◌, ◌<◌, if◌then◌else◌, true, false, IsTrue};
 ghost use Rattle.hevc_elements.specs.Words.{Fills};
 ghost use Rattle.hevc_records.specs.SpsSizes.{leaves_some, sub_width_c, sub_height_c, wp_offset_half_range};
 ghost use Rattle.hevc_tables.specs.SpsTable as table;
@@ -12,7 +12,7 @@ use hevc_spec::Row;
 use hevc_types_c::Sps;
 
 /// Rows 6 to 9 of table 5.
-#[tactic(auto, unfolding(hevc_tables::specs::SpsTable::samples, hevc_tables::specs::SpsTable::with_picture_size))]
+#[tactic(auto, unfolding(hevc_tables::specs::SpsTable::samples))]
 pub(crate) fn read_samples(r: &mut NaluReader<'_>, sps: &mut Sps) -> Result<(), ParseError>
     ensures { Fills plain_sps table.samples result sps.old sps.new r.old r.new }
 {
@@ -20,6 +20,27 @@ pub(crate) fn read_samples(r: &mut NaluReader<'_>, sps: &mut Sps) -> Result<(), 
     let separate = flag_if(r, chroma_format_idc == 3, Row(5, 7))?;
     let width = ue_u16(r, Row(5, 8), 1, 16_888)?;
     let height = ue_u16(r, Row(5, 9), 1, 16_888)?;
+    set_samples(sps, chroma_format_idc, separate, width, height);
+    Ok(())
+}
+
+/// Fills in rows 6 to 9, and what follows from them.
+#[tactic(auto, unfolding(hevc_tables::specs::SpsTable::with_picture_size))]
+fn set_samples(sps: &mut Sps, chroma_format_idc: u8, separate: bool, width: u16, height: u16)
+    requires format { chroma_format_idc ≤ 3 }
+    requires some_width { 1 ≤ width }
+    requires most_width { width ≤ 16888 }
+    requires some_height { 1 ≤ height }
+    requires most_height { height ≤ 16888 }
+    ensures { plain_sps sps.new ≡ table.with_picture_size (record (plain_sps sps.old) {
+      chroma_format_idc = chroma_format_idc;
+      separate_colour_plane_flag = separate;
+      pic_width_in_luma_samples = width;
+      pic_height_in_luma_samples = height;
+      conformance_window_flag = false;
+      chroma_array_type = if separate then 0 else chroma_format_idc;
+    }) }
+{
     let across = u32::from(width).div_ceil(sps.ctb_size_y);
     let down = u32::from(height).div_ceil(sps.ctb_size_y);
     sps.chroma_format_idc = chroma_format_idc;
@@ -32,7 +53,6 @@ pub(crate) fn read_samples(r: &mut NaluReader<'_>, sps: &mut Sps) -> Result<(), 
     sps.pic_height_in_ctbs_y = down;
     sps.pic_size_in_ctbs_y = across * down;
     sps.pic_size_in_samples_y = u32::from(width) * u32::from(height);
-    Ok(())
 }
 
 /// Rows 10 to 12 of table 5.
@@ -56,12 +76,27 @@ fn read_window(r: &mut NaluReader<'_>, sps: &mut Sps) -> Result<(), ParseError>
     let top = ue(r, Row(5, 11), 0, 2_147_483_647)?;
     let bottom = ue(r, Row(5, 11), 0, 2_147_483_647)?;
     check(r, Row(5, 12), leaves_part(sps, left, right, top, bottom))?;
+    set_window(sps, left, right, top, bottom);
+    Ok(())
+}
+
+/// Fills in row 11.
+fn set_window(sps: &mut Sps, left: u32, right: u32, top: u32, bottom: u32)
+    requires { IsTrue (leaves_some sps.old.chroma_array_type
+        sps.old.pic_width_in_luma_samples sps.old.pic_height_in_luma_samples left right top bottom) }
+    ensures { plain_sps sps.new ≡ record (plain_sps sps.old) {
+      conformance_window_flag = true;
+      conf_win_left_offset = left;
+      conf_win_right_offset = right;
+      conf_win_top_offset = top;
+      conf_win_bottom_offset = bottom;
+    } }
+{
     sps.conformance_window_flag = true;
     sps.conf_win_left_offset = left;
     sps.conf_win_right_offset = right;
     sps.conf_win_top_offset = top;
     sps.conf_win_bottom_offset = bottom;
-    Ok(())
 }
 
 /// Whether the conformance cropping window leaves some of the picture.
@@ -97,20 +132,35 @@ fn sub_height(chroma_array_type: u8) -> u64
 }
 
 /// Rows 13 to 15 of table 5.
-#[tactic(auto, unfolding(hevc_tables::specs::SpsTable::depths, hevc_tables::specs::SpsTable::with_half_ranges))]
+#[tactic(auto, unfolding(hevc_tables::specs::SpsTable::depths))]
 pub(crate) fn read_depths(r: &mut NaluReader<'_>, sps: &mut Sps) -> Result<(), ParseError>
     ensures { Fills plain_sps table.depths result sps.old sps.new r.old r.new }
 {
     let luma = ue_u8(r, Row(5, 13), 0, 6)?;
     let chroma = ue_u8(r, Row(5, 14), 0, 6)?;
     let order_count_bits = ue_u8(r, Row(5, 15), 0, 12)?;
+    set_depths(sps, luma, chroma, order_count_bits);
+    Ok(())
+}
+
+/// Fills in rows 13 to 15, and what follows from them.
+#[tactic(auto, unfolding(hevc_tables::specs::SpsTable::with_half_ranges))]
+fn set_depths(sps: &mut Sps, luma: u8, chroma: u8, order_count_bits: u8)
+    requires luma { luma ≤ 6 }
+    requires chroma { chroma ≤ 6 }
+    requires order_count { order_count_bits ≤ 12 }
+    ensures { plain_sps sps.new ≡ table.with_half_ranges (record (plain_sps sps.old) {
+      bit_depth_luma_minus8 = luma;
+      bit_depth_chroma_minus8 = chroma;
+      log2_max_pic_order_cnt_lsb_minus4 = order_count_bits;
+    }) }
+{
     let precise = sps.range_extension.high_precision_offsets_enabled_flag;
     sps.bit_depth_luma_minus8 = luma;
     sps.bit_depth_chroma_minus8 = chroma;
     sps.log2_max_pic_order_cnt_lsb_minus4 = order_count_bits;
     sps.wp_offset_half_range_y = half_range(precise, luma);
     sps.wp_offset_half_range_c = half_range(precise, chroma);
-    Ok(())
 }
 
 /// Half the range of offsets in weighted prediction, of samples of this bit depth less 8.

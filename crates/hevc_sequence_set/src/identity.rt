@@ -1,6 +1,8 @@
 //! The ids, the sub-layers and the profile (7.3.2.2.1, rows 1 to 5 of table 5).
+ghost use Rattle.std.specs.Prelude.{◌≡◌, ◌≤◌};
 ghost use Rattle.hevc_elements.specs.Words.{Fills};
 ghost use Rattle.hevc_tables.specs.SpsTable as table;
+ghost use Rattle.hevc_types_a.specs.ProfileTierLevel.{plain_profile_tier_level};
 ghost use Rattle.hevc_types_c.specs.Sps.{plain_sps};
 
 use hevc_bits::NaluReader;
@@ -8,6 +10,7 @@ use hevc_elements::ParseError;
 use hevc_elements::rows::{bits_u8, flag, ue_u8};
 use hevc_profile::read_profile_tier_level;
 use hevc_spec::Row;
+use hevc_types_a::ProfileTierLevel;
 use hevc_types_c::Sps;
 
 /// Rows 1 to 5 of table 5.
@@ -20,10 +23,32 @@ pub(crate) fn read_identity(r: &mut NaluReader<'_>, sps: &mut Sps) -> Result<(),
     let temporal_id_nesting_flag = flag(r, Row(5, 3))?;
     let profile_tier_level = read_profile_tier_level(r, top)?;
     let seq_parameter_set_id = ue_u8(r, Row(5, 5), 0, 15)?;
-    sps.video_parameter_set_id = video_parameter_set_id;
-    sps.max_sub_layers_minus1 = top;
-    sps.temporal_id_nesting_flag = temporal_id_nesting_flag;
-    sps.profile_tier_level = profile_tier_level;
-    sps.seq_parameter_set_id = seq_parameter_set_id;
+    set_sub_layers(sps, top, temporal_id_nesting_flag, profile_tier_level);
+    set_ids(sps, video_parameter_set_id, seq_parameter_set_id);
     Ok(())
+}
+
+/// Fills in rows 2 to 4.
+fn set_sub_layers(sps: &mut Sps, top: u8, nesting: bool, profile_tier_level: ProfileTierLevel)
+    requires { top ≤ 6 }
+    ensures { plain_sps sps.new ≡ record (plain_sps sps.old) {
+      max_sub_layers_minus1 = top;
+      temporal_id_nesting_flag = nesting;
+      profile_tier_level = plain_profile_tier_level profile_tier_level;
+    } }
+{
+    sps.max_sub_layers_minus1 = top;
+    sps.temporal_id_nesting_flag = nesting;
+    sps.profile_tier_level = profile_tier_level;
+}
+
+/// Fills in rows 1 and 5.
+fn set_ids(sps: &mut Sps, video_parameter_set_id: u8, seq_parameter_set_id: u8)
+    ensures { plain_sps sps.new ≡ record (plain_sps sps.old) {
+      video_parameter_set_id = video_parameter_set_id;
+      seq_parameter_set_id = seq_parameter_set_id;
+    } }
+{
+    sps.video_parameter_set_id = video_parameter_set_id;
+    sps.seq_parameter_set_id = seq_parameter_set_id;
 }

@@ -1,5 +1,5 @@
 //! The long-term pictures that slices may name (7.3.2.2.1, rows 37 to 40 of table 5).
-ghost use Rattle.std.specs.Prelude.{◌<◌};
+ghost use Rattle.std.specs.Prelude.{◌≡◌, ◌≤◌, ◌<◌, slice_set};
 ghost use Rattle.hevc_elements.specs.Words.{Fills};
 ghost use Rattle.hevc_tables.specs.SpsTable as table;
 ghost use Rattle.hevc_types_c.specs.Sps.{plain_sps};
@@ -17,9 +17,20 @@ pub(crate) fn read_long_term(r: &mut NaluReader<'_>, sps: &mut Sps) -> Result<()
 {
     let present = flag(r, Row(5, 37))?;
     let count = ue_u8_if(r, present, Row(5, 38), 0, 32)?;
+    set_long_term(sps, present, count);
+    read_pictures(r, sps)
+}
+
+/// Fills in rows 37 and 38.
+fn set_long_term(sps: &mut Sps, present: bool, count: u8)
+    requires { count ≤ 32 }
+    ensures { plain_sps sps.new ≡ record (plain_sps sps.old) {
+      long_term_ref_pics_present_flag = present;
+      num_long_term_ref_pics_sps = count;
+    } }
+{
     sps.long_term_ref_pics_present_flag = present;
     sps.num_long_term_ref_pics_sps = count;
-    read_pictures(r, sps)
 }
 
 /// Rows 39 and 40 of table 5, for each picture.
@@ -43,7 +54,18 @@ fn read_picture(r: &mut NaluReader<'_>, i: usize, sps: &mut Sps) -> Result<(), P
     let num_bits = usize::from(sps.log2_max_pic_order_cnt_lsb_minus4) + 4;
     let lsb = bits_u32(r, Row(5, 39), num_bits, 0, (1u32 << num_bits) - 1)?;
     let used = flag(r, Row(5, 40))?;
+    set_picture(sps, i, lsb, used);
+    Ok(())
+}
+
+/// Fills in rows 39 and 40 of one picture.
+fn set_picture(sps: &mut Sps, i: usize, lsb: u32, used: bool)
+    requires { i < 32 }
+    ensures { plain_sps sps.new ≡ record (plain_sps sps.old) {
+      lt_ref_pic_poc_lsb_sps = slice_set sps.old.lt_ref_pic_poc_lsb_sps i lsb;
+      used_by_curr_pic_lt_sps_flag = slice_set sps.old.used_by_curr_pic_lt_sps_flag i used;
+    } }
+{
     sps.lt_ref_pic_poc_lsb_sps[i] = lsb;
     sps.used_by_curr_pic_lt_sps_flag[i] = used;
-    Ok(())
 }

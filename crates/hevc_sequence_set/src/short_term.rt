@@ -26,9 +26,21 @@ pub(crate) fn read_short_term(
 {
     let count = ue_u8(r, Row(5, 35), 0, 64)?;
     let sets = read_sets(alloc, r, count, highest_buffering(sps))?;
+    set_short_term(sps, count, sets);
+    Ok(())
+}
+
+/// Fills in rows 35 and 36.
+fn set_short_term(sps: &mut Sps, count: u8, sets: Items<ShortTermRefPicSet>)
+    requires few { count ≤ 64 }
+    requires all { length sets ≡ count }
+    ensures { plain_sps sps.new ≡ record (plain_sps sps.old) {
+      num_short_term_ref_pic_sets = count;
+      short_term_ref_pic_set = map plain_short_term_ref_pic_set sets;
+    } }
+{
     sps.num_short_term_ref_pic_sets = count;
     sps.short_term_ref_pic_set = sets;
-    Ok(())
 }
 
 /// Row 36 of table 5, for so many sets.
