@@ -13,13 +13,13 @@ python3 "$top/bench/headers.py" "$folder/bytes" "$bytes"
 build() {
     mkdir -p "$folder/$1/crates/reader_bench/src"
     cp "$top/bench/reader_bench.rt.txt" "$folder/$1/crates/reader_bench/src/main.rt"
-    printf '%s\n' 'hevc_spec:' 'hevc_laws: hevc_spec' 'hevc_bits: hevc_spec hevc_laws thiserror' 'reader_bench: hevc_bits' >"$folder/$1/crates.txt"
+    printf '%s\n' 'hevc_spec:' 'hevc_reading_laws: hevc_spec' 'hevc_bits: hevc_spec hevc_reading_laws thiserror' 'reader_bench: hevc_bits' >"$folder/$1/crates.txt"
     (cd "$folder/$1/crates/reader_bench" && rt run </dev/null >/dev/null)
 }
 
 mkdir "$folder/other" "$folder/this"
-git -C "$top" archive "$other" crates/hevc_spec crates/hevc_laws crates/hevc_bits | tar x -C "$folder/other"
-(cd "$top" && tar c --exclude=out crates/hevc_spec crates/hevc_laws crates/hevc_bits) | tar x -C "$folder/this"
+git -C "$top" archive "$other" crates/hevc_spec crates/hevc_reading_laws crates/hevc_bits | tar x -C "$folder/other"
+(cd "$top" && tar c --exclude=out crates/hevc_spec crates/hevc_reading_laws crates/hevc_bits) | tar x -C "$folder/this"
 build other
 build this
 for turn in 1 2 3; do

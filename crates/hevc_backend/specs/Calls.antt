@@ -4,7 +4,7 @@ use Rattle.hevc_bits.specs.FoundUnit.{bytes_of}
 use Rattle.hevc_types_c.specs.declared.sps.Sps.{Sps}
 use Rattle.hevc_types_c.specs.Sps.{plain_sps}
 use Rattle.hevc_types_d.specs.declared.slice.Slice.{Slice}
-use Rattle.hevc_views.specs.Sequences.{format_of_set}
+use Rattle.hevc_walk_inputs.specs.Sequences.{format_of_set}
 use Rattle.hevc_pictures.specs.declared.picture_data.PictureData.{PictureData}
 use Rattle.hevc_refs.specs.declared.ref_pic_set.RefPicSet.{RefPicSet}
 use Rattle.hevc_refs.specs.declared.ref_pic_list.RefPicList.{RefPicList}

@@ -3,7 +3,7 @@ ghost use Rattle.std.specs.Prelude.{◌≡◌, ◌==◌, not, IsTrue, ℕ, Bool,
 ghost use Rattle.std.specs.Option.{option_copied};
 ghost use Rattle.std.specs.declared.option.Option.{Option};
 ghost use Rattle.hevc_types_c.specs.Sps.{plain_sps};
-ghost use Rattle.hevc_views.specs.Sequences.{format_of_set};
+ghost use Rattle.hevc_walk_inputs.specs.Sequences.{format_of_set};
 ghost use Rattle.hevc_dpb.specs.Entries.{numbers};
 ghost use Rattle.hevc_dpb.specs.Views.{stored_entries};
 ghost use Rattle.hevc_backend.specs.declared.call.Call.{Call};

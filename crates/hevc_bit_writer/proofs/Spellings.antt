@@ -10,7 +10,7 @@ use Rattle.std.proofs.Math.Pow.{pow_mono}
 use Rattle.hevc_spec.specs.Bits.{Form, u, ue, se, skip, check, number, number_after, found, form_at, signed, IsExpGolomb, IsSpelled}
 use Rattle.hevc_spec.specs.Payload.{low_bits}
 use Rattle.hevc_spec.proofs.PlaceLaws.{low_bits_length}
-use Rattle.hevc_laws.proofs.FormLaws.{form_spelled}
+use Rattle.hevc_reading_laws.proofs.FormLaws.{form_spelled}
 use Rattle.hevc_bit_writer.specs.Writing.{exponent_within, leading_zero_bits, spelled, CanSpell, code_number}
 
 -- ---- so many low bits

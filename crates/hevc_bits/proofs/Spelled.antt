@@ -3,7 +3,7 @@ use Rattle.std.proofs.Common.{◌≡◌, ℕ, ◌≤◌, Bool, List, Result, Ok,
 use Rattle.std.specs.Prelude.{IfOk}
 use Rattle.hevc_spec.specs.Payload.{Place, bits}
 use Rattle.hevc_spec.specs.Bits.{ue, IsAtFront, ue_at}
-use Rattle.hevc_laws.proofs.Spellings.{ue_at-front, ue_at-spelled}
+use Rattle.hevc_reading_laws.proofs.Spellings.{ue_at-front, ue_at-spelled}
 use Rattle.hevc_bits.specs.declared.bit_error.BitError.{BitError}
 use Rattle.hevc_bits.specs.declared.bit_error.BitError.TheVariants.{OutOfBits, OutOfRange}
 use Rattle.hevc_bits.specs.Reading.{Finds}

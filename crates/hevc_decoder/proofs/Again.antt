@@ -9,9 +9,9 @@ use Rattle.hevc_driver.specs.declared.decode_error.DecodeError.{DecodeError}
 use Rattle.hevc_driver.specs.declared.decode_error.DecodeError.TheVariants as errors
 use Rattle.hevc_driver.specs.Moments.{begins_at, begins_by, negotiates, negotiates_by}
 use Rattle.hevc_stateless.specs.States.{later_meaning}
-use Rattle.hevc_moments.specs.Stands.{first_meaning}
-use Rattle.hevc_moments.proofs.Standing.{Means}
-use Rattle.hevc_moments.proofs.Twice.{TwiceBy}
+use Rattle.hevc_stateless_laws.specs.Stands.{first_meaning}
+use Rattle.hevc_stateless_laws.proofs.Standing.{Means}
+use Rattle.hevc_stateless_laws.proofs.Twice.{TwiceBy}
 use Rattle.hevc_decoder.specs.Scenes.{Trail}
 use Rattle.hevc_decoder.specs.Takes.{DoesAll, StopsPlan, RefusesUnit, HaltsUnit, TakesUnit}
 use Rattle.hevc_decoder.proofs.Doing.{does_all_then}

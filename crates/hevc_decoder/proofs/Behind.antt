@@ -19,11 +19,11 @@ use Rattle.hevc_stateless.specs.declared.state.State.TheVariants.{Decoding}
 use Rattle.hevc_stateless.specs.States.{unit_at, later_meaning, meaning_in}
 use Rattle.hevc_stateless.specs.Steps.{Seen, Step, StepsIn}
 use Rattle.hevc_stateless.specs.Views.{traces_of}
-use Rattle.hevc_moments.specs.Stands.{state_by, meant, standing_after, StandsAfter, kept_after, meant_next, StandsBetween}
-use Rattle.hevc_moments.proofs.Standing.{Means, means, later_part, took}
-use Rattle.hevc_moments.proofs.Opening.{opens, opened}
-use Rattle.hevc_moments.proofs.Again.{first_full, tw, meant_is, took_again}
-use Rattle.hevc_moments.proofs.Twice.{TwiceBy}
+use Rattle.hevc_stateless_laws.specs.Stands.{state_by, meant, standing_after, StandsAfter, kept_after, meant_next, StandsBetween}
+use Rattle.hevc_stateless_laws.proofs.Standing.{Means, means, later_part, took}
+use Rattle.hevc_stateless_laws.proofs.Opening.{opens, opened}
+use Rattle.hevc_stateless_laws.proofs.Again.{first_full, tw, meant_is, took_again}
+use Rattle.hevc_stateless_laws.proofs.Twice.{TwiceBy}
 use Rattle.hevc_decoder.specs.Scenes.{Scene, trail_of, with_queue, accepting}
 use Rattle.hevc_decoder.specs.Gives.{Delivered, Unmade, Decodes, Gives, is_check_events, GivesWhole}
 use Rattle.hevc_decoder.specs.Takes.{DoesAll, TakesUnit}

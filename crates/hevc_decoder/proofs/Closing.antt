@@ -15,7 +15,7 @@ use Rattle.hevc_driver.specs.Moments.{closes, given_up}
 use Rattle.hevc_driver.specs.Takes.{Stays}
 use Rattle.hevc_driver.proofs.Doing.{does_nothing, keeps_all}
 use Rattle.hevc_stateless.specs.Views.{traces_of}
-use Rattle.hevc_moments.specs.Stands.{meant, standing_after}
+use Rattle.hevc_stateless_laws.specs.Stands.{meant, standing_after}
 use Rattle.hevc_decoder.specs.Names.{shown_at, answer_of}
 use Rattle.hevc_decoder.specs.Scenes.{Scene, Trail, trail_of, with_queue}
 use Rattle.hevc_decoder.specs.Gives.{Flushed, Closes}

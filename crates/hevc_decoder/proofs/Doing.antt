@@ -14,8 +14,8 @@ use Rattle.hevc_driver.specs.Does.{Does}
 use Rattle.hevc_driver.proofs.Doing.{all_both, logged_more, logged_none}
 use Rattle.hevc_driver.proofs.Members.{part_left, part_right, part_either}
 use Rattle.hevc_stateless.specs.Views.{traces_of}
-use Rattle.hevc_moments.specs.Stands.{asked, frame_at}
-use Rattle.hevc_moments.proofs.Standing.{calls_are, outputs_are}
+use Rattle.hevc_stateless_laws.specs.Stands.{asked, frame_at}
+use Rattle.hevc_stateless_laws.proofs.Standing.{calls_are, outputs_are}
 use Rattle.hevc_decoder.specs.Names.{shown_at, output_picture, shown_ticket}
 use Rattle.hevc_decoder.specs.Scenes.{Scene, Trail, trail_of, with_queue}
 use Rattle.hevc_decoder.specs.Takes.{DoesAll}

@@ -13,8 +13,8 @@ use Rattle.hevc_walk_joined.proofs.Cuts.{outputs_in-append}
 use Rattle.hevc_stream.specs.Options.{Options}
 use Rattle.hevc_stream.specs.Kept.{Kept, none_kept}
 use Rattle.hevc_stream.specs.Stream.{meanings, meanings_behind, kept_behind_all}
-use Rattle.hevc_moments.specs.Stands.{meant, standing_after, kept_after}
-use Rattle.hevc_moments.proofs.Keeping.{meant_behind, length_meant}
+use Rattle.hevc_stateless_laws.specs.Stands.{meant, standing_after, kept_after}
+use Rattle.hevc_stateless_laws.proofs.Keeping.{meant_behind, length_meant}
 use Rattle.hevc_stateless.specs.Views.{at_beginning}
 use Rattle.hevc_decoder.specs.declared.decoded.Refused.{Refused}
 use Rattle.hevc_decoder.specs.Names.{output_picture}

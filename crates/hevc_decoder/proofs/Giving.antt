@@ -17,7 +17,7 @@ use Rattle.hevc_driver.specs.Moments.{with_kept, begins_at, begins_by, negotiate
 use Rattle.hevc_driver.specs.Takes.{Goes, Fills, Halts, Refuses, Stays, LeftAt, Takes}
 use Rattle.hevc_driver.proofs.Doing.{does_nothing, keeps_all}
 use Rattle.hevc_stateless.specs.Views.{traces_of}
-use Rattle.hevc_moments.proofs.Standing.{Means}
+use Rattle.hevc_stateless_laws.proofs.Standing.{Means}
 use Rattle.hevc_decoder.specs.Names.{shown_at}
 use Rattle.hevc_decoder.specs.Scenes.{Scene, trail_of, with_queue}
 use Rattle.hevc_decoder.specs.Takes.{StopsPlan, TakesWhole, RefusesUnit, FillsUnit, HaltsUnit, TakesUnit}

@@ -17,7 +17,7 @@ use Rattle.hevc_bits.specs.ParsedHeader.{header_error, answer_of, parsed_header}
 use Rattle.hevc_backend.specs.Trait.{Counts}
 use Rattle.hevc_driver.specs.Answers.{CountsError, IsOfBackend}
 use Rattle.hevc_driver.specs.Errors.{unit_error, cause_error}
-use Rattle.hevc_moments.specs.Stands.{meant, standing_after, kept_after}
+use Rattle.hevc_stateless_laws.specs.Stands.{meant, standing_after, kept_after}
 use Rattle.hevc_decoder.specs.Scenes.{Scene, Trail, trail_of}
 use Rattle.hevc_decoder.specs.Takes.{DoesAll, RefusesUnit, TakesUnit}
 use Rattle.hevc_decoder.specs.Runs.{Reached, Ended}

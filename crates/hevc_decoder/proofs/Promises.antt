@@ -26,7 +26,7 @@ use Rattle.hevc_driver.specs.declared.decode_error.DecodeError.TheVariants as er
 use Rattle.hevc_driver.specs.Answers.{IsNotOfBackend}
 use Rattle.hevc_driver.specs.Calls.{call_of, submissions}
 use Rattle.hevc_driver.proofs.Members.{part_left}
-use Rattle.hevc_moments.specs.Stands.{asked}
+use Rattle.hevc_stateless_laws.specs.Stands.{asked}
 use Rattle.hevc_decoder.specs.declared.decoded.Shown.{Shown}
 use Rattle.hevc_decoder.specs.declared.decoded.Refused.{Refused}
 use Rattle.hevc_decoder.specs.Answers.{without_unit, IsAnswer, AnswersOnly, IsNoMemory, IsOkOrNoMemory, IsNoFullStore, FindsRoom}

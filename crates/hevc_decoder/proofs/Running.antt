@@ -20,8 +20,8 @@ use Rattle.hevc_stream.specs.Stream.{meaning, kept_behind, meanings_behind}
 use Rattle.hevc_driver.specs.declared.decode_error.DecodeError.{DecodeError}
 use Rattle.hevc_driver.specs.declared.decode_error.DecodeError.TheVariants as errors
 use Rattle.hevc_driver.proofs.Doing.{all_both}
-use Rattle.hevc_moments.specs.Stands.{meant, standing_after, StandsAfter, kept_after}
-use Rattle.hevc_moments.proofs.Keeping.{meant_last, meant_behind, length_meant}
+use Rattle.hevc_stateless_laws.specs.Stands.{meant, standing_after, StandsAfter, kept_after}
+use Rattle.hevc_stateless_laws.proofs.Keeping.{meant_last, meant_behind, length_meant}
 use Rattle.hevc_decoder.specs.Names.{answer_of}
 use Rattle.hevc_decoder.specs.Headline.{BeginsPicture}
 use Rattle.hevc_decoder.specs.Scenes.{Scene, Trail, trail_of}

@@ -9,7 +9,7 @@ use Rattle.hevc_walk_units.specs.Units.{Standing}
 use Rattle.hevc_driver.specs.declared.decode_error.DecodeError.{DecodeError}
 use Rattle.hevc_stateless.specs.Views.{View, at_beginning}
 use Rattle.hevc_stateless.specs.Steps.{Seen}
-use Rattle.hevc_moments.specs.Stands.{meant, standing_after, StandsAfter}
+use Rattle.hevc_stateless_laws.specs.Stands.{meant, standing_after, StandsAfter}
 use Rattle.hevc_backend.specs.declared.call.Call.{Call}
 use Rattle.hevc_stateless.specs.declared.decoder.StatelessDecoder.{StatelessDecoder}
 use Rattle.hevc_stateless.specs.Decoders.{view_of, set_for}

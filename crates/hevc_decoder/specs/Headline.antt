@@ -14,7 +14,7 @@ use Rattle.hevc_backend.specs.Trait.{logged}
 use Rattle.hevc_driver.specs.declared.decode_error.DecodeError.{DecodeError}
 use Rattle.hevc_driver.specs.declared.decode_error.DecodeError.TheVariants as errors
 use Rattle.hevc_driver.specs.Calls.{submissions}
-use Rattle.hevc_moments.specs.Stands.{asked}
+use Rattle.hevc_stateless_laws.specs.Stands.{asked}
 use Rattle.hevc_decoder.specs.declared.decoded.Shown.{Shown}
 use Rattle.hevc_decoder.specs.declared.decoded.Refused.{Refused}
 use Rattle.hevc_decoder.specs.Names.{answer_of, shown_ticket}

@@ -10,7 +10,7 @@ use Rattle.hevc_walk.specs.Results.{walk_events, events, calls, outputs, verdict
 use Rattle.hevc_stream.specs.Options.{Options}
 use Rattle.hevc_driver.specs.declared.decode_error.DecodeError.{DecodeError}
 use Rattle.hevc_driver.specs.declared.decode_error.DecodeError.TheVariants as errors
-use Rattle.hevc_moments.specs.Stands.{meant, StandsAfter}
+use Rattle.hevc_stateless_laws.specs.Stands.{meant, StandsAfter}
 use Rattle.hevc_decoder.specs.declared.decoded.Refused.{Refused}
 use Rattle.hevc_decoder.specs.Names.{answer_of}
 use Rattle.hevc_decoder.specs.Headline.{BeginsPicture}

@@ -5,7 +5,7 @@ use Rattle.hevc_spec.specs.Units.{NalUnit, units}
 use Rattle.hevc_walk.specs.Results.{outputs}
 use Rattle.hevc_stream.specs.Options.{Options}
 use Rattle.hevc_stream.specs.Stream.{meanings}
-use Rattle.hevc_moments.specs.Stands.{meant}
+use Rattle.hevc_stateless_laws.specs.Stands.{meant}
 use Rattle.hevc_decoder.specs.declared.decoded.Shown.{Shown}
 use Rattle.hevc_decoder.specs.declared.decoded.Refused.{Refused}
 use Rattle.hevc_decoder.specs.Names.{output_picture}

@@ -15,7 +15,7 @@ use Rattle.hevc_driver.specs.declared.decode_error.DecodeError.TheVariants as er
 use Rattle.hevc_driver.specs.Errors.{error_of}
 use Rattle.hevc_driver.specs.Calls.{call_of, IsTimed, submissions}
 use Rattle.hevc_driver.specs.Moments.{begins_at}
-use Rattle.hevc_moments.specs.Stands.{asked}
+use Rattle.hevc_stateless_laws.specs.Stands.{asked}
 use Rattle.hevc_decoder.specs.declared.decoded.Shown.{Shown}
 use Rattle.hevc_decoder.specs.Names.{output_picture, shown_ticket}
 use Rattle.hevc_decoder.specs.Scenes.{Trail}

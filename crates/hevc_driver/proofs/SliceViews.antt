@@ -29,8 +29,8 @@ use Rattle.hevc_refs.specs.Lists.{places_of, plain_places}
 use Rattle.hevc_backend.specs.Calls.{decode_slice_call}
 use Rattle.hevc_driver.specs.Calls.{call_of}
 use Rattle.hevc_walk.specs.Meanings as walk
-use Rattle.hevc_views.specs.Headers.{short_term_set_of}
-use Rattle.hevc_views.specs.Sequences.{format_of_set, limits_of_set}
+use Rattle.hevc_walk_inputs.specs.Headers.{short_term_set_of}
+use Rattle.hevc_walk_inputs.specs.Sequences.{format_of_set, limits_of_set}
 use Rattle.hevc_stream.specs.Options as stream
 use Rattle.hevc_stream.specs.Slices.{coded_slice}
 use Rattle.hevc_pictures.specs.NewPicture.{IsFirstSlice}

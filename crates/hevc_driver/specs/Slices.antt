@@ -10,7 +10,7 @@ use Rattle.hevc_types_d.specs.declared.slice_header.SliceHeader as code_header
 use Rattle.hevc_types_d.specs.SliceHeader.{plain_slice_header}
 use Rattle.hevc_walk.specs.Meanings.{Slice}
 use Rattle.hevc_walk.specs.DependentSlices.{KeptHeader}
-use Rattle.hevc_views.specs.Headers.{slice_header_of}
+use Rattle.hevc_walk_inputs.specs.Headers.{slice_header_of}
 use Rattle.hevc_stream.specs.Slices.{coded_slice}
 use Rattle.hevc_options.specs.declared.Options.{Options}
 use Rattle.hevc_options.specs.Options.{options_of}

@@ -1,7 +1,7 @@
 //! A picture begins: first its format is negotiated, where it differs from the accepted one.
 ghost use Rattle.std.specs.Prelude.{◌≡◌, ℕ, option_map};
 ghost use Rattle.hevc_types_c.specs.Sps.{plain_sps};
-ghost use Rattle.hevc_views.specs.Sequences.{format_of_set};
+ghost use Rattle.hevc_walk_inputs.specs.Sequences.{format_of_set};
 ghost use Rattle.hevc_walk.specs.Walk.{is_accepted, open_sequence};
 ghost use Rattle.hevc_walk_units.specs.Units.{NoPicture, on_store};
 ghost use Rattle.hevc_backend.specs.Negotiation.{format_of};

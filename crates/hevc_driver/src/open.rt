@@ -1,7 +1,7 @@
 //! A picture of the accepted format begins.
 ghost use Rattle.std.specs.Prelude.{◌≡◌, ◌<◌, ◌+◌, ◌-◌, ◌^◌, ℕ, true, IsTrue, option_map};
 ghost use Rattle.hevc_types_c.specs.Sps.{plain_sps};
-ghost use Rattle.hevc_views.specs.Sequences.{format_of_set};
+ghost use Rattle.hevc_walk_inputs.specs.Sequences.{format_of_set};
 ghost use Rattle.hevc_walk.specs.Walk.{is_decoded, is_accepted};
 ghost use Rattle.hevc_walk_units.specs.Units.{NoPicture};
 ghost use Rattle.hevc_dpb.specs.Entries.{numbers};

@@ -1,7 +1,7 @@
 //! A slice segment is taken: it begins a picture, or is a later one of the current picture (7.4.2.4.5).
 ghost use Rattle.std.specs.Prelude.{◌≡◌, ℕ, option_map};
 ghost use Rattle.hevc_types_c.specs.Sps.{plain_sps};
-ghost use Rattle.hevc_views.specs.Sequences.{format_of_set};
+ghost use Rattle.hevc_walk_inputs.specs.Sequences.{format_of_set};
 ghost use Rattle.hevc_walk.specs.Meanings.{CodedSlice, same_format};
 ghost use Rattle.hevc_walk.specs.DependentSlices.{whole_slice};
 ghost use Rattle.hevc_walk_units.specs.Units.{NoPicture, begins_picture, changed_by};

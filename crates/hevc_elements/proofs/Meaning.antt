@@ -5,7 +5,7 @@ use Rattle.hevc_spec.specs.Payload.{Place, bits}
 use Rattle.hevc_spec.specs.Table.{Table, Fault, Reading, read, gives, refuses, out_of_bits, out_of_range, not_kept}
 use Rattle.hevc_spec.specs.Rows.{row}
 use Rattle.hevc_spec.specs.Lines.{Spells, BreaksOff}
-use Rattle.hevc_laws.proofs.TableLaws.{spelled_from_read, read_from_spelled, breaks_from_refused, refused_from_breaks}
+use Rattle.hevc_reading_laws.proofs.TableLaws.{spelled_from_read, read_from_spelled, breaks_from_refused, refused_from_breaks}
 use Rattle.hevc_elements.specs.declared.parse_error.ParseError.{ParseError}
 use Rattle.hevc_elements.specs.declared.parse_error.ParseError.TheVariants.{WrongNaluType, OutOfBits, OutOfRange, MissingSps, MissingPps, NoMemory}
 use Rattle.hevc_elements.specs.Reads.{Reads, FailsAt}

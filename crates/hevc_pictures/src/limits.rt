@@ -16,7 +16,7 @@ pub struct Limits {
 }
 
 impl Limits {
-    ghost use Rattle.hevc_views.specs.Sequences.{limits_of_set};
+    ghost use Rattle.hevc_walk_inputs.specs.Sequences.{limits_of_set};
     ghost use Rattle.hevc_pictures.specs.Limits.{limits_of};
 
     /// Those of a sequence set for the sub-layers up to `highest_tid`, or for all where it has fewer.

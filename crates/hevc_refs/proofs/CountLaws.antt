@@ -3,7 +3,7 @@ use Rattle.std.proofs.Common.{◌≡◌, ℕ, ℤ, pos, ◌*◌, ◌%◌, ◌^�
 use Rattle.std.specs.Int.{int_rem_euclid}
 use Rattle.std.specs.Ordering.{int_eq}
 use Rattle.std.proofs.Math.Nat.{mul-le-mul, mod-eq_of_lt}
-use Rattle.hevc_views.specs.Headers.{told_cycle}
+use Rattle.hevc_walk_inputs.specs.Headers.{told_cycle}
 use Rattle.hevc_walk.specs.Meanings.{Slice}
 use Rattle.hevc_walk.specs.Pictures.{Head}
 use Rattle.hevc_walk.specs.Buffer.{Entry, is_reference}

@@ -4,7 +4,7 @@ use Rattle.std.specs.Prelude.{Bool}
 use Rattle.hevc_types_a.specs.declared.slice_type.SliceType.{SliceType}
 use Rattle.hevc_types_a.specs.SliceType.{slice_type_number}
 use Rattle.hevc_types_d.specs.declared.slice_header.SliceHeader.{SliceHeader}
-use Rattle.hevc_views.specs.Headers.{slice_type_of}
+use Rattle.hevc_walk_inputs.specs.Headers.{slice_type_of}
 use Rattle.hevc_walk.specs.Meanings as walk
 use Rattle.hevc_walk.specs.ReferenceSets.{RefPicSet}
 use Rattle.hevc_walk.specs.ReferenceLists.{list0_for, list1_for, ref_pic_list0, ref_pic_list1}

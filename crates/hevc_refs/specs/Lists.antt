@@ -1,6 +1,6 @@
 -- Reference picture lists, as the walk has them.
 use Rattle.std.specs.Prelude.{◌≡◌, ℕ, Bool, List, [], ◌∷◌, ◌++◌, map, if◌then◌else◌, Option, Some, option_map}
-use Rattle.hevc_views.specs.Headers.{slice_header_of}
+use Rattle.hevc_walk_inputs.specs.Headers.{slice_header_of}
 use Rattle.hevc_types_d.specs.declared.slice_header.SliceHeader.{SliceHeader}
 use Rattle.hevc_types_d.specs.SliceHeader.{plain_slice_header}
 use Rattle.hevc_walk.specs.Meanings.{Slice}

@@ -1,6 +1,6 @@
 -- Deriving a reference picture set, and the marks that it leaves (8.3.2).
 use Rattle.std.specs.Prelude.{◌≡◌, ℤ, pos, Bool, not, map, if◌then◌else◌}
-use Rattle.hevc_views.specs.Headers.{short_term_set_of, long_term_members}
+use Rattle.hevc_walk_inputs.specs.Headers.{short_term_set_of, long_term_members}
 use Rattle.hevc_types_a.specs.declared.short_term_ref_pic_set.ShortTermRefPicSet.{ShortTermRefPicSet}
 use Rattle.hevc_types_a.specs.ShortTermRefPicSet.{plain_short_term_ref_pic_set}
 use Rattle.hevc_types_d.specs.declared.slice_header.SliceHeader.{SliceHeader}

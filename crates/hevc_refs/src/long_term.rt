@@ -2,7 +2,7 @@
 ghost use Rattle.std.specs.Int.{int_rem_euclid};
 ghost use Rattle.std.specs.Prelude.{◌≡◌, ◌≤◌, ◌<◌, ◌+◌, ◌*◌, ◌&&◌, ◌<ℤ◌, ◌≤ℤ◌, ℕ, pos, not, map, filter};
 ghost use Rattle.arrayvec.specs.ArrayVec.{array_vec_len};
-ghost use Rattle.hevc_views.specs.Headers.{long_term_member, long_term_members};
+ghost use Rattle.hevc_walk_inputs.specs.Headers.{long_term_member, long_term_members};
 ghost use Rattle.hevc_types_d.specs.SliceHeader.{plain_slice_header};
 ghost use Rattle.hevc_walk.specs.Meanings.{Slice};
 ghost use Rattle.hevc_walk.specs.Pictures.{Head};

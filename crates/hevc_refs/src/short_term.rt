@@ -2,7 +2,7 @@
 ghost use Rattle.std.specs.Prelude.{◌≡◌, ◌≤◌, ◌+◌, ◌++◌, ◌&&◌, ◌+ℤ◌, not, map, filter, if◌then◌else◌};
 ghost use Rattle.std.specs.Ordering.{int_eq};
 ghost use Rattle.arrayvec.specs.ArrayVec.{array_vec_len};
-ghost use Rattle.hevc_views.specs.Headers.{short_term_members, short_term_set_of};
+ghost use Rattle.hevc_walk_inputs.specs.Headers.{short_term_members, short_term_set_of};
 ghost use Rattle.hevc_types_a.specs.ShortTermRefPicSet.{plain_short_term_ref_pic_set};
 ghost use Rattle.hevc_walk.specs.Pictures.{Head};
 ghost use Rattle.hevc_walk.specs.ReferenceSets.{first_number, is_short_term, short_term_entry, is_curr_short_term};

@@ -6,7 +6,7 @@ use Rattle.hevc_spec.specs.declared.Row.{Row}
 use Rattle.hevc_spec.specs.Bits.{Form, u, ue, se, skip, check, IsExpGolomb, Found, found, out_of_bounds, ended, form_at, within, in_range, in_signed_range, signed}
 use Rattle.hevc_spec.specs.Rows.{flag_row, zero_row, bits_row, ue_row, se_row, skip_row, check_row, when, either, repeat}
 use Rattle.hevc_spec.specs.Table.{Table, done, element, sized, part, Reading, gives, refuses, read, reading_then, line_found}
-use Rattle.hevc_laws.proofs.FormLaws.{form_front}
+use Rattle.hevc_reading_laws.proofs.FormLaws.{form_front}
 
 -- A table takes at most so many bits, and what it gives is so.
 pub record Takes {A : Type 0} (n : ℕ) (P : A → Type 0) (t : Table A) : Type 0 where

@@ -17,15 +17,15 @@ use Rattle.std.specs.Prelude.{IsSome, option_map, nat_le, ◌==◌, if◌then◌
 use Rattle.std.specs.Result.{IsErrAnd}
 use Rattle.std.proofs.lemmas.Bool.Decides.{nat_tests}
 use Rattle.std.proofs.lemmas.Result.{err_from_is_err_and}
-use Rattle.hevc_views.specs.Sequences.{format_of_set}
+use Rattle.hevc_walk_inputs.specs.Sequences.{format_of_set}
 use Rattle.hevc_walk.specs.Meanings.{Format}
 use Rattle.hevc_stream.specs.Kept.{Kept, with_sequence_set}
 use Rattle.hevc_stream.specs.Slices.{temporal_id}
 use Rattle.hevc_stream.specs.Contents.{Content, refused, sequence_set, picture_set_read, content}
 use Rattle.hevc_stream.specs.Stream.{meaning_of, meaning, kept_behind, with_content, with_all_waited}
 use Rattle.hevc_stream_laws.proofs.ByType.{of_video_set, of_sequence_set, of_picture_set}
-use Rattle.hevc_kept.specs.Takes as sets
-use Rattle.hevc_kept.proofs.Sets.{behind_sequence_set}
+use Rattle.hevc_kept_sets.specs.Takes as sets
+use Rattle.hevc_kept_sets.proofs.Sets.{behind_sequence_set}
 use Rattle.hevc_backend.specs.declared.call.Call.{Call}
 use Rattle.hevc_walk_units.specs.Units.{Standing}
 use Rattle.hevc_driver.specs.declared.decode_error.DecodeError.{DecodeError}

@@ -6,9 +6,9 @@ use Rattle.hevc_stream.specs.Options.{Options}
 use Rattle.hevc_stream.specs.Kept.{Kept, with_sequence_set}
 use Rattle.hevc_stream.specs.Contents.{Content, sequence_set, header_cause, content}
 use Rattle.hevc_stream.specs.Stream.{kept_behind}
-use Rattle.hevc_kept.specs.declared.kept_sets.KeptSets.{KeptSets}
-use Rattle.hevc_kept.specs.Kept.{kept_of}
-use Rattle.hevc_kept.specs.Takes.{StopsReading}
+use Rattle.hevc_kept_sets.specs.declared.kept_sets.KeptSets.{KeptSets}
+use Rattle.hevc_kept_sets.specs.Kept.{kept_of}
+use Rattle.hevc_kept_sets.specs.Takes.{StopsReading}
 use Rattle.hevc_backend.specs.declared.call.Call.{Call}
 use Rattle.hevc_driver.specs.declared.decode_error.DecodeError.{DecodeError}
 use Rattle.hevc_driver.specs.declared.decode_error.DecodeError.TheVariants as errors

@@ -19,7 +19,7 @@ use crate::session::Session;
 use hevc_backend::{Backend, StreamInfo};
 use hevc_bits::{Nalu, NaluHeader};
 use hevc_driver::{DecodeError, Options, StatelessH265DecoderBackend};
-use hevc_kept::KeptSets;
+use hevc_kept_sets::KeptSets;
 use std::alloc::Global;
 
 /// The decoder of a stream, which is given unit by unit.

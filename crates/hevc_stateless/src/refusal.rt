@@ -3,7 +3,7 @@ ghost use Rattle.std.specs.Prelude.{◌≡◌};
 ghost use Rattle.hevc_stateless.specs.Refusals.{IsOfUnit, refusal_of};
 
 use hevc_driver::DecodeError;
-use hevc_kept::ParseError;
+use hevc_kept_sets::ParseError;
 
 /// The error of a call by that of a reader, of a unit that has the reader's type.
 pub(crate) fn refusal(error: ParseError) -> DecodeError

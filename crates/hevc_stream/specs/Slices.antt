@@ -5,8 +5,8 @@ use Rattle.hevc_records.specs.SliceHeader.{PlainSliceSegmentHeader}
 use Rattle.hevc_tables.specs.SliceHeaderTable.{ActiveSets}
 use Rattle.hevc_walk.specs.Meanings.{NamedSets, Slice, MissingPps, Meaning, CodedSlice, Refused}
 use Rattle.hevc_stream.specs.Options.{Options}
-use Rattle.hevc_views.specs.Headers.{short_term_set_of, slice_header_of}
-use Rattle.hevc_views.specs.Sequences.{format_of_set, limits_of_set}
+use Rattle.hevc_walk_inputs.specs.Headers.{short_term_set_of, slice_header_of}
+use Rattle.hevc_walk_inputs.specs.Sequences.{format_of_set, limits_of_set}
 
 -- TemporalId (7-1)
 abbrev pub temporal_id : UnitHeader → ℕ

@@ -6,7 +6,7 @@ use Rattle.hevc_stream.specs.Options.{Options}
 use Rattle.hevc_tables.specs.SliceHeaderTable.{active_sets}
 use Rattle.hevc_stream.specs.Kept.{Kept, none_kept, with_video_set, with_sequence_set, with_picture_set, with_waiting}
 use Rattle.hevc_stream.specs.Contents.{Content, refused, video_set, sequence_set, picture_set, unread_picture_set, slice, end_of_sequence, end_of_bitstream, content}
-use Rattle.hevc_views.specs.Sequences.{format_of_set}
+use Rattle.hevc_walk_inputs.specs.Sequences.{format_of_set}
 use Rattle.hevc_stream.specs.Slices.{slice_segment_meaning}
 
 -- ---- what is kept

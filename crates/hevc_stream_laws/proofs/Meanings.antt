@@ -23,8 +23,8 @@ use Rattle.hevc_walk.specs.Meanings.{CodedSlice}
 use Rattle.hevc_walk.specs.ReferenceLists.{numbers_below}
 use Rattle.hevc_walk.specs.Premises.{IsFormat, IsLimits, IsLongTermMember, IsListRule, IsSlice, IsIndependent, IsMeaning, SetComesFirst, AreMeanings}
 use Rattle.hevc_stream.specs.Options.{Options}
-use Rattle.hevc_views.specs.Sequences.{format_of_set, limits_of_set, highest_sub_layer}
-use Rattle.hevc_views.specs.Headers.{long_term_member, list_rule}
+use Rattle.hevc_walk_inputs.specs.Sequences.{format_of_set, limits_of_set, highest_sub_layer}
+use Rattle.hevc_walk_inputs.specs.Headers.{long_term_member, list_rule}
 use Rattle.hevc_stream.specs.Kept.{Kept, none_kept, with_set, with_sequence_set}
 use Rattle.hevc_stream.specs.Slices.{coded_slice, temporal_id}
 use Rattle.hevc_stream.specs.Contents.{Content, refused, video_set, sequence_set, picture_set, unread_picture_set, slice, end_of_sequence, end_of_bitstream, nothing, content_read, picture_set_read, slice_content, coded_content, content_by_type, headed_content, content}

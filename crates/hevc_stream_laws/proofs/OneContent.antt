@@ -6,7 +6,7 @@ use Rattle.hevc_spec.specs.UnitHeader.{UnitHeader, HeaderFault, unit_header}
 use Rattle.hevc_spec.specs.UnitTypes.{is_slice, is_end}
 use Rattle.hevc_spec.specs.Payload.{payload}
 use Rattle.hevc_spec.specs.Table.{Table, Reading, gives, refuses, read}
-use Rattle.hevc_laws.proofs.TableLaws.{spelled_from_read, read_from_spelled, breaks_from_refused, refused_from_breaks}
+use Rattle.hevc_reading_laws.proofs.TableLaws.{spelled_from_read, read_from_spelled, breaks_from_refused, refused_from_breaks}
 use Rattle.hevc_tables.specs.VpsTable.{video_parameter_set}
 use Rattle.hevc_tables.specs.SpsTable.{sequence_parameter_set}
 use Rattle.hevc_tables.specs.PpsTable.{picture_parameter_set}

@@ -8,7 +8,7 @@ use Rattle.hevc_records.specs.ShortTermRefPicSet.{PlainShortTermRefPicSet}
 use Rattle.hevc_walk.specs.Meanings.{ShortTermMember}
 use Rattle.hevc_walk.specs.ReferenceLists.{numbers_below}
 use Rattle.hevc_walk.specs.Premises.{FallBelow, RiseAbove, IsShortTermRefPicSet}
-use Rattle.hevc_views.specs.Headers.{short_term_member, short_term_members, short_term_set_of}
+use Rattle.hevc_walk_inputs.specs.Headers.{short_term_member, short_term_members, short_term_set_of}
 use Rattle.hevc_stream_laws.proofs.ShortTermSets.{IsSet}
 
 pub length_below : (n : ℕ) → length (numbers_below n) ≡ n

@@ -1,6 +1,6 @@
 use Rattle.std.proofs.Common.{ℕ, [], refl, sym, subst, Ok}
 use Rattle.hevc_stateless.specs.Decoders.{set_for}
-use Rattle.hevc_moments.specs.Stands.{meant}
+use Rattle.hevc_stateless_laws.specs.Stands.{meant}
 use Rattle.hevc_decoder.specs.Scenes.{scene, trail_of}
 use Rattle.hevc_decoder.specs.Runs.{Ended}
 use Rattle.hevc_decoder.proofs.Running.{reached_within}

@@ -6,7 +6,7 @@ use Rattle.hevc_stream.specs.Options.{Options}
 use Rattle.hevc_driver.specs.declared.decode_error.DecodeError.{DecodeError}
 use Rattle.hevc_driver.specs.Answers.{CountsError, IsOfBackend}
 use Rattle.hevc_stateless.specs.Decoders.{view_of, set_for}
-use Rattle.hevc_moments.specs.Stands.{meant}
+use Rattle.hevc_stateless_laws.specs.Stands.{meant}
 use Rattle.hevc_decoder.specs.Scenes.{Scene, scene, trail_of}
 use Rattle.hevc_decoder.specs.Gives.{GivesWhole}
 use Rattle.hevc_decoder.specs.Runs.{Reached, Ended}

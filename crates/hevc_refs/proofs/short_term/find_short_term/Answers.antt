@@ -2,7 +2,7 @@ use Rattle.std.proofs.Common.{◌≡◌, Bool, List, ◌++◌, [], w32, sym, ap,
 use Rattle.std.proofs.lemmas.Int.{to_z-of_z}
 use Rattle.std.proofs.lemmas.List.{map-append}
 use Rattle.std.proofs.lemmas.List.Elements.{filter-append}
-use Rattle.hevc_views.specs.Headers.{short_term_members}
+use Rattle.hevc_walk_inputs.specs.Headers.{short_term_members}
 use Rattle.hevc_walk.specs.Meanings.{ShortTermMember}
 use Rattle.hevc_walk.specs.ReferenceSets.{short_term_entry, is_curr_short_term}
 use Rattle.hevc_dpb.specs.Views.{buffer_of}

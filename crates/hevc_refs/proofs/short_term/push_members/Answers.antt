@@ -1,7 +1,7 @@
 use Rattle.std.proofs.Common.{◌≡◌, ◌++◌, ℤ, ◌+ℤ◌, ◌&&◌, pos, slice_index_or, w32, ap, ◌∙◌, arith, map, filter}
 use Rattle.std.specs.Ordering.{int_eq}
 use Rattle.std.proofs.lemmas.Int.{ints, to_z-of_z}
-use Rattle.hevc_views.specs.Headers.{short_term_member}
+use Rattle.hevc_walk_inputs.specs.Headers.{short_term_member}
 use Rattle.hevc_walk.specs.ReferenceSets.{first_number, is_short_term, short_term_entry}
 use Rattle.hevc_walk.specs.ReferenceLists.{numbers_below}
 use Rattle.hevc_dpb.specs.Views.{buffer_of}

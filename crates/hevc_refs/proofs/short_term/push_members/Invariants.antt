@@ -1,6 +1,6 @@
 use Rattle.std.proofs.Common.{◌≡◌, ◌≤◌, ◌+◌, ◌++◌, map, filter}
 use Rattle.arrayvec.specs.ArrayVec.{array_vec_len}
-use Rattle.hevc_views.specs.Headers.{short_term_member}
+use Rattle.hevc_walk_inputs.specs.Headers.{short_term_member}
 use Rattle.hevc_walk.specs.Pictures.{Head}
 use Rattle.hevc_walk.specs.ReferenceSets.{short_term_entry}
 use Rattle.hevc_walk.specs.ReferenceLists.{numbers_below}

@@ -1,4 +1,4 @@
-use Rattle.hevc_laws.proofs.Spellings.{prefix_free}
+use Rattle.hevc_reading_laws.proofs.Spellings.{prefix_free}
 use Rattle.hevc_bits.proofs.Spelled.{is_spelled, is_only}
 use Rattle.hevc_bits.proofs.reader.NaluReader.read_ue.Goals as goal
 

@@ -1,7 +1,7 @@
 use Rattle.std.proofs.Common.{refl, ap, sym, ◌∙◌, subst, Ok, false}
 use Rattle.std.specs.Prelude.{option_map}
 use Rattle.hevc_types_c.specs.Sps.{plain_sps}
-use Rattle.hevc_views.specs.Sequences.{format_of_set}
+use Rattle.hevc_walk_inputs.specs.Sequences.{format_of_set}
 use Rattle.hevc_walk.specs.Meanings.{Format}
 use Rattle.hevc_walk_units.specs.Units.{Current, NoPicture, SkippedPicture, changed_by}
 use Rattle.hevc_refs.specs.Sets.{plain_set}

@@ -2,7 +2,7 @@ use Rattle.std.proofs.Common.{◌∙◌, ap, sym}
 use Rattle.hevc_bits.specs.FoundUnit.{bytes_of}
 use Rattle.hevc_spec.specs.UnitHeader.{UnitHeader}
 use Rattle.hevc_spec.specs.UnitTypes.{is_idr}
-use Rattle.hevc_kept.specs.Kept.{kept_of, options_in}
+use Rattle.hevc_kept_sets.specs.Kept.{kept_of, options_in}
 use Rattle.hevc_stateless.proofs.Coding.{passed_step, taken_step}
 use Rattle.hevc_stateless.proofs.decoder.StatelessDecoder.take_coded.Goals as goal
 

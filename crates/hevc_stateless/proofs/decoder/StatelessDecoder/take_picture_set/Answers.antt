@@ -1,7 +1,7 @@
 use Rattle.std.proofs.Common.{ap}
 use Rattle.hevc_bits.specs.FoundUnit.{bytes_of}
 use Rattle.hevc_spec.specs.UnitTypes.{is_idr}
-use Rattle.hevc_kept.specs.Kept.{kept_of, options_in}
+use Rattle.hevc_kept_sets.specs.Kept.{kept_of, options_in}
 use Rattle.hevc_stateless.specs.States.{is_parameter_set}
 use Rattle.hevc_stateless.proofs.Setting.{same_picture_set, picture_set_means, set_goes}
 use Rattle.hevc_stateless.proofs.decoder.StatelessDecoder.take_picture_set.Goals as goal

@@ -5,8 +5,8 @@ use Rattle.hevc_bits.specs.FoundUnit.{bytes_of}
 use Rattle.hevc_spec.specs.UnitTypes.{is_idr}
 use Rattle.hevc_stream.specs.Options.{Options}
 use Rattle.hevc_stream.specs.Stream.{with_all_waited}
-use Rattle.hevc_kept.specs.Kept.{kept_of, options_in}
-use Rattle.hevc_kept.specs.Takes.{StopsReading}
+use Rattle.hevc_kept_sets.specs.Kept.{kept_of, options_in}
+use Rattle.hevc_kept_sets.specs.Takes.{StopsReading}
 use Rattle.hevc_stateless.specs.Steps.{Step, seen}
 use Rattle.hevc_stateless.specs.Views.{View}
 use Rattle.hevc_stateless.specs.States.{is_parameter_set}

@@ -6,7 +6,7 @@ use Rattle.hevc_types_d.specs.Pps.{plain_pps}
 use Rattle.hevc_types_d.specs.SliceHeader.{plain_slice_header}
 use Rattle.hevc_stream.specs.Kept.{Kept}
 use Rattle.hevc_slice.specs.Kept.{kept_by}
-use Rattle.hevc_kept.specs.Kept.{kept_of, options_in}
+use Rattle.hevc_kept_sets.specs.Kept.{kept_of, options_in}
 use Rattle.hevc_driver.specs.declared.decode_error.DecodeError.TheVariants as errors
 use Rattle.hevc_driver.specs.Takes.{Takes}
 use Rattle.hevc_stateless.specs.Refusals.{refusal_of}

@@ -3,7 +3,7 @@ use Rattle.std.proofs.lemmas.Bool.Decides.{nat_tests}
 use Rattle.hevc_bits.specs.FoundUnit.{bytes_of}
 use Rattle.hevc_spec.specs.UnitHeader.{UnitHeader}
 use Rattle.hevc_stream.specs.Options.{Options}
-use Rattle.hevc_kept.specs.Kept.{kept_of, options_in}
+use Rattle.hevc_kept_sets.specs.Kept.{kept_of, options_in}
 use Rattle.hevc_stateless.proofs.Coding.{unwanted_step}
 use Rattle.hevc_stateless.proofs.decoder.StatelessDecoder.take_unit.Goals as goal
 

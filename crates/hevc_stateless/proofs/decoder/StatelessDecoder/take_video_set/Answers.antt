@@ -2,7 +2,7 @@ use Rattle.std.proofs.Common.{◌∙◌, ap}
 use Rattle.hevc_bits.specs.FoundUnit.{bytes_of}
 use Rattle.hevc_spec.specs.UnitTypes.{is_idr}
 use Rattle.hevc_stream.specs.Contents.{video_set}
-use Rattle.hevc_kept.specs.Kept.{kept_of, options_in}
+use Rattle.hevc_kept_sets.specs.Kept.{kept_of, options_in}
 use Rattle.hevc_stateless.specs.States.{is_parameter_set}
 use Rattle.hevc_stateless.proofs.Setting.{means, same_video_set, set_goes, set_refused, set_error}
 use Rattle.hevc_stateless.proofs.decoder.StatelessDecoder.take_video_set.Goals as goal

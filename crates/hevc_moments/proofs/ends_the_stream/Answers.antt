@@ -1,5 +1,0 @@
-use Rattle.hevc_moments.proofs.Ending.{ended}
-use Rattle.hevc_moments.proofs.ends_the_stream.Goals as goal
-
-pub returns : goal.returns
-returns g c t options us old new after ends = ended t options us old new after ends

@@ -1,5 +1,0 @@
-use Rattle.hevc_moments.proofs.Opening.{opens_first}
-use Rattle.hevc_moments.proofs.opens_a_negotiation.Goals as goal
-
-pub returns : goal.returns
-returns g c t options us others u old new after takes = opens_first t options us others u old new after takes

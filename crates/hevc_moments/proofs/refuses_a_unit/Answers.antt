@@ -1,5 +1,0 @@
-use Rattle.hevc_moments.proofs.Refusing.{refused_first}
-use Rattle.hevc_moments.proofs.refuses_a_unit.Goals as goal
-
-pub returns : goal.returns
-returns g c error t options us others u old new is after takes = refused_first error t options us others u old new is after takes

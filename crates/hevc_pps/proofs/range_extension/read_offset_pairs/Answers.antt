@@ -1,0 +1,9 @@
+use Rattle.std.proofs.Common.{rules, arith}
+use Rattle.hevc_elements.proofs.Loops.{loops}
+use Rattle.hevc_pps.proofs.range_extension.read_offset_pairs.Goals as goal
+
+pub loop-i-preserved : goal.loop-i-preserved
+loop-i-preserved c = record {
+  same = grind (arith, loops);
+  ahead = search rules;
+}

@@ -1,9 +1,0 @@
-use Rattle.std.proofs.Common.{rules, arith}
-use Rattle.hevc_elements.proofs.Loops.{loops}
-use Rattle.hevc_sequence_set.proofs.long_term.read_pictures.Goals as goal
-
-pub loop-i-preserved : goal.loop-i-preserved
-loop-i-preserved c = record {
-  same = grind (arith, loops);
-  ahead = search rules;
-}

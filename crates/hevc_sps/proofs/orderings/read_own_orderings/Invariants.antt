@@ -1,0 +1,13 @@
+use Rattle.std.proofs.Common.{◌≡◌, ◌-◌}
+use Rattle.hevc_spec.specs.Payload.{bits, IsAhead}
+use Rattle.hevc_spec.specs.Table.{read}
+use Rattle.hevc_spec.specs.Rows.{repeat}
+use Rattle.hevc_tables.specs.SpsTable.{own_ordering, own_orderings}
+use Rattle.hevc_types_c.specs.Sps.{plain_sps}
+use Rattle.hevc_sps.proofs.orderings.read_own_orderings.Given as goal
+
+abbrev pub invariant-loop-i : goal.invariant-loop-i
+invariant-loop-i l = record {
+  same : read (repeat own_ordering l.i (l.count - l.i) (plain_sps l.sps)) (bits l.r) ≡ read (own_orderings (plain_sps l.fn.sps)) (bits l.fn.r);
+  ahead : IsAhead l.fn.r l.r;
+}

@@ -1,0 +1,62 @@
+//! More tools, and usability information (7.3.2.2.1, rows 41 and 42 of table 5).
+ghost use Rattle.std.specs.Prelude.{◌≡◌};
+ghost use Rattle.hevc_elements.specs.Words.{Fills};
+ghost use Rattle.hevc_tables.specs.SpsTable as table;
+ghost use Rattle.hevc_types_b.specs.VuiParams.{plain_vui_params};
+ghost use Rattle.hevc_types_c.specs.Sps.{plain_sps};
+
+use hevc_bits::NaluReader;
+use hevc_elements::ParseError;
+use hevc_elements::rows::flag;
+use hevc_spec::Row;
+use hevc_types_b::VuiParams;
+use hevc_types_c::Sps;
+use hevc_vui::read_vui_parameters;
+
+/// Rows 41 and 42 of table 5.
+#[tactic(auto, unfolding(hevc_tables::specs::SpsTable::usability, hevc_spec::specs::Rows::when))]
+pub(crate) fn read_usability(r: &mut NaluReader<'_>, sps: &mut Sps) -> Result<(), ParseError>
+    ensures { Fills plain_sps table.usability result sps.old sps.new r.old r.new }
+{
+    let temporal = flag(r, Row(5, 41))?;
+    let strong = flag(r, Row(5, 41))?;
+    let present = flag(r, Row(5, 41))?;
+    set_usability(sps, temporal, strong, present);
+    if present {
+        read_information(r, sps)
+    } else {
+        Ok(())
+    }
+}
+
+/// Fills in row 41.
+fn set_usability(sps: &mut Sps, temporal: bool, strong: bool, present: bool)
+    ensures { plain_sps sps.new ≡ record (plain_sps sps.old) {
+      temporal_mvp_enabled_flag = temporal;
+      strong_intra_smoothing_enabled_flag = strong;
+      vui_parameters_present_flag = present;
+    } }
+{
+    sps.temporal_mvp_enabled_flag = temporal;
+    sps.strong_intra_smoothing_enabled_flag = strong;
+    sps.vui_parameters_present_flag = present;
+}
+
+/// Row 42 of table 5.
+#[tactic(auto, unfolding(hevc_tables::specs::SpsTable::usability_information))]
+fn read_information(r: &mut NaluReader<'_>, sps: &mut Sps) -> Result<(), ParseError>
+    ensures { Fills plain_sps table.usability_information result sps.old sps.new r.old r.new }
+{
+    let vui_parameters = read_vui_parameters(r, sps.max_sub_layers_minus1)?;
+    set_information(sps, vui_parameters);
+    Ok(())
+}
+
+/// Fills in row 42.
+fn set_information(sps: &mut Sps, vui_parameters: VuiParams)
+    ensures { plain_sps sps.new ≡ record (plain_sps sps.old) {
+      vui_parameters = plain_vui_params vui_parameters;
+    } }
+{
+    sps.vui_parameters = vui_parameters;
+}

@@ -1,0 +1,17 @@
+use Rattle.std.proofs.Common.{ap}
+use Rattle.hevc_walk.specs.OrderCounts.{nearest}
+use Rattle.hevc_walk.specs.Pictures.{head, order_count_in_range}
+use Rattle.hevc_walk.specs.Buffer.{due_outputs, needs_additional_bumping, needs_bumping, with_stored}
+use Rattle.hevc_walk.specs.ReferenceSets.{reference_set, with_marks}
+use Rattle.hevc_walk.specs.ReferenceLists.{ref_pic_list0, ref_pic_list1}
+use Rattle.hevc_walk.specs.Walk.{finish, store_picture, change_format, begin_picture, make_room, start_decoding}
+use Rattle.hevc_walk.specs.Results.{verdict}
+use Rattle.hevc_stream_examples.proofs.Computed.{computed}
+use Rattle.hevc_stream_examples.proofs.full_buffer.Goals as goal
+
+pub returns-clause-crowded : goal.returns-clause-crowded
+returns-clause-crowded c = computed.crowded
+
+pub returns-clause-verdict : goal.returns-clause-verdict
+unfolding head order_count_in_range nearest due_outputs needs_additional_bumping needs_bumping with_stored reference_set with_marks ref_pic_list0 ref_pic_list1 finish store_picture change_format begin_picture make_room start_decoding
+returns-clause-verdict c = ap verdict computed.crowded

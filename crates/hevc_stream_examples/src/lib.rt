@@ -1,0 +1,172 @@
+//! Worked streams, computed from their bytes: what the definitions of `hevc_stream` say of them.
+#![tactic(auto)]
+
+ghost use Rattle.std.specs.Prelude.{◌≡◌, pos, true, List, [], ◌∷◌, map, Some, Ok, Err};
+ghost use Rattle.hevc_walk.specs.Meanings.{TruncatedNalu, InvalidNaluType, OutOfBits, OutOfRange, MissingPps, SequenceSet, CodedSlice, EndOfSequence, EndOfBitstream, Other, Refused};
+ghost use Rattle.hevc_walk.specs.ReferenceSets.{no_references};
+ghost use Rattle.hevc_walk.specs.ReferenceLists.{DpbEntry};
+ghost use Rattle.hevc_walk.specs.Walk.{NewSequence, NewPicture, BeginPicture, DecodeSlice, SubmitPicture};
+ghost use Rattle.hevc_walk.specs.Refusals.{ChangedMidPicture, DpbFull};
+ghost use Rattle.hevc_walk.specs.Results.{calls, verdict};
+ghost use Rattle.hevc_stream.specs.Options.{default_options};
+ghost use Rattle.hevc_stream.specs.Stream.{meanings};
+ghost use Rattle.hevc_walk_examples.specs.Streams.{plain_format, deep_format, p4, cra, dependent, plain, encoded, crowded, leading, ended_by, equal_counts, without_reference, dependent_alone, dependent_behind, told_outputs, new_pictures, idr_bytes, p4_bytes, p2_bytes};
+ghost use Rattle.hevc_stream_examples.specs.Worked.{plain_stream, encoded_stream, waiting_stream, still_waiting_stream, read_later_stream, in_order_stream, cut_sets_stream, cut_set_stream, not_read_again_stream, read_again_stream, resized_stream, mid_picture_stream, crowded_stream, ends_early_stream, missing_set_stream, no_sets_yet_stream, truncated_stream, unspecified_stream, no_temporal_id_stream, end_cut_stream, many_sub_layers_stream, no_level_stream, long_latency_stream, leading_stream, sequence_ends_stream, bitstream_ends_stream, equal_counts_stream, without_reference_stream, dependent_alone_stream, dependent_behind_stream, before_sets_stream, cra_within_stream, sub_layers_stream, cut_pps_bytes, other_pps_bytes, idr_of, sets_then, waiting_behind, wide_format, later_idr_at_1, sub_layer_p2, handled, cra_as_bla, up_to};
+
+/// An IDR picture and two P pictures: what the units mean, and what the walk makes of it.
+pub fn plain_pictures()
+    ensures plain { meanings default_options plain_stream ≡ plain }
+    ensures calls { calls (meanings default_options plain_stream)
+        ≡ (0, NewSequence plain_format) ∷ (2, NewPicture 0 19 (pos 0) true 0)
+        ∷ (2, BeginPicture 0 no_references) ∷ (2, DecodeSlice 0 0 idr_bytes [] [])
+        ∷ (3, SubmitPicture 0) ∷ (3, NewPicture 1 1 (pos 4) true 0)
+        ∷ (3, BeginPicture 1 (record no_references { st_curr_before = Some 0 ∷ [] }))
+        ∷ (3, DecodeSlice 1 0 p4_bytes (Some (DpbEntry 0) ∷ []) []) ∷ (4, SubmitPicture 1)
+        ∷ (4, NewPicture 2 1 (pos 2) true 0)
+        ∷ (
+          4,
+          BeginPicture 2 (record no_references {
+            st_curr_before = Some 0 ∷ [];
+            st_curr_after = Some 1 ∷ [];
+          }),
+        )
+        ∷ (4, DecodeSlice 2 0 p2_bytes (Some (DpbEntry 0) ∷ []) []) ∷ (5, SubmitPicture 2) ∷ [] }
+    ensures outputs { told_outputs (meanings default_options plain_stream)
+        ≡ (0, pos 0, 4) ∷ (2, pos 2, 5) ∷ (1, pos 4, 5) ∷ [] }
+    ensures verdict { verdict (meanings default_options plain_stream) ≡ Ok 3 }
+{}
+
+/// As an encoder writes it, with a video set, a message and a B slice, and a zero byte before each start code.
+pub fn encoder_stream()
+    ensures encoded { meanings default_options encoded_stream ≡ encoded }
+    ensures outputs { told_outputs (meanings default_options encoded_stream)
+        ≡ (0, pos 0, 6) ∷ (2, pos 2, 7) ∷ (1, pos 4, 7) ∷ [] }
+    ensures verdict { verdict (meanings default_options encoded_stream) ≡ Ok 3 }
+{}
+
+/// A stream without units, and units before the first sequence set, which ask for nothing.
+pub fn beginnings()
+    ensures empty { meanings default_options [] ≡ [] }
+    ensures before_sets { meanings default_options before_sets_stream
+        ≡ Other ∷ Other ∷ SequenceSet plain_format ∷ Other ∷ idr_of plain_format ∷ [] }
+{}
+
+/// A picture set that comes before its sequence set waits for it; of two with one id the later one is kept. One that names
+/// another sequence set waits on, and so does one that ends too early.
+pub fn waiting_sets()
+    ensures waiting { meanings default_options waiting_stream
+        ≡ Other ∷ SequenceSet plain_format ∷ idr_of plain_format ∷ [] }
+    ensures still_waiting { meanings default_options still_waiting_stream
+        ≡ Other ∷ SequenceSet plain_format ∷ Refused (MissingPps 0) ∷ [] }
+    ensures read_later { meanings default_options read_later_stream
+        ≡ Other ∷ SequenceSet plain_format ∷ SequenceSet plain_format ∷ idr_of plain_format ∷ [] }
+    ensures in_order { meanings default_options in_order_stream
+        ≡ Other ∷ Other ∷ SequenceSet plain_format ∷ idr_of plain_format ∷ dependent ∷ [] }
+    ensures waits { waiting_behind cut_sets_stream ≡ cut_pps_bytes ∷ other_pps_bytes ∷ [] }
+    ensures leaves { waiting_behind cut_set_stream ≡ cut_pps_bytes ∷ [] }
+    ensures verdict { verdict (meanings default_options waiting_stream) ≡ Ok 1 }
+{}
+
+/// A picture set stays as it was read where its sequence set is replaced: the bounds of quantisers are still those of 8
+/// bits, until it comes again.
+pub fn replaced_sets()
+    ensures not_read_again { meanings default_options not_read_again_stream
+        ≡ sets_then plain_format (SequenceSet deep_format ∷ Refused (OutOfRange 14 36) ∷ []) }
+    ensures read_again { meanings default_options read_again_stream
+        ≡ sets_then plain_format (sets_then deep_format (idr_of deep_format ∷ [])) }
+{}
+
+/// A sequence set of another size: it is negotiated as a picture begins by it, and refused within a picture.
+pub fn changed_sizes()
+    ensures resized { meanings default_options resized_stream
+        ≡ sets_then plain_format
+        (idr_of plain_format ∷ sets_then wide_format (idr_of wide_format ∷ [])) }
+    ensures mid_picture { meanings default_options mid_picture_stream
+        ≡ sets_then plain_format
+        (idr_of plain_format ∷ sets_then wide_format (later_idr_at_1 wide_format ∷ [])) }
+    ensures outputs { told_outputs (meanings default_options resized_stream)
+        ≡ (0, pos 0, 5) ∷ (1, pos 0, 6) ∷ [] }
+    ensures mid_picture_verdict { verdict (meanings default_options mid_picture_stream)
+        ≡ Err (record { unit = 5; cause = ChangedMidPicture plain_format wide_format }) }
+{}
+
+/// Seven pictures that wait in a buffer of six.
+pub fn full_buffer()
+    ensures crowded { meanings default_options crowded_stream ≡ crowded }
+    ensures verdict { verdict (meanings default_options crowded_stream)
+        ≡ Err (record { unit = 9; cause = DpbFull }) }
+{}
+
+/// A slice that ends too early, that names no kept picture set, or that takes a short-term set where the sequence set has
+/// none.
+pub fn refused_slices()
+    ensures ends_early { meanings default_options ends_early_stream
+        ≡ sets_then plain_format (idr_of plain_format ∷ Refused OutOfBits ∷ []) }
+    ensures missing_set { meanings default_options missing_set_stream
+        ≡ sets_then plain_format (Refused (MissingPps 5) ∷ []) }
+    ensures no_sets_yet { meanings default_options no_sets_yet_stream
+        ≡ sets_then plain_format (Refused (OutOfRange 14 11) ∷ []) }
+{}
+
+/// Faults of the headers of units. The two bytes that an end keeps are looked at only once its header is read.
+pub fn refused_headers()
+    ensures truncated { meanings default_options truncated_stream ≡ Refused TruncatedNalu ∷ [] }
+    ensures unspecified { meanings default_options unspecified_stream
+        ≡ Refused (InvalidNaluType 62) ∷ [] }
+    ensures no_temporal_id { meanings default_options no_temporal_id_stream
+        ≡ Refused (OutOfRange 0 1) ∷ [] }
+    ensures end_cut { meanings default_options end_cut_stream ≡ Refused (OutOfRange 0 1) ∷ [] }
+{}
+
+/// Sequence sets of eight sub-layers, of a level that there is none of, and of a latency above 255.
+pub fn refused_sets()
+    ensures many_sub_layers { meanings default_options many_sub_layers_stream
+        ≡ Refused (OutOfRange 5 2) ∷ [] }
+    ensures no_level { meanings default_options no_level_stream ≡ Refused (OutOfRange 2 27) ∷ [] }
+    ensures long_latency { meanings default_options long_latency_stream
+        ≡ Refused (OutOfRange 5 19) ∷ [] }
+{}
+
+/// A stream that begins at a CRA picture, and CRA pictures behind ends.
+pub fn random_access()
+    ensures leading { meanings default_options leading_stream ≡ leading }
+    ensures sequence_ends { meanings default_options sequence_ends_stream ≡ ended_by EndOfSequence }
+    ensures bitstream_ends { meanings default_options bitstream_ends_stream
+        ≡ ended_by EndOfBitstream }
+    ensures outputs { told_outputs (meanings default_options leading_stream) ≡ (0, pos 8, 6) ∷ [] }
+{}
+
+/// Pictures of one order count, and a P slice without a reference picture.
+pub fn references()
+    ensures equal_counts { meanings default_options equal_counts_stream ≡ equal_counts }
+    ensures without_reference { meanings default_options without_reference_stream
+        ≡ without_reference }
+{}
+
+/// A dependent slice alone, and behind an independent one.
+pub fn dependent_slices()
+    ensures dependent_alone { meanings default_options dependent_alone_stream ≡ dependent_alone }
+    ensures dependent_behind { meanings default_options dependent_behind_stream ≡ dependent_behind }
+{}
+
+/// A CRA picture handled as a BLA picture discards what waits; a unit above the wanted sub-layers is passed over.
+pub fn options()
+    ensures as_cra { meanings default_options cra_within_stream
+        ≡ sets_then plain_format (idr_of plain_format ∷ p4 ∷ cra ∷ []) }
+    ensures as_bla { meanings cra_as_bla cra_within_stream
+        ≡ map handled (sets_then plain_format (idr_of plain_format ∷ p4 ∷ cra ∷ [])) }
+    ensures lowest { meanings (up_to 0) sub_layers_stream
+        ≡ sets_then plain_format (idr_of plain_format ∷ p4 ∷ Other ∷ []) }
+    ensures with_sub_layer { meanings (up_to 1) sub_layers_stream
+        ≡ sets_then plain_format (idr_of plain_format ∷ p4 ∷ CodedSlice sub_layer_p2 ∷ []) }
+    ensures as_cra_outputs { told_outputs (meanings default_options cra_within_stream)
+        ≡ (0, pos 0, 4) ∷ (1, pos 4, 5) ∷ (2, pos 8, 5) ∷ [] }
+    ensures as_bla_outputs { told_outputs (meanings cra_as_bla cra_within_stream)
+        ≡ (0, pos 0, 4) ∷ (2, pos 8, 5) ∷ [] }
+    ensures as_bla_verdict { verdict (meanings cra_as_bla cra_within_stream) ≡ Ok 3 }
+    ensures lowest_outputs { told_outputs (meanings (up_to 0) sub_layers_stream)
+        ≡ (0, pos 0, 5) ∷ (1, pos 4, 5) ∷ [] }
+    ensures lowest_verdict { verdict (meanings (up_to 0) sub_layers_stream) ≡ Ok 2 }
+    ensures with_sub_layer_pictures { new_pictures (meanings (up_to 1) sub_layers_stream)
+        ≡ (0, 19, pos 0, true) ∷ (1, 1, pos 4, true) ∷ (2, 2, pos 2, true) ∷ [] }
+{}

@@ -1,8 +1,0 @@
-use Rattle.hevc_stream_rows.proofs.Computed.{computed}
-use Rattle.hevc_stream_rows.proofs.beginnings.Goals as goal
-
-pub returns-clause-empty : goal.returns-clause-empty
-returns-clause-empty c = computed.empty
-
-pub returns-clause-before_sets : goal.returns-clause-before_sets
-returns-clause-before_sets c = computed.before_sets
