@@ -91,15 +91,6 @@ place_behind-add (suc n) m p q r a b =
     by_next again None h = absurd cc
     by_next again (Some s) h = again s h
 
-pub same_ahead : (p : Place) → IsAhead p p
-same_ahead p = record { moved = refl; fewer = omega arith }
-
-pub bit_ahead : (p q : Place) (b : Bool) → bits p ≡ b ∷ bits q → bits_left p + 8 * p.dropped ≡ bits_left q + 8 * q.dropped + 1 → IsAhead p q
-bit_ahead p q b e level = let l = ap length e in record { moved = omega arith; fewer = omega arith }
-
-pub ahead_then : (p q s : Place) → IsAhead p q → IsAhead q s → IsAhead p s
-ahead_then p q s a b = record { moved = omega arith; fewer = omega arith }
-
 pub same_reached : (p : Place) → IsReached p p
 same_reached p = let none : length (bits p) - length (bits p) ≡ 0 = omega arith in record { place = rw none refl; fewer = omega arith }
 
@@ -115,6 +106,21 @@ reached_then p q s a b =
     let g = b.fewer in
     let sum : length (bits p) - length (bits s) ≡ (length (bits p) - length (bits q)) + (length (bits q) - length (bits s)) = omega arith in
     record { place = rw sum (place_behind-add _ _ p q s a.place b.place); fewer = omega arith }
+
+pub same_ahead : (p : Place) → IsAhead p p
+same_ahead p = record { moved = refl; fewer = omega arith; onward = λ _ way. way }
+
+pub bit_ahead : (p q : Place) (b : Bool) → bits p ≡ b ∷ bits q → next_place p ≡ Some q → bits_left p + 8 * p.dropped ≡ bits_left q + 8 * q.dropped + 1 → IsAhead p q
+bit_ahead p q b e next level =
+    let l = ap length e in
+    record { moved = omega arith; fewer = omega arith; onward = λ o way. reached_then o p q way (bit_reached p q b e next) }
+
+pub ahead_then : (p q s : Place) → IsAhead p q → IsAhead q s → IsAhead p s
+ahead_then p q s a b = record { moved = omega arith; fewer = omega arith; onward = λ o way. b.onward o (a.onward o way) }
+
+-- what is ahead is reached
+pub is_reached : (p q : Place) → IsAhead p q → IsReached p q
+is_reached p q a = a.onward p (same_reached p)
 
 -- ---- so many bits on
 
@@ -161,6 +167,6 @@ passed (suc n) p q e = by_next (λ s h. passed n s q h) (next_place p) refl e
         record {
           enough = omega (arith, rest.enough, ap length b.reads);
           rest = rest.rest ∙ rw b.reads refl;
-          ahead = ahead_then p s q (bit_ahead p s b.bit b.reads b.level) rest.ahead;
+          ahead = ahead_then p s q (bit_ahead p s b.bit b.reads is b.level) rest.ahead;
           reached = reached_then p s q (bit_reached p s b.bit b.reads is) rest.reached;
         }

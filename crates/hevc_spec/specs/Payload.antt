@@ -76,15 +76,17 @@ abbrev pub place_behind : ℕ → Place → Option Place
 place_behind zero p = Some p
 place_behind (suc n) p = option_and_then (place_behind n) (next_place p)
 
--- The second place stands as many bits behind the first as it has payload bits fewer. The bits left fall by these, and by eight for each 03 that was dropped.
-pub record IsAhead (old new : Place) : Type 0 where
-  pub moved : bits_left old + 8 * old.dropped + length (bits new) ≡ bits_left new + 8 * new.dropped + length (bits old)
-  pub fewer : length (bits new) ≤ length (bits old)
-
 -- The second place is the one that the payload bits lead to which it has fewer: a 03 is dropped as the byte behind it is loaded, and a byte as its first bit is read.
 pub record IsReached (old new : Place) : Type 0 where
   pub place : place_behind (length (bits old) - length (bits new)) old ≡ Some new
   pub fewer : length (bits new) ≤ length (bits old)
+
+-- The second place is reached from the first, so whatever the first is reached from. The bits left fall by the payload bits
+-- between them, and by eight for each 03 that was dropped.
+pub record IsAhead (old new : Place) : Type 0 where
+  pub moved : bits_left old + 8 * old.dropped + length (bits new) ≡ bits_left new + 8 * new.dropped + length (bits old)
+  pub fewer : length (bits new) ≤ length (bits old)
+  pub onward : (p : Place) → IsReached p old → IsReached p new
 
 -- more_rbsp_data (7.2): the next bit isn't the stop bit, since a one stands behind it in its byte, or a byte that isn't 0 behind that
 abbrev pub has_more : Place → Bool
