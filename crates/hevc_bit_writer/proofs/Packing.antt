@@ -18,7 +18,7 @@ number-bound bits =
     let here : IsAtFront (u (length bits)) (number bits) bits [] = record { front = bits; spelled = (refl, refl); parts = sym (append-nil bits) } in
     spelled-bound (length bits) (number bits) bits [] here
 
-number_after-is : (v : ℕ) (bits : List Bool) → number_after v bits ≡ v * 2 ^ length bits + number bits
+pub number_after-is : (v : ℕ) (bits : List Bool) → number_after v bits ≡ v * 2 ^ length bits + number bits
 number_after-is v [] = omega arith
 number_after-is v (b ∷ bits) =
     let d = cond b 1 0 in
@@ -30,7 +30,7 @@ number_after-is v (b ∷ bits) =
     one ∙ twice v n d (number bits) ∙ ap (λ (x : ℕ). v * 2 ^ suc n + x) (sym first)
 
 -- the low bits of a number that bits spell
-low_bits-number : (v : ℕ) (bits : List Bool) → low_bits (length bits) (number_after v bits) ≡ bits
+pub low_bits-number : (v : ℕ) (bits : List Bool) → low_bits (length bits) (number_after v bits) ≡ bits
 low_bits-number v [] = refl
 low_bits-number v (b ∷ bits) =
     let w = 2 * v + cond b 1 0 in

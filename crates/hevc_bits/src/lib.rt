@@ -2,6 +2,7 @@
 #![tactic(auto)]
 
 mod bit_error;
+pub mod comparisons;
 mod header;
 mod load;
 mod nalu;

@@ -1,6 +1,6 @@
 //! The header of an H.265 unit (7.3.1.2).
 
-ghost use Rattle.std.specs.Prelude.{◌≡◌, ◌≤◌, ◌==◌};
+ghost use Rattle.std.specs.Prelude.{◌≡◌, ◌≤◌, ◌<◌, ◌==◌, ◌⊎◌, ◌↔◌, None, IfSome};
 ghost use Rattle.hevc_bits.specs.NaluType.{nalu_type_number};
 
 use crate::header::{Header, UnitError};
@@ -34,6 +34,25 @@ impl Model for NaluHeader {
 }
 
 impl NaluHeader {
+    /// The header of this type, layer id and temporal id plus 1. `None` exactly where the layer id (`nuh_layer_id`) is above 63 or
+    /// the temporal id plus 1 (`nuh_temporal_id_plus1`) isn't 1 to 7.
+    pub fn new(nalu_type: NaluType, layer_id: u8, temporal_id_plus1: u8) -> Option<NaluHeader>
+        ensures none { (result ≡ None)
+            ↔ ((63 < layer_id) ⊎ ((temporal_id_plus1 ≡ 0) ⊎ (7 < temporal_id_plus1))) }
+        ensures nalu_type { IfSome result (λ h. h.nal_unit_type ≡ nalu_type_number nalu_type) }
+        ensures layer_id { IfSome result (λ h. h.nuh_layer_id ≡ layer_id) }
+        ensures temporal_id { IfSome result (λ h. h.nuh_temporal_id_plus1 ≡ temporal_id_plus1) }
+    {
+        if layer_id > 63 || temporal_id_plus1 == 0 || temporal_id_plus1 > 7 {
+            return None;
+        }
+        Some(NaluHeader {
+            nalu_type,
+            layer_id,
+            temporal_id_plus1,
+        })
+    }
+
     /// The type (`nal_unit_type`).
     pub fn nalu_type(&self) -> NaluType
         ensures { nalu_type_number result ≡ self.now.nal_unit_type }

@@ -106,7 +106,7 @@ pub enum NaluType {
 
 impl NaluType {
     ghost use Rattle.hevc_bits.specs.NaluType.{nalu_type_number};
-    ghost use Rattle.hevc_spec.specs.UnitTypes.{is_idr, is_irap, is_bla, is_cra, is_radl, is_rasl, is_slnr};
+    ghost use Rattle.hevc_spec.specs.UnitTypes.{is_idr, is_irap, is_bla, is_cra, is_radl, is_rasl, is_slnr, is_slice};
 
     /// The type of this number, and `None` exactly above 47.
     pub fn n(value: u32) -> Option<NaluType>
@@ -236,6 +236,31 @@ impl NaluType {
                 | NaluType::RsvVclN10
                 | NaluType::RsvVclN12
                 | NaluType::RsvVclN14
+        )
+    }
+
+    /// Whether it is a slice segment whose type isn't reserved: types 0 to 9 and 16 to 21.
+    pub fn is_slice(&self) -> bool
+        ensures { result ≡ is_slice (nalu_type_number self.now) }
+    {
+        matches!(
+            self,
+            NaluType::TrailN
+                | NaluType::TrailR
+                | NaluType::TsaN
+                | NaluType::TsaR
+                | NaluType::StsaN
+                | NaluType::StsaR
+                | NaluType::RadlN
+                | NaluType::RadlR
+                | NaluType::RaslN
+                | NaluType::RaslR
+                | NaluType::BlaWLp
+                | NaluType::BlaWRadl
+                | NaluType::BlaNLp
+                | NaluType::IdrWRadl
+                | NaluType::IdrNLp
+                | NaluType::CraNut
         )
     }
 }

@@ -8,19 +8,19 @@ use Rattle.hevc_spec.specs.Table.{Table, done, missing, element, sized, part, Fa
 use Rattle.hevc_spec.specs.Lines.{Head, Line, AreGood, joined, HasLines, Next, line, lacks, HasNext, SpellsOther, Breaks, Spells, BreaksOff}
 use Rattle.hevc_reading_laws.proofs.FormLaws.{form_front, form_spelled, form_great, form_great_again, form_ended, form_ended_again}
 
-AreGood-append : (a b : List Line) → AreGood a → AreGood b → AreGood (a ++ b)
+pub AreGood-append : (a b : List Line) → AreGood a → AreGood b → AreGood (a ++ b)
 AreGood-append [] b p q = q
 AreGood-append (l ∷ a) b p q = (p.0, AreGood-append a b p.1 q)
 
-joined-append : (a b : List Line) → joined (a ++ b) ≡ joined a ++ joined b
+pub joined-append : (a b : List Line) → joined (a ++ b) ≡ joined a ++ joined b
 joined-append [] b = refl
 joined-append (l ∷ a) b = ap (λ (x : List Bool). l.bits ++ x) (joined-append a b) ∙ sym (append_assoc l.bits (joined a) (joined b))
 
-AreGood-front : (a b : List Line) → AreGood (a ++ b) → AreGood a
+pub AreGood-front : (a b : List Line) → AreGood (a ++ b) → AreGood a
 AreGood-front [] b p = tt
 AreGood-front (l ∷ a) b p = (p.0, AreGood-front a b p.1)
 
-AreGood-rest : (a b : List Line) → AreGood (a ++ b) → AreGood b
+pub AreGood-rest : (a b : List Line) → AreGood (a ++ b) → AreGood b
 AreGood-rest [] b p = p
 AreGood-rest (l ∷ a) b p = AreGood-rest a b p.1
 

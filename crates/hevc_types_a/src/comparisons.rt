@@ -1,10 +1,11 @@
-//! What the derived comparisons answer: `==` is equality of all fields, and order goes by number.
+//! What the derived comparisons answer, `==` equality of all fields and order by number, and what `default()` is.
 //!
 //! Each function is one operator at one type, with its meaning as a contract, for proofs that rest on it.
 ghost use Rattle.std.specs.Prelude.{◌≡◌, ◌↔◌, ◌<◌, IsTrue};
 ghost use Rattle.std.specs.Ordering.{nat_cmp};
 ghost use Rattle.hevc_types_a.specs.Level.{level_number};
 ghost use Rattle.hevc_types_a.specs.Profile.{profile_number};
+ghost use Rattle.hevc_types_a.specs.SliceType.{slice_type_number};
 
 use crate::{
     Level, PpsRangeExtension, PpsSccExtension, Profile, ProfileTierLevel, RefPicListModification,
@@ -33,6 +34,13 @@ pub fn level_cmp(a: Level, b: Level) -> Ordering
     a.cmp(&b)
 }
 
+/// The level of the lowest number, 1, as `default()` gives.
+pub fn level_default() -> Level
+    ensures { level_number result ≡ 30 }
+{
+    Level::default()
+}
+
 /// Whether two profiles are the same, as `==` answers.
 pub fn profile_eq(a: Profile, b: Profile) -> bool
     ensures { IsTrue result ↔ (a ≡ b) }
@@ -54,11 +62,25 @@ pub fn profile_cmp(a: Profile, b: Profile) -> Ordering
     a.cmp(&b)
 }
 
+/// The profile of the lowest number, Main, as `default()` gives.
+pub fn profile_default() -> Profile
+    ensures { profile_number result ≡ 1 }
+{
+    Profile::default()
+}
+
 /// Whether two slice types are the same, as `==` answers.
 pub fn slice_type_eq(a: SliceType, b: SliceType) -> bool
     ensures { IsTrue result ↔ (a ≡ b) }
 {
     a == b
+}
+
+/// The type P, as `default()` gives.
+pub fn slice_type_default() -> SliceType
+    ensures { slice_type_number result ≡ 1 }
+{
+    SliceType::default()
 }
 
 /// Whether two values are equal in all fields, as `==` answers.

@@ -48,7 +48,7 @@ accepted_same : (f : Format) (o : Option Format) → is_accepted f o ≡ true �
 accepted_same f None h = absurd (cc h)
 accepted_same f (Some a) h = ap (λ (x : Format). Some x) (same_format-equal a f h)
 
-change-accepted : (f : Format) (s : Store) → (change_format f s).next.accepted ≡ Some f
+pub change-accepted : (f : Format) (s : Store) → (change_format f s).next.accepted ≡ Some f
 unfolding change_format
 change-accepted f s = by_test (is_accepted f s.accepted) refl
   where

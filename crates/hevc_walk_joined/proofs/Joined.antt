@@ -64,7 +64,7 @@ finished_context : (set : Option (ℕ × Format)) (ps : List Picture) → record
 finished_context set [] = refl
 finished_context set (p ∷ before) = ap (λ (c : Option _). record (context (p ∷ before)) { prev_tid0_count = c }) (tid0-open p.head (reference_set_of set p before) (context before).prev_tid0_count)
 
-begins-current : (q : Head) (set : RefPicSet) (slice : Slice) → begins_picture (current_of q set) slice ≡ slice.first_slice_segment_in_pic_flag
+pub begins-current : (q : Head) (set : RefPicSet) (slice : Slice) → begins_picture (current_of q set) slice ≡ slice.first_slice_segment_in_pic_flag
 begins-current q set slice = by_test q.skipped
   where
     by_test : (b : Bool) → begins_picture (cond b SkippedPicture (OpenPicture q set)) slice ≡ slice.first_slice_segment_in_pic_flag
@@ -72,7 +72,7 @@ begins-current q set slice = by_test q.skipped
     by_test false = refl
 
 -- a slice of the current picture is decoded as the latest picture asks
-decode-next : (c : Current) (slice : Slice) (s : Standing) → (decode_current c slice s).next ≡ s
+pub decode-next : (c : Current) (slice : Slice) (s : Standing) → (decode_current c slice s).next ≡ s
 decode-next NoPicture slice s = refl
 decode-next SkippedPicture slice s = refl
 decode-next (OpenPicture p set) slice s = by_test (is_decoded p)
@@ -343,7 +343,7 @@ pub events-same : (us : List Meaning) → events_from units.at_first 0 us ≡ ev
 unfolding EventsJoin
 events-same us = subst (λ (n : ℕ). EventsJoin 0 nothing_yet (events_from units.at_first 0 us) (stop us) n (covered_stream us)) (zero-add (length us)) (events-join 0 nothing_yet us)
 
-same_number : (ps : List Picture) → (next_context ps).number ≡ (context ps).number
+pub same_number : (ps : List Picture) → (next_context ps).number ≡ (context ps).number
 same_number [] = refl
 same_number (p ∷ before) = refl
 
