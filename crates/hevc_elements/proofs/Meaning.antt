@@ -2,6 +2,7 @@
 use Rattle.std.proofs.Common.{Bool, List, Result, Ok, Err, subst}
 use Rattle.std.specs.Prelude.{IfOk, IfErr}
 use Rattle.hevc_spec.specs.Payload.{Place, bits}
+use Rattle.hevc_spec.proofs.PlaceLaws.{is_reached}
 use Rattle.hevc_spec.specs.Table.{Table, Fault, Reading, read, gives, refuses, out_of_bits, out_of_range, not_kept}
 use Rattle.hevc_spec.specs.Rows.{row}
 use Rattle.hevc_spec.specs.Lines.{Spells, BreaksOff}
@@ -55,7 +56,7 @@ module _ {X A : Type 0} (view : X → A) (t : Table A) (old new : Place) where
   pub broken_naming : (r : Result X ParseError) → ReadsNaming view r new (read t (bits old)) → (f : Fault) (rest : List Bool) → BreaksOff t f (bits old) rest → ReadsNaming view r new (refuses f rest)
   broken_naming r h f rest s = subst (λ (m : Reading A). ReadsNaming view r new m) (refused_from_breaks t (bits old) f rest s) h
 
--- what the clause `means` of a public reader follows from
-pub ruleset meanings = (is_found, is_only, is_refused, is_broken)
+-- what the clauses `means` and `place` of a public reader follow from
+pub ruleset meanings = (is_found, is_only, is_refused, is_broken, is_reached)
 
 pub ruleset meanings_naming = (found_naming, only_naming, refused_naming, broken_naming)

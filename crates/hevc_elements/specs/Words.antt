@@ -1,6 +1,6 @@
 -- The words of readers' contracts, from one place.
 pub use Rattle.std.specs.Prelude.{◌≡◌, ◌≤◌, ◌<◌, ◌+◌, IfOk, IsTrue}
-pub use Rattle.hevc_spec.specs.Payload.{bits, IsAhead}
+pub use Rattle.hevc_spec.specs.Payload.{bits, IsAhead, IsReached}
 pub use Rattle.hevc_spec.specs.Table.{read}
 pub use Rattle.hevc_spec.specs.Rows.{when}
 pub use Rattle.hevc_elements.specs.Reads.{Reads, Means, Fills}

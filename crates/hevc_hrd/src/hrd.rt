@@ -1,6 +1,6 @@
 //! Parameters of the hypothetical reference decoder (E.2.2, table 3).
 ghost use Rattle.std.specs.Prelude.{◌≡◌, ◌≤◌};
-ghost use Rattle.hevc_elements.specs.Words.{bits, IsAhead, read, when, Reads, Means};
+ghost use Rattle.hevc_elements.specs.Words.{bits, IsAhead, IsReached, read, when, Reads, Means};
 ghost use Rattle.hevc_records.specs.HrdParams.{default_hrd_params};
 ghost use Rattle.hevc_tables.specs.HrdTable as table;
 ghost use Rattle.hevc_types_b.specs.HrdParams.{plain_hrd_params};
@@ -33,6 +33,7 @@ pub fn read_hrd_parameters(
         (table.hrd_parameters common max_sub_layers_minus1
         (plain_hrd_params before.now)) result r.old r.new }
     ensures moves { IsAhead r.old r.new }
+    ensures place { IsReached r.old r.new }
 {
     read_rows(r, common, max_sub_layers_minus1, before)
 }

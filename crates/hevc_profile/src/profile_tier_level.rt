@@ -1,6 +1,6 @@
 //! Profile, tier and level (7.3.3, table 2).
 ghost use Rattle.std.specs.Prelude.{◌≤◌};
-ghost use Rattle.hevc_elements.specs.Words.{bits, IsAhead, read, Reads, Means, Fills};
+ghost use Rattle.hevc_elements.specs.Words.{bits, IsAhead, IsReached, read, Reads, Means, Fills};
 ghost use Rattle.hevc_tables.specs.ProfileTierLevelTable as table;
 ghost use Rattle.hevc_tables.specs.ProfileTierLevelTable.{profile_tier_level};
 ghost use Rattle.hevc_types_a.specs.ProfileTierLevel.{plain_profile_tier_level};
@@ -32,6 +32,7 @@ pub fn read_profile_tier_level(
     ensures means { Means plain_profile_tier_level
         (profile_tier_level max_sub_layers_minus1) result r.old r.new }
     ensures moves { IsAhead r.old r.new }
+    ensures place { IsReached r.old r.new }
 {
     read_rows(r, max_sub_layers_minus1)
 }

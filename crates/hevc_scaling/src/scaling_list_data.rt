@@ -1,5 +1,5 @@
 //! Scaling lists (7.3.4, table 6).
-ghost use Rattle.hevc_elements.specs.Words.{bits, IsAhead, read, Reads, Means};
+ghost use Rattle.hevc_elements.specs.Words.{bits, IsAhead, IsReached, read, Reads, Means};
 ghost use Rattle.hevc_tables.specs.ScalingListTable.{scaling_list_data};
 ghost use Rattle.hevc_types_a.specs.ScalingLists.{plain_scaling_lists};
 
@@ -22,6 +22,7 @@ pub fn read_scaling_list_data(r: &mut NaluReader<'_>) -> Result<ScalingLists, Pa
     ensures read { Reads plain_scaling_lists result r.new (read scaling_list_data (bits r.old)) }
     ensures means { Means plain_scaling_lists scaling_list_data result r.old r.new }
     ensures moves { IsAhead r.old r.new }
+    ensures place { IsReached r.old r.new }
 {
     read_sizes(r)
 }

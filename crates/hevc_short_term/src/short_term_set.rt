@@ -1,7 +1,7 @@
 //! Short-term reference picture sets (7.3.7, table 7).
 ghost use Rattle.std.specs.Prelude.{length, map};
 ghost use Rattle.std.specs.Prelude.{◌≤◌};
-ghost use Rattle.hevc_elements.specs.Words.{bits, IsAhead, read, Reads, Means};
+ghost use Rattle.hevc_elements.specs.Words.{bits, IsAhead, IsReached, read, Reads, Means};
 ghost use Rattle.hevc_tables.specs.ShortTermTable.{short_term_ref_pic_set};
 ghost use Rattle.hevc_types_a.specs.ShortTermRefPicSet.{plain_short_term_ref_pic_set};
 
@@ -44,6 +44,7 @@ pub fn read_short_term_set(
         (short_term_ref_pic_set
         (map plain_short_term_ref_pic_set sets.now) count buffering st_rps_idx) result r.old r.new }
     ensures moves { IsAhead r.old r.new }
+    ensures place { IsReached r.old r.new }
 {
     read_rows(r, sets, count, buffering, st_rps_idx)
 }

@@ -8,7 +8,6 @@ mod kind;
 mod prediction;
 mod quantiser;
 mod segment;
-mod sizes;
 mod slice_header;
 
 pub use prediction::parse_pred_weight_table;

@@ -1,6 +1,6 @@
 //! How a P or B slice is predicted (7.3.6.1, rows 24 to 34 of table 14).
 ghost use Rattle.std.specs.Prelude.{◌≡◌, OnErr};
-ghost use Rattle.hevc_elements.specs.Words.{bits, IsAhead, read, when, Reads, Means, Fills};
+ghost use Rattle.hevc_elements.specs.Words.{bits, IsAhead, IsReached, read, when, Reads, Means, Fills};
 ghost use Rattle.hevc_records.specs.PredWeightTable.{default_pred_weight_table};
 ghost use Rattle.hevc_tables.specs.SliceHeaderTable as table;
 ghost use Rattle.hevc_tables.specs.SliceTypes.{is_i as is_i_type};
@@ -152,6 +152,7 @@ pub fn parse_pred_weight_table(
     ensures means { Means (λ _. plain_pred_weight_table hdr.new.pred_weight_table)
         (weights_of (plain_sps sps.now) (plain_slice_header hdr.old)) result r.old r.new }
     ensures moves { IsAhead r.old r.new }
+    ensures place { IsReached r.old r.new }
     ensures same { plain_slice_header hdr.new ≡ record (plain_slice_header hdr.old) {
       pred_weight_table = plain_pred_weight_table hdr.new.pred_weight_table;
     } }

@@ -18,7 +18,6 @@ ghost use Rattle.hevc_slice_header.specs.Lists.{HasLists};
 
 use crate::beginning::read_beginning;
 use crate::segment::read_behind_sets;
-use crate::sizes::emulation_prevention_bytes;
 use hevc_bits::{Nalu, NaluHeader, NaluReader, NaluType};
 use hevc_elements::ParseError;
 use hevc_elements::rows::skip;
@@ -70,7 +69,7 @@ pub fn read_slice_header(
     ensures lists { OnOk result (HasLists (plain_slice_header h.new)) }
 {
     let header = nalu.header();
-    if !is_slice(header.nalu_type()) {
+    if !header.nalu_type().is_slice() {
         return Err(ParseError::WrongNaluType);
     }
     match read_payload(alloc, header.nalu_type(), nalu.payload(), spses, ppses, h) {
@@ -80,14 +79,6 @@ pub fn read_slice_header(
             Err(error)
         }
     }
-}
-
-/// Whether a unit of this type is a slice.
-fn is_slice(nalu_type: NaluType) -> bool
-    ensures { result ≡ is_slice_number (nalu_type_number nalu_type) }
-{
-    let number = nalu_type as u8;
-    number <= 9 || (16 <= number && number <= 21)
 }
 
 /// Reads the payload of a unit of this type.
@@ -110,29 +101,27 @@ fn read_payload(
         (kept_active_sets ppses.now spses.now) (plain_slice_header h.new)) }
     ensures lists { OnOk result (HasLists (plain_slice_header h.new)) }
 {
-    let mut r = NaluReader::new(payload);
-    let before = r.fork();
+    let start = NaluReader::new(payload);
+    let mut r = start.fork();
     match read_aligned(alloc, &mut r, nalu_type, spses, ppses, h) {
         Ok(()) => {
-            set_sizes(payload, bits_between(&before, &r), h);
+            set_sizes(bits_between(&start, &r), &r, h);
             Ok(())
         }
         Err(error) => Err(error),
     }
 }
 
-/// The sizes of a header of so many payload bits.
-#[tactic(auto, unfolding(hevc_tables::specs::SliceHeaderTable::with_sizes))]
-fn set_sizes(payload: &[u8], size: u32, h: &mut SliceHeader)
-    requires short { length payload.now < 2 ^ 60 }
-    requires there { size ≤ length (payload_bits 0 payload.now) }
+/// The sizes of a header of so many payload bits, behind which the reader stands.
+fn set_sizes(size: u32, r: &NaluReader<'_>, h: &mut SliceHeader)
     requires few { size < 2 ^ 32 - 16 }
-    ensures set { plain_slice_header h.new
-        ≡ table.with_sizes payload.now (plain_slice_header h.old) size }
+    requires dropped { r.now.dropped ≤ size }
+    ensures set { plain_slice_header h.new ≡ record (plain_slice_header h.old) {
+        header_bit_size = 16 + size; n_emulation_prevention_bytes = r.now.dropped } }
     ensures lists { HasLists (plain_slice_header h.old) → HasLists (plain_slice_header h.new) }
 {
     h.header_bit_size = 16 + size;
-    h.n_emulation_prevention_bytes = emulation_prevention_bytes(payload, size);
+    h.n_emulation_prevention_bytes = r.num_epb() as u32;
 }
 
 /// Rows 1 to 53 of table 14, from a whole byte on.

@@ -1,6 +1,6 @@
 //! Modifications of reference picture lists (7.3.6.2, table 15).
 ghost use Rattle.std.specs.Prelude.{◌≡◌, ◌+◌, ◌≤◌, ◌^◌, [], IfOk, OnOk, IsTrue};
-ghost use Rattle.hevc_elements.specs.Words.{bits, IsAhead, read, when, Reads, Means, Fills};
+ghost use Rattle.hevc_elements.specs.Words.{bits, IsAhead, IsReached, read, when, Reads, Means, Fills};
 ghost use Rattle.hevc_tables.specs.RefPicListModificationTable as table;
 ghost use Rattle.hevc_types_a.specs.RefPicListModification.{plain_ref_pic_list_modification};
 ghost use Rattle.hevc_slice_parts.specs.Entries.{HasEntries};
@@ -37,6 +37,7 @@ pub fn read_ref_pic_list_modification(
         (table.ref_pic_list_modification is_b num_pic_total_curr
         num_ref_idx_l0_active_minus1 num_ref_idx_l1_active_minus1) result r.old r.new }
     ensures moves { IsAhead r.old r.new }
+    ensures place { IsReached r.old r.new }
     // A list whose order is told has an entry for each active place, each below NumPicTotalCurr.
     ensures entries_l0 { IfOk result
         (λ m. IsTrue m.ref_pic_list_modification_flag_l0

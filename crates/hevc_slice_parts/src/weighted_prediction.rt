@@ -1,7 +1,7 @@
 //! Weighted prediction (7.3.6.3, table 16).
 ghost use Rattle.std.specs.Prelude.{◌≡◌, ◌≤◌, ◌+◌, pos, neg_ℤ, ◌+ℤ◌, IfOk, ◌≤ℤ◌, if◌then◌else◌, unsigned_abs};
 ghost use Rattle.hevc_spec.specs.Rows.{row, se_row};
-ghost use Rattle.hevc_elements.specs.Words.{bits, IsAhead, read, when, Reads, Means, Fills};
+ghost use Rattle.hevc_elements.specs.Words.{bits, IsAhead, IsReached, read, when, Reads, Means, Fills};
 ghost use Rattle.hevc_tables.specs.WeightedPredictionTable as table;
 ghost use Rattle.hevc_types_b.specs.PredWeightTable.{plain_pred_weight_table};
 ghost use Rattle.hevc_types_c.specs.Sps.{plain_sps};
@@ -39,6 +39,7 @@ pub fn read_pred_weight_table(
         (table.pred_weight_table (plain_sps sps.now) is_b
         num_ref_idx_l0_active_minus1 num_ref_idx_l1_active_minus1) result r.old r.new }
     ensures moves { IsAhead r.old r.new }
+    ensures place { IsReached r.old r.new }
 {
     read_rows(
         r,

@@ -1,6 +1,6 @@
 //! Video usability information (E.2.1, table 8).
 ghost use Rattle.std.specs.Prelude.{◌≤◌};
-ghost use Rattle.hevc_elements.specs.Words.{bits, IsAhead, read, Reads, Means};
+ghost use Rattle.hevc_elements.specs.Words.{bits, IsAhead, IsReached, read, Reads, Means};
 ghost use Rattle.hevc_tables.specs.VuiTable.{vui_parameters};
 ghost use Rattle.hevc_types_b.specs.VuiParams.{plain_vui_params};
 
@@ -29,6 +29,7 @@ pub fn read_vui_parameters(
     ensures means { Means plain_vui_params
         (vui_parameters max_sub_layers_minus1) result r.old r.new }
     ensures moves { IsAhead r.old r.new }
+    ensures place { IsReached r.old r.new }
 {
     read_rows(r, max_sub_layers_minus1)
 }
