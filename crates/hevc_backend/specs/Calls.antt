@@ -18,14 +18,18 @@ abbrev pub new_sequence_call : {H : Type 0} → Sps → Call H
 new_sequence_call sps = NewSequence (info_of (format_of_set (plain_sps sps)))
 
 abbrev pub new_picture_call : {H : Type 0} → (number : ℕ) → PictureData → (timestamp : ℕ) → Call H
-new_picture_call number p timestamp = NewPicture number p.nalu_type p.pic_order_cnt_val p.pic_output_flag timestamp
+new_picture_call number p timestamp =
+    NewPicture number p.nalu_type p.pic_order_cnt_val p.pic_output_flag timestamp
 
 abbrev pub begin_picture_call : {H : Type 0} → (number : ℕ) → RefPicSet → Call H
 begin_picture_call number rps =
-    BeginPicture number (plain_set rps).st_curr_before (plain_set rps).st_curr_after (plain_set rps).st_foll
+    BeginPicture number (plain_set rps).st_curr_before (plain_set rps).st_curr_after
+    (plain_set rps).st_foll
     (plain_set rps).lt_curr (plain_set rps).lt_foll
 
 -- the bytes are those of the slice's unit, from its header on
-abbrev pub decode_slice_call : {H : Type 0} → (number : ℕ) → Slice → (list0 list1 : RefPicList) → Call H
+abbrev pub decode_slice_call : {H : Type 0} → (number : ℕ) → Slice → (list0 list1 : RefPicList)
+    → Call H
 decode_slice_call number slice list0 list1 =
-    DecodeSlice number slice.header.segment_address (bytes_of slice.nalu) (places_of list0) (places_of list1)
+    DecodeSlice number slice.header.segment_address (bytes_of slice.nalu) (places_of list0)
+    (places_of list1)

@@ -27,10 +27,14 @@ info_of f = record {
   max_num_pics = f.max_num_pics;
 }
 
--- what a backend that records tells of a sequence: its sizes, and a frame for each picture of the buffer and for the current one
+-- what a backend that records tells of a sequence: its sizes, and a frame for each picture of the
+-- buffer and for the current one
 abbrev pub stream_info_of_set : PlainSps → StreamInfo
 stream_info_of_set s = record {
-  coded_resolution = record { width = s.pic_width_in_luma_samples; height = s.pic_height_in_luma_samples };
+  coded_resolution = record {
+    width = s.pic_width_in_luma_samples;
+    height = s.pic_height_in_luma_samples;
+  };
   display_resolution = record { width = window_width s; height = window_height s };
   min_num_frames = max_dpb_size_of s + 1;
 }

@@ -24,7 +24,15 @@ pub record Recording : Type 0 where
 
 -- nothing was recorded
 abbrev pub planned : (failing free : List ℕ) → Recording
-planned failing free = record { log = []; failing = failing; made = 0; free = free; counts = record { faults = 0; empty_answers = 0 }; room = false; info = None }
+planned failing free = record {
+  log = [];
+  failing = failing;
+  made = 0;
+  free = free;
+  counts = record { faults = 0; empty_answers = 0 };
+  room = false;
+  info = None;
+}
 
 -- one more, up to 2 ^ 64 - 1
 abbrev pub one_more : ℕ → ℕ
@@ -38,9 +46,11 @@ abbrev pub with_call_made : Recording → Recording
 with_call_made r = record r { made = one_more r.made }
 
 abbrev pub with_fault : Recording → Recording
-with_fault r = record (with_call_made r) { counts = record r.counts { faults = one_more r.counts.faults } }
+with_fault r =
+    record (with_call_made r) { counts = record r.counts { faults = one_more r.counts.faults } }
 
--- behind a call that gave this answer: a call that succeeds is recorded, and one that fails is counted
+-- behind a call that gave this answer: a call that succeeds is recorded,
+-- and one that fails is counted
 abbrev pub behind : {T : Type 0} → (T → Call ℕ) → Recording → Result T BackendError → Recording
 behind call r (Ok value) = record (with_call_made r) { log = r.log ++ call value ∷ [] }
 behind call r (Err Failed) = with_fault r
@@ -67,11 +77,16 @@ next_free [] = 16
 next_free (n ∷ ns) = n
 
 abbrev pub with_answer : (frames : ℕ) → Counts → Counts
-with_answer frames counts = if frames == 0 then record counts { empty_answers = one_more counts.empty_answers } else counts
+with_answer frames counts =
+    if frames == 0 then record counts { empty_answers = one_more counts.empty_answers } else counts
 
 -- behind a question for free frames
 abbrev pub asked : Recording → Recording
-asked r = record r { free = drop 1 r.free; room = not (next_free r.free == 0); counts = with_answer (next_free r.free) r.counts }
+asked r = record r {
+  free = drop 1 r.free;
+  room = not (next_free r.free == 0);
+  counts = with_answer (next_free r.free) r.counts;
+}
 
 -- no call is to fail, and there are always frames
 abbrev pub IsFaultless : Recording → Type 0

@@ -18,7 +18,12 @@ pub record BegunPicture : Type 0 where
   pub pic_output_flag : Bool
 
 abbrev pub begun_picture : (number : ℕ) → PictureData → BegunPicture
-begun_picture number p = record { number = number; nalu_type = p.nalu_type; pic_order_cnt_val = p.pic_order_cnt_val; pic_output_flag = p.pic_output_flag }
+begun_picture number p = record {
+  number = number;
+  nalu_type = p.nalu_type;
+  pic_order_cnt_val = p.pic_order_cnt_val;
+  pic_output_flag = p.pic_output_flag;
+}
 
 pub record Told (H : Type 0) : Type 0 where
   -- the format of the last NewSequence
@@ -35,7 +40,15 @@ nothing_told = record { sequence = None; picture = None; submitted = [] }
 abbrev pub told_too : {H : Type 0} → Told H → Call H → Told H
 told_too t (NewSequence info) = record t { sequence = Some (format_of info) }
 told_too t (NewPicture number nalu_type pic_order_cnt_val pic_output_flag timestamp) =
-    record t { picture = Some (record { number = number; nalu_type = nalu_type; pic_order_cnt_val = pic_order_cnt_val; pic_output_flag = pic_output_flag }) }
+    record t {
+      picture =
+          Some (record {
+            number = number;
+            nalu_type = nalu_type;
+            pic_order_cnt_val = pic_order_cnt_val;
+            pic_output_flag = pic_output_flag;
+          });
+    }
 told_too t (BeginPicture number st_curr_before st_curr_after st_foll lt_curr lt_foll) = t
 told_too t (DecodeSlice number address bytes list0 list1) = t
 told_too t (SubmitPicture number handle) = record t { submitted = (number, handle) ∷ t.submitted }
@@ -48,15 +61,18 @@ abbrev pub told : {H : Type 0} → List (Call H) → Told H
 told log = told_from nothing_told log
 
 -- it holds of what a backend was told, where the backend tells its log
-pub record WhereTold {H : Type 0} (log : Option (List (Call H))) (holds : Told H → Type 0) : Type 0 where
+pub record WhereTold {H : Type 0} (log : Option (List (Call H))) (holds : Told H → Type 0)
+    : Type 0 where
   pub of_log : IfSome log (λ calls. holds (told calls))
 
 -- each of these entries has a handle that was given for its number
 abbrev pub AreSubmitted : {H : Type 0} → List (DpbEntry H) → Told H → Type 0
 AreSubmitted es t = IsPartOf (tickets es) t.submitted
 
--- the last picture has this number, the last sequence this format, and each entry a handle that was given for its number
-pub record IsTold {H : Type 0} (number : ℕ) (format : Format) (es : List (DpbEntry H)) (t : Told H) : Type 0 where
+-- the last picture has this number, the last sequence this format,
+-- and each entry a handle that was given for its number
+pub record IsTold {H : Type 0} (number : ℕ) (format : Format) (es : List (DpbEntry H)) (t : Told H)
+    : Type 0 where
   pub handles : AreSubmitted es t
   pub sequence : t.sequence ≡ Some format
   pub picture : option_map (λ p. p.number) t.picture ≡ Some number

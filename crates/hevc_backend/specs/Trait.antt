@@ -15,7 +15,8 @@ logged None calls = None
 logged (Some log) calls = Some (log ++ calls)
 
 -- a call that succeeds stands behind the log, and no other does
-abbrev pub Logs : {T X : Type 0} → Option (List X) → Option (List X) → Result T BackendError → (T → X) → Type 0
+abbrev pub Logs : {T X : Type 0} → Option (List X) → Option (List X) → Result T BackendError
+    → (T → X) → Type 0
 Logs before now (Ok value) call = now ≡ logged before (call value ∷ [])
 Logs before now (Err error) call = now ≡ before
 
@@ -25,7 +26,8 @@ Counted before now = (before ≤ now) × Rose before now
 
 -- both counts are as they were, unless the backend failed: then that of faults rose
 abbrev pub CountsFault : Counts → Counts → BackendError → Type 0
-CountsFault before now Failed = Counted before.faults now.faults × (now.empty_answers ≡ before.empty_answers)
+CountsFault before now Failed =
+    Counted before.faults now.faults × (now.empty_answers ≡ before.empty_answers)
 CountsFault before now NoMemory = now ≡ before
 
 abbrev pub CountsFaults : {T : Type 0} → Counts → Counts → Result T BackendError → Type 0
@@ -34,7 +36,8 @@ CountsFaults before now (Err error) = CountsFault before now error
 
 -- both counts are as they were, unless no frame is free: then that of empty answers rose
 abbrev pub CountsEmptyAnswers : Counts → Counts → (frames : ℕ) → Type 0
-CountsEmptyAnswers before now zero = Counted before.empty_answers now.empty_answers × (now.faults ≡ before.faults)
+CountsEmptyAnswers before now zero =
+    Counted before.empty_answers now.empty_answers × (now.faults ≡ before.faults)
 CountsEmptyAnswers before now (suc n) = now ≡ before
 
 abbrev pub IsFault : BackendError → Type 0

@@ -31,7 +31,8 @@ count_of_answer (Err refused) = count_of_refusal refused.error refused.unit
 -- the units behind so many, or the first of them that has no header (7.3.1.2)
 abbrev pub count_of_units : ℕ → List NalUnit → Count
 count_of_units number [] = Units number
-count_of_units number (unit ∷ units) = if is_ok (unit_header unit.bytes) then count_of_units (number + 1) units else Refused number
+count_of_units number (unit ∷ units) =
+    if is_ok (unit_header unit.bytes) then count_of_units (number + 1) units else Refused number
 
 -- what the work finds in a stream
 abbrev pub count_of : Work → List ℕ → Count

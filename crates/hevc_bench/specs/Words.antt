@@ -6,7 +6,10 @@ use Rattle.hevc_bench.specs.declared.work.Work.TheVariants.{Decode, Cut, Read}
 
 -- `cut` asks to cut, `read` to read
 abbrev pub work_of : List ℕ → Option Work
-work_of word = if bytes_eq word (codes "cut") then Some Cut else if bytes_eq word (codes "read") then Some Read else None
+work_of word =
+    if bytes_eq word (codes "cut") then Some Cut
+    else if bytes_eq word (codes "read") then Some Read
+    else None
 
 -- no word asks to decode
 abbrev pub asked_work : List (List ℕ) → Option Work

@@ -12,7 +12,8 @@ exponent_within (suc most) n = if nat_le (2 ^ suc most) n then suc most else exp
 unfoldable pub leading_zero_bits : ℕ → ℕ
 leading_zero_bits value = exponent_within 31 (value + 1)
 
--- The bits of an element. An Exp-Golomb number (9.2) is codeNum plus 1 with as many zeros before its first one as bits stand behind that.
+-- The bits of an element. An Exp-Golomb number (9.2) is codeNum plus 1 with as many zeros before
+-- its first one as bits stand behind that.
 abbrev pub spelled : Form → ℕ → List Bool
 spelled (u n) value = low_bits n value
 spelled ue value = low_bits (2 * leading_zero_bits value + 1) (value + 1)
@@ -33,13 +34,15 @@ abbrev pub code_number : ℤ → ℕ
 code_number (pos n) = 2 * n - 1
 code_number (negsuc n) = 2 * (n + 1)
 
--- rbsp_trailing_bits (7.3.2.11), or byte_alignment (7.3.2.12), behind so many bits: a one, and zeros up to the end of its byte
+-- rbsp_trailing_bits (7.3.2.11), or byte_alignment (7.3.2.12), behind so many bits: a one, and
+-- zeros up to the end of its byte
 abbrev pub trailing_bits : ℕ → List Bool
 trailing_bits count = true ∷ replicate (7 - count % 8) false
 
 -- the bytes that bits fill, eight each
 abbrev pub packed : List Bool → List ℕ
-packed (a ∷ b ∷ c ∷ d ∷ e ∷ f ∷ g ∷ h ∷ bits) = number (a ∷ b ∷ c ∷ d ∷ e ∷ f ∷ g ∷ h ∷ []) ∷ packed bits
+packed (a ∷ b ∷ c ∷ d ∷ e ∷ f ∷ g ∷ h ∷ bits) =
+    number (a ∷ b ∷ c ∷ d ∷ e ∷ f ∷ g ∷ h ∷ []) ∷ packed bits
 packed bits = []
 
 -- bits grew by some first ones of others

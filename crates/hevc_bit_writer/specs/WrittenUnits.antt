@@ -3,11 +3,13 @@ use Rattle.std.specs.Prelude.{◌≡◌, ℕ, ◌+◌, Bool, true, not, ◌&&◌
 use Rattle.hevc_spec.specs.Payload.{run_behind}
 use Rattle.hevc_spec.specs.Units.{NalUnit, kept_bytes}
 
--- Payload bytes that stand behind a run of zeros, with emulation_prevention_three_byte (7.4.2): a 03 before each byte of at most 3
--- that would stand directly behind two zero bytes.
+-- Payload bytes that stand behind a run of zeros, with emulation_prevention_three_byte (7.4.2): a
+-- 03 before each byte of at most 3 that would stand directly behind two zero bytes.
 abbrev pub escaped_after : ℕ → List ℕ → List ℕ
 escaped_after run [] = []
-escaped_after run (byte ∷ bytes) = if run == 2 && nat_le byte 3 then 3 ∷ byte ∷ escaped_after (run_behind 0 byte) bytes else byte ∷ escaped_after (run_behind run byte) bytes
+escaped_after run (byte ∷ bytes) =
+    if run == 2 && nat_le byte 3 then 3 ∷ byte ∷ escaped_after (run_behind 0 byte) bytes
+    else byte ∷ escaped_after (run_behind run byte) bytes
 
 -- the bytes of a unit behind its header, of these payload bytes
 abbrev pub escaped : List ℕ → List ℕ
@@ -25,12 +27,15 @@ stream_of (unit ∷ units) = started unit ++ stream_of units
 -- the units of such a stream, from a place of it on
 abbrev pub placed : ℕ → List (List ℕ) → List NalUnit
 placed place [] = []
-placed place (unit ∷ units) = record { offset = place + 3; bytes = unit } ∷ placed (place + 3 + length unit) units
+placed place (unit ∷ units) =
+    record { offset = place + 3; bytes = unit } ∷ placed (place + 3 + length unit) units
 
--- None of 00 00 00, 00 00 01 and 00 00 02 stands in bytes that stand behind a run of zeros, and they don't end in 00 (7.4.2).
+-- None of 00 00 00, 00 00 01 and 00 00 02 stands in bytes that stand behind a run of zeros, and
+-- they don't end in 00 (7.4.2).
 abbrev pub stays_whole : ℕ → List ℕ → Bool
 stays_whole run [] = run == 0
-stays_whole run (byte ∷ bytes) = not (run == 2 && nat_le byte 2) && stays_whole (run_behind run byte) bytes
+stays_whole run (byte ∷ bytes) =
+    not (run == 2 && nat_le byte 2) && stays_whole (run_behind run byte) bytes
 
 -- the bytes of a unit that is found as it was written
 pub record IsUnit (bytes : List ℕ) : Type 0 where

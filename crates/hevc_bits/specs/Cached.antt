@@ -8,7 +8,12 @@ use Rattle.hevc_bits.specs.declared.word.Word.{Word}
 
 -- the place behind a payload byte, none of whose bits is read
 abbrev pub loaded_place : Loaded → Place
-loaded_place l = record { loaded = low_bits 8 l.byte; zero_run = l.zeros; behind = l.behind.now; dropped = l.dropped }
+loaded_place l = record {
+  loaded = low_bits 8 l.byte;
+  zero_run = l.zeros;
+  behind = l.behind.now;
+  dropped = l.dropped;
+}
 
 -- the place with the next payload byte loaded
 unfoldable pub byte_on : Place → Place
@@ -25,7 +30,8 @@ loaded_with unread number p = record p { loaded = low_bits unread number }
 
 -- where a word stands with so many unread bits, of which so many whole bytes aren't reached
 abbrev pub place_in : ℕ → ℕ → ℕ → ℕ → Place → Place
-place_in left ahead filled cache base = loaded_with (left - 8 * ahead) (cache / 2 ^ (8 * ahead)) (bytes_on (filled - ahead) base)
+place_in left ahead filled cache base =
+    loaded_with (left - 8 * ahead) (cache / 2 ^ (8 * ahead)) (bytes_on (filled - ahead) base)
 
 abbrev pub base_of : Word → Place
 base_of w = record { loaded = []; zero_run = 0; behind = w.bytes.now; dropped = w.before }
@@ -34,7 +40,8 @@ base_of w = record { loaded = []; zero_run = 0; behind = w.bytes.now; dropped = 
 abbrev pub end_of : Word → Place
 end_of w = record { loaded = []; zero_run = w.zeros; behind = w.rest.now; dropped = w.dropped }
 
--- where a word stands: at the byte that holds the next bit or that is read up, whatever bytes it holds behind that
+-- where a word stands: at the byte that holds the next bit or that is read up,
+-- whatever bytes it holds behind that
 abbrev pub place_of : Word → Place
 place_of w = place_in w.left w.ahead w.filled w.cache (base_of w)
 
@@ -53,7 +60,9 @@ pub record IsSameBut (old new : Place) : Type 0 where
 -- The low bytes of a word, so many, are the payload bytes from one place up to another.
 unfoldable pub Holds : ℕ → ℕ → ℕ → Place → Place → Type 0
 Holds zero cache marks p end = IsSameBut p end
-Holds (suc n) cache marks p end = IsNext (low_bits 8 (cache / 2 ^ (8 * n))) (bit_at marks n) p (byte_on p) × Holds n cache marks (byte_on p) end
+Holds (suc n) cache marks p end =
+    IsNext (low_bits 8 (cache / 2 ^ (8 * n))) (bit_at marks n) p (byte_on p)
+    × Holds n cache marks (byte_on p) end
 
 -- what every word keeps
 pub record IsFilled (w : Word) : Type 0 where
@@ -78,7 +87,9 @@ pub record Fills (num_bits : ℕ) (enough : Bool) (old new : Word) : Type 0 wher
 pub record Takes (num_bits value : ℕ) (old new : Word) : Type 0 where
   pub filled : IsFilled new
   pub passes : place_behind num_bits (place_of old) ≡ Some (place_of new)
-  pub spells : (front : ℕ) → bits_after front num_bits (bits (place_of old)) ≡ found (front * 2 ^ num_bits + value) (bits (place_of new))
+  pub spells : (front : ℕ)
+      → bits_after front num_bits (bits (place_of old))
+      ≡ found (front * 2 ^ num_bits + value) (bits (place_of new))
 
 -- The word stands behind an Exp-Golomb number of the value.
 pub record TakesGolomb (value : ℕ) (old new : Word) : Type 0 where

@@ -15,10 +15,14 @@ bytes_of u = take u.size (drop u.offset u.stream)
 abbrev pub unit_of : {H : Type 0} → FoundUnit H → NalUnit
 unit_of u = record { offset = u.offset; bytes = bytes_of u }
 
--- it is one of the units of its stream, of whose bytes up to the next start code these are kept (Annex B)
+-- it is one of the units of its stream, of whose bytes
+-- up to the next start code these are kept (Annex B)
 abbrev pub IsCutOut : {H : Type 0} → (List ℕ → List ℕ) → FoundUnit H → Type 0
-IsCutOut kept u = (place : ℕ) × (others : List NalUnit) × (units_from kept place u.stream ≡ unit_of u ∷ others)
+IsCutOut kept u =
+    (place : ℕ) × (others : List NalUnit) × (units_from kept place u.stream ≡ unit_of u ∷ others)
 
 -- The start code has the zero_byte before it as its first, where there is one (B.2.1).
 abbrev pub start_code_offset : {H : Type 0} → FoundUnit H → ℕ
-start_code_offset u = if nat_le 4 u.offset && slice_index u.stream (u.offset - 4) == 0 then u.offset - 4 else u.offset - 3
+start_code_offset u =
+    if nat_le 4 u.offset && slice_index u.stream (u.offset - 4) == 0 then u.offset - 4
+    else u.offset - 3

@@ -3,7 +3,8 @@ use Rattle.std.specs.Prelude.{◌≡◌, ℕ, ◌≤◌, Bool, List, Result, Ok,
 use Rattle.hevc_bits.specs.declared.header.UnitError.{UnitError}
 
 -- All bytes with the same first `len` give the same header.
-pub record IsReadFromFront {H : Type 0} (parsed : List ℕ → Result H UnitError) (bytes : List ℕ) (header : H) (len : ℕ) : Type 0 where
+pub record IsReadFromFront {H : Type 0} (parsed : List ℕ → Result H UnitError) (bytes : List ℕ)
+    (header : H) (len : ℕ) : Type 0 where
   pub fits : len ≤ length bytes
   pub same : (others : List ℕ) → take len others ≡ take len bytes → parsed others ≡ Ok header
 

@@ -62,7 +62,8 @@ nalu_types =
     BlaWLp ∷ BlaWRadl ∷ BlaNLp ∷ IdrWRadl ∷ IdrNLp ∷ CraNut ∷ RsvIrapVcl22 ∷ RsvIrapVcl23 ∷
     RsvVcl24 ∷ RsvVcl25 ∷ RsvVcl26 ∷ RsvVcl27 ∷ RsvVcl28 ∷ RsvVcl29 ∷ RsvVcl30 ∷ RsvVcl31 ∷
     VpsNut ∷ SpsNut ∷ PpsNut ∷ AudNut ∷ EosNut ∷ EobNut ∷ FdNut ∷ PrefixSeiNut ∷
-    SuffixSeiNut ∷ RsvNvcl41 ∷ RsvNvcl42 ∷ RsvNvcl43 ∷ RsvNvcl44 ∷ RsvNvcl45 ∷ RsvNvcl46 ∷ RsvNvcl47 ∷ []
+    SuffixSeiNut ∷ RsvNvcl41 ∷ RsvNvcl42 ∷ RsvNvcl43 ∷ RsvNvcl44 ∷ RsvNvcl45 ∷ RsvNvcl46 ∷
+    RsvNvcl47 ∷ []
 
 -- the type of a number
 abbrev pub nalu_type_of : ℕ → NaluType

@@ -4,7 +4,11 @@ use Rattle.hevc_spec.specs.Units.{units_from}
 
 -- 00 00 01 stands at a place
 abbrev pub StandsAt : List ℕ → ℕ → Type 0
-StandsAt stream k = (k + 2 < length stream) × (slice_index stream k ≡ 0) × (slice_index stream (k + 1) ≡ 0) × (slice_index stream (k + 2) ≡ 1)
+StandsAt stream k =
+    (k + 2 < length stream)
+    × (slice_index stream k ≡ 0)
+    × (slice_index stream (k + 1) ≡ 0)
+    × (slice_index stream (k + 2) ≡ 1)
 
 -- it stands at no place from one up to another
 abbrev pub NoneStands : List ℕ → ℕ → ℕ → Type 0
@@ -12,14 +16,21 @@ NoneStands stream from to = (k : ℕ) → from ≤ k → k < to → ¬ StandsAt 
 
 -- the first place from one on at which it stands
 abbrev pub IsFirstStart : List ℕ → ℕ → Option ℕ → Type 0
-IsFirstStart stream from found = MatchOption found (NoneStands stream from (length stream)) (λ k. (from ≤ k) × StandsAt stream k × NoneStands stream from k)
+IsFirstStart stream from found =
+    MatchOption found (NoneStands stream from (length stream))
+    (λ k. (from ≤ k) × StandsAt stream k × NoneStands stream from k)
 
 -- the first place from one on whose third byte is 1; a start code stands at none before it
 abbrev pub EndsFirst : List ℕ → ℕ → Option ℕ → Type 0
 EndsFirst stream from found = MatchOption found (NoneStands stream from (length stream))
-    (λ k. (from ≤ k) × (k + 2 < length stream) × (slice_index stream (k + 2) ≡ 1) × NoneStands stream from k)
+    (λ k. (from ≤ k)
+    × (k + 2 < length stream)
+    × (slice_index stream (k + 2) ≡ 1)
+    × NoneStands stream from k)
 
--- The first unit from a place on has these bytes, of which any are kept, and the other units stand behind any part of them.
+-- The first unit from a place on has these bytes, of which any are kept,
+-- and the other units stand behind any part of them.
 abbrev pub IsFirstCut : ℕ → List ℕ → ℕ → List ℕ → Type 0
 IsFirstCut from stream offset bytes = (kept : List ℕ → List ℕ) (size : ℕ) → size ≤ length bytes
-    → units_from kept from stream ≡ record { offset = offset; bytes = kept bytes } ∷ units_from kept (offset + size) stream
+    → units_from kept from stream
+    ≡ record { offset = offset; bytes = kept bytes } ∷ units_from kept (offset + size) stream

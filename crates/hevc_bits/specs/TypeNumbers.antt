@@ -56,7 +56,9 @@ nalu_type_of-nalu_type_number RsvNvcl47 = refl
 
 -- two types of one number are one type
 pub nalu_type_number-injective : (t u : NaluType) → nalu_type_number t ≡ nalu_type_number u → t ≡ u
-nalu_type_number-injective t u e = sym (nalu_type_of-nalu_type_number t) ∙ ap nalu_type_of e ∙ nalu_type_of-nalu_type_number u
+nalu_type_number-injective t u e =
+    sym (nalu_type_of-nalu_type_number t) ∙ ap nalu_type_of e ∙ nalu_type_of-nalu_type_number u
 
-pub header_given_back : {H : Type 0} (t : NaluType) (header : NaluType → H) → header (nalu_type_of (nalu_type_number t)) ≡ header t
+pub header_given_back : {H : Type 0} (t : NaluType) (header : NaluType → H)
+    → header (nalu_type_of (nalu_type_number t)) ≡ header t
 header_given_back t header = ap header (nalu_type_of-nalu_type_number t)

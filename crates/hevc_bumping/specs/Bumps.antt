@@ -15,7 +15,8 @@ abbrev pub num_waiting : Buffer → ℕ
 num_waiting es = length (in_output_order es)
 
 -- These entries are output, each with the handle that was stored with it, and these are left.
-pub record Bumps {H Z : Type 0} (bumped : Bumped) (old new : Dpb H) (before now : VecDeque (Frame H) Z) : Type 0 where
+pub record Bumps {H Z : Type 0} (bumped : Bumped) (old new : Dpb H)
+    (before now : VecDeque (Frame H) Z) : Type 0 where
   pub out : List (Frame H)
   pub appended : now.items ≡ before.items ++ out
   pub given : map frame_output out ≡ map entry_output bumped.outputs

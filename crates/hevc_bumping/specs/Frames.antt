@@ -1,4 +1,5 @@
--- Pictures that are output, by their numbers and order counts, and by the handles that they were stored with.
+-- Pictures that are output, by their numbers and order counts,
+-- and by the handles that they were stored with.
 use Rattle.std.specs.Prelude.{ℕ, ℤ}
 use Rattle.hevc_walk.specs.Buffer.{Entry}
 use Rattle.hevc_dpb.specs.declared.entry.DpbEntry.{DpbEntry}
@@ -6,7 +7,11 @@ use Rattle.hevc_bumping.specs.declared.frame.Frame.{Frame}
 
 -- the frame of a stored picture
 abbrev pub frame_of : {H : Type 0} → DpbEntry H → Frame H
-frame_of e = record { number = e.number; handle = e.handle; order_count = e.picture.pic_order_cnt_val }
+frame_of e = record {
+  number = e.number;
+  handle = e.handle;
+  order_count = e.picture.pic_order_cnt_val;
+}
 
 -- a picture's number with its handle
 abbrev pub frame_ticket : {H : Type 0} → Frame H → ℕ × H

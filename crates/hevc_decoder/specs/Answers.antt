@@ -9,8 +9,8 @@ abbrev pub without_unit : Result ℕ Refused → Result ℕ DecodeError
 without_unit (Ok pictures) = Ok pictures
 without_unit (Err refused) = Err refused.error
 
--- A stream has no unit that isn't there, a format is accepted as it is negotiated, and numbers suffice for less than 2^60 units. One
--- frame is asked for at a time.
+-- A stream has no unit that isn't there, a format is accepted as it is negotiated, and numbers
+-- suffice for less than 2^60 units. One frame is asked for at a time.
 abbrev pub IsAnswer : DecodeError → Type 0
 IsAnswer errors.NoNal = ⊥
 IsAnswer errors.CheckEvents = ⊥

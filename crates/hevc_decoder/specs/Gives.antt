@@ -12,41 +12,53 @@ use Rattle.hevc_decoder.specs.Names.{shown_at}
 use Rattle.hevc_decoder.specs.Scenes.{Scene, with_queue, accepting}
 
 -- A call was made with an empty queue, and what came out of it was moved.
-pub record Delivered {B H T : Type 0} (Calls : Result T DecodeError → Seen B H → Seen B H → Type 0) (result : Result T DecodeError) (k : ℕ) (old new : Scene B H) : Type 0 where
+pub record Delivered {B H T : Type 0} (Calls : Result T DecodeError → Seen B H → Seen B H → Type 0)
+    (result : Result T DecodeError) (k : ℕ) (old new : Scene B H) : Type 0 where
   pub out : List (Frame H)
   pub calls : Calls result old.seen (with_queue out new.seen)
   pub shown : new.shown ≡ old.shown ++ map (shown_at k) out
 
 -- there was no memory for the outputs
-pub record Unmade {B H T : Type 0} (result : Result T DecodeError) (old new : Scene B H) : Type 0 where
+pub record Unmade {B H T : Type 0} (result : Result T DecodeError) (old new : Scene B H)
+    : Type 0 where
   pub told : result ≡ Err errors.NoMemory
   pub same : new ≡ old
 
 -- a call of `decode_unit`
-abbrev pub Decodes : {B H T : Type 0} → Options → UnitHeader → List ℕ → Result T DecodeError → Seen B H → Seen B H → Type 0
-Decodes options header bytes result old new = StepsIn old.view.state result 0 options header bytes old new
+abbrev pub Decodes : {B H T : Type 0} → Options → UnitHeader → List ℕ → Result T DecodeError
+    → Seen B H → Seen B H → Type 0
+Decodes options header bytes result old new =
+    StepsIn old.view.state result 0 options header bytes old new
 
 -- the unit was given, the k-th
-abbrev pub Gives : {B H T : Type 0} → Result T DecodeError → ℕ → Options → UnitHeader → List ℕ → Scene B H → Scene B H → Type 0
-Gives result k options header bytes old new = Delivered (Decodes options header bytes) result k old new ⊎ Unmade result old new
+abbrev pub Gives : {B H T : Type 0} → Result T DecodeError → ℕ → Options → UnitHeader → List ℕ
+    → Scene B H → Scene B H → Type 0
+Gives result k options header bytes old new =
+    Delivered (Decodes options header bytes) result k old new ⊎ Unmade result old new
 
 abbrev pub is_check_events : {T : Type 0} → Result T DecodeError → Bool
 is_check_events (Err errors.CheckEvents) = true
 is_check_events result = false
 
 -- It opened a negotiation, whose format was accepted, and was given again.
-pub record GivesAgain {B H T : Type 0} (result : Result T DecodeError) (k : ℕ) (options : Options) (header : UnitHeader) (bytes : List ℕ) (old new : Scene B H) : Type 0 where
+pub record GivesAgain {B H T : Type 0} (result : Result T DecodeError) (k : ℕ) (options : Options)
+    (header : UnitHeader) (bytes : List ℕ) (old new : Scene B H) : Type 0 where
   pub mid : Scene B H
   pub emptied : mid.seen.view.queue ≡ []
   pub opens : Delivered {T = T} (Decodes options header bytes) (Err errors.CheckEvents) k old mid
   pub again : Gives result k options header bytes (accepting mid) new
 
-abbrev pub GivesWhole : {B H T : Type 0} → Result T DecodeError → ℕ → Options → UnitHeader → List ℕ → Scene B H → Scene B H → Type 0
-GivesWhole result k options header bytes old new = ((is_check_events result ≡ false) × Gives result k options header bytes old new) ⊎ GivesAgain result k options header bytes old new
+abbrev pub GivesWhole : {B H T : Type 0} → Result T DecodeError → ℕ → Options → UnitHeader → List ℕ
+    → Scene B H → Scene B H → Type 0
+GivesWhole result k options header bytes old new =
+    ((is_check_events result ≡ false) × Gives result k options header bytes old new)
+    ⊎ GivesAgain result k options header bytes old new
 
 -- a call of `flush`
 abbrev pub Flushed : {B H T : Type 0} → Result T DecodeError → Seen B H → Seen B H → Type 0
-Flushed result old new = Flushes result 0 (traces_of old.log old.view) (traces_of new.log new.view) old.view.state old.view.standing new.view.standing
+Flushed result old new =
+    Flushes result 0 (traces_of old.log old.view) (traces_of new.log new.view) old.view.state
+    old.view.standing new.view.standing
 
 -- the stream ended, behind k units
 abbrev pub Closes : {B H T : Type 0} → Result T DecodeError → ℕ → Scene B H → Scene B H → Type 0

@@ -1,4 +1,5 @@
--- What decoding a stream promises: which calls the backend got, which pictures came out, and how it ended.
+-- What decoding a stream promises: which calls the backend got, which pictures came out,
+-- and how it ended.
 use Rattle.std.specs.Prelude.{◌≡◌, ℕ, ◌≤◌, List, [], ◌∷◌, ◌++◌, map, Option, Result, Ok, Err, Contains}
 use Rattle.std.specs.List.{AllByRecursion}
 use Rattle.hevc_walk.specs.Meanings.{Meaning}
@@ -68,7 +69,8 @@ pub record FailsInUnit (k : ℕ) (calls : List walk.Call) (all : List (ℕ × wa
   pub cut : CutsCalls k calls all
   pub next : NextIs k cut.unmade
 
--- the calls made are those of units before k, and the submission of the picture that finds the buffer full (C.5.2.3)
+-- the calls made are those of units before k,
+-- and the submission of the picture that finds the buffer full (C.5.2.3)
 pub record SubmitsLast (k : ℕ) (calls : List walk.Call) (all : List (ℕ × walk.Call)) : Type 0 where
   pub number : ℕ
   pub later : List (ℕ × walk.Call)
@@ -140,7 +142,10 @@ ComeOutOnce shown = (n : ℕ) → times n (shown_numbers shown) ≤ 1
 
 -- those whose fate it is to be output come out, and no others
 abbrev pub AreForOutput : {H : Type 0} → List Meaning → List (Shown H) → Type 0
-AreForOutput us shown = (n : ℕ) → times n (shown_numbers shown) ≡ times n (numbers_for_output (discarded_numbers us) (pictures us))
+AreForOutput us shown =
+    (n : ℕ)
+    → times n (shown_numbers shown)
+    ≡ times n (numbers_for_output (discarded_numbers us) (pictures us))
 
 -- ---- the buffer
 

@@ -9,7 +9,12 @@ use Rattle.hevc_decoder.specs.declared.decoded.Refused.{Refused}
 
 -- a picture that came out, as an output of the k-th unit
 abbrev pub shown_at : {H : Type 0} → ℕ → Frame H → Shown H
-shown_at k f = record { number = f.number; handle = f.handle; order_count = f.order_count; unit = k }
+shown_at k f = record {
+  number = f.number;
+  handle = f.handle;
+  order_count = f.order_count;
+  unit = k;
+}
 
 -- an output without its handle
 abbrev pub output_picture : {H : Type 0} → Shown H → OutputPicture

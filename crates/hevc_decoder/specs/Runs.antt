@@ -17,8 +17,10 @@ use Rattle.hevc_decoder.specs.Headline.{BeginsPicture}
 use Rattle.hevc_decoder.specs.Scenes.{Scene, Trail, trail_of}
 use Rattle.hevc_decoder.specs.Takes.{DoesAll}
 
--- Where a run stands in front of unit k, from which on these units come: behind the others, with all that they ask for done.
-pub record Reached {B H : Type 0} (options : Options) (all : List NalUnit) (k : ℕ) (old now : Scene B H) (later : List NalUnit) : Type 0 where
+-- Where a run stands in front of unit k, from which on these units come: behind the others, with
+-- all that they ask for done.
+pub record Reached {B H : Type 0} (options : Options) (all : List NalUnit) (k : ℕ)
+    (old now : Scene B H) (later : List NalUnit) : Type 0 where
   pub front : List NalUnit
   pub whole : all ≡ front ++ later
   pub place : length front ≡ k
@@ -51,10 +53,12 @@ pub record Fills (k : ℕ) (us : List Meaning) (done : List (ℕ × Event)) : Ty
 abbrev pub IsVerdict : Refused → List Meaning → Type 0
 IsVerdict r us = answer_of (verdict us) ≡ Err r
 
-abbrev pub EndsAt : DecodeError → Refused → List Meaning → List (ℕ × Event) → List (ℕ × Event) → Type 0
+abbrev pub EndsAt : DecodeError → Refused → List Meaning → List (ℕ × Event) → List (ℕ × Event)
+    → Type 0
 EndsAt errors.Backend r us done rest = UpTo r.unit done rest × CallFollows r.unit rest
 EndsAt errors.NoMemory r us done rest = UpTo r.unit done rest
-EndsAt (errors.NotEnoughOutputBuffers frames) r us done rest = (frames ≡ 1) × BeginsPicture r.unit us × UpTo r.unit done rest
+EndsAt (errors.NotEnoughOutputBuffers frames) r us done rest =
+    (frames ≡ 1) × BeginsPicture r.unit us × UpTo r.unit done rest
 EndsAt errors.DpbFull r us done rest = IsVerdict r us × Fills r.unit us done
 EndsAt errors.NoNal r us done rest = ⊥
 EndsAt errors.CheckEvents r us done rest = ⊥
@@ -66,20 +70,33 @@ Ends (Ok n) us done rest = (answer_of (verdict us) ≡ Ok n) × (rest ≡ [])
 Ends (Err r) us done rest = EndsAt r.error r us done rest
 
 -- A whole run.
-pub record Ended {H : Type 0} (result : Result ℕ Refused) (us : List Meaning) (old new : Trail H) : Type 0 where
+pub record Ended {H : Type 0} (result : Result ℕ Refused) (us : List Meaning) (old new : Trail H)
+    : Type 0 where
   pub done : List (ℕ × Event)
   pub rest : List (ℕ × Event)
   pub whole : events us ≡ done ++ rest
   pub does : DoesAll old new done
   pub ends : Ends result us done rest
 
--- Units were taken, from unit `first` on: a run that stood in front of them stands behind them, at the next unit, or has ended.
-abbrev pub TakesPiece : {B H : Type 0} → Result ℕ Refused → Options → (first : ℕ) → List NalUnit → Scene B H → Scene B H → Type 0
-TakesPiece {B} {H} (Ok next) options first us old new = (begin : Scene B H) (all later : List NalUnit) → Reached options all first begin old (us ++ later) → Reached options all next begin new later
-TakesPiece {B} {H} (Err refused) options first us old new = (begin : Scene B H) (all later : List NalUnit) → Reached options all first begin old (us ++ later)
-    → Ended (Err refused) (meant options all) (trail_of begin) (trail_of new) × (refused.unit ≤ length all)
+-- Units were taken, from unit `first` on: a run that stood in front of them stands behind them, at
+-- the next unit, or has ended.
+abbrev pub TakesPiece : {B H : Type 0} → Result ℕ Refused → Options → (first : ℕ) → List NalUnit
+    → Scene B H → Scene B H → Type 0
+TakesPiece {B} {H} (Ok next) options first us old new =
+    (begin : Scene B H) (all later : List NalUnit)
+    → Reached options all first begin old (us ++ later)
+    → Reached options all next begin new later
+TakesPiece {B} {H} (Err refused) options first us old new =
+    (begin : Scene B H) (all later : List NalUnit)
+    → Reached options all first begin old (us ++ later)
+    → Ended (Err refused) (meant options all) (trail_of begin) (trail_of new)
+    × (refused.unit ≤ length all)
 
 -- These units are the last: a run that stood in front of them has ended.
-abbrev pub EndsRun : {B H : Type 0} → Result ℕ Refused → Options → (first : ℕ) → List NalUnit → Scene B H → Scene B H → Type 0
-EndsRun {B} {H} result options first us old new = (begin : Scene B H) (all : List NalUnit) → Reached options all first begin old us
-    → Ended result (meant options all) (trail_of begin) (trail_of new) × IfErr result (λ refused. refused.unit ≤ length all)
+abbrev pub EndsRun : {B H : Type 0} → Result ℕ Refused → Options → (first : ℕ) → List NalUnit
+    → Scene B H → Scene B H → Type 0
+EndsRun {B} {H} result options first us old new =
+    (begin : Scene B H) (all : List NalUnit)
+    → Reached options all first begin old us
+    → Ended result (meant options all) (trail_of begin) (trail_of new)
+    × IfErr result (λ refused. refused.unit ≤ length all)

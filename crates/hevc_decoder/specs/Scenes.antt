@@ -14,7 +14,8 @@ pub record Scene (B H : Type 0) : Type 0 where
   pub shown : List (Shown H)
 
 -- where backends tell these logs
-abbrev pub scene : {B H P : Type 0} → (B → Option (List (Call H))) → StatelessDecoder B H P → List (Shown H) → Scene B H
+abbrev pub scene : {B H P : Type 0} → (B → Option (List (Call H))) → StatelessDecoder B H P
+    → List (Shown H) → Scene B H
 scene logs decoder shown = record { seen = seen_by logs decoder; shown = shown }
 
 -- with these pictures in the queue
@@ -25,7 +26,8 @@ with_queue queue s = record s { view = record s.view { queue = queue } }
 abbrev pub accepting : {B H : Type 0} → Scene B H → Scene B H
 accepting s = record s { seen = record s.seen { view = record s.seen.view { state = Decoding } } }
 
--- All that is left of what a run did: the log, the outputs, and the numbers of the stored pictures with their handles.
+-- All that is left of what a run did: the log, the outputs,
+-- and the numbers of the stored pictures with their handles.
 pub record Trail (H : Type 0) : Type 0 where
   pub log : Option (List (Call H))
   pub shown : List (Shown H)

@@ -20,8 +20,8 @@ use Rattle.hevc_decoder.specs.declared.decoded.Shown.{Shown}
 use Rattle.hevc_decoder.specs.Names.{output_picture, shown_ticket}
 use Rattle.hevc_decoder.specs.Scenes.{Trail}
 
--- These events were done: their calls were made, at no time, and their outputs given, each with a handle that was stored or was
--- submitted for its number.
+-- These events were done: their calls were made, at no time, and their outputs given, each with a
+-- handle that was stored or was submitted for its number.
 pub record DoesAll {H : Type 0} (old new : Trail H) (done : List (ℕ × Event)) : Type 0 where
   pub calls : List (Call H)
   pub log : new.log ≡ logged old.log calls
@@ -39,7 +39,8 @@ pub record CallsNext (rest : List Event) : Type 0 where
   pub rest_is : rest ≡ Called call ∷ later
 
 -- A plan of unit k was done up to some event; up to a call, if the backend failed.
-pub record StopsPlan {H : Type 0} (failed : Type 0) (k : ℕ) (old new : Trail H) (plan : List Event) : Type 0 where
+pub record StopsPlan {H : Type 0} (failed : Type 0) (k : ℕ) (old new : Trail H) (plan : List Event)
+    : Type 0 where
   pub done : List Event
   pub rest : List Event
   pub whole : plan ≡ done ++ rest
@@ -54,13 +55,15 @@ pub record FillsPlan {H : Type 0} (k : ℕ) (old new : Trail H) (plan : List Eve
   pub does : DoesAll old new (at_unit k (Called (walk.SubmitPicture number) ∷ []))
 
 -- A unit was taken whole.
-pub record TakesWhole {H : Type 0} (k : ℕ) (old new : Trail H) (y : Meaning) (before : Standing) : Type 0 where
+pub record TakesWhole {H : Type 0} (k : ℕ) (old new : Trail H) (y : Meaning) (before : Standing)
+    : Type 0 where
   pub goes_on : refusal_at y before ≡ None
   pub room : is_full_at y before ≡ false
   pub does : DoesAll old new (at_unit k (unit_part y before).events)
 
 -- It was refused for a cause.
-pub record RefusesUnit {H : Type 0} (error : DecodeError) (k : ℕ) (old new : Trail H) (y : Meaning) (before : Standing) : Type 0 where
+pub record RefusesUnit {H : Type 0} (error : DecodeError) (k : ℕ) (old new : Trail H) (y : Meaning)
+    (before : Standing) : Type 0 where
   pub room : is_full_at y before ≡ false
   pub cause : Cause
   pub refused : refusal_at y before ≡ Some cause
@@ -68,23 +71,29 @@ pub record RefusesUnit {H : Type 0} (error : DecodeError) (k : ℕ) (old new : T
   pub does : DoesAll old new (at_unit k (unit_part y before).events)
 
 -- The picture before was to be stored into a full buffer.
-pub record FillsUnit {H : Type 0} (k : ℕ) (old new : Trail H) (y : Meaning) (before : Standing) : Type 0 where
+pub record FillsUnit {H : Type 0} (k : ℕ) (old new : Trail H) (y : Meaning) (before : Standing)
+    : Type 0 where
   pub full : is_full_at y before ≡ true
   pub fills : FillsPlan k old new (unit_part y before).events
 
 -- No frame was free for the picture that it begins.
-pub record HaltsUnit {H : Type 0} (frames k : ℕ) (old new : Trail H) (y : Meaning) (before : Standing) : Type 0 where
+pub record HaltsUnit {H : Type 0} (frames k : ℕ) (old new : Trail H) (y : Meaning)
+    (before : Standing) : Type 0 where
   pub told : frames ≡ 1
   pub begins : begins_at y before ≡ true
   pub stops : StopsPlan ⊥ k old new (unit_part y before).events
 
 -- what was done of unit k, whose meaning is y, by its answer
-abbrev pub TakesUnit : {H T : Type 0} → Result T DecodeError → ℕ → Trail H → Trail H → Meaning → Standing → Type 0
+abbrev pub TakesUnit : {H T : Type 0} → Result T DecodeError → ℕ → Trail H → Trail H → Meaning
+    → Standing → Type 0
 TakesUnit (Ok value) k old new y before = TakesWhole k old new y before
-TakesUnit (Err errors.Backend) k old new y before = StopsPlan (Unit {0}) k old new (unit_part y before).events
-TakesUnit (Err errors.NoMemory) k old new y before = StopsPlan ⊥ k old new (unit_part y before).events
+TakesUnit (Err errors.Backend) k old new y before =
+    StopsPlan (Unit {0}) k old new (unit_part y before).events
+TakesUnit (Err errors.NoMemory) k old new y before =
+    StopsPlan ⊥ k old new (unit_part y before).events
 TakesUnit (Err errors.DpbFull) k old new y before = FillsUnit k old new y before
-TakesUnit (Err (errors.NotEnoughOutputBuffers frames)) k old new y before = HaltsUnit frames k old new y before
+TakesUnit (Err (errors.NotEnoughOutputBuffers frames)) k old new y before =
+    HaltsUnit frames k old new y before
 TakesUnit (Err errors.NoNal) k old new y before = ⊥
 TakesUnit (Err errors.CheckEvents) k old new y before = ⊥
 TakesUnit (Err errors.PictureNumbersSpent) k old new y before = ⊥
@@ -101,9 +110,12 @@ pub record FillsAtEnd {H : Type 0} (k : ℕ) (old new : Trail H) (before : Stand
   pub fills : FillsPlan k old new (closing_part before).events
 
 -- what was done behind the last unit, by the answer
-abbrev pub EndsStream : {H T : Type 0} → Result T DecodeError → ℕ → Trail H → Trail H → Standing → Type 0
+abbrev pub EndsStream : {H T : Type 0} → Result T DecodeError → ℕ → Trail H → Trail H → Standing
+    → Type 0
 EndsStream (Ok value) k old new before = ClosesWhole k old new before
-EndsStream (Err errors.Backend) k old new before = StopsPlan (Unit {0}) k old new (closing_part before).events
-EndsStream (Err errors.NoMemory) k old new before = StopsPlan ⊥ k old new (closing_part before).events
+EndsStream (Err errors.Backend) k old new before =
+    StopsPlan (Unit {0}) k old new (closing_part before).events
+EndsStream (Err errors.NoMemory) k old new before =
+    StopsPlan ⊥ k old new (closing_part before).events
 EndsStream (Err errors.DpbFull) k old new before = FillsAtEnd k old new before
 EndsStream (Err error) k old new before = ⊥

@@ -52,14 +52,23 @@ abbrev pub raised_count : ℤ → ℤ
 raised_count n = int_min (n +ℤ pos 1) (pos 2147483647)
 
 abbrev pub with_latency : {T : Type 0} → DpbEntry T → DpbEntry T
-with_latency e = record e { picture = record e.picture { pic_latency_cnt = raised_count e.picture.pic_latency_cnt } }
+with_latency e = record e {
+  picture = record e.picture { pic_latency_cnt = raised_count e.picture.pic_latency_cnt };
+}
 
 -- a picture as it is stored (C.5.2.3)
 abbrev pub stored_data : PictureData → PictureData
-stored_data p = record (with_reference ShortTerm p) { pic_latency_cnt = pos 0; needed_for_output = p.pic_output_flag }
+stored_data p = record (with_reference ShortTerm p) {
+  pic_latency_cnt = pos 0;
+  needed_for_output = p.pic_output_flag;
+}
 
 abbrev pub stored_entry : {T : Type 0} → ℕ → PictureData → T → DpbEntry T
-stored_entry number picture handle = record { number = number; picture = stored_data picture; handle = handle }
+stored_entry number picture handle = record {
+  number = number;
+  picture = stored_data picture;
+  handle = handle;
+}
 
 -- what a store takes over of a picture, by its number, is what the walk's says
 pub record IsStoredAs (p : Head) (number : ℕ) (picture : PictureData) : Type 0 where

@@ -14,5 +14,7 @@ HasModulus (ShortTermCount order_count) = ⊤
 
 abbrev pub fits : Sought → Entry → Bool
 fits (Count order_count) e = is_reference e.mark && int_eq e.order_count order_count
-fits (CountModulo order_count modulus) e = is_reference e.mark && int_eq (int_rem_euclid e.order_count modulus) (int_rem_euclid order_count modulus)
+fits (CountModulo order_count modulus) e =
+    is_reference e.mark
+    && int_eq (int_rem_euclid e.order_count modulus) (int_rem_euclid order_count modulus)
 fits (ShortTermCount order_count) e = is_short_term e.mark && int_eq e.order_count order_count

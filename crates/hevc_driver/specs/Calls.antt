@@ -10,15 +10,24 @@ use Rattle.hevc_backend.specs.declared.call.Call.TheVariants as code
 
 abbrev pub call_of : {H : Type 0} → Call H → walk.Call
 call_of (code.NewSequence info) = walk.NewSequence (format_of info)
-call_of (code.NewPicture number nalu_type pic_order_cnt_val pic_output_flag timestamp) = walk.NewPicture number (nalu_type_number nalu_type) pic_order_cnt_val pic_output_flag 0
+call_of (code.NewPicture number nalu_type pic_order_cnt_val pic_output_flag timestamp) =
+    walk.NewPicture number (nalu_type_number nalu_type) pic_order_cnt_val pic_output_flag 0
 call_of (code.BeginPicture number st_curr_before st_curr_after st_foll lt_curr lt_foll) =
-    walk.BeginPicture number (record { st_curr_before = st_curr_before; st_curr_after = st_curr_after; st_foll = st_foll; lt_curr = lt_curr; lt_foll = lt_foll })
-call_of (code.DecodeSlice number address bytes list0 list1) = walk.DecodeSlice number address bytes (plain_places list0) (plain_places list1)
+    walk.BeginPicture number (record {
+      st_curr_before = st_curr_before;
+      st_curr_after = st_curr_after;
+      st_foll = st_foll;
+      lt_curr = lt_curr;
+      lt_foll = lt_foll;
+    })
+call_of (code.DecodeSlice number address bytes list0 list1) =
+    walk.DecodeSlice number address bytes (plain_places list0) (plain_places list1)
 call_of (code.SubmitPicture number handle) = walk.SubmitPicture number
 
 -- a new picture has this timestamp
 abbrev pub IsTimed : {H : Type 0} → ℕ → Call H → Type 0
-IsTimed t (code.NewPicture number nalu_type pic_order_cnt_val pic_output_flag timestamp) = timestamp ≡ t
+IsTimed t (code.NewPicture number nalu_type pic_order_cnt_val pic_output_flag timestamp) =
+    timestamp ≡ t
 IsTimed t call = Unit {0}
 
 -- a submitted picture's number with its handle

@@ -1,4 +1,5 @@
--- What a part of the walk does to the backend's log, to the queue and to the stored pictures' handles.
+-- What a part of the walk does to the backend's log,
+-- to the queue and to the stored pictures' handles.
 use Rattle.std.specs.Prelude.{◌≡◌, ℕ, ℤ, List, [], ◌∷◌, ◌++◌, map, Option, Result, Ok, Err}
 use Rattle.std.specs.List.{AllByRecursion, flat_map}
 use Rattle.hevc_walk.specs.Walk as walk
@@ -27,8 +28,8 @@ abbrev pub output_in : Event → List (ℕ × ℤ)
 output_in (Called call) = []
 output_in (Output number order_count) = (number, order_count) ∷ []
 
--- These events were done, each new picture with this timestamp, each output with a handle that was stored or was submitted for
--- its number.
+-- These events were done, each new picture with this timestamp, each output with a handle that was
+-- stored or was submitted for its number.
 pub record Does {H : Type 0} (timestamp : ℕ) (old new : Traces H) (done : List Event) : Type 0 where
   pub calls : List (Call H)
   pub log : new.log ≡ logged old.log calls
@@ -40,7 +41,8 @@ pub record Does {H : Type 0} (timestamp : ℕ) (old new : Traces H) (done : List
   pub tied : IsPartOf (map frame_ticket out ++ new.tickets) (old.tickets ++ submissions calls)
 
 -- A plan was done up to a call, which the backend refused.
-pub record Stops {H : Type 0} (timestamp : ℕ) (old new : Traces H) (plan : List Event) (Left : walk.Call → Type 0) : Type 0 where
+pub record Stops {H : Type 0} (timestamp : ℕ) (old new : Traces H) (plan : List Event)
+    (Left : walk.Call → Type 0) : Type 0 where
   pub done : List Event
   pub call : walk.Call
   pub rest : List Event
@@ -49,17 +51,21 @@ pub record Stops {H : Type 0} (timestamp : ℕ) (old new : Traces H) (plan : Lis
   pub left : Left call
 
 -- A part was done whole, and led to a standing.
-pub record Completes {H : Type 0} (timestamp : ℕ) (old new : Traces H) (part : Part Standing) (standing : Standing) : Type 0 where
+pub record Completes {H : Type 0} (timestamp : ℕ) (old new : Traces H) (part : Part Standing)
+    (standing : Standing) : Type 0 where
   pub does : Does timestamp old new part.events
   pub next : standing ≡ part.next
 
 -- the backend refused a call, for want of memory or because it failed
-abbrev pub StopsBy : {H : Type 0} → DecodeError → ℕ → Traces H → Traces H → List Event → (walk.Call → Type 0) → Type 0
+abbrev pub StopsBy : {H : Type 0} → DecodeError → ℕ → Traces H → Traces H → List Event
+    → (walk.Call → Type 0) → Type 0
 StopsBy errors.Backend timestamp old new plan Left = Stops timestamp old new plan Left
 StopsBy errors.NoMemory timestamp old new plan Left = Stops timestamp old new plan Left
 StopsBy error timestamp old new plan Left = ⊥
 
 -- a part was done whole, or up to a call
-abbrev pub Runs : {H T : Type 0} → Result T DecodeError → ℕ → Traces H → Traces H → Part Standing → (walk.Call → Type 0) → Standing → Type 0
+abbrev pub Runs : {H T : Type 0} → Result T DecodeError → ℕ → Traces H → Traces H → Part Standing
+    → (walk.Call → Type 0) → Standing → Type 0
 Runs (Ok value) timestamp old new part Left standing = Completes timestamp old new part standing
-Runs (Err error) timestamp old new part Left standing = StopsBy error timestamp old new part.events Left
+Runs (Err error) timestamp old new part Left standing =
+    StopsBy error timestamp old new part.events Left

@@ -31,6 +31,7 @@ cause_error (meaning.MissingPps pic_parameter_set_id) = errors.MissingPps pic_pa
 abbrev pub error_of : Cause → DecodeError
 error_of (UnitRefused cause) = cause_error cause
 error_of NoIndependentSlice = errors.NoIndependentSlice
-error_of (ChangedMidPicture accepted named) = errors.ChangedMidPicture (info_of accepted) (info_of named)
+error_of (ChangedMidPicture accepted named) =
+    errors.ChangedMidPicture (info_of accepted) (info_of named)
 error_of PocOutOfRange = errors.PocOutOfRange
 error_of DpbFull = errors.DpbFull

@@ -42,7 +42,10 @@ abbrev pub room_of : Head → Slice → Standing → Part walk.Store
 room_of p slice s = make_room p (record s.store { buffer = with_marks p slice s.store.buffer })
 
 abbrev pub enters : Head → Slice → Standing → Part Standing
-enters p slice s = record { events = (room_of p slice s).events; next = record s { store = (room_of p slice s).next; next = context_behind p s.next } }
+enters p slice s = record {
+  events = (room_of p slice s).events;
+  next = record s { store = (room_of p slice s).next; next = context_behind p s.next };
+}
 
 abbrev pub new_call : Head → walk.Call
 new_call p = walk.NewPicture p.number p.nal_unit_type p.order_count p.pic_output_flag 0
@@ -52,7 +55,10 @@ begin_call p set = walk.BeginPicture p.number set
 
 -- the backend gets the picture with its first slice
 abbrev pub hands_over : Head → RefPicSet → Slice → Standing → Part Standing
-hands_over p set slice s = record { events = Called (new_call p) ∷ Called (begin_call p set) ∷ Called (slice_call p set slice) ∷ []; next = record s { current = OpenPicture p set } }
+hands_over p set slice s = record {
+  events = Called (new_call p) ∷ Called (begin_call p set) ∷ Called (slice_call p set slice) ∷ [];
+  next = record s { current = OpenPicture p set };
+}
 
 -- ---- a format is negotiated first
 
@@ -67,9 +73,11 @@ begins_at u s = false
 
 abbrev pub negotiates_by : Option Slice → Standing → Bool
 negotiates_by None s = false
-negotiates_by (Some slice) s = begins_picture s.current slice && not (is_accepted slice.format s.store.accepted)
+negotiates_by (Some slice) s =
+    begins_picture s.current slice && not (is_accepted slice.format s.store.accepted)
 
--- a unit opens a negotiation: the first sequence set, or a slice that begins a picture of another format
+-- a unit opens a negotiation: the first sequence set,
+-- or a slice that begins a picture of another format
 abbrev pub negotiates : Meaning → Standing → Bool
 negotiates (SequenceSet format) s = true
 negotiates (CodedSlice slice) s = negotiates_by (whole_slice s.kept slice) s
@@ -96,10 +104,12 @@ step_part u s = unit_part u s
 
 -- ---- what stands behind a refusal
 
--- as a call of the backend is refused: the picture is given up, and its number is taken if it has begun
+-- as a call of the backend is refused: the picture is given up,
+-- and its number is taken if it has begun
 abbrev pub left_at : walk.Call → Meaning → Standing → Standing
 left_at (walk.SubmitPicture number) u s = given_up (kept_behind u s)
-left_at (walk.NewSequence info) (CodedSlice slice) s = drained (finish_current (with_kept slice s)).next
+left_at (walk.NewSequence info) (CodedSlice slice) s =
+    drained (finish_current (with_kept slice s)).next
 left_at (walk.NewSequence info) u s = s
 left_at call u s = given_up (step_part u s).next
 

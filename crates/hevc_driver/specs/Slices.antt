@@ -16,11 +16,16 @@ use Rattle.hevc_options.specs.declared.Options.{Options}
 use Rattle.hevc_options.specs.Options.{options_of}
 
 unfoldable pub slice_of : Options → code.Slice → Sps → Pps → Slice
-slice_of options slice sps pps = coded_slice (options_of options) slice.nalu.header (bytes_of slice.nalu) (plain_slice_header slice.header) (record { sps = plain_sps sps; pps = plain_pps pps })
+slice_of options slice sps pps =
+    coded_slice (options_of options) slice.nalu.header (bytes_of slice.nalu)
+    (plain_slice_header slice.header) (record { sps = plain_sps sps; pps = plain_pps pps })
 
 -- the header that is kept of an independent slice segment
 unfoldable pub kept_of : code_header.SliceHeader → KeptHeader
-kept_of h = record { pic_parameter_set_id = h.pic_parameter_set_id; header = slice_header_of (plain_slice_header h) }
+kept_of h = record {
+  pic_parameter_set_id = h.pic_parameter_set_id;
+  header = slice_header_of (plain_slice_header h);
+}
 
 -- a segment that wasn't completed is as it was
 abbrev pub StaysUnlessWhole : {A : Type 0} → Bool → A → A → Type 0

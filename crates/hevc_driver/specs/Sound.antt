@@ -1,4 +1,5 @@
--- What holds between two calls, so that a backend is handed no reference that isn't stored, and no handle that it didn't give.
+-- What holds between two calls, so that a backend is handed no reference that isn't stored, and no
+-- handle that it didn't give.
 use Rattle.std.specs.Prelude.{◌≡◌, ℕ, ◌+◌, ◌-◌, ◌^◌, ◌<◌, ◌≤◌, true, List, option_map, is_some, Option, Some, None, Contains}
 use Rattle.std.specs.VecDeque.{deque_len, deque_capacity}
 use Rattle.hevc_walk.specs.Walk.{accepted_size}
@@ -34,7 +35,8 @@ IsAccepted (Some accepted) sequence = sequence ≡ Some (format_of accepted)
 abbrev pub IsLatest : {P : Type 0} → Current P → Option BegunPicture → Type 0
 IsLatest NoPicture picture = Unit {0}
 IsLatest Skipped picture = Unit {0}
-IsLatest (Opened open_) picture = picture ≡ Some (begun_picture open_.head.number open_.head.picture)
+IsLatest (Opened open_) picture =
+    picture ≡ Some (begun_picture open_.head.number open_.head.picture)
 
 -- what the backend was told fits
 pub record Fits {H P : Type 0} (w : Walk H P) (t : Told H) : Type 0 where
@@ -42,7 +44,8 @@ pub record Fits {H P : Type 0} (w : Walk H P) (t : Told H) : Type 0 where
   pub sequence : IsAccepted w.accepted t.sequence
   pub picture : IsLatest w.current t.picture
 
--- A picture of this head and this reference picture set is newer than all that are stored, and refers to none but those.
+-- A picture of this head and this reference picture set is newer than all that are stored, and
+-- refers to none but those.
 pub record IsNewest {H P : Type 0} (head : Head) (set : RefPicSet) (w : Walk H P) : Type 0 where
   pub newer : AreBelow head.number (tickets (stored_entries w.dpb))
   pub counted : head.number < w.next.number
@@ -93,4 +96,6 @@ pub record IsNext {H P : Type 0} (head : Head) (w : Walk H P) : Type 0 where
 
 -- the sets are the ones that the slice names (7.4.7.1, 7.4.3.3.1)
 abbrev pub AreNamed : Slice → Sps → Pps → Type 0
-AreNamed slice sps pps = (pps.pic_parameter_set_id ≡ slice.header.pic_parameter_set_id) × (sps.seq_parameter_set_id ≡ pps.seq_parameter_set_id)
+AreNamed slice sps pps =
+    (pps.pic_parameter_set_id ≡ slice.header.pic_parameter_set_id)
+    × (sps.seq_parameter_set_id ≡ pps.seq_parameter_set_id)

@@ -34,4 +34,5 @@ traces log w = record { log = log; queue = w.queue.items; tickets = tickets (sto
 
 -- with this picture open
 abbrev pub with_open : {P : Type 0} → Open P → Standing → Standing
-with_open open_ s = record s { current = units.OpenPicture (head_of open_.head) (plain_set open_.set) }
+with_open open_ s =
+    record s { current = units.OpenPicture (head_of open_.head) (plain_set open_.set) }

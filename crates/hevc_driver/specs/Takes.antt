@@ -15,7 +15,8 @@ use Rattle.hevc_driver.specs.Does.{Traces, Does, Stops, StopsBy, Completes, Runs
 use Rattle.hevc_driver.specs.Moments.{begins_at, negotiates, spends, opening, step_part, kept_behind, not_stored, left_at, left_by, given_up, drained, renegotiates, starts, closes}
 
 -- The unit was taken.
-pub record Goes {H : Type 0} (timestamp : ℕ) (old new : Traces H) (u : Meaning) (before standing : Standing) : Type 0 where
+pub record Goes {H : Type 0} (timestamp : ℕ) (old new : Traces H) (u : Meaning)
+    (before standing : Standing) : Type 0 where
   pub accepted : negotiates u before ≡ false
   pub room : is_full_at u before ≡ false
   pub numbered : spends u before ≡ false
@@ -23,13 +24,15 @@ pub record Goes {H : Type 0} (timestamp : ℕ) (old new : Traces H) (u : Meaning
   pub completes : Completes timestamp old new (step_part u before) standing
 
 -- A format was negotiated, and is awaited. The unit is to be given once more.
-pub record Opens {H : Type 0} (timestamp : ℕ) (old new : Traces H) (u : Meaning) (before standing : Standing) : Type 0 where
+pub record Opens {H : Type 0} (timestamp : ℕ) (old new : Traces H) (u : Meaning)
+    (before standing : Standing) : Type 0 where
   pub negotiates : negotiates u before ≡ true
   pub room : is_full_at u before ≡ false
   pub completes : Completes timestamp old new (opening u before) standing
 
 -- The picture before was to be stored into a full buffer: it was submitted, and no more.
-pub record Fills {H : Type 0} (timestamp : ℕ) (old new : Traces H) (plan : List Event) (before standing : Standing) : Type 0 where
+pub record Fills {H : Type 0} (timestamp : ℕ) (old new : Traces H) (plan : List Event)
+    (before standing : Standing) : Type 0 where
   pub number : ℕ
   pub rest : List Event
   pub whole : plan ≡ Called (walk.SubmitPicture number) ∷ rest
@@ -37,19 +40,22 @@ pub record Fills {H : Type 0} (timestamp : ℕ) (old new : Traces H) (plan : Lis
   pub left : standing ≡ not_stored before
 
 -- A picture begins, and what was before it is over.
-pub record Halts {H : Type 0} (timestamp : ℕ) (old new : Traces H) (u : Meaning) (before standing : Standing) : Type 0 where
+pub record Halts {H : Type 0} (timestamp : ℕ) (old new : Traces H) (u : Meaning)
+    (before standing : Standing) : Type 0 where
   pub begins : begins_at u before ≡ true
   pub room : is_full_at u before ≡ false
   pub does : Does timestamp old new (finish_current (kept_behind u before)).events
   pub left : standing ≡ (finish_current (kept_behind u before)).next
 
 -- No number is left for a picture that begins.
-pub record Spends {H : Type 0} (timestamp : ℕ) (old new : Traces H) (u : Meaning) (before standing : Standing) : Type 0 where
+pub record Spends {H : Type 0} (timestamp : ℕ) (old new : Traces H) (u : Meaning)
+    (before standing : Standing) : Type 0 where
   pub spent : spends u before ≡ true
   pub halts : Halts timestamp old new u before standing
 
 -- The unit was refused for a cause.
-pub record Refuses {H : Type 0} (error : DecodeError) (timestamp : ℕ) (old new : Traces H) (u : Meaning) (before standing : Standing) : Type 0 where
+pub record Refuses {H : Type 0} (error : DecodeError) (timestamp : ℕ) (old new : Traces H)
+    (u : Meaning) (before standing : Standing) : Type 0 where
   pub accepted : negotiates u before ≡ false
   pub room : is_full_at u before ≡ false
   pub numbered : spends u before ≡ false
@@ -73,15 +79,25 @@ pub record Stays {H : Type 0} (old new : Traces H) (before standing : Standing) 
   pub traces : new ≡ old
   pub left : standing ≡ before
 
-abbrev pub Takes : {H T : Type 0} → Result T DecodeError → ℕ → Traces H → Traces H → Meaning → Standing → Standing → Type 0
+abbrev pub Takes : {H T : Type 0} → Result T DecodeError → ℕ → Traces H → Traces H → Meaning
+    → Standing → Standing → Type 0
 Takes (Ok value) timestamp old new u before standing = Goes timestamp old new u before standing
-Takes (Err errors.CheckEvents) timestamp old new u before standing = Opens timestamp old new u before standing
-Takes (Err errors.Backend) timestamp old new u before standing = Stops timestamp old new (step_part u before).events (λ call. LeftAt call u before standing)
-Takes (Err errors.NoMemory) timestamp old new u before standing = Stays old new before standing ⊎ Stops timestamp old new (step_part u before).events (λ call. LeftAt call u before standing)
-Takes (Err errors.DpbFull) timestamp old new u before standing = (is_full_at u before ≡ true) × Fills timestamp old new (step_part u before).events (kept_behind u before) standing
-Takes (Err (errors.NotEnoughOutputBuffers frames)) timestamp old new u before standing = (frames ≡ 1) × Halts timestamp old new u before standing
-Takes (Err errors.PictureNumbersSpent) timestamp old new u before standing = Spends timestamp old new u before standing
-Takes (Err error) timestamp old new u before standing = Refuses error timestamp old new u before standing
+Takes (Err errors.CheckEvents) timestamp old new u before standing =
+    Opens timestamp old new u before standing
+Takes (Err errors.Backend) timestamp old new u before standing =
+    Stops timestamp old new (step_part u before).events (λ call. LeftAt call u before standing)
+Takes (Err errors.NoMemory) timestamp old new u before standing =
+    Stays old new before standing
+    ⊎ Stops timestamp old new (step_part u before).events (λ call. LeftAt call u before standing)
+Takes (Err errors.DpbFull) timestamp old new u before standing =
+    (is_full_at u before ≡ true)
+    × Fills timestamp old new (step_part u before).events (kept_behind u before) standing
+Takes (Err (errors.NotEnoughOutputBuffers frames)) timestamp old new u before standing =
+    (frames ≡ 1) × Halts timestamp old new u before standing
+Takes (Err errors.PictureNumbersSpent) timestamp old new u before standing =
+    Spends timestamp old new u before standing
+Takes (Err error) timestamp old new u before standing =
+    Refuses error timestamp old new u before standing
 
 -- ---- the parts of a slice
 
@@ -91,33 +107,64 @@ LeftUnsubmitted (walk.SubmitPicture number) s standing = standing ≡ given_up s
 LeftUnsubmitted call s standing = ⊥
 
 -- the picture whose slices came is over
-abbrev pub Finishes : {H T : Type 0} → Result T DecodeError → ℕ → Traces H → Traces H → Standing → Standing → Type 0
-Finishes (Ok value) timestamp old new s standing = (is_full_now s ≡ false) × Completes timestamp old new (finish_current s) standing
-Finishes (Err errors.DpbFull) timestamp old new s standing = (is_full_now s ≡ true) × Fills timestamp old new (finish_current s).events s standing
-Finishes (Err error) timestamp old new s standing = StopsBy error timestamp old new (finish_current s).events (λ call. LeftUnsubmitted call s standing)
+abbrev pub Finishes : {H T : Type 0} → Result T DecodeError → ℕ → Traces H → Traces H → Standing
+    → Standing → Type 0
+Finishes (Ok value) timestamp old new s standing =
+    (is_full_now s ≡ false) × Completes timestamp old new (finish_current s) standing
+Finishes (Err errors.DpbFull) timestamp old new s standing =
+    (is_full_now s ≡ true) × Fills timestamp old new (finish_current s).events s standing
+Finishes (Err error) timestamp old new s standing =
+    StopsBy error timestamp old new (finish_current s).events
+    (λ call. LeftUnsubmitted call s standing)
 
 abbrev pub IsNewSequence : walk.Call → Type 0
 IsNewSequence (walk.NewSequence info) = Unit {0}
 IsNewSequence call = ⊥
 
 -- a format was negotiated, behind what waited
-abbrev pub Negotiates : {H T : Type 0} → Result T DecodeError → ℕ → Traces H → Traces H → Format → Standing → Standing → Type 0
-Negotiates result timestamp old new format s standing = Runs result timestamp old new (renegotiates format s) (λ call. IsNewSequence call × (standing ≡ drained s)) standing
+abbrev pub Negotiates : {H T : Type 0} → Result T DecodeError → ℕ → Traces H → Traces H → Format
+    → Standing → Standing → Type 0
+Negotiates result timestamp old new format s standing =
+    Runs result timestamp old new (renegotiates format s)
+    (λ call. IsNewSequence call × (standing ≡ drained s)) standing
 
 -- a call of a picture that begins was refused
 abbrev pub LeftBegun : walk.Call → Slice → Standing → Standing → Type 0
 LeftBegun (walk.SubmitPicture number) slice s standing = ⊥
-LeftBegun (walk.NewSequence info) slice s standing = (is_accepted slice.format s.store.accepted ≡ false) × (standing ≡ drained s)
-LeftBegun call slice s standing = (is_accepted slice.format s.store.accepted ≡ true) × (s.next.number ≢ 2 ^ 64 - 1) × (standing ≡ given_up (begin_slice slice s).next)
+LeftBegun (walk.NewSequence info) slice s standing =
+    (is_accepted slice.format s.store.accepted ≡ false) × (standing ≡ drained s)
+LeftBegun call slice s standing =
+    (is_accepted slice.format s.store.accepted ≡ true)
+    × (s.next.number ≢ 2 ^ 64 - 1)
+    × (standing ≡ given_up (begin_slice slice s).next)
 
 -- a picture begins where none is current
-abbrev pub Begins : {H T : Type 0} → Result T DecodeError → ℕ → Traces H → Traces H → Slice → Standing → Standing → Type 0
-Begins (Ok value) timestamp old new slice s standing = (is_accepted slice.format s.store.accepted ≡ true) × (s.next.number ≢ 2 ^ 64 - 1) × (refusal_of_picture (head s.next slice) ≡ None) × Completes timestamp old new (begin_slice slice s) standing
-Begins (Err errors.CheckEvents) timestamp old new slice s standing = (is_accepted slice.format s.store.accepted ≡ false) × Completes timestamp old new (on_store (change_format slice.format) s) standing
-Begins (Err (errors.NotEnoughOutputBuffers frames)) timestamp old new slice s standing = (frames ≡ 1) × (new ≡ old) × (standing ≡ s)
-Begins (Err errors.PictureNumbersSpent) timestamp old new slice s standing = (is_accepted slice.format s.store.accepted ≡ true) × (s.next.number ≡ 2 ^ 64 - 1) × (new ≡ old) × (standing ≡ s)
-Begins (Err errors.PocOutOfRange) timestamp old new slice s standing = (is_accepted slice.format s.store.accepted ≡ true) × (s.next.number ≢ 2 ^ 64 - 1) × (refusal_of_picture (head s.next slice) ≡ Some PocOutOfRange) × (new ≡ old) × (standing ≡ s)
-Begins (Err error) timestamp old new slice s standing = StopsBy error timestamp old new (begin_slice slice s).events (λ call. LeftBegun call slice s standing)
+abbrev pub Begins : {H T : Type 0} → Result T DecodeError → ℕ → Traces H → Traces H → Slice
+    → Standing → Standing → Type 0
+Begins (Ok value) timestamp old new slice s standing =
+    (is_accepted slice.format s.store.accepted ≡ true)
+    × (s.next.number ≢ 2 ^ 64 - 1)
+    × (refusal_of_picture (head s.next slice) ≡ None)
+    × Completes timestamp old new (begin_slice slice s) standing
+Begins (Err errors.CheckEvents) timestamp old new slice s standing =
+    (is_accepted slice.format s.store.accepted ≡ false)
+    × Completes timestamp old new (on_store (change_format slice.format) s) standing
+Begins (Err (errors.NotEnoughOutputBuffers frames)) timestamp old new slice s standing =
+    (frames ≡ 1) × (new ≡ old) × (standing ≡ s)
+Begins (Err errors.PictureNumbersSpent) timestamp old new slice s standing =
+    (is_accepted slice.format s.store.accepted ≡ true)
+    × (s.next.number ≡ 2 ^ 64 - 1)
+    × (new ≡ old)
+    × (standing ≡ s)
+Begins (Err errors.PocOutOfRange) timestamp old new slice s standing =
+    (is_accepted slice.format s.store.accepted ≡ true)
+    × (s.next.number ≢ 2 ^ 64 - 1)
+    × (refusal_of_picture (head s.next slice) ≡ Some PocOutOfRange)
+    × (new ≡ old)
+    × (standing ≡ s)
+Begins (Err error) timestamp old new slice s standing =
+    StopsBy error timestamp old new (begin_slice slice s).events
+    (λ call. LeftBegun call slice s standing)
 
 -- the refused call is one of a picture that has begun
 abbrev pub LeftStarted : walk.Call → Type 0
@@ -126,11 +173,23 @@ LeftStarted (walk.NewSequence info) = ⊥
 LeftStarted call = Unit {0}
 
 -- a picture of the accepted format begins
-abbrev pub Starts : {H T : Type 0} → Result T DecodeError → ℕ → Traces H → Traces H → Slice → Standing → Standing → Type 0
-Starts (Ok value) timestamp old new slice s standing = (s.next.number ≢ 2 ^ 64 - 1) × (refusal_of_picture (head s.next slice) ≡ None) × Completes timestamp old new (starts (head s.next slice) slice s) standing
-Starts (Err errors.PictureNumbersSpent) timestamp old new slice s standing = (s.next.number ≡ 2 ^ 64 - 1) × (new ≡ old) × (standing ≡ s)
-Starts (Err errors.PocOutOfRange) timestamp old new slice s standing = (s.next.number ≢ 2 ^ 64 - 1) × (refusal_of_picture (head s.next slice) ≡ Some PocOutOfRange) × (new ≡ old) × (standing ≡ s)
-Starts (Err error) timestamp old new slice s standing = (s.next.number ≢ 2 ^ 64 - 1) × StopsBy error timestamp old new (starts (head s.next slice) slice s).events (λ call. LeftStarted call × (standing ≡ given_up (starts (head s.next slice) slice s).next))
+abbrev pub Starts : {H T : Type 0} → Result T DecodeError → ℕ → Traces H → Traces H → Slice
+    → Standing → Standing → Type 0
+Starts (Ok value) timestamp old new slice s standing =
+    (s.next.number ≢ 2 ^ 64 - 1)
+    × (refusal_of_picture (head s.next slice) ≡ None)
+    × Completes timestamp old new (starts (head s.next slice) slice s) standing
+Starts (Err errors.PictureNumbersSpent) timestamp old new slice s standing =
+    (s.next.number ≡ 2 ^ 64 - 1) × (new ≡ old) × (standing ≡ s)
+Starts (Err errors.PocOutOfRange) timestamp old new slice s standing =
+    (s.next.number ≢ 2 ^ 64 - 1)
+    × (refusal_of_picture (head s.next slice) ≡ Some PocOutOfRange)
+    × (new ≡ old)
+    × (standing ≡ s)
+Starts (Err error) timestamp old new slice s standing =
+    (s.next.number ≢ 2 ^ 64 - 1)
+    × StopsBy error timestamp old new (starts (head s.next slice) slice s).events (λ call.
+    LeftStarted call × (standing ≡ given_up (starts (head s.next slice) slice s).next))
 
 -- the answer to a format that differs in mid-picture
 pub record Changed (error : DecodeError) (refusal : Option Cause) : Type 0 where
@@ -144,11 +203,21 @@ ChecksFormat (Ok value) refusal = refusal ≡ None
 ChecksFormat (Err error) refusal = Changed error refusal
 
 -- a later slice of the current picture
-abbrev pub Follows : {H T : Type 0} → Result T DecodeError → ℕ → Traces H → Traces H → Slice → Standing → Standing → Type 0
-Follows (Ok value) timestamp old new slice s standing = (refusal_of_later s.current slice s.store.accepted ≡ None) × Completes timestamp old new (later_slice slice s) standing
-Follows (Err errors.Backend) timestamp old new slice s standing = Stops timestamp old new (later_slice slice s).events (λ call. LeftStarted call × (standing ≡ given_up s))
-Follows (Err errors.NoMemory) timestamp old new slice s standing = Stops timestamp old new (later_slice slice s).events (λ call. LeftStarted call × (standing ≡ given_up s))
-Follows (Err error) timestamp old new slice s standing = Changed error (refusal_of_later s.current slice s.store.accepted) × (new ≡ old) × (standing ≡ given_up s)
+abbrev pub Follows : {H T : Type 0} → Result T DecodeError → ℕ → Traces H → Traces H → Slice
+    → Standing → Standing → Type 0
+Follows (Ok value) timestamp old new slice s standing =
+    (refusal_of_later s.current slice s.store.accepted ≡ None)
+    × Completes timestamp old new (later_slice slice s) standing
+Follows (Err errors.Backend) timestamp old new slice s standing =
+    Stops timestamp old new (later_slice slice s).events
+    (λ call. LeftStarted call × (standing ≡ given_up s))
+Follows (Err errors.NoMemory) timestamp old new slice s standing =
+    Stops timestamp old new (later_slice slice s).events
+    (λ call. LeftStarted call × (standing ≡ given_up s))
+Follows (Err error) timestamp old new slice s standing =
+    Changed error (refusal_of_later s.current slice s.store.accepted)
+    × (new ≡ old)
+    × (standing ≡ given_up s)
 
 -- what stands once the picture of a refused slice is given up
 abbrev pub given_up_by : {T : Type 0} → Result T DecodeError → Standing → Standing
@@ -156,7 +225,8 @@ given_up_by (Ok value) s = s
 given_up_by (Err error) s = given_up s
 
 -- a picture is over and the next begins, the header being kept
-pub record BeginsBehind {H T : Type 0} (result : Result T DecodeError) (timestamp : ℕ) (old new : Traces H) (slice : Slice) (s standing : Standing) : Type 0 where
+pub record BeginsBehind {H T : Type 0} (result : Result T DecodeError) (timestamp : ℕ)
+    (old new : Traces H) (slice : Slice) (s standing : Standing) : Type 0 where
   pub mid : Traces H
   pub room : is_full_now s ≡ false
   pub finishes : Does timestamp old mid (finish_current s).events
@@ -166,11 +236,18 @@ abbrev pub IsRefused : {T : Type 0} → Result T DecodeError → Type 0
 IsRefused (Ok value) = ⊥
 IsRefused (Err error) = Unit {0}
 
-abbrev pub Changes : {H T : Type 0} → Result T DecodeError → ℕ → Traces H → Traces H → Slice → Standing → Standing → Type 0
-Changes result timestamp old new slice s standing = BeginsBehind result timestamp old new slice s standing ⊎ (IsRefused result × Finishes result timestamp old new s standing)
+abbrev pub Changes : {H T : Type 0} → Result T DecodeError → ℕ → Traces H → Traces H → Slice
+    → Standing → Standing → Type 0
+Changes result timestamp old new slice s standing =
+    BeginsBehind result timestamp old new slice s standing
+    ⊎ (IsRefused result × Finishes result timestamp old new s standing)
 
 -- the picture whose slices came is over, and all that waits is output
-abbrev pub Closes : {H T : Type 0} → Result T DecodeError → ℕ → Traces H → Traces H → Standing → Standing → Type 0
-Closes (Ok value) timestamp old new s standing = (is_full_now s ≡ false) × Completes timestamp old new (closes s) standing
-Closes (Err errors.DpbFull) timestamp old new s standing = (is_full_now s ≡ true) × Fills timestamp old new (closes s).events s standing
-Closes (Err error) timestamp old new s standing = StopsBy error timestamp old new (closes s).events (λ call. standing ≡ given_up s)
+abbrev pub Closes : {H T : Type 0} → Result T DecodeError → ℕ → Traces H → Traces H → Standing
+    → Standing → Type 0
+Closes (Ok value) timestamp old new s standing =
+    (is_full_now s ≡ false) × Completes timestamp old new (closes s) standing
+Closes (Err errors.DpbFull) timestamp old new s standing =
+    (is_full_now s ≡ true) × Fills timestamp old new (closes s).events s standing
+Closes (Err error) timestamp old new s standing =
+    StopsBy error timestamp old new (closes s).events (λ call. standing ≡ given_up s)

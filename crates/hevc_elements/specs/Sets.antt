@@ -1,4 +1,5 @@
--- What reading a parameter set out of its unit answered: nothing is left of the reader, and what it read is the unit's payload.
+-- What reading a parameter set out of its unit answered: nothing is left of the reader, and what it
+-- read is the unit's payload.
 use Rattle.std.specs.Prelude.{◌≡◌, List, Bool, Result, Ok, Err, IfOk, IfErr}
 use Rattle.hevc_spec.specs.Table.{Table, Fault, Reading, gives, refuses, out_of_bits, out_of_range, not_kept}
 use Rattle.hevc_spec.specs.Lines.{Spells, BreaksOff}
@@ -39,15 +40,18 @@ BreaksSet (MissingPps id) table payload = IsBroken (not_kept names_picture_set i
 BreaksSet NoMemory table payload = Unit {0}
 
 -- What a reader's answer says of the payload by the table of the set.
-pub record MeansSet {X A : Type 0} (view : X → A) (table : Table A) (result : Result X ParseError) (payload : List Bool) : Type 0 where
+pub record MeansSet {X A : Type 0} (view : X → A) (table : Table A) (result : Result X ParseError)
+    (payload : List Bool) : Type 0 where
   -- What is read has lines that are allowed and that the payload spells, up to some place.
   pub found : IfOk result (λ x. (rest : List Bool) × Spells table (view x) payload rest)
   -- What has such lines is read, or memory is wanted.
-  pub only : (x : A) (rest : List Bool) → Spells table x payload rest → ReadsSet view result (gives x rest)
+  pub only : (x : A) (rest : List Bool) → Spells table x payload rest
+      → ReadsSet view result (gives x rest)
   -- A refusal is the first line that breaks, or want of memory.
   pub refused : IfErr result (λ e. BreaksSet e table payload)
   -- Where a line breaks, that is the refusal, or memory is wanted.
-  pub broken : (fault : Fault) (rest : List Bool) → BreaksOff table fault payload rest → ReadsSet view result (refuses fault rest)
+  pub broken : (fault : Fault) (rest : List Bool) → BreaksOff table fault payload rest
+      → ReadsSet view result (refuses fault rest)
 
 -- The answer names no set that isn't kept.
 abbrev pub NamesNoSet : ParseError → Type 0

@@ -1,4 +1,5 @@
--- What a source over a reader has left and a sink over a writer was given, where these tell it, and how many calls failed.
+-- What a source over a reader has left and a sink over a writer was given, where these tell it,
+-- and how many calls failed.
 use Rattle.std.specs.Prelude.{ℕ, List}
 use Rattle.std.specs.declared.option.Option.{Option}
 

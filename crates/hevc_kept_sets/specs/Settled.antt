@@ -7,7 +7,8 @@ use Rattle.hevc_stream.specs.Kept.{Kept}
 use Rattle.hevc_stream.specs.Contents.{Content, unread_picture_set, content}
 use Rattle.hevc_stream_laws.specs.KeptWell.{sequence_set_named}
 
--- the id of the sequence set that the unit of a picture set names, if its first two rows can be read; its temporal id doesn't count
+-- the id of the sequence set that the unit of a picture set names, if its first two rows can be
+-- read; its temporal id doesn't count
 abbrev pub named_set : List ℕ → Option ℕ
 named_set bytes = sequence_set_named 0 bytes
 
@@ -45,4 +46,5 @@ is_unread other = false
 
 -- a unit names a sequence set that changed, or it can't be read with the sets that are kept
 abbrev pub is_settled : ℕ → Options → Kept → List ℕ → Bool
-is_settled changed options kept bytes = is_among changed (named_set bytes) || is_unread (content options kept bytes)
+is_settled changed options kept bytes =
+    is_among changed (named_set bytes) || is_unread (content options kept bytes)

@@ -32,17 +32,25 @@ Refuses options bytes errors.NoMemory old new = new ≡ old
 Refuses options bytes error old new = IsRefusedBy error (content options old bytes) × (new ≡ old)
 
 -- the unit is a video set, which is kept
-abbrev pub TakesVideoSet : {D : Type 0} → Options → List ℕ → Result D ParseError → Kept → Kept → Type 0
-TakesVideoSet options bytes (Ok done) old new = (set : PlainVps) × (content options old bytes ≡ video_set set) × (new ≡ kept_behind options old bytes)
+abbrev pub TakesVideoSet : {D : Type 0} → Options → List ℕ → Result D ParseError → Kept → Kept
+    → Type 0
+TakesVideoSet options bytes (Ok done) old new =
+    (set : PlainVps)
+    × (content options old bytes ≡ video_set set)
+    × (new ≡ kept_behind options old bytes)
 TakesVideoSet options bytes (Err error) old new = Refuses options bytes error old new
 
 -- the unit is a sequence set of this id, which is kept, and no unit that waits is tried
 abbrev pub KeepsSequenceSet : Options → List ℕ → Result ℕ ParseError → Kept → Kept → Type 0
 KeepsSequenceSet options bytes (Ok id) old new =
-    (set : PlainSps) × (content options old bytes ≡ sequence_set set) × (set.seq_parameter_set_id ≡ id) × (new ≡ with_sequence_set set old)
+    (set : PlainSps)
+    × (content options old bytes ≡ sequence_set set)
+    × (set.seq_parameter_set_id ≡ id)
+    × (new ≡ with_sequence_set set old)
 KeepsSequenceSet options bytes (Err error) old new = Refuses options bytes error old new
 
--- units were tried once more, in their order; the others wait on, behind those of them that wait still
+-- units were tried once more, in their order; the others wait on,
+-- behind those of them that wait still
 abbrev pub with_waited_up_to : Options → (tried others : List (List ℕ)) → Kept → Kept
 with_waited_up_to options tried others kept =
     let behind = fold (with_waited options) (record kept { waiting = [] }) tried in
@@ -50,19 +58,31 @@ with_waited_up_to options tried others kept =
 
 -- the units that wait were tried up to one of them, and the others not
 abbrev pub StopsReading : Options → Kept → Kept → Type 0
-StopsReading options old new = (tried others : List (List ℕ)) × (old.waiting ≡ tried ++ others) × (new ≡ with_waited_up_to options tried others old)
+StopsReading options old new =
+    (tried others : List (List ℕ))
+    × (old.waiting ≡ tried ++ others)
+    × (new ≡ with_waited_up_to options tried others old)
 
 -- the first unit that waits is tried once more
 abbrev pub first_waited : Options → List (List ℕ) → Kept → Kept
 first_waited options [] kept = kept
-first_waited options (bytes ∷ others) kept = with_waited options (record kept { waiting = others }) bytes
+first_waited options (bytes ∷ others) kept =
+    with_waited options (record kept { waiting = others }) bytes
 
 -- a unit of a picture set, of a wanted sub-layer, where it is read with these sets
 abbrev pub picture_set_content : UnitHeader → List ℕ → Kept → Content
-picture_set_content header bytes kept = picture_set_read (read (picture_parameter_set (header.nuh_temporal_id_plus1 - 1) kept.sequence_sets) (payload bytes))
+picture_set_content header bytes kept =
+    picture_set_read
+    (read (picture_parameter_set (header.nuh_temporal_id_plus1 - 1) kept.sequence_sets)
+    (payload bytes))
 
 -- the unit is a picture set, which is kept, or one that can't be read; or memory is wanted
-abbrev pub ReadsPictureSet : {E : Type 0} → UnitHeader → List ℕ → Result Bool E → Kept → Kept → Type 0
-ReadsPictureSet header bytes (Ok true) old new = (set : PlainPps) × (picture_set_content header bytes old ≡ picture_set set) × (new ≡ with_picture_set set old)
-ReadsPictureSet header bytes (Ok false) old new = (picture_set_content header bytes old ≡ unread_picture_set) × (new ≡ old)
+abbrev pub ReadsPictureSet : {E : Type 0} → UnitHeader → List ℕ → Result Bool E → Kept → Kept
+    → Type 0
+ReadsPictureSet header bytes (Ok true) old new =
+    (set : PlainPps)
+    × (picture_set_content header bytes old ≡ picture_set set)
+    × (new ≡ with_picture_set set old)
+ReadsPictureSet header bytes (Ok false) old new =
+    (picture_set_content header bytes old ≡ unread_picture_set) × (new ≡ old)
 ReadsPictureSet header bytes (Err error) old new = new ≡ old

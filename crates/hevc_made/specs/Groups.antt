@@ -1,8 +1,8 @@
 -- Groups of eight pictures, as the pictures of a made stream behind its first one are coded.
 use Rattle.std.specs.Prelude.{ℕ, ◌+◌, ◌*◌, ◌/◌, ◌%◌, nat_lt, ◌&&◌, Bool, true, false, List, [], ◌∷◌, slice_index_or}
 
--- A member of a short-term reference picture set (7.4.8): how far its order count is from that of the current picture, and whether that may
--- refer to it.
+-- A member of a short-term reference picture set (7.4.8): how far its order count is from that of
+-- the current picture, and whether that may refer to it.
 abbrev pub Member : Type 0
 Member = ℕ × Bool
 
@@ -11,7 +11,8 @@ abbrev pub are_rising : ℕ → List Member → Bool
 are_rising last [] = true
 are_rising last (m ∷ ms) = nat_lt last m.0 && are_rising m.0 ms
 
--- a picture of a group: its order count behind the last one of the group before, and the members of its set before it and after it, nearest first
+-- a picture of a group: its order count behind the last one of the group before, and the members of
+-- its set before it and after it, nearest first
 pub record Picture : Type 0 where
   pub count : ℕ
   pub before : List Member
@@ -23,7 +24,11 @@ group =
     record { count = 8; before = (8, true) ∷ []; after = [] }
     ∷ record { count = 4; before = (4, true) ∷ []; after = (4, true) ∷ [] }
     ∷ record { count = 2; before = (2, true) ∷ []; after = (2, true) ∷ (6, false) ∷ [] }
-    ∷ record { count = 1; before = (1, true) ∷ []; after = (1, true) ∷ (3, false) ∷ (7, false) ∷ [] }
+    ∷ record {
+      count = 1;
+      before = (1, true) ∷ [];
+      after = (1, true) ∷ (3, false) ∷ (7, false) ∷ [];
+    }
     ∷ record { count = 3; before = (1, true) ∷ []; after = (1, true) ∷ (5, false) ∷ [] }
     ∷ record { count = 6; before = (2, true) ∷ []; after = (2, true) ∷ [] }
     ∷ record { count = 5; before = (1, true) ∷ []; after = (1, true) ∷ (3, false) ∷ [] }

@@ -7,7 +7,9 @@ use Rattle.hevc_made.specs.Slices.{slice_unit}
 
 -- 16 by 16 samples, eight bits of order counts, three pictures may wait
 abbrev pub sequence_set : List ℕ
-sequence_set = 66 ∷ 1 ∷ 1 ∷ 1 ∷ 96 ∷ 0 ∷ 0 ∷ 3 ∷ 0 ∷ 144 ∷ 0 ∷ 0 ∷ 3 ∷ 0 ∷ 0 ∷ 3 ∷ 0 ∷ 60 ∷ 160 ∷ 136 ∷ 69 ∷ 150 ∷ 32 ∷ 154 ∷ 188 ∷ 32 ∷ 128 ∷ []
+sequence_set =
+    66 ∷ 1 ∷ 1 ∷ 1 ∷ 96 ∷ 0 ∷ 0 ∷ 3 ∷ 0 ∷ 144 ∷ 0 ∷ 0 ∷ 3 ∷ 0 ∷ 0 ∷ 3 ∷ 0 ∷ 60 ∷ 160 ∷ 136 ∷ 69
+    ∷ 150 ∷ 32 ∷ 154 ∷ 188 ∷ 32 ∷ 128 ∷ []
 
 abbrev pub picture_set : List ℕ
 picture_set = 68 ∷ 1 ∷ 192 ∷ 113 ∷ 128 ∷ 18 ∷ []
@@ -22,7 +24,8 @@ picture_unit number = slice_unit (picture number) (order_count number)
 
 -- the units of so many pictures, the first one at least
 abbrev pub made_units : ℕ → List (List ℕ)
-made_units pictures = sequence_set ∷ picture_set ∷ first_picture ∷ map picture_unit (range_with_len 0 (pictures - 1))
+made_units pictures =
+    sequence_set ∷ picture_set ∷ first_picture ∷ map picture_unit (range_with_len 0 (pictures - 1))
 
 -- the stream of so many pictures, the first one at least
 abbrev pub made : ℕ → List ℕ

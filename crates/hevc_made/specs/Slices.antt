@@ -1,5 +1,6 @@
--- A slice segment of a made stream (7.3.6.1, table 14), element by element, where the sequence set has no short-term sets and eight bits of order
--- counts, and neither it nor the picture set has more elements.
+-- A slice segment of a made stream (7.3.6.1, table 14), element by
+-- element, where the sequence set has no short-term sets and eight bits
+-- of order counts, and neither it nor the picture set has more elements.
 use Rattle.std.specs.Prelude.{ℕ, ◌-◌, ◌%◌, Bool, List, [], ◌∷◌, ◌++◌, length, if◌then◌else◌}
 use Rattle.std.specs.List.{flat_map}
 use Rattle.hevc_spec.specs.declared.Row.{Row}
@@ -26,20 +27,26 @@ flag row set = element row (u 1) (if set then 1 else 0)
 abbrev pub spelled_elements : List Element → List Bool
 spelled_elements elements = flat_map (λ e. spelled e.form e.value) elements
 
--- rows of members behind a distance: each difference to the member before, less 1, and whether the member is used
+-- rows of members behind a distance: each difference to the member before, less 1,
+-- and whether the member is used
 abbrev pub members : Row → Row → ℕ → List Member → List Element
 members difference used last [] = []
-members difference used last (m ∷ ms) = element difference ue (m.0 - last - 1) ∷ flag used m.1 ∷ members difference used m.0 ms
+members difference used last (m ∷ ms) =
+    element difference ue (m.0 - last - 1) ∷ flag used m.1 ∷ members difference used m.0 ms
 
--- rows 7 to 12 of table 7: a short-term set of these members before and after the picture, which are written out
+-- rows 7 to 12 of table 7: a short-term set of these members before and after the picture,
+-- which are written out
 abbrev pub short_term_set : List Member → List Member → List Element
 short_term_set before after =
-    element (row 7 7) ue (length before) ∷ element (row 7 8) ue (length after) ∷ members (row 7 9) (row 7 10) 0 before ++ members (row 7 11) (row 7 12) 0 after
+    element (row 7 7) ue (length before) ∷ element (row 7 8) ue (length after)
+    ∷ members (row 7 9) (row 7 10) 0 before ++ members (row 7 11) (row 7 12) 0 after
 
--- rows 1 to 11: the first segment of a P picture with the picture set 0, and the low bits of its order count
+-- rows 1 to 11: the first segment of a P picture with the picture set 0,
+-- and the low bits of its order count
 abbrev pub beginning : ℕ → List Element
 beginning order_count =
-    element (row 14 1) (u 1) 1 ∷ element (row 14 3) ue 0 ∷ element (row 14 7) ue 1 ∷ element (row 14 10) (u 8) (order_count % 256) ∷ element (row 14 11) (u 1) 0 ∷ []
+    element (row 14 1) (u 1) 1 ∷ element (row 14 3) ue 0 ∷ element (row 14 7) ue 1
+    ∷ element (row 14 10) (u 8) (order_count % 256) ∷ element (row 14 11) (u 1) 0 ∷ []
 
 -- rows 24 to 35: the picture set's active places, merging, and no difference of quantisers
 abbrev pub ending : List Element
@@ -51,7 +58,9 @@ header p order_count = beginning order_count ++ short_term_set p.before p.after 
 
 -- its payload: the header, byte_alignment (7.3.2.12), and one byte of data
 abbrev pub payload_bits : Picture → ℕ → List Bool
-payload_bits p order_count = let bits = spelled_elements (header p order_count) in bits ++ trailing_bits (length bits) ++ low_bits 8 128
+payload_bits p order_count =
+    let bits = spelled_elements (header p order_count) in
+    bits ++ trailing_bits (length bits) ++ low_bits 8 128
 
 -- its unit, TRAIL_R of temporal id 0
 abbrev pub slice_unit : Picture → ℕ → List ℕ

@@ -9,18 +9,22 @@ use Rattle.hevc_pictures.specs.declared.picture_data.PictureData.{PictureData}
 use Rattle.hevc_pictures.specs.declared.reference.Reference.TheVariants as mark
 use Rattle.hevc_pictures.specs.Marks.{reference_of}
 
--- The pictures before tell this of the next one: whether it is first in the bitstream, or first behind an end of sequence, and
--- prevTid0Pic.
-pub record IsContext (c : Context) (in_bitstream after_eos : Bool) (prev : Option PictureData) : Type 0 where
+-- The pictures before tell this of the next one: whether it is first in the bitstream, or first
+-- behind an end of sequence, and prevTid0Pic.
+pub record IsContext (c : Context) (in_bitstream after_eos : Bool) (prev : Option PictureData)
+    : Type 0 where
   pub first_in_bitstream : c.first_in_bitstream ≡ in_bitstream
   pub first_after_end : c.first_after_end ≡ after_eos
   pub prev_tid0_count : c.prev_tid0_count ≡ option_map (λ p. p.pic_order_cnt_val) prev
 
--- a slice segment has these values of the walk's slice, where MaxPicOrderCntLsb and HandleCraAsBlaFlag are these
-pub record IsFirstSlice (s : walk.Slice) (slice : Slice) (max_lsb : ℤ) (handle_cra_as_bla : Bool) : Type 0 where
+-- a slice segment has these values of the walk's slice, where MaxPicOrderCntLsb and
+-- HandleCraAsBlaFlag are these
+pub record IsFirstSlice (s : walk.Slice) (slice : Slice) (max_lsb : ℤ) (handle_cra_as_bla : Bool)
+    : Type 0 where
   pub nal_unit_type : slice.nalu.header.nal_unit_type ≡ s.nal_unit_type
   pub temporal_id : slice.nalu.header.nuh_temporal_id_plus1 ≡ s.temporal_id + 1
-  pub no_output_of_prior_pics_flag : slice.header.no_output_of_prior_pics_flag ≡ s.no_output_of_prior_pics_flag
+  pub no_output_of_prior_pics_flag :
+      slice.header.no_output_of_prior_pics_flag ≡ s.no_output_of_prior_pics_flag
   pub pic_output_flag : slice.header.pic_output_flag ≡ s.pic_output_flag
   pub pic_order_cnt_lsb : slice.header.pic_order_cnt_lsb ≡ s.pic_order_cnt_lsb
   pub max_pic_order_cnt_lsb : max_lsb ≡ pos s.max_pic_order_cnt_lsb
@@ -37,7 +41,8 @@ pub record IsHeadOf (h : Head) (p : PictureData) : Type 0 where
   pub no_output_of_prior_pics : p.no_output_of_prior_pics_flag ≡ h.no_output_of_prior_pics
 
 -- a picture that begins with a slice, in this context
-pub record IsNewPicture (c : Context) (s : walk.Slice) (st_rps_bits : ℕ) (p : PictureData) : Type 0 where
+pub record IsNewPicture (c : Context) (s : walk.Slice) (st_rps_bits : ℕ) (p : PictureData)
+    : Type 0 where
   pub told : IsHeadOf (head c s) p
   pub no_rasl_output_flag : p.no_rasl_output_flag ≡ no_rasl_output c s
   pub is_irap_picture : p.is_irap ≡ is_irap s.nal_unit_type

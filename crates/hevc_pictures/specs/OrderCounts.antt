@@ -9,6 +9,9 @@ pub record IsMaxPicOrderCntLsb (m : ℤ) : Type 0 where
   pub bound : log2_minus4 ≤ 12
   pub power : m ≡ pos (2 ^ (log2_minus4 + 4))
 
--- PicOrderCntVal of a picture that begins a sequence, or stands behind prevTid0Pic, if there is one (8.3.1)
+-- PicOrderCntVal of a picture that begins a sequence, or stands behind prevTid0Pic,
+-- if there is one (8.3.1)
 abbrev pub count_by : Bool → ℕ → Option PictureData → ℕ → ℤ
-count_by begins_sequence max_lsb prev lsb = if begins_sequence then pos lsb else count_behind max_lsb (option_map (λ p. p.pic_order_cnt_val) prev) lsb
+count_by begins_sequence max_lsb prev lsb =
+    if begins_sequence then pos lsb
+    else count_behind max_lsb (option_map (λ p. p.pic_order_cnt_val) prev) lsb

@@ -26,8 +26,10 @@ pub record HaveBlocks (sps : PlainSps) (pps : PlainPps) : Type 0 where
 
 -- The columns together are as wide as the picture, and the rows as high.
 pub record AddUp (sps : PlainSps) (pps : PlainPps) : Type 0 where
-  pub columns : blocks_of (pps.num_tile_columns_minus1 + 1) pps.column_width_minus1 ≡ sps.pic_width_in_ctbs_y
-  pub rows : blocks_of (pps.num_tile_rows_minus1 + 1) pps.row_height_minus1 ≡ sps.pic_height_in_ctbs_y
+  pub columns :
+      blocks_of (pps.num_tile_columns_minus1 + 1) pps.column_width_minus1 ≡ sps.pic_width_in_ctbs_y
+  pub rows :
+      blocks_of (pps.num_tile_rows_minus1 + 1) pps.row_height_minus1 ≡ sps.pic_height_in_ctbs_y
 
 -- With tiles, they take all blocks of a picture.
 abbrev pub TilesCover : PlainSps → PlainPps → Type 0
@@ -35,7 +37,10 @@ TilesCover sps pps = IsTrue pps.tiles_enabled_flag → AddUp sps pps
 
 -- So they do of the pictures of the sequence set that the set names.
 abbrev pub CoverKept : BTreeMap ℕ Sps → PlainPps → Type 0
-CoverKept sets pps = (sps : PlainSps) → sets_by_id plain_sps sets pps.seq_parameter_set_id ≡ Some sps → TilesCover sps pps
+CoverKept sets pps =
+    (sps : PlainSps)
+    → sets_by_id plain_sps sets pps.seq_parameter_set_id ≡ Some sps
+    → TilesCover sps pps
 
 -- The sequence set that a set names and its tiles stay.
 pub record KeepsTiles (old new : Pps) : Type 0 where

@@ -28,7 +28,8 @@ default_lists_8x8 = intra_list ∷ intra_list ∷ intra_list ∷ inter_list ∷ 
 
 -- of the 32x32 matrices the syntax has those of luma alone (7.3.4)
 abbrev pub default_lists_32x32 : List (List ℕ)
-default_lists_32x32 = intra_list ∷ replicate 64 0 ∷ replicate 64 0 ∷ inter_list ∷ replicate 64 0 ∷ replicate 64 0 ∷ []
+default_lists_32x32 =
+    intra_list ∷ replicate 64 0 ∷ replicate 64 0 ∷ inter_list ∷ replicate 64 0 ∷ replicate 64 0 ∷ []
 
 -- All lists are the default ones, and the first entry of each larger matrix is 16 (7.4.5).
 abbrev pub default_lists : PlainScalingLists

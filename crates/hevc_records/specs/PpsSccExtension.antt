@@ -1,6 +1,7 @@
 use Rattle.std.specs.Prelude.{ℕ, ℤ, pos, Bool, false, List, replicate}
 
--- The screen content coding extension of a picture parameter set (H.265 7.3.2.3.3), with any numbers
+-- The screen content coding extension of a picture parameter set (H.265 7.3.2.3.3),
+-- with any numbers
 pub record PlainPpsSccExtension : Type 0 where
   pub curr_pic_ref_enabled_flag : Bool
   pub residual_adaptive_colour_transform_enabled_flag : Bool

@@ -1,6 +1,7 @@
 use Rattle.std.specs.Prelude.{ℕ, Bool, false, List, replicate}
 
--- The profile, tier and level of a stream and of its lower sub-layers (H.265 7.3.3), with any numbers
+-- The profile, tier and level of a stream and of its lower sub-layers (H.265 7.3.3),
+-- with any numbers
 pub record PlainProfileTierLevel : Type 0 where
   pub general_profile_space : ℕ
   pub general_tier_flag : Bool

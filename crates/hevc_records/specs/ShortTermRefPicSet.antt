@@ -33,9 +33,11 @@ default_short_term_ref_pic_set = record {
 -- the first `count` differences lie below 0, each below the one before it
 pub record Fall (count : ℕ) (differences : List ℤ) : Type 0 where
   pub below_zero : (k : ℕ) → k < count → slice_index_or differences k (pos 0) <ℤ pos 0
-  pub falling : (k : ℕ) → k + 1 < count → slice_index_or differences (k + 1) (pos 0) <ℤ slice_index_or differences k (pos 0)
+  pub falling : (k : ℕ) → k + 1 < count
+      → slice_index_or differences (k + 1) (pos 0) <ℤ slice_index_or differences k (pos 0)
 
 -- the first `count` differences lie above 0, each above the one before it
 pub record Rise (count : ℕ) (differences : List ℤ) : Type 0 where
   pub above_zero : (k : ℕ) → k < count → pos 0 <ℤ slice_index_or differences k (pos 0)
-  pub rising : (k : ℕ) → k + 1 < count → slice_index_or differences k (pos 0) <ℤ slice_index_or differences (k + 1) (pos 0)
+  pub rising : (k : ℕ) → k + 1 < count
+      → slice_index_or differences k (pos 0) <ℤ slice_index_or differences (k + 1) (pos 0)

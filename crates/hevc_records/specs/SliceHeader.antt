@@ -118,9 +118,10 @@ default_slice_header = record {
   st_rps_bits = 0;
 }
 
--- A header with the values that the sets infer for its absent elements (7.4.7.1): those on in-loop filters are the picture set's, CurrRpsIdx is
--- the number of the sequence set's short-term sets, and use_integer_mv_flag is its motion_vector_resolution_control_idc, which the header
--- itself says where that is 2.
+-- A header with the values that the sets infer for its absent elements (7.4.7.1):
+-- those on in-loop filters are the picture set's, CurrRpsIdx is the number of the
+-- sequence set's short-term sets, and use_integer_mv_flag is its
+-- motion_vector_resolution_control_idc, which the header itself says where that is 2.
 abbrev pub with_inferred : PlainPps → ℕ → ℕ → PlainSliceSegmentHeader → PlainSliceSegmentHeader
 with_inferred pps num_short_term_ref_pic_sets motion_vector_resolution_control_idc h = record h {
   deblocking_filter_disabled_flag = pps.deblocking_filter_disabled_flag;
@@ -131,9 +132,11 @@ with_inferred pps num_short_term_ref_pic_sets motion_vector_resolution_control_i
   use_integer_mv_flag = not (motion_vector_resolution_control_idc == 0);
 }
 
--- The whole header of a dependent slice segment (7.4.7.1): what stands before slice_type and what tells of its own unit is its own, all
--- other elements are those of the independent segment before it.
-abbrev pub completed_header : PlainSliceSegmentHeader → PlainSliceSegmentHeader → PlainSliceSegmentHeader
+-- The whole header of a dependent slice segment (7.4.7.1): what
+-- stands before slice_type and what tells of its own unit is its own,
+-- all other elements are those of the independent segment before it.
+abbrev pub completed_header : PlainSliceSegmentHeader → PlainSliceSegmentHeader
+    → PlainSliceSegmentHeader
 completed_header own independent = record independent {
   first_slice_segment_in_pic_flag = own.first_slice_segment_in_pic_flag;
   no_output_of_prior_pics_flag = own.no_output_of_prior_pics_flag;

@@ -6,7 +6,8 @@ use Rattle.hevc_records.specs.SpsRangeExtension.{PlainSpsRangeExtension, default
 use Rattle.hevc_records.specs.SpsSccExtension.{PlainSpsSccExtension, default_sps_scc_extension}
 use Rattle.hevc_records.specs.VuiParams.{PlainVuiParams, default_vui_params}
 
--- A sequence parameter set (H.265 7.3.2.2.1) and what is derived from it (7.4.3.2.1), with any numbers
+-- A sequence parameter set (H.265 7.3.2.2.1) and what is derived from it (7.4.3.2.1),
+-- with any numbers
 pub record PlainSps : Type 0 where
   pub video_parameter_set_id : ℕ
   pub max_sub_layers_minus1 : ℕ

@@ -1,6 +1,7 @@
 use Rattle.std.specs.Prelude.{ℕ, Bool, false, List, replicate}
 
--- The screen content coding extension of a sequence parameter set (H.265 7.3.2.2.3), with any numbers
+-- The screen content coding extension of a sequence parameter set (H.265 7.3.2.2.3),
+-- with any numbers
 pub record PlainSpsSccExtension : Type 0 where
   pub curr_pic_ref_enabled_flag : Bool
   pub palette_mode_enabled_flag : Bool

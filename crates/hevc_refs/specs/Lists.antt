@@ -20,8 +20,11 @@ abbrev pub plain_places : List (Option RefPicListEntry) → List (Option walk.Re
 plain_places places = map (option_map plain_place) places
 
 -- what a list is taken from, gone through once (8-8, 8-10)
-abbrev pub base_places : List (Option ℕ) → List (Option ℕ) → List (Option ℕ) → Bool → List (Option walk.RefPicListEntry)
-base_places first second long_term has_current = map walk.entry_of_number (first ++ second ++ long_term) ++ (if has_current then Some walk.CurrentPicture ∷ [] else [])
+abbrev pub base_places : List (Option ℕ) → List (Option ℕ) → List (Option ℕ) → Bool
+    → List (Option walk.RefPicListEntry)
+base_places first second long_term has_current =
+    map walk.entry_of_number (first ++ second ++ long_term)
+    ++ (if has_current then Some walk.CurrentPicture ∷ [] else [])
 
 -- a slice of the walk has this header, and its picture set this flag
 pub record HasHeader (s : Slice) (header : SliceHeader) (curr_pic_ref_enabled : Bool) : Type 0 where

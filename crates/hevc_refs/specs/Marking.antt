@@ -12,8 +12,10 @@ use Rattle.hevc_dpb.specs.Entries.{tickets, unmarked}
 use Rattle.hevc_dpb.specs.Plain.{HaveLatency}
 use Rattle.hevc_dpb.specs.Views.{stored_entries, max_num_pics_of, room_of, is_stale}
 
--- the first slice of the walk has these long-term members, this short-term set, and this MaxPicOrderCntLsb
-pub record HasMembers (first : walk.Slice) (header : SliceHeader) (set : ShortTermRefPicSet) (max_lsb : ℤ) : Type 0 where
+-- the first slice of the walk has these long-term members, this short-term set,
+-- and this MaxPicOrderCntLsb
+pub record HasMembers (first : walk.Slice) (header : SliceHeader) (set : ShortTermRefPicSet)
+    (max_lsb : ℤ) : Type 0 where
   pub long_term : first.long_term_pics ≡ long_term_members (plain_slice_header header)
   pub short_term : short_term_set first ≡ short_term_set_of (plain_short_term_ref_pic_set set)
   pub max_pic_order_cnt_lsb : max_lsb ≡ pos first.max_pic_order_cnt_lsb

@@ -15,14 +15,25 @@ HasOwnIds id_of sets = (id : ℕ) → IfSome (get nat_cmp sets id) (λ set. id_o
 
 -- with a picture set the sequence set that it names is kept
 abbrev pub HasNamedSets : BTreeMap ℕ Sps → BTreeMap ℕ Pps → Type 0
-HasNamedSets sequence_sets picture_sets = (id : ℕ) → IfSome (get nat_cmp picture_sets id) (λ set. IsSome (get nat_cmp sequence_sets set.seq_parameter_set_id))
+HasNamedSets sequence_sets picture_sets =
+    (id : ℕ)
+    → IfSome (get nat_cmp picture_sets id) (λ set.
+    IsSome (get nat_cmp sequence_sets set.seq_parameter_set_id))
 
-if_some : {X : Type 0} (o : Option X) (P : X → Type 0) → ((x : X) → IsProp (P x)) → IsProp (IfSome o P)
+if_some : {X : Type 0} (o : Option X) (P : X → Type 0) → ((x : X) → IsProp (P x))
+    → IsProp (IfSome o P)
 if_some None P is = Unit-prop
 if_some (Some x) P is = is x
 
-pub HasOwnIds-prop : {X : Type 0} (id_of : X → ℕ) (sets : BTreeMap ℕ X) → IsProp (HasOwnIds id_of sets)
-HasOwnIds-prop id_of sets f g = fun_ext (λ id. if_some (get nat_cmp sets id) (λ set. id_of set ≡ id) (λ set. ℕ_set (id_of set) id) (f id) (g id))
+pub HasOwnIds-prop : {X : Type 0} (id_of : X → ℕ) (sets : BTreeMap ℕ X)
+    → IsProp (HasOwnIds id_of sets)
+HasOwnIds-prop id_of sets f g =
+    fun_ext (λ id. if_some (get nat_cmp sets id) (λ set. id_of set ≡ id)
+    (λ set. ℕ_set (id_of set) id) (f id) (g id))
 
-pub HasNamedSets-prop : (sequence_sets : BTreeMap ℕ Sps) (picture_sets : BTreeMap ℕ Pps) → IsProp (HasNamedSets sequence_sets picture_sets)
-HasNamedSets-prop ss ps f g = fun_ext (λ id. if_some (get nat_cmp ps id) (λ set. IsSome (get nat_cmp ss set.seq_parameter_set_id)) (λ set. Bool-set (is_some (get nat_cmp ss set.seq_parameter_set_id)) true) (f id) (g id))
+pub HasNamedSets-prop : (sequence_sets : BTreeMap ℕ Sps) (picture_sets : BTreeMap ℕ Pps)
+    → IsProp (HasNamedSets sequence_sets picture_sets)
+HasNamedSets-prop ss ps f g =
+    fun_ext (λ id. if_some (get nat_cmp ps id)
+    (λ set. IsSome (get nat_cmp ss set.seq_parameter_set_id))
+    (λ set. Bool-set (is_some (get nat_cmp ss set.seq_parameter_set_id)) true) (f id) (g id))

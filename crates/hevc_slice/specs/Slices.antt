@@ -13,4 +13,5 @@ active_of kept = active_sets kept.sequence_sets kept.picture_sets
 
 -- table 14 over the payload of a slice's unit (7.3.6.1)
 abbrev pub slice_table : Kept → FoundUnit UnitHeader → Table PlainSliceSegmentHeader
-slice_table kept unit = slice_segment_header unit.header.nal_unit_type (drop 2 (bytes_of unit)) (active_of kept)
+slice_table kept unit =
+    slice_segment_header unit.header.nal_unit_type (drop 2 (bytes_of unit)) (active_of kept)

@@ -9,4 +9,5 @@ use Rattle.hevc_types_d.specs.declared.pps.Pps.{Pps}
 use Rattle.hevc_types_d.specs.Pps.{plain_pps}
 
 abbrev pub kept_active_sets : BTreeMap ℕ Pps → BTreeMap ℕ Sps → ℕ → Option ActiveSets
-kept_active_sets picture_sets sequence_sets = active_sets (sets_by_id plain_sps sequence_sets) (sets_by_id plain_pps picture_sets)
+kept_active_sets picture_sets sequence_sets =
+    active_sets (sets_by_id plain_sps sequence_sets) (sets_by_id plain_pps picture_sets)

@@ -8,4 +8,6 @@ use Rattle.hevc_tables.specs.WeightedPredictionTable.{pred_weight_table}
 
 -- table 16, with the sequence set, as a header of this type and these active places has it
 abbrev pub weights_of : PlainSps → PlainSliceSegmentHeader → Table PlainPredWeightTable
-weights_of sps h = pred_weight_table sps (is_b h.type_) h.num_ref_idx_l0_active_minus1 h.num_ref_idx_l1_active_minus1
+weights_of sps h =
+    pred_weight_table sps (is_b h.type_) h.num_ref_idx_l0_active_minus1
+    h.num_ref_idx_l1_active_minus1

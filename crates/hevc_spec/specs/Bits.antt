@@ -12,7 +12,8 @@ number bits = number_after 0 bits
 
 -- ---- spellings
 
--- How an element is written: u(n), ue(v), se(v), n bits that are not kept, or a condition, which has no bits.
+-- How an element is written: u(n), ue(v), se(v), n bits that are not kept, or a condition,
+-- which has no bits.
 pub data Form : Type 0 where
   u : ℕ → Form
   ue : Form
@@ -20,7 +21,8 @@ pub data Form : Type 0 where
   skip : ℕ → Form
   check : Form
 
--- An Exp-Golomb number (9.2): as many zeros as bits stand behind the first one, at most 31. The one and those bits spell the value plus 1.
+-- An Exp-Golomb number (9.2): as many zeros as bits stand behind the first one, at most 31. The one
+-- and those bits spell the value plus 1.
 pub record IsExpGolomb (value : ℕ) (bits : List Bool) : Type 0 where
   pub rest : List Bool
   pub short : length rest ≤ 31
@@ -47,7 +49,8 @@ signed n = if n % 2 == 1 then pos (n / 2 + 1) else neg_ℤ (pos (n / 2))
 
 -- ---- reading
 
--- What stands at the front of bits: a value and the bits behind it, a value out of bounds, or too few bits.
+-- What stands at the front of bits: a value and the bits behind it, a value out of bounds,
+-- or too few bits.
 pub data Found : Type 0 where
   found : ℕ → List Bool → Found
   out_of_bounds : Found
@@ -55,7 +58,8 @@ pub data Found : Type 0 where
 
 -- the number of the next n bits behind a number
 unfoldable pub bits_after : ℕ → ℕ → List Bool → Found
-bits_after front n bits = if nat_le n (length bits) then found (number_after front (take n bits)) (drop n bits) else ended
+bits_after front n bits =
+    if nat_le n (length bits) then found (number_after front (take n bits)) (drop n bits) else ended
 
 -- u(n): the number of the next n bits
 unfoldable pub bits_at : ℕ → List Bool → Found
@@ -72,9 +76,12 @@ less_one (found v rest) = found (v - 1) rest
 less_one out_of_bounds = out_of_bounds
 less_one ended = ended
 
--- An Exp-Golomb number (9.2): leadingZeroBits zeros, a one, and as many bits; the one and they spell codeNum plus 1. 32 zeros are out of bounds, whatever follows.
+-- An Exp-Golomb number (9.2): leadingZeroBits zeros, a one, and as many bits; the one and they
+-- spell codeNum plus 1. 32 zeros are out of bounds, whatever follows.
 unfoldable pub golomb_at : List Bool → Found
-golomb_at bits = let zeros = leading_zeros bits in if nat_le 32 zeros then out_of_bounds else less_one (bits_at (zeros + 1) (drop zeros bits))
+golomb_at bits =
+    let zeros = leading_zeros bits in
+    if nat_le 32 zeros then out_of_bounds else less_one (bits_at (zeros + 1) (drop zeros bits))
 
 -- a value in its bounds, and any other out of bounds
 abbrev pub within : (ℕ → Bool) → Found → Found

@@ -33,11 +33,26 @@ joined (l ∷ ls) = l.bits ++ joined ls
 abbrev pub HasLines : {A : Type 0} → Table A → A → List Line → Type 0
 HasLines (done x) r ls = (x ≡ r) × (ls ≡ [])
 HasLines (missing row id) r ls = ⊥
-HasLines (element row form allowed value) r ls = (v : ℕ) × (b : List Bool) × (value v ≡ r) × (ls ≡ record { head = record { row = row; form = form; allowed = allowed }; value = v; bits = b } ∷ [])
+HasLines (element row form allowed value) r ls =
+    (v : ℕ)
+    × (b : List Bool)
+    × (value v ≡ r)
+    × (ls ≡ record {
+      head = record { row = row; form = form; allowed = allowed };
+      value = v;
+      bits = b;
+    } ∷ [])
 HasLines (sized {A = X} t f) r ls = (x : X) × HasLines t x ls × (f x (length (joined ls)) ≡ r)
-HasLines (part {A = X} t k) r ls = (x : X) × (first : List Line) × (others : List Line) × HasLines t x first × HasLines (k x) r others × (ls ≡ first ++ others)
+HasLines (part {A = X} t k) r ls =
+    (x : X)
+    × (first : List Line)
+    × (others : List Line)
+    × HasLines t x first
+    × HasLines (k x) r others
+    × (ls ≡ first ++ others)
 
--- what comes behind first lines of a table: a line that asks for something, or a set that is not kept
+-- what comes behind first lines of a table: a line that asks for something,
+-- or a set that is not kept
 pub data Next : Type 0 where
   line : Head → Next
   lacks : Row → ℕ → Next
@@ -45,9 +60,17 @@ pub data Next : Type 0 where
 abbrev pub HasNext : {A : Type 0} → Table A → List Line → Next → Type 0
 HasNext (done x) ls next = ⊥
 HasNext (missing row id) ls next = (next ≡ lacks row id) × (ls ≡ [])
-HasNext (element row form allowed value) ls next = (next ≡ line (record { row = row; form = form; allowed = allowed })) × (ls ≡ [])
+HasNext (element row form allowed value) ls next =
+    (next ≡ line (record { row = row; form = form; allowed = allowed })) × (ls ≡ [])
 HasNext (sized t f) ls next = HasNext t ls next
-HasNext (part {A = X} t k) ls next = HasNext t ls next ⊎ ((x : X) × (first : List Line) × (others : List Line) × HasLines t x first × HasNext (k x) others next × (ls ≡ first ++ others))
+HasNext (part {A = X} t k) ls next =
+    HasNext t ls next
+    ⊎ ((x : X)
+    × (first : List Line)
+    × (others : List Line)
+    × HasLines t x first
+    × HasNext (k x) others next
+    × (ls ≡ first ++ others))
 
 -- the forms that Exp-Golomb numbers have
 abbrev pub IsGolomb : Form → Type 0
@@ -82,7 +105,8 @@ pub record EndsWithin (form : Form) (bits : List Bool) : Type 0 where
 abbrev pub Breaks : Next → List Bool → Fault → Type 0
 Breaks (lacks row id) bits f = f ≡ not_kept row id
 Breaks (line h) bits out_of_bits = EndsWithin h.form bits
-Breaks (line h) bits (out_of_range row) = (row ≡ h.row) × (SpellsOther h bits ⊎ (IsGolomb h.form × BeginsWithZeros bits))
+Breaks (line h) bits (out_of_range row) =
+    (row ≡ h.row) × (SpellsOther h bits ⊎ (IsGolomb h.form × BeginsWithZeros bits))
 Breaks (line h) bits (not_kept row id) = ⊥
 
 -- The lines of the record are allowed and spelled by the bits up to the rest.
@@ -92,8 +116,10 @@ pub record Spells {A : Type 0} (t : Table A) (r : A) (bits rest : List Bool) : T
   pub good : AreGood lines
   pub parts : bits ≡ joined lines ++ rest
 
--- Some first lines are allowed and spelled by the bits up to the rest, and there the next line breaks.
-pub record BreaksOff {A : Type 0} (t : Table A) (fault : Fault) (bits rest : List Bool) : Type 0 where
+-- Some first lines are allowed and spelled by the bits up to the rest,
+-- and there the next line breaks.
+pub record BreaksOff {A : Type 0} (t : Table A) (fault : Fault) (bits rest : List Bool)
+    : Type 0 where
   pub lines : List Line
   pub next : Next
   pub has : HasNext t lines next

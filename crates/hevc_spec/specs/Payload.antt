@@ -7,10 +7,13 @@ use Rattle.std.specs.List.{list_any}
 abbrev pub run_behind : ℕ → ℕ → ℕ
 run_behind run byte = if byte == 0 then min (run + 1) 2 else 0
 
--- The payload bytes: each 03 that stands directly behind two zero bytes (emulation_prevention_three_byte) is dropped, and the count of zeros begins anew behind it.
+-- The payload bytes: each 03 that stands directly behind two zero bytes
+-- (emulation_prevention_three_byte) is dropped, and the count of zeros begins anew behind it.
 abbrev pub payload_after : ℕ → List ℕ → List ℕ
 payload_after run [] = []
-payload_after run (byte ∷ bytes) = if run == 2 && byte == 3 then payload_after 0 bytes else byte ∷ payload_after (run_behind run byte) bytes
+payload_after run (byte ∷ bytes) =
+    if run == 2 && byte == 3 then payload_after 0 bytes
+    else byte ∷ payload_after (run_behind run byte) bytes
 
 -- the low n bits of a byte, the most significant first
 abbrev pub low_bits : ℕ → ℕ → List Bool
@@ -29,8 +32,8 @@ payload_bits run bytes = bits_of (payload_after run bytes)
 abbrev pub payload : List ℕ → List Bool
 payload bytes = payload_bits 0 (drop 2 bytes)
 
--- Where a reader stands: the unread bits of the byte that it has loaded, the zero bytes directly before the next one, the bytes
--- behind it, and how many 03 bytes were dropped.
+-- Where a reader stands: the unread bits of the byte that it has loaded, the zero bytes directly
+-- before the next one, the bytes behind it, and how many 03 bytes were dropped.
 pub record Place : Type 0 where
   pub loaded : List Bool
   pub zero_run : ℕ
@@ -41,7 +44,8 @@ pub record Place : Type 0 where
 unfoldable pub bits : Place → List Bool
 bits p = p.loaded ++ payload_bits p.zero_run p.behind
 
--- num_bits_left: eight bits for each byte behind the loaded one, a 03 that isn't passed yet among them, and the unread bits of that one
+-- num_bits_left: eight bits for each byte behind the loaded one, a 03 that isn't passed yet among
+-- them, and the unread bits of that one
 unfoldable pub bits_left : Place → ℕ
 bits_left p = length p.loaded + 8 * length p.behind
 
@@ -54,7 +58,12 @@ abbrev pub loading : ℕ → ℕ → List ℕ → Option Place
 loading run dropped [] = None
 loading run dropped (byte ∷ bytes) =
     if run == 2 && byte == 3 then loading 0 (dropped + 1) bytes
-    else Some (record { loaded = low_bits 8 byte; zero_run = run_behind run byte; behind = bytes; dropped = dropped })
+    else Some (record {
+      loaded = low_bits 8 byte;
+      zero_run = run_behind run byte;
+      behind = bytes;
+      dropped = dropped;
+    })
 
 abbrev pub no_bits : List Bool → Bool
 no_bits [] = true
@@ -76,19 +85,22 @@ abbrev pub place_behind : ℕ → Place → Option Place
 place_behind zero p = Some p
 place_behind (suc n) p = option_and_then (place_behind n) (next_place p)
 
--- The second place is the one that the payload bits lead to which it has fewer: a 03 is dropped as the byte behind it is loaded, and a byte as its first bit is read.
+-- The second place is the one that the payload bits lead to which it has fewer: a 03 is dropped as
+-- the byte behind it is loaded, and a byte as its first bit is read.
 pub record IsReached (old new : Place) : Type 0 where
   pub place : place_behind (length (bits old) - length (bits new)) old ≡ Some new
   pub fewer : length (bits new) ≤ length (bits old)
 
--- The second place is reached from the first, so whatever the first is reached from. The bits left fall by the payload bits
--- between them, and by eight for each 03 that was dropped.
+-- The second place is reached from the first, so from whatever the first is reached from. The bits
+-- left fall by the payload bits between them, and by eight for each 03 that was dropped.
 pub record IsAhead (old new : Place) : Type 0 where
-  pub moved : bits_left old + 8 * old.dropped + length (bits new) ≡ bits_left new + 8 * new.dropped + length (bits old)
+  pub moved : bits_left old + 8 * old.dropped + length (bits new)
+      ≡ bits_left new + 8 * new.dropped + length (bits old)
   pub fewer : length (bits new) ≤ length (bits old)
   pub onward : (p : Place) → IsReached p old → IsReached p new
 
--- more_rbsp_data (7.2): the next bit isn't the stop bit, since a one stands behind it in its byte, or a byte that isn't 0 behind that
+-- more_rbsp_data (7.2): the next bit isn't the stop bit, since a one stands behind it in its byte,
+-- or a byte that isn't 0 behind that
 abbrev pub has_more : Place → Bool
 has_more p = list_any (λ b. b) (drop 1 p.loaded) || list_any (λ byte. not (byte == 0)) p.behind
 

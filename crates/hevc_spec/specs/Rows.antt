@@ -40,7 +40,8 @@ unfoldable pub when : {A : Type 0} → Bool → A → Table A → Table A
 when true absent t = t
 when false absent t = done absent
 
--- Rows that are repeated together: so many times from an index on, each time over what the times before gave.
+-- Rows that are repeated together: so many times from an index on,
+-- each time over what the times before gave.
 unfoldable pub repeat : {S : Type 0} → (ℕ → S → Table S) → ℕ → ℕ → S → Table S
 repeat body i zero s = done s
 repeat body i (suc more) s = body i s >>= λ next. repeat body (i + 1) more next

@@ -8,14 +8,19 @@ pub record UnitHeader : Type 0 where
 
 -- One bit that is not looked at, six of the type, six of the layer, three of the temporal id.
 abbrev pub header_fields : ℕ → ℕ → UnitHeader
-header_fields first second = record { nal_unit_type = first / 2 % 64; nuh_layer_id = first % 2 * 32 + second / 8; nuh_temporal_id_plus1 = second % 8 }
+header_fields first second = record {
+  nal_unit_type = first / 2 % 64;
+  nuh_layer_id = first % 2 * 32 + second / 8;
+  nuh_temporal_id_plus1 = second % 8;
+}
 
 -- the type that bytes begin with, and 0 for no bytes
 abbrev pub nal_unit_type : List ℕ → ℕ
 nal_unit_type [] = 0
 nal_unit_type (first ∷ _) = first / 2 % 64
 
--- Why bytes are no unit: fewer than two, a type of 48 to 63, which the standard leaves unspecified, or a temporal id plus 1 of 0, which 7.4.2.2 forbids.
+-- Why bytes are no unit: fewer than two, a type of 48 to 63, which the standard leaves unspecified,
+-- or a temporal id plus 1 of 0, which 7.4.2.2 forbids.
 pub data HeaderFault : Type 0 where
   truncated : HeaderFault
   unspecified_type : ℕ → HeaderFault

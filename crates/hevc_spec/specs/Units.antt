@@ -18,7 +18,8 @@ begins_with_start_code (a ∷ b ∷ c ∷ _) = a == 0 && b == 0 && c == 1
 -- the bytes before the next start code, or all of them where none stands
 abbrev pub before_start_code : List ℕ → List ℕ
 before_start_code [] = []
-before_start_code (byte ∷ bytes) = if begins_with_start_code (byte ∷ bytes) then [] else byte ∷ before_start_code bytes
+before_start_code (byte ∷ bytes) =
+    if begins_with_start_code (byte ∷ bytes) then [] else byte ∷ before_start_code bytes
 
 abbrev pub is_empty : List ℕ → Bool
 is_empty [] = true
@@ -27,24 +28,32 @@ is_empty (_ ∷ _) = false
 -- bytes without the zeros at their end (B.2.1, zero_byte and trailing_zero_8bits)
 abbrev pub without_trailing_zeros : List ℕ → List ℕ
 without_trailing_zeros [] = []
-without_trailing_zeros (byte ∷ bytes) = if byte == 0 && is_empty (without_trailing_zeros bytes) then [] else byte ∷ without_trailing_zeros bytes
+without_trailing_zeros (byte ∷ bytes) =
+    if byte == 0 && is_empty (without_trailing_zeros bytes) then []
+    else byte ∷ without_trailing_zeros bytes
 
--- The units of bytes that stand at a place of a stream. Behind each start code a unit begins, and ends before the next one,
--- without the zeros there. Of those bytes, those are its own that are kept.
+-- The units of bytes that stand at a place of a stream. Behind each
+-- start code a unit begins, and ends before the next one, without the
+-- zeros there. Of those bytes, those are its own that are kept.
 abbrev pub units_at : (kept : List ℕ → List ℕ) → ℕ → List ℕ → List NalUnit
 units_at kept place [] = []
 units_at kept place (byte ∷ bytes) =
     if begins_with_start_code (byte ∷ bytes)
-    then record { offset = place + 3; bytes = kept (without_trailing_zeros (before_start_code (drop 2 bytes))) } ∷ units_at kept (place + 1) bytes
+    then record {
+      offset = place + 3;
+      bytes = kept (without_trailing_zeros (before_start_code (drop 2 bytes)));
+    } ∷ units_at kept (place + 1) bytes
     else units_at kept (place + 1) bytes
 
 -- the units whose start codes stand at a place of a stream or behind it
 unfoldable pub units_from : (kept : List ℕ → List ℕ) → ℕ → List ℕ → List NalUnit
 units_from kept place stream = units_at kept place (drop place stream)
 
--- An end of sequence or of bitstream has its two header bytes alone (7.3.2.6, 7.3.2.7); any other unit has all of its bytes.
+-- An end of sequence or of bitstream has its two header bytes alone (7.3.2.6, 7.3.2.7); any other
+-- unit has all of its bytes.
 abbrev pub kept_bytes : List ℕ → List ℕ
-kept_bytes bytes = if nat_le 2 (length bytes) && is_end (nal_unit_type bytes) then take 2 bytes else bytes
+kept_bytes bytes =
+    if nat_le 2 (length bytes) && is_end (nal_unit_type bytes) then take 2 bytes else bytes
 
 -- the units of a stream, in order
 abbrev pub units : List ℕ → List NalUnit

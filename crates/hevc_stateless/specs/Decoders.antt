@@ -21,5 +21,6 @@ abbrev pub set_for : {B H P : Type 0} → StatelessDecoder B H P → Options
 set_for d = options_in d.kept
 
 -- all of it, where backends tell these logs
-abbrev pub seen_by : {B H P : Type 0} → (B → Option (List (Call H))) → StatelessDecoder B H P → Seen B H
+abbrev pub seen_by : {B H P : Type 0} → (B → Option (List (Call H))) → StatelessDecoder B H P
+    → Seen B H
 seen_by logs d = seen (logs d.session.backend) d.session d.kept

@@ -9,15 +9,24 @@ use Rattle.hevc_driver.specs.Takes.{Fills, Stays}
 use Rattle.hevc_stateless.specs.declared.state.State.{State}
 use Rattle.hevc_stateless.specs.States.{is_awaited}
 
--- The open picture was finished, and all that waited came out; a format that was awaited is forgotten.
-pub record Ends {H : Type 0} (timestamp : ℕ) (old new : Traces H) (state : State) (before standing : Standing) : Type 0 where
+-- The open picture was finished, and all that waited came out;
+-- a format that was awaited is forgotten.
+pub record Ends {H : Type 0} (timestamp : ℕ) (old new : Traces H) (state : State)
+    (before standing : Standing) : Type 0 where
   pub room : is_full_now before ≡ false
   pub does : Does timestamp old new (closes before).events
-  pub left : standing ≡ (if is_awaited state then forgotten (closes before).next else (closes before).next)
+  pub left :
+      standing ≡ (if is_awaited state then forgotten (closes before).next else (closes before).next)
 
-abbrev pub Flushes : {H T : Type 0} → Result T DecodeError → ℕ → Traces H → Traces H → State → Standing → Standing → Type 0
-Flushes (Ok value) timestamp old new state before standing = Ends timestamp old new state before standing
-Flushes (Err errors.DpbFull) timestamp old new state before standing = (is_full_now before ≡ true) × Fills timestamp old new (closes before).events before standing
-Flushes (Err errors.Backend) timestamp old new state before standing = Stops timestamp old new (closes before).events (λ call. standing ≡ given_up before)
-Flushes (Err errors.NoMemory) timestamp old new state before standing = Stays old new before standing ⊎ Stops timestamp old new (closes before).events (λ call. standing ≡ given_up before)
+abbrev pub Flushes : {H T : Type 0} → Result T DecodeError → ℕ → Traces H → Traces H → State
+    → Standing → Standing → Type 0
+Flushes (Ok value) timestamp old new state before standing =
+    Ends timestamp old new state before standing
+Flushes (Err errors.DpbFull) timestamp old new state before standing =
+    (is_full_now before ≡ true) × Fills timestamp old new (closes before).events before standing
+Flushes (Err errors.Backend) timestamp old new state before standing =
+    Stops timestamp old new (closes before).events (λ call. standing ≡ given_up before)
+Flushes (Err errors.NoMemory) timestamp old new state before standing =
+    Stays old new before standing
+    ⊎ Stops timestamp old new (closes before).events (λ call. standing ≡ given_up before)
 Flushes (Err error) timestamp old new state before standing = ⊥

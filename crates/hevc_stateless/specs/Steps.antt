@@ -24,13 +24,19 @@ abbrev pub with_read_set : Content → Kept → Kept
 with_read_set (sequence_set set) kept = with_sequence_set set kept
 with_read_set other kept = kept
 
--- What is kept behind a unit by the answer to it. A sequence set stays kept where its format is refused or awaited, and where memory
--- is wanted as the units that wait are read.
-abbrev pub KeepsBehind : {T : Type 0} → Result T DecodeError → Options → List ℕ → Kept → Kept → Type 0
+-- What is kept behind a unit by the answer to it. A sequence set stays kept where its format is
+-- refused or awaited, and where memory is wanted as the units that wait are read.
+abbrev pub KeepsBehind : {T : Type 0} → Result T DecodeError → Options → List ℕ → Kept → Kept
+    → Type 0
 KeepsBehind (Ok value) options bytes old new = new ≡ kept_behind options old bytes
-KeepsBehind (Err errors.CheckEvents) options bytes old new = new ≡ with_read_set (content options old bytes) old
-KeepsBehind (Err errors.Backend) options bytes old new = new ≡ with_read_set (content options old bytes) old
-KeepsBehind (Err errors.NoMemory) options bytes old new = (new ≡ old) ⊎ ((new ≡ with_read_set (content options old bytes) old) ⊎ StopsReading options (with_read_set (content options old bytes) old) new)
+KeepsBehind (Err errors.CheckEvents) options bytes old new =
+    new ≡ with_read_set (content options old bytes) old
+KeepsBehind (Err errors.Backend) options bytes old new =
+    new ≡ with_read_set (content options old bytes) old
+KeepsBehind (Err errors.NoMemory) options bytes old new =
+    (new ≡ old)
+    ⊎ ((new ≡ with_read_set (content options old bytes) old)
+    ⊎ StopsReading options (with_read_set (content options old bytes) old) new)
 KeepsBehind (Err error) options bytes old new = new ≡ old
 
 -- What a decoder is seen by: its backend's log, its view and what it keeps.
@@ -50,22 +56,34 @@ IsOfSet errors.NoMemory = Unit {0}
 IsOfSet error = ⊥
 
 -- A unit of this header and these bytes was taken, while no format is awaited.
-pub record Step {B H T : Type 0} (result : Result T DecodeError) (timestamp : ℕ) (options : Options) (header : UnitHeader) (bytes : List ℕ) (old new : Seen B H) : Type 0 where
-  pub part : Takes result timestamp (traces_of old.log old.view) (traces_of new.log new.view) (meaning_in old.view.state (unit_at options old.kept header bytes)) old.view.standing new.view.standing
+pub record Step {B H T : Type 0} (result : Result T DecodeError) (timestamp : ℕ) (options : Options)
+    (header : UnitHeader) (bytes : List ℕ) (old new : Seen B H) : Type 0 where
+  pub part : Takes result timestamp (traces_of old.log old.view) (traces_of new.log new.view)
+      (meaning_in old.view.state (unit_at options old.kept header bytes)) old.view.standing
+      new.view.standing
   pub state : Moves old.view.state (unit_at options old.kept header bytes) result new.view.state
   pub kept : KeepsBehind result options bytes old.kept new.kept
 
 -- a format that is awaited comes before the unit
-abbrev pub StepsIn : {B H T : Type 0} → State → Result T DecodeError → ℕ → Options → UnitHeader → List ℕ → Seen B H → Seen B H → Type 0
-StepsIn AwaitingFormat result timestamp options header bytes old new = (result ≡ Err errors.CheckEvents) × (new ≡ old)
-StepsIn state result timestamp options header bytes old new = Step result timestamp options header bytes old new
+abbrev pub StepsIn : {B H T : Type 0} → State → Result T DecodeError → ℕ → Options → UnitHeader
+    → List ℕ → Seen B H → Seen B H → Type 0
+StepsIn AwaitingFormat result timestamp options header bytes old new =
+    (result ≡ Err errors.CheckEvents) × (new ≡ old)
+StepsIn state result timestamp options header bytes old new =
+    Step result timestamp options header bytes old new
 
 -- a header that is refused comes before all else (7.3.1.2)
-abbrev pub StepsBehind : {B H T : Type 0} → Result UnitHeader HeaderFault → Result T DecodeError → ℕ → Options → List ℕ → Seen B H → Seen B H → Type 0
-StepsBehind (Err fault) result timestamp options bytes old new = (result ≡ Err (cause_error (header_cause fault))) × (new ≡ old)
-StepsBehind (Ok header) result timestamp options bytes old new = StepsIn old.view.state result timestamp options header bytes old new
+abbrev pub StepsBehind : {B H T : Type 0} → Result UnitHeader HeaderFault → Result T DecodeError → ℕ
+    → Options → List ℕ → Seen B H → Seen B H → Type 0
+StepsBehind (Err fault) result timestamp options bytes old new =
+    (result ≡ Err (cause_error (header_cause fault))) × (new ≡ old)
+StepsBehind (Ok header) result timestamp options bytes old new =
+    StepsIn old.view.state result timestamp options header bytes old new
 
 -- The first of these units was taken, and the answer is the place behind it; or there is none.
-abbrev pub TakesFirst : {B H : Type 0} → List NalUnit → Result ℕ DecodeError → ℕ → Options → Seen B H → Seen B H → Type 0
+abbrev pub TakesFirst : {B H : Type 0} → List NalUnit → Result ℕ DecodeError → ℕ → Options
+    → Seen B H → Seen B H → Type 0
 TakesFirst [] result timestamp options old new = (result ≡ Err errors.NoNal) × (new ≡ old)
-TakesFirst (u ∷ us) result timestamp options old new = StepsBehind (unit_header u.bytes) result timestamp options u.bytes old new × IfOk result (λ place. place ≡ u.offset + length u.bytes)
+TakesFirst (u ∷ us) result timestamp options old new =
+    StepsBehind (unit_header u.bytes) result timestamp options u.bytes old new
+    × IfOk result (λ place. place ≡ u.offset + length u.bytes)

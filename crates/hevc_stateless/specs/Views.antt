@@ -21,7 +21,13 @@ pub record View (B H : Type 0) : Type 0 where
 
 -- at the beginning of a stream
 abbrev pub at_beginning : {B H : Type 0} → B → View B H
-at_beginning backend = record { backend = backend; state = AwaitingStreamInfo; standing = at_first; queue = []; tickets = [] }
+at_beginning backend = record {
+  backend = backend;
+  state = AwaitingStreamInfo;
+  standing = at_first;
+  queue = [];
+  tickets = [];
+}
 
 -- all that decoding may change, where the backend tells this log
 abbrev pub traces_of : {B H : Type 0} → Option (List (Call H)) → View B H → Traces H

@@ -41,7 +41,8 @@ abbrev pub standing_after : List Meaning → Standing
 standing_after ms = joined.standing (stream ms)
 
 -- A decoder stands after these units of its stream; none of them was refused.
-pub record StandsAfter {B H : Type 0} (options : Options) (us : List NalUnit) (seen : Seen B H) : Type 0 where
+pub record StandsAfter {B H : Type 0} (options : Options) (us : List NalUnit) (seen : Seen B H)
+    : Type 0 where
   pub goes_on : stop (meant options us) ≡ None
   pub stands : seen.view.standing ≡ standing_after (meant options us)
   pub state_is : seen.view.state ≡ state_by (standing_after (meant options us)).store.accepted
@@ -49,7 +50,8 @@ pub record StandsAfter {B H : Type 0} (options : Options) (us : List NalUnit) (s
   -- no picture was to be stored into a full buffer
   pub room : joined.full_by (stream (meant options us)) ≡ None
   -- a format was negotiated exactly where a sequence set is kept
-  pub started : is_some (standing_after (meant options us)).store.accepted ≡ seen.kept.has_sequence_set
+  pub started :
+      is_some (standing_after (meant options us)).store.accepted ≡ seen.kept.has_sequence_set
 
 abbrev pub frame_at : {H : Type 0} → ℕ → Frame H → OutputPicture
 frame_at k f = record { number = f.number; order_count = f.order_count; unit = k }
@@ -58,23 +60,29 @@ abbrev pub asked : ℕ × walk.Call → walk.Call
 asked c = c.1
 
 -- the log grew by these calls, each new picture with this timestamp
-pub record Logged {B H : Type 0} (timestamp : ℕ) (old new : Seen B H) (calls : List walk.Call) : Type 0 where
+pub record Logged {B H : Type 0} (timestamp : ℕ) (old new : Seen B H) (calls : List walk.Call)
+    : Type 0 where
   pub made : List (Call H)
   pub log : new.log ≡ logged old.log made
   pub calls_are : map call_of made ≡ calls
   pub timed : AllByRecursion (IsTimed timestamp) made
 
 -- the queue grew by these outputs, of the k-th unit
-pub record Queued {B H : Type 0} (k : ℕ) (old new : Seen B H) (outputs : List OutputPicture) : Type 0 where
+pub record Queued {B H : Type 0} (k : ℕ) (old new : Seen B H) (outputs : List OutputPicture)
+    : Type 0 where
   pub out : List (Frame H)
   pub queue : new.view.queue ≡ old.view.queue ++ out
   pub outputs_are : map (frame_at k) out ≡ outputs
 
--- A unit was taken behind some units: the decoder stands after it too, and it made its calls and gave its outputs.
-pub record Took {B H : Type 0} (timestamp : ℕ) (options : Options) (us : List NalUnit) (u : NalUnit) (old new : Seen B H) : Type 0 where
+-- A unit was taken behind some units: the decoder stands after it too,
+-- and it made its calls and gave its outputs.
+pub record Took {B H : Type 0} (timestamp : ℕ) (options : Options) (us : List NalUnit) (u : NalUnit)
+    (old new : Seen B H) : Type 0 where
   pub stands : StandsAfter options (us ++ u ∷ []) new
-  pub calls : Logged timestamp old new (map asked (calls_of_unit (length us) (calls (meant options (us ++ u ∷ [])))))
-  pub outputs : Queued (length us) old new (outputs_of_unit (length us) (outputs (meant options (us ++ u ∷ []))))
+  pub calls : Logged timestamp old new
+      (map asked (calls_of_unit (length us) (calls (meant options (us ++ u ∷ [])))))
+  pub outputs : Queued (length us) old new
+      (outputs_of_unit (length us) (outputs (meant options (us ++ u ∷ []))))
 
 -- ---- a unit that opens a negotiation
 
@@ -89,36 +97,48 @@ first_meaning (Some format) m = later_meaning m
 
 -- what a unit means to a decoder that stands after some units
 abbrev pub meant_next : Options → List NalUnit → NalUnit → Meaning
-meant_next options us u = first_meaning (standing_after (meant options us)).store.accepted (meaning options (kept_after options us) u.bytes)
+meant_next options us u =
+    first_meaning (standing_after (meant options us)).store.accepted
+    (meaning options (kept_after options us) u.bytes)
 
 -- the calls up to the negotiation that a unit opens
 abbrev pub first_calls : Options → List NalUnit → NalUnit → List walk.Call
-first_calls options us u = flat_map call_in (opening (meant_next options us u) (standing_after (meant options us))).events
+first_calls options us u =
+    flat_map call_in (opening (meant_next options us u) (standing_after (meant options us))).events
 
 -- A decoder stands behind these units and the negotiation that the next one opened.
-pub record StandsBetween {B H : Type 0} (options : Options) (us : List NalUnit) (u : NalUnit) (seen : Seen B H) : Type 0 where
+pub record StandsBetween {B H : Type 0} (options : Options) (us : List NalUnit) (u : NalUnit)
+    (seen : Seen B H) : Type 0 where
   pub goes_on : stop (meant options us) ≡ None
   pub negotiates : negotiates (meant_next options us u) (standing_after (meant options us)) ≡ true
   pub room : joined.full_by (stream (meant options us)) ≡ None
   pub space : is_full_at (meant_next options us u) (standing_after (meant options us)) ≡ false
-  pub stands : seen.view.standing ≡ (opening (meant_next options us u) (standing_after (meant options us))).next
-  pub kept : seen.kept ≡ with_read_set (content options (kept_after options us) u.bytes) (kept_after options us)
+  pub stands : seen.view.standing
+      ≡ (opening (meant_next options us u) (standing_after (meant options us))).next
+  pub kept : seen.kept
+      ≡ with_read_set (content options (kept_after options us) u.bytes) (kept_after options us)
   -- a format was negotiated before exactly where a sequence set was kept
-  pub started : is_some (standing_after (meant options us)).store.accepted ≡ (kept_after options us).has_sequence_set
+  pub started : is_some (standing_after (meant options us)).store.accepted
+      ≡ (kept_after options us).has_sequence_set
 
--- A unit opened a negotiation: the calls up to there were made, and all its outputs are in the queue.
-pub record Opened {B H : Type 0} (timestamp : ℕ) (options : Options) (us : List NalUnit) (u : NalUnit) (old new : Seen B H) : Type 0 where
+-- A unit opened a negotiation: the calls up to there were made,
+-- and all its outputs are in the queue.
+pub record Opened {B H : Type 0} (timestamp : ℕ) (options : Options) (us : List NalUnit)
+    (u : NalUnit) (old new : Seen B H) : Type 0 where
   pub between : StandsBetween options us u new
   pub state_is : new.view.state ≡ AwaitingFormat
   pub calls : Logged timestamp old new (first_calls options us u)
-  pub outputs : Queued (length us) old new (outputs_of_unit (length us) (outputs (meant options (us ++ u ∷ []))))
+  pub outputs : Queued (length us) old new
+      (outputs_of_unit (length us) (outputs (meant options (us ++ u ∷ []))))
 
 -- It was given again and taken: it outputs nothing, and both calls together made its calls.
-pub record TookAgain {B H : Type 0} (timestamp : ℕ) (options : Options) (us : List NalUnit) (u : NalUnit) (old new : Seen B H) : Type 0 where
+pub record TookAgain {B H : Type 0} (timestamp : ℕ) (options : Options) (us : List NalUnit)
+    (u : NalUnit) (old new : Seen B H) : Type 0 where
   pub stands : StandsAfter options (us ++ u ∷ []) new
   pub later : List walk.Call
   pub logs : Logged timestamp old new later
-  pub both : map asked (calls_of_unit (length us) (calls (meant options (us ++ u ∷ [])))) ≡ first_calls options us u ++ later
+  pub both : map asked (calls_of_unit (length us) (calls (meant options (us ++ u ∷ []))))
+      ≡ first_calls options us u ++ later
   pub queue : new.view.queue ≡ old.view.queue
 
 -- ---- a unit that is refused
@@ -135,20 +155,31 @@ IsRefusal (errors.ChangedMidPicture accepted named) = Unit {0}
 IsRefusal errors.PocOutOfRange = Unit {0}
 IsRefusal error = ⊥
 
--- A unit is refused as the stream's definitions refuse it, and what comes before its refusal was done.
-pub record RefusedUnit {B H : Type 0} (error : DecodeError) (timestamp : ℕ) (options : Options) (us : List NalUnit) (u : NalUnit) (old new : Seen B H) : Type 0 where
+-- A unit is refused as the stream's definitions refuse it,
+-- and what comes before its refusal was done.
+pub record RefusedUnit {B H : Type 0} (error : DecodeError) (timestamp : ℕ) (options : Options)
+    (us : List NalUnit) (u : NalUnit) (old new : Seen B H) : Type 0 where
   pub cause : Cause
-  pub refused : refusal (stream (meant options us)) (meaning options (kept_after options us) u.bytes) ≡ Some cause
+  pub refused :
+      refusal (stream (meant options us)) (meaning options (kept_after options us) u.bytes)
+      ≡ Some cause
   pub named : error_of cause ≡ error
   -- whatever comes behind it, that is the answer to the stream
-  pub verdict : (back : List NalUnit) → verdict (meant options (us ++ u ∷ back)) ≡ Err (record { unit = length us; cause = cause })
-  pub calls : Logged timestamp old new (map asked (calls_of_unit (length us) (calls (meant options (us ++ u ∷ [])))))
-  pub outputs : Queued (length us) old new (outputs_of_unit (length us) (outputs (meant options (us ++ u ∷ []))))
+  pub verdict : (back : List NalUnit)
+      → verdict (meant options (us ++ u ∷ back)) ≡ Err (record { unit = length us; cause = cause })
+  pub calls : Logged timestamp old new
+      (map asked (calls_of_unit (length us) (calls (meant options (us ++ u ∷ [])))))
+  pub outputs : Queued (length us) old new
+      (outputs_of_unit (length us) (outputs (meant options (us ++ u ∷ []))))
 
 -- ---- the end
 
--- The stream ended behind these units: the calls and outputs at its end were made, and the answer is the number of its pictures.
-pub record Ended {B H : Type 0} (timestamp : ℕ) (options : Options) (us : List NalUnit) (old new : Seen B H) : Type 0 where
+-- The stream ended behind these units: the calls and outputs at its end were made, and the answer
+-- is the number of its pictures.
+pub record Ended {B H : Type 0} (timestamp : ℕ) (options : Options) (us : List NalUnit)
+    (old new : Seen B H) : Type 0 where
   pub verdict : verdict (meant options us) ≡ Ok old.view.standing.next.number
-  pub calls : Logged timestamp old new (map asked (calls_of_unit (length us) (calls (meant options us))))
-  pub outputs : Queued (length us) old new (outputs_of_unit (length us) (outputs (meant options us)))
+  pub calls :
+      Logged timestamp old new (map asked (calls_of_unit (length us) (calls (meant options us))))
+  pub outputs :
+      Queued (length us) old new (outputs_of_unit (length us) (outputs (meant options us)))

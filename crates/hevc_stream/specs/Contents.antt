@@ -1,4 +1,5 @@
--- The content of a unit (7.4.2.2, Table 7-1) where it stands in a stream: what it means behind the parameter sets that are kept there.
+-- The content of a unit (7.4.2.2, Table 7-1) where it stands in a stream: what it means behind the
+-- parameter sets that are kept there.
 use Rattle.std.specs.Prelude.{ℕ, ◌==◌, nat_lt, not, List, drop, if◌then◌else◌, Result, Ok, Err}
 use Rattle.hevc_spec.specs.UnitTypes.{is_slice}
 use Rattle.hevc_spec.specs.UnitHeader.{UnitHeader, HeaderFault, truncated, unspecified_type, temporal_id_zero, unit_header}
@@ -37,7 +38,8 @@ header_cause truncated = TruncatedNalu
 header_cause (unspecified_type number) = InvalidNaluType number
 header_cause temporal_id_zero = OutOfRange 0 1
 
--- why a unit that isn't read is refused; the set that isn't kept is the picture set that a slice names
+-- why a unit that isn't read is refused; the set that
+-- isn't kept is the picture set that a slice names
 abbrev pub fault_cause : Fault → UnitCause
 fault_cause out_of_bits = OutOfBits
 fault_cause (out_of_range row) = OutOfRange row.0 row.1
@@ -55,7 +57,12 @@ picture_set_read (refuses fault rest) = unread_picture_set
 
 -- a slice segment (7.3.6.1) of a unit of these bytes, with the sets that are kept
 abbrev pub slice_content : Kept → UnitHeader → List ℕ → Content
-slice_content kept header bytes = content_read (slice header) (read (slice_segment_header header.nal_unit_type (drop 2 bytes) (active_sets kept.sequence_sets kept.picture_sets)) (payload bytes))
+slice_content kept header bytes =
+    content_read (slice header)
+    (read
+    (slice_segment_header header.nal_unit_type (drop 2 bytes)
+    (active_sets kept.sequence_sets kept.picture_sets))
+    (payload bytes))
 
 -- what a unit is that is no parameter set; it asks for nothing before the first sequence set
 abbrev pub coded_content : Kept → UnitHeader → List ℕ → Content
@@ -69,14 +76,20 @@ coded_content kept header bytes =
 -- the content by the unit's type (Table 7-1)
 abbrev pub content_by_type : Kept → UnitHeader → List ℕ → Content
 content_by_type kept header bytes =
-    if header.nal_unit_type == 32 then content_read video_set (read video_parameter_set (payload bytes))
-    else if header.nal_unit_type == 33 then content_read sequence_set (read sequence_parameter_set (payload bytes))
-    else if header.nal_unit_type == 34 then picture_set_read (read (picture_parameter_set (temporal_id header) kept.sequence_sets) (payload bytes))
+    if header.nal_unit_type == 32
+    then content_read video_set (read video_parameter_set (payload bytes))
+    else if header.nal_unit_type == 33
+    then content_read sequence_set (read sequence_parameter_set (payload bytes))
+    else if header.nal_unit_type == 34
+    then picture_set_read
+    (read (picture_parameter_set (temporal_id header) kept.sequence_sets) (payload bytes))
     else coded_content kept header bytes
 
 -- a unit of a sub-layer above those that are wanted is passed over (8.1.2)
 abbrev pub wanted_content : Options → Kept → UnitHeader → List ℕ → Content
-wanted_content options kept header bytes = if nat_lt options.highest_tid (temporal_id header) then nothing else content_by_type kept header bytes
+wanted_content options kept header bytes =
+    if nat_lt options.highest_tid (temporal_id header) then nothing
+    else content_by_type kept header bytes
 
 -- a unit whose header is faulty is refused before all else (7.3.1.2)
 abbrev pub headed_content : Options → Kept → List ℕ → Result UnitHeader HeaderFault → Content

@@ -1,5 +1,5 @@
--- The parameter sets that are kept (7.4.2.4.2): of each id the latest one. A picture set stays as it was read, also where
--- the sequence set that it names is replaced.
+-- The parameter sets that are kept (7.4.2.4.2): of each id the latest one. A picture set stays as
+-- it was read, also where the sequence set that it names is replaced.
 use Rattle.std.specs.Prelude.{ℕ, ◌==◌, Bool, false, true, List, [], ◌∷◌, ◌++◌, if◌then◌else◌, Option, Some, None}
 use Rattle.hevc_records.specs.Vps.{PlainVps}
 use Rattle.hevc_records.specs.Sps.{PlainSps}
@@ -17,14 +17,21 @@ pub record Kept : Type 0 where
 
 -- at the beginning of a stream
 abbrev pub none_kept : Kept
-none_kept = record { video_sets = λ id. None; sequence_sets = λ id. None; picture_sets = λ id. None; has_sequence_set = false; waiting = [] }
+none_kept = record {
+  video_sets = λ id. None;
+  sequence_sets = λ id. None;
+  picture_sets = λ id. None;
+  has_sequence_set = false;
+  waiting = [];
+}
 
 -- one more set, in the place of an earlier one of its id
 abbrev pub with_set : {A : Type 0} → ℕ → A → (ℕ → Option A) → ℕ → Option A
 with_set id set sets k = if k == id then Some set else sets k
 
 abbrev pub with_video_set : PlainVps → Kept → Kept
-with_video_set set kept = record kept { video_sets = with_set set.video_parameter_set_id set kept.video_sets }
+with_video_set set kept =
+    record kept { video_sets = with_set set.video_parameter_set_id set kept.video_sets }
 
 abbrev pub with_sequence_set : PlainSps → Kept → Kept
 with_sequence_set set kept = record kept {
@@ -33,7 +40,8 @@ with_sequence_set set kept = record kept {
 }
 
 abbrev pub with_picture_set : PlainPps → Kept → Kept
-with_picture_set set kept = record kept { picture_sets = with_set set.pic_parameter_set_id set kept.picture_sets }
+with_picture_set set kept =
+    record kept { picture_sets = with_set set.pic_parameter_set_id set kept.picture_sets }
 
 -- a unit waits behind those that wait already
 abbrev pub with_waiting : List ℕ → Kept → Kept

@@ -1,4 +1,5 @@
--- What a slice segment means for the pictures, with the sets that it makes active (7.4.2.4.2, 7.4.7.1).
+-- What a slice segment means for the pictures,
+-- with the sets that it makes active (7.4.2.4.2, 7.4.7.1).
 use Rattle.std.specs.Prelude.{ℕ, ◌+◌, ◌-◌, ◌^◌, List, map, Option, Some, None}
 use Rattle.hevc_spec.specs.UnitHeader.{UnitHeader}
 use Rattle.hevc_records.specs.SliceHeader.{PlainSliceSegmentHeader}
@@ -23,7 +24,8 @@ named_sets wanted sets = record {
 }
 
 -- a slice segment of a unit with this header and these bytes, as the walk over pictures has it
-abbrev pub coded_slice : Options → UnitHeader → List ℕ → PlainSliceSegmentHeader → ActiveSets → Slice
+abbrev pub coded_slice : Options → UnitHeader → List ℕ → PlainSliceSegmentHeader → ActiveSets
+    → Slice
 coded_slice options header bytes segment sets = record {
   nal_unit_type = header.nal_unit_type;
   temporal_id = temporal_id header;
@@ -39,6 +41,9 @@ coded_slice options header bytes segment sets = record {
 }
 
 -- a slice segment with its active sets; one that was read has them
-abbrev pub slice_segment_meaning : Options → UnitHeader → List ℕ → PlainSliceSegmentHeader → Option ActiveSets → Meaning
-slice_segment_meaning options header bytes segment (Some sets) = CodedSlice (coded_slice options header bytes segment sets)
-slice_segment_meaning options header bytes segment None = Refused (MissingPps segment.pic_parameter_set_id)
+abbrev pub slice_segment_meaning : Options → UnitHeader → List ℕ → PlainSliceSegmentHeader
+    → Option ActiveSets → Meaning
+slice_segment_meaning options header bytes segment (Some sets) =
+    CodedSlice (coded_slice options header bytes segment sets)
+slice_segment_meaning options header bytes segment None =
+    Refused (MissingPps segment.pic_parameter_set_id)

@@ -1,4 +1,5 @@
--- What the units of a stream mean for its pictures, each behind the parameter sets that are kept at it (7.4.2.4.2).
+-- What the units of a stream mean for its pictures,
+-- each behind the parameter sets that are kept at it (7.4.2.4.2).
 use Rattle.std.specs.Prelude.{ℕ, List, [], ◌∷◌, fold}
 use Rattle.hevc_spec.specs.Units.{NalUnit, units}
 use Rattle.hevc_walk.specs.Meanings.{Meaning, SequenceSet, EndOfSequence, EndOfBitstream, Other, Refused}
@@ -23,12 +24,14 @@ with_waited options kept bytes = with_picture_set_unit bytes (content options ke
 
 -- all units that wait are taken once more, in their order
 abbrev pub with_all_waited : Options → Kept → Kept
-with_all_waited options kept = fold (with_waited options) (record kept { waiting = [] }) kept.waiting
+with_all_waited options kept =
+    fold (with_waited options) (record kept { waiting = [] }) kept.waiting
 
 -- behind a unit of these bytes and this content
 abbrev pub with_content : Options → List ℕ → Content → Kept → Kept
 with_content options bytes (video_set set) kept = with_video_set set kept
-with_content options bytes (sequence_set set) kept = with_all_waited options (with_sequence_set set kept)
+with_content options bytes (sequence_set set) kept =
+    with_all_waited options (with_sequence_set set kept)
 with_content options bytes other kept = with_picture_set_unit bytes other kept
 
 -- what is kept behind a unit of these bytes
@@ -41,7 +44,9 @@ kept_behind options kept bytes = with_content options bytes (content options kep
 abbrev pub meaning_of : Options → Kept → List ℕ → Content → Meaning
 meaning_of options kept bytes (refused cause) = Refused cause
 meaning_of options kept bytes (sequence_set set) = SequenceSet (format_of_set set)
-meaning_of options kept bytes (slice header segment) = slice_segment_meaning options header bytes segment (active_sets kept.sequence_sets kept.picture_sets segment.pic_parameter_set_id)
+meaning_of options kept bytes (slice header segment) =
+    slice_segment_meaning options header bytes segment
+    (active_sets kept.sequence_sets kept.picture_sets segment.pic_parameter_set_id)
 meaning_of options kept bytes end_of_sequence = EndOfSequence
 meaning_of options kept bytes end_of_bitstream = EndOfBitstream
 meaning_of options kept bytes other = Other
@@ -53,7 +58,8 @@ meaning options kept bytes = meaning_of options kept bytes (content options kept
 -- what units mean behind these sets
 abbrev pub meanings_behind : Options → Kept → List NalUnit → List Meaning
 meanings_behind options kept [] = []
-meanings_behind options kept (u ∷ us) = meaning options kept u.bytes ∷ meanings_behind options (kept_behind options kept u.bytes) us
+meanings_behind options kept (u ∷ us) =
+    meaning options kept u.bytes ∷ meanings_behind options (kept_behind options kept u.bytes) us
 
 -- what is kept behind the units
 abbrev pub kept_behind_all : Options → Kept → List NalUnit → Kept

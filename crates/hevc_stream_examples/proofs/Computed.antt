@@ -69,7 +69,97 @@ pub record Rows : Type 0 where
   pub with_sub_layer : meanings (up_to 1) sub_layers_stream ≡ sets_then plain_format (idr_of plain_format ∷ p4 ∷ CodedSlice sub_layer_p2 ∷ [])
 
 pub computed : Rows
-unfolding bits.bits_after bits.bits_at bits.golomb_at bits.ue_at payload.payload_bits payload.bits payload.bits_left rows.flag_row rows.zero_row rows.bits_row rows.ue_row rows.se_row rows.skip_row rows.check_row rows.when rows.repeat rows.either units.units_from sps_sizes.leaves_some hrd_table.schedule hrd_table.sub_layer_hrd_parameters hrd_table.decoding_units hrd_table.scales hrd_table.buffering hrd_table.common_parameters hrd_table.common_of hrd_table.sub_layer hrd_table.sub_layers hrd_table.hrd_parameters math_functions.ceil_log2 pps_range_extension_table.offset_pair pps_range_extension_table.offset_pairs pps_range_extension_table.offset_lists pps_range_extension_table.pps_range_extension pps_scc_extension_table.colour_transform pps_scc_extension_table.predictor pps_scc_extension_table.component_predictors pps_scc_extension_table.predictors pps_scc_extension_table.initializers pps_scc_extension_table.palettes pps_scc_extension_table.pps_scc_extension pps_table.named pps_table.ids pps_table.presence pps_table.quantiser pps_table.tools pps_table.told_size pps_table.told_parts pps_table.told_sizes pps_table.tile_counts pps_table.with_even_tiles pps_table.told_tiles pps_table.tiles pps_table.filter_offsets pps_table.deblocking pps_table.filters pps_table.scaling pps_table.merging pps_table.extension_flags pps_table.range_extension pps_table.scc_extension pps_table.extension_data pps_table.extensions pps_table.coding pps_table.picture_set_of pps_table.picture_parameter_set profile_tier_level_table.compatibility_flag profile_tier_level_table.compatibility_flags profile_tier_level_table.profiles profile_tier_level_table.source profile_tier_level_table.formats profile_tier_level_table.bit_depth_flag profile_tier_level_table.range_extensions_flags profile_tier_level_table.main_10_flags profile_tier_level_table.reserved_bits profile_tier_level_table.constraints profile_tier_level_table.inbld profile_tier_level_table.layer_profile profile_tier_level_table.level profile_tier_level_table.with_general_profile profile_tier_level_table.general_rows profile_tier_level_table.next_presence profile_tier_level_table.presence profile_tier_level_table.absent_layers profile_tier_level_table.with_sub_layer_profile profile_tier_level_table.sub_layer_profile profile_tier_level_table.sub_layer_level profile_tier_level_table.next_sub_layer profile_tier_level_table.sub_layers profile_tier_level_table.profile_tier_level ref_pic_list_modification_table.list_entry ref_pic_list_modification_table.list_entries ref_pic_list_modification_table.modification_l1 ref_pic_list_modification_table.modification_l0 ref_pic_list_modification_table.ref_pic_list_modification scaling_list_table.next_entry scaling_list_table.coefs scaling_list_table.with_matrix scaling_list_table.coded_matrix scaling_list_table.predicted_matrix scaling_list_table.matrix scaling_list_table.next_matrix scaling_list_table.matrices scaling_list_table.scaling_list_data short_term_table.with_members short_term_table.differences short_term_table.shifted_one short_term_table.shifted short_term_table.rising short_term_table.predicted_members short_term_table.members_before short_term_table.members_after short_term_table.has_room short_term_table.prediction short_term_table.shift_of short_term_table.member_flags short_term_table.next_member_flags short_term_table.all_member_flags short_term_table.fitting_set short_term_table.predicted_set short_term_table.member_before short_term_table.next_member_before short_term_table.member_after short_term_table.next_member_after short_term_table.listed_before short_term_table.listed_after short_term_table.listed_set short_term_table.short_term_ref_pic_set slice_header_table.beginning slice_header_table.later_segment slice_header_table.kind slice_header_table.own_short_term_set slice_header_table.candidate_short_term_set slice_header_table.short_term_flag slice_header_table.short_term slice_header_table.long_term_counts slice_header_table.candidate_long_term_picture slice_header_table.other_long_term_picture slice_header_table.msb_cycles slice_header_table.long_term_picture slice_header_table.long_term_pictures slice_header_table.long_term slice_header_table.reference_pictures slice_header_table.adaptive_offset slice_header_table.own_active_counts slice_header_table.with_default_active_counts slice_header_table.active_counts slice_header_table.num_pic_total_curr slice_header_table.list_modification slice_header_table.with_pictures slice_header_table.reference_lists slice_header_table.motion slice_header_table.weights slice_header_table.prediction slice_header_table.chroma_offset slice_header_table.chroma_offsets slice_header_table.colour_transform_offsets slice_header_table.quantiser slice_header_table.extension_offsets slice_header_table.quantisers slice_header_table.filter_offsets slice_header_table.own_deblocking slice_header_table.across_slices slice_header_table.filters slice_header_table.independent_segment slice_header_table.entry_point slice_header_table.entry_points slice_header_table.entry_point_offsets slice_header_table.parallel_parts slice_header_table.header_extension slice_header_table.ending slice_header_table.header_of slice_header_table.elements slice_header_table.aligned slice_header_table.emulation_prevention_bytes slice_header_table.with_sizes slice_header_table.slice_segment_header sps_range_extension_table.sps_range_extension sps_scc_extension_table.predictor sps_scc_extension_table.component_predictors sps_scc_extension_table.predictors sps_scc_extension_table.initializers sps_scc_extension_table.palettes sps_scc_extension_table.sps_scc_extension sps_table.identity sps_table.with_picture_size sps_table.samples sps_table.window sps_table.cropping sps_table.with_half_ranges sps_table.depths sps_table.own_ordering sps_table.common_ordering sps_table.own_orderings sps_table.orderings sps_table.with_block_sizes sps_table.blocks sps_table.scaling_lists sps_table.scaling sps_table.pulse_code_modulation sps_table.tools sps_table.short_term_set sps_table.short_term_sets sps_table.short_term sps_table.long_term_picture sps_table.long_term_pictures sps_table.long_term sps_table.usability_information sps_table.usability sps_table.extension_flags sps_table.range_extension sps_table.scc_extension sps_table.extension_data sps_table.extensions sps_table.format sps_table.coding sps_table.sequence_parameter_set vps_table.identity vps_table.own_ordering vps_table.common_ordering vps_table.own_orderings vps_table.orderings vps_table.layer_sets vps_table.structure vps_table.structures vps_table.timing vps_table.timing_info vps_table.extension vps_table.video_parameter_set vui_table.aspect_ratio vui_table.overscan vui_table.colours vui_table.signal vui_table.signal_type vui_table.chroma_places vui_table.display_window vui_table.display vui_table.hrd vui_table.timing vui_table.timing_info vui_table.restrictions vui_table.stream_restrictions vui_table.vui_parameters weighted_prediction_table.luma_flag weighted_prediction_table.chroma_flag weighted_prediction_table.flags weighted_prediction_table.luma_weight weighted_prediction_table.chroma_component weighted_prediction_table.chroma_weight weighted_prediction_table.place_weights weighted_prediction_table.list_weights weighted_prediction_table.denominators weighted_prediction_table.with_list0 weighted_prediction_table.with_list1 weighted_prediction_table.pred_weight_table contents.content stream.kept_behind stream.meaning
+unfolding bits.bits_after bits.bits_at bits.golomb_at bits.ue_at payload.payload_bits payload.bits
+    payload.bits_left rows.flag_row rows.zero_row rows.bits_row rows.ue_row rows.se_row
+    rows.skip_row rows.check_row rows.when rows.repeat rows.either units.units_from
+    sps_sizes.leaves_some hrd_table.schedule hrd_table.sub_layer_hrd_parameters
+    hrd_table.decoding_units hrd_table.scales hrd_table.buffering hrd_table.common_parameters
+    hrd_table.common_of hrd_table.sub_layer hrd_table.sub_layers hrd_table.hrd_parameters
+    math_functions.ceil_log2 pps_range_extension_table.offset_pair
+    pps_range_extension_table.offset_pairs pps_range_extension_table.offset_lists
+    pps_range_extension_table.pps_range_extension pps_scc_extension_table.colour_transform
+    pps_scc_extension_table.predictor pps_scc_extension_table.component_predictors
+    pps_scc_extension_table.predictors pps_scc_extension_table.initializers
+    pps_scc_extension_table.palettes pps_scc_extension_table.pps_scc_extension pps_table.named
+    pps_table.ids pps_table.presence pps_table.quantiser pps_table.tools pps_table.told_size
+    pps_table.told_parts pps_table.told_sizes pps_table.tile_counts pps_table.with_even_tiles
+    pps_table.told_tiles pps_table.tiles pps_table.filter_offsets pps_table.deblocking
+    pps_table.filters pps_table.scaling pps_table.merging pps_table.extension_flags
+    pps_table.range_extension pps_table.scc_extension pps_table.extension_data pps_table.extensions
+    pps_table.coding pps_table.picture_set_of pps_table.picture_parameter_set
+    profile_tier_level_table.compatibility_flag profile_tier_level_table.compatibility_flags
+    profile_tier_level_table.profiles profile_tier_level_table.source
+    profile_tier_level_table.formats profile_tier_level_table.bit_depth_flag
+    profile_tier_level_table.range_extensions_flags profile_tier_level_table.main_10_flags
+    profile_tier_level_table.reserved_bits profile_tier_level_table.constraints
+    profile_tier_level_table.inbld profile_tier_level_table.layer_profile
+    profile_tier_level_table.level profile_tier_level_table.with_general_profile
+    profile_tier_level_table.general_rows profile_tier_level_table.next_presence
+    profile_tier_level_table.presence profile_tier_level_table.absent_layers
+    profile_tier_level_table.with_sub_layer_profile profile_tier_level_table.sub_layer_profile
+    profile_tier_level_table.sub_layer_level profile_tier_level_table.next_sub_layer
+    profile_tier_level_table.sub_layers profile_tier_level_table.profile_tier_level
+    ref_pic_list_modification_table.list_entry ref_pic_list_modification_table.list_entries
+    ref_pic_list_modification_table.modification_l1 ref_pic_list_modification_table.modification_l0
+    ref_pic_list_modification_table.ref_pic_list_modification scaling_list_table.next_entry
+    scaling_list_table.coefs scaling_list_table.with_matrix scaling_list_table.coded_matrix
+    scaling_list_table.predicted_matrix scaling_list_table.matrix scaling_list_table.next_matrix
+    scaling_list_table.matrices scaling_list_table.scaling_list_data short_term_table.with_members
+    short_term_table.differences short_term_table.shifted_one short_term_table.shifted
+    short_term_table.rising short_term_table.predicted_members short_term_table.members_before
+    short_term_table.members_after short_term_table.has_room short_term_table.prediction
+    short_term_table.shift_of short_term_table.member_flags short_term_table.next_member_flags
+    short_term_table.all_member_flags short_term_table.fitting_set short_term_table.predicted_set
+    short_term_table.member_before short_term_table.next_member_before short_term_table.member_after
+    short_term_table.next_member_after short_term_table.listed_before short_term_table.listed_after
+    short_term_table.listed_set short_term_table.short_term_ref_pic_set slice_header_table.beginning
+    slice_header_table.later_segment slice_header_table.kind slice_header_table.own_short_term_set
+    slice_header_table.candidate_short_term_set slice_header_table.short_term_flag
+    slice_header_table.short_term slice_header_table.long_term_counts
+    slice_header_table.candidate_long_term_picture slice_header_table.other_long_term_picture
+    slice_header_table.msb_cycles slice_header_table.long_term_picture
+    slice_header_table.long_term_pictures slice_header_table.long_term
+    slice_header_table.reference_pictures slice_header_table.adaptive_offset
+    slice_header_table.own_active_counts slice_header_table.with_default_active_counts
+    slice_header_table.active_counts slice_header_table.num_pic_total_curr
+    slice_header_table.list_modification slice_header_table.with_pictures
+    slice_header_table.reference_lists slice_header_table.motion slice_header_table.weights
+    slice_header_table.prediction slice_header_table.chroma_offset slice_header_table.chroma_offsets
+    slice_header_table.colour_transform_offsets slice_header_table.quantiser
+    slice_header_table.extension_offsets slice_header_table.quantisers
+    slice_header_table.filter_offsets slice_header_table.own_deblocking
+    slice_header_table.across_slices slice_header_table.filters
+    slice_header_table.independent_segment slice_header_table.entry_point
+    slice_header_table.entry_points slice_header_table.entry_point_offsets
+    slice_header_table.parallel_parts slice_header_table.header_extension slice_header_table.ending
+    slice_header_table.header_of slice_header_table.elements slice_header_table.aligned
+    slice_header_table.emulation_prevention_bytes slice_header_table.with_sizes
+    slice_header_table.slice_segment_header sps_range_extension_table.sps_range_extension
+    sps_scc_extension_table.predictor sps_scc_extension_table.component_predictors
+    sps_scc_extension_table.predictors sps_scc_extension_table.initializers
+    sps_scc_extension_table.palettes sps_scc_extension_table.sps_scc_extension sps_table.identity
+    sps_table.with_picture_size sps_table.samples sps_table.window sps_table.cropping
+    sps_table.with_half_ranges sps_table.depths sps_table.own_ordering sps_table.common_ordering
+    sps_table.own_orderings sps_table.orderings sps_table.with_block_sizes sps_table.blocks
+    sps_table.scaling_lists sps_table.scaling sps_table.pulse_code_modulation sps_table.tools
+    sps_table.short_term_set sps_table.short_term_sets sps_table.short_term
+    sps_table.long_term_picture sps_table.long_term_pictures sps_table.long_term
+    sps_table.usability_information sps_table.usability sps_table.extension_flags
+    sps_table.range_extension sps_table.scc_extension sps_table.extension_data sps_table.extensions
+    sps_table.format sps_table.coding sps_table.sequence_parameter_set vps_table.identity
+    vps_table.own_ordering vps_table.common_ordering vps_table.own_orderings vps_table.orderings
+    vps_table.layer_sets vps_table.structure vps_table.structures vps_table.timing
+    vps_table.timing_info vps_table.extension vps_table.video_parameter_set vui_table.aspect_ratio
+    vui_table.overscan vui_table.colours vui_table.signal vui_table.signal_type
+    vui_table.chroma_places vui_table.display_window vui_table.display vui_table.hrd
+    vui_table.timing vui_table.timing_info vui_table.restrictions vui_table.stream_restrictions
+    vui_table.vui_parameters weighted_prediction_table.luma_flag
+    weighted_prediction_table.chroma_flag weighted_prediction_table.flags
+    weighted_prediction_table.luma_weight weighted_prediction_table.chroma_component
+    weighted_prediction_table.chroma_weight weighted_prediction_table.place_weights
+    weighted_prediction_table.list_weights weighted_prediction_table.denominators
+    weighted_prediction_table.with_list0 weighted_prediction_table.with_list1
+    weighted_prediction_table.pred_weight_table contents.content stream.kept_behind stream.meaning
 computed = record {
   plain = refl;
   empty = refl;

@@ -11,26 +11,38 @@ use Rattle.hevc_walk_examples.specs.Streams.{plain_format, plain_sets, plain_hea
 
 -- 16 by 16 samples, MaxPicOrderCntLsb 16
 abbrev pub sps_bytes : List ℕ
-sps_bytes = 66 ∷ 1 ∷ 1 ∷ 1 ∷ 96 ∷ 0 ∷ 0 ∷ 3 ∷ 0 ∷ 144 ∷ 0 ∷ 0 ∷ 3 ∷ 0 ∷ 0 ∷ 3 ∷ 0 ∷ 60 ∷ 160 ∷ 136 ∷ 69 ∷ 229 ∷ 90 ∷ 188 ∷ 32 ∷ 128 ∷ []
+sps_bytes =
+    66 ∷ 1 ∷ 1 ∷ 1 ∷ 96 ∷ 0 ∷ 0 ∷ 3 ∷ 0 ∷ 144 ∷ 0 ∷ 0 ∷ 3 ∷ 0 ∷ 0 ∷ 3 ∷ 0 ∷ 60 ∷ 160 ∷ 136 ∷ 69
+    ∷ 229 ∷ 90 ∷ 188 ∷ 32 ∷ 128 ∷ []
 
 -- the same with 32 by 16 samples
 abbrev pub wide_sps_bytes : List ℕ
-wide_sps_bytes = 66 ∷ 1 ∷ 1 ∷ 1 ∷ 96 ∷ 0 ∷ 0 ∷ 3 ∷ 0 ∷ 144 ∷ 0 ∷ 0 ∷ 3 ∷ 0 ∷ 0 ∷ 3 ∷ 0 ∷ 60 ∷ 160 ∷ 66 ∷ 17 ∷ 121 ∷ 86 ∷ 175 ∷ 8 ∷ 32 ∷ []
+wide_sps_bytes =
+    66 ∷ 1 ∷ 1 ∷ 1 ∷ 96 ∷ 0 ∷ 0 ∷ 3 ∷ 0 ∷ 144 ∷ 0 ∷ 0 ∷ 3 ∷ 0 ∷ 0 ∷ 3 ∷ 0 ∷ 60 ∷ 160 ∷ 66 ∷ 17 ∷ 121
+    ∷ 86 ∷ 175 ∷ 8 ∷ 32 ∷ []
 
 -- the same with 10 bits of luma
 abbrev pub deep_sps_bytes : List ℕ
-deep_sps_bytes = 66 ∷ 1 ∷ 1 ∷ 1 ∷ 96 ∷ 0 ∷ 0 ∷ 3 ∷ 0 ∷ 144 ∷ 0 ∷ 0 ∷ 3 ∷ 0 ∷ 0 ∷ 3 ∷ 0 ∷ 60 ∷ 160 ∷ 136 ∷ 68 ∷ 249 ∷ 86 ∷ 175 ∷ 8 ∷ 32 ∷ []
+deep_sps_bytes =
+    66 ∷ 1 ∷ 1 ∷ 1 ∷ 96 ∷ 0 ∷ 0 ∷ 3 ∷ 0 ∷ 144 ∷ 0 ∷ 0 ∷ 3 ∷ 0 ∷ 0 ∷ 3 ∷ 0 ∷ 60 ∷ 160 ∷ 136 ∷ 68
+    ∷ 249 ∷ 86 ∷ 175 ∷ 8 ∷ 32 ∷ []
 
 -- the same under the id 1
 abbrev pub other_sps_bytes : List ℕ
-other_sps_bytes = 66 ∷ 1 ∷ 1 ∷ 1 ∷ 96 ∷ 0 ∷ 0 ∷ 3 ∷ 0 ∷ 144 ∷ 0 ∷ 0 ∷ 3 ∷ 0 ∷ 0 ∷ 3 ∷ 0 ∷ 60 ∷ 72 ∷ 34 ∷ 17 ∷ 121 ∷ 86 ∷ 175 ∷ 8 ∷ 32 ∷ []
+other_sps_bytes =
+    66 ∷ 1 ∷ 1 ∷ 1 ∷ 96 ∷ 0 ∷ 0 ∷ 3 ∷ 0 ∷ 144 ∷ 0 ∷ 0 ∷ 3 ∷ 0 ∷ 0 ∷ 3 ∷ 0 ∷ 60 ∷ 72 ∷ 34 ∷ 17 ∷ 121
+    ∷ 86 ∷ 175 ∷ 8 ∷ 32 ∷ []
 
 -- 192 by 192 samples at level 1
 abbrev pub tight_sps_bytes : List ℕ
-tight_sps_bytes = 66 ∷ 1 ∷ 1 ∷ 1 ∷ 96 ∷ 0 ∷ 0 ∷ 3 ∷ 0 ∷ 144 ∷ 0 ∷ 0 ∷ 3 ∷ 0 ∷ 0 ∷ 3 ∷ 0 ∷ 30 ∷ 160 ∷ 24 ∷ 32 ∷ 48 ∷ 94 ∷ 17 ∷ 8 ∷ 234 ∷ 240 ∷ 130 ∷ []
+tight_sps_bytes =
+    66 ∷ 1 ∷ 1 ∷ 1 ∷ 96 ∷ 0 ∷ 0 ∷ 3 ∷ 0 ∷ 144 ∷ 0 ∷ 0 ∷ 3 ∷ 0 ∷ 0 ∷ 3 ∷ 0 ∷ 30 ∷ 160 ∷ 24 ∷ 32 ∷ 48
+    ∷ 94 ∷ 17 ∷ 8 ∷ 234 ∷ 240 ∷ 130 ∷ []
 
 abbrev pub vps_bytes : List ℕ
-vps_bytes = 64 ∷ 1 ∷ 12 ∷ 1 ∷ 255 ∷ 255 ∷ 1 ∷ 96 ∷ 0 ∷ 0 ∷ 3 ∷ 0 ∷ 144 ∷ 0 ∷ 0 ∷ 3 ∷ 0 ∷ 0 ∷ 3 ∷ 0 ∷ 60 ∷ 149 ∷ 64 ∷ 144 ∷ []
+vps_bytes =
+    64 ∷ 1 ∷ 12 ∷ 1 ∷ 255 ∷ 255 ∷ 1 ∷ 96 ∷ 0 ∷ 0 ∷ 3 ∷ 0 ∷ 144 ∷ 0 ∷ 0 ∷ 3 ∷ 0 ∷ 0 ∷ 3 ∷ 0 ∷ 60
+    ∷ 149 ∷ 64 ∷ 144 ∷ []
 
 -- names the sequence set of id 0
 abbrev pub pps_bytes : List ℕ
@@ -50,7 +62,9 @@ cut_pps_bytes = 68 ∷ 1 ∷ 192 ∷ 113 ∷ []
 
 -- a message
 abbrev pub sei_bytes : List ℕ
-sei_bytes = 78 ∷ 1 ∷ 5 ∷ 16 ∷ 165 ∷ 165 ∷ 165 ∷ 165 ∷ 165 ∷ 165 ∷ 165 ∷ 165 ∷ 165 ∷ 165 ∷ 165 ∷ 165 ∷ 165 ∷ 165 ∷ 165 ∷ 165 ∷ 128 ∷ []
+sei_bytes =
+    78 ∷ 1 ∷ 5 ∷ 16 ∷ 165 ∷ 165 ∷ 165 ∷ 165 ∷ 165 ∷ 165 ∷ 165 ∷ 165 ∷ 165 ∷ 165 ∷ 165 ∷ 165 ∷ 165
+    ∷ 165 ∷ 165 ∷ 165 ∷ 128 ∷ []
 
 abbrev pub cra_bytes : List ℕ
 cra_bytes = 42 ∷ 1 ∷ 174 ∷ 30 ∷ 128 ∷ []
@@ -111,7 +125,9 @@ plain_stream = behind_sets (idr_bytes ∷ p4_bytes ∷ p2_bytes ∷ [])
 
 -- as an encoder writes it
 abbrev pub encoded_stream : List ℕ
-encoded_stream = padded_stream_of (vps_bytes ∷ sps_bytes ∷ pps_bytes ∷ sei_bytes ∷ idr_bytes ∷ p4_bytes ∷ b2_bytes ∷ [])
+encoded_stream =
+    padded_stream_of
+    (vps_bytes ∷ sps_bytes ∷ pps_bytes ∷ sei_bytes ∷ idr_bytes ∷ p4_bytes ∷ b2_bytes ∷ [])
 
 -- a picture set before its sequence set
 abbrev pub waiting_stream : List ℕ
@@ -127,7 +143,8 @@ read_later_stream = stream_of (other_pps_bytes ∷ sps_bytes ∷ other_sps_bytes
 
 -- two picture sets of one id before their sequence set
 abbrev pub in_order_stream : List ℕ
-in_order_stream = stream_of (pps_bytes ∷ dependent_pps_bytes ∷ sps_bytes ∷ idr_bytes ∷ dependent_bytes ∷ [])
+in_order_stream =
+    stream_of (pps_bytes ∷ dependent_pps_bytes ∷ sps_bytes ∷ idr_bytes ∷ dependent_bytes ∷ [])
 
 -- a sequence set that is replaced, and a slice by the picture set before it
 abbrev pub not_read_again_stream : List ℕ
@@ -208,7 +225,8 @@ abbrev pub dependent_alone_stream : List ℕ
 dependent_alone_stream = stream_of (sps_bytes ∷ dependent_pps_bytes ∷ dependent_bytes ∷ [])
 
 abbrev pub dependent_behind_stream : List ℕ
-dependent_behind_stream = stream_of (sps_bytes ∷ dependent_pps_bytes ∷ idr_bytes ∷ dependent_bytes ∷ [])
+dependent_behind_stream =
+    stream_of (sps_bytes ∷ dependent_pps_bytes ∷ idr_bytes ∷ dependent_bytes ∷ [])
 
 -- a slice and an end before the first sequence set
 abbrev pub before_sets_stream : List ℕ
@@ -245,11 +263,17 @@ wide_format = record plain_format { coded_width = 32 }
 
 -- a slice that begins behind the first block of a picture
 abbrev pub later_idr_at_1 : Format → Meaning
-later_idr_at_1 format = CodedSlice (record (later_slice 19 later_idr_bytes (plain_sets format) (plain_header I 0 [] [] 0)) { segment_address = 1 })
+later_idr_at_1 format =
+    CodedSlice
+    (record (later_slice 19 later_idr_bytes (plain_sets format) (plain_header I 0 [] [] 0)) {
+      segment_address = 1;
+    })
 
 -- TSA_N of temporal id 1, a P slice of order count 2 between 0 and 4
 abbrev pub sub_layer_p2 : Slice
-sub_layer_p2 = record (first_slice 2 sub_layer_bytes (plain_sets plain_format) (plain_header P 2 (negsuc 1 ∷ []) (pos 2 ∷ []) 2)) { temporal_id = 1 }
+sub_layer_p2 =
+    record (first_slice 2 sub_layer_bytes (plain_sets plain_format)
+    (plain_header P 2 (negsuc 1 ∷ []) (pos 2 ∷ []) 2)) { temporal_id = 1 }
 
 -- slices are handled as of BLA pictures
 abbrev pub handled : Meaning → Meaning

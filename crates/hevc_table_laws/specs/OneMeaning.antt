@@ -21,19 +21,36 @@ IsDecided t = (payload : List Bool) → SpellsOne t payload ⊎ BreaksSomewhere 
 
 -- A payload spells one record at most, with one rest.
 unfoldable pub HasOneRecord : {A : Type 0} → Table A → Type 0
-HasOneRecord {A = A} t = (x y : A) (payload rest other_rest : List Bool) → Spells t x payload rest → Spells t y payload other_rest → (x ≡ y) × (rest ≡ other_rest)
+HasOneRecord {A = A} t =
+    (x y : A) (payload rest other_rest : List Bool)
+    → Spells t x payload rest
+    → Spells t y payload other_rest
+    → (x ≡ y) × (rest ≡ other_rest)
 
 -- A payload breaks off at one place at most, for one reason.
 unfoldable pub BreaksOnce : {A : Type 0} → Table A → Type 0
-BreaksOnce t = (fault other_fault : Fault) (payload rest other_rest : List Bool) → BreaksOff t fault payload rest → BreaksOff t other_fault payload other_rest → (fault ≡ other_fault) × (rest ≡ other_rest)
+BreaksOnce t =
+    (fault other_fault : Fault) (payload rest other_rest : List Bool)
+    → BreaksOff t fault payload rest
+    → BreaksOff t other_fault payload other_rest
+    → (fault ≡ other_fault) × (rest ≡ other_rest)
 
 -- A payload that spells a record doesn't break off.
 unfoldable pub ExcludesBreaks : {A : Type 0} → Table A → Type 0
-ExcludesBreaks {A = A} t = (x : A) (fault : Fault) (payload rest other_rest : List Bool) → Spells t x payload rest → BreaksOff t fault payload other_rest → ⊥
+ExcludesBreaks {A = A} t =
+    (x : A) (fault : Fault) (payload rest other_rest : List Bool)
+    → Spells t x payload rest
+    → BreaksOff t fault payload other_rest
+    → ⊥
 
 -- Two lists of lines of the table that beginnings of one payload spell are the same, line by line.
 unfoldable pub LinesAgree : {A : Type 0} → Table A → Type 0
-LinesAgree {A = A} t = (x y : A) (lines other_lines : List Line) (rest other_rest : List Bool) → HasLines t x lines → HasLines t y other_lines → AreGood lines → AreGood other_lines
+LinesAgree {A = A} t =
+    (x y : A) (lines other_lines : List Line) (rest other_rest : List Bool)
+    → HasLines t x lines
+    → HasLines t y other_lines
+    → AreGood lines
+    → AreGood other_lines
     → joined lines ++ rest ≡ joined other_lines ++ other_rest → lines ≡ other_lines
 
 -- The laws of a table: each payload means one thing by it.

@@ -26,15 +26,22 @@ offset_lists x = do
   let x = record x { chroma_qp_offset_list_len_minus1 = (← ue_row (row 12 4) 0 5) }
   offset_pairs (x.chroma_qp_offset_list_len_minus1 + 1) x
 
--- table 12 (7.3.2.3.2) of a picture set that allows skipped transforms or not. Offsets of sample adaptive filters are scaled
--- only above a depth of 10 bits.
+-- table 12 (7.3.2.3.2) of a picture set that allows skipped transforms or not. Offsets of sample
+-- adaptive filters are scaled only above a depth of 10 bits.
 unfoldable pub pps_range_extension : PlainSps → Bool → Table PlainPpsRangeExtension
 pps_range_extension sps transform_skip = do
   let x : PlainPpsRangeExtension = default_pps_range_extension
-  let x = record x { log2_max_transform_skip_block_size_minus2 = (← when transform_skip 0 (ue_row (row 12 1) 0 (sps.max_tb_log2_size_y - 2))) }
+  let x = record x {
+    log2_max_transform_skip_block_size_minus2 =
+        (← when transform_skip 0 (ue_row (row 12 1) 0 (sps.max_tb_log2_size_y - 2)));
+  }
   let x = record x { cross_component_prediction_enabled_flag = (← flag_row (row 12 2)) }
   let x = record x { chroma_qp_offset_list_enabled_flag = (← flag_row (row 12 2)) }
   x ← when x.chroma_qp_offset_list_enabled_flag x (offset_lists x)
-  let x = record x { log2_sao_offset_scale_luma = (← ue_row (row 12 6) 0 (sps.bit_depth_luma_minus8 - 2)) }
-  let x = record x { log2_sao_offset_scale_chroma = (← ue_row (row 12 7) 0 (sps.bit_depth_chroma_minus8 - 2)) }
+  let x = record x {
+    log2_sao_offset_scale_luma = (← ue_row (row 12 6) 0 (sps.bit_depth_luma_minus8 - 2));
+  }
+  let x = record x {
+    log2_sao_offset_scale_chroma = (← ue_row (row 12 7) 0 (sps.bit_depth_chroma_minus8 - 2));
+  }
   done x

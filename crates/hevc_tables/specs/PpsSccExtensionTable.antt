@@ -26,22 +26,35 @@ predictors_of x component = unwrap_or (slice_get x.palette_predictor_initializer
 unfoldable pub predictor : SampleFormat → ℕ → ℕ → PlainPpsSccExtension → Table PlainPpsSccExtension
 predictor f component i x = do
   n ← bits_row (row 13 11) (bit_depth f component) 0 (2 ^ bit_depth f component - 1)
-  done (record x { palette_predictor_initializer = slice_set x.palette_predictor_initializer component (slice_set (predictors_of x component) i n) })
+  done (record x {
+    palette_predictor_initializer =
+        slice_set x.palette_predictor_initializer component
+        (slice_set (predictors_of x component) i n);
+  })
 
 -- row 11 of a component, of so many predictors
-unfoldable pub component_predictors : SampleFormat → ℕ → ℕ → PlainPpsSccExtension → Table PlainPpsSccExtension
+unfoldable pub component_predictors : SampleFormat → ℕ → ℕ → PlainPpsSccExtension
+    → Table PlainPpsSccExtension
 component_predictors f count component x = repeat (predictor f component) 0 count x
 
 -- row 11
 unfoldable pub predictors : SampleFormat → PlainPpsSccExtension → Table PlainPpsSccExtension
-predictors f x = repeat (component_predictors f x.num_palette_predictor_initializers) 0 (num_components x) x
+predictors f x =
+    repeat (component_predictors f x.num_palette_predictor_initializers) 0 (num_components x) x
 
 -- rows 8 to 11: the first palette predictors. Their depths are those of the sequence set.
 unfoldable pub initializers : SampleFormat → PlainPpsSccExtension → Table PlainPpsSccExtension
 initializers f x = do
   let x = record x { monochrome_palette_flag = (← flag_row (row 13 8)) }
-  let x = record x { luma_bit_depth_entry_minus8 = (← ue_row (row 13 9) f.bit_depth_luma_minus8 f.bit_depth_luma_minus8) }
-  let x = record x { chroma_bit_depth_entry_minus8 = (← when (not x.monochrome_palette_flag) 0 (ue_row (row 13 10) f.bit_depth_chroma_minus8 f.bit_depth_chroma_minus8)) }
+  let x = record x {
+    luma_bit_depth_entry_minus8 =
+        (← ue_row (row 13 9) f.bit_depth_luma_minus8 f.bit_depth_luma_minus8);
+  }
+  let x = record x {
+    chroma_bit_depth_entry_minus8 =
+        (← when (not x.monochrome_palette_flag) 0
+        (ue_row (row 13 10) f.bit_depth_chroma_minus8 f.bit_depth_chroma_minus8));
+  }
   predictors f x
 
 -- rows 7 to 11: at most as many predictors as the sequence set allows
@@ -50,7 +63,8 @@ palettes f most x = do
   let x = record x { num_palette_predictor_initializers = (← ue_row (row 13 7) 0 most) }
   when (not (x.num_palette_predictor_initializers == 0)) x (initializers f x)
 
--- table 13 (7.3.2.3.3), with the format of samples and the greatest number of palette predictors of the sequence set
+-- table 13 (7.3.2.3.3), with the format of samples and the greatest
+-- number of palette predictors of the sequence set
 unfoldable pub pps_scc_extension : SampleFormat → ℕ → Table PlainPpsSccExtension
 pps_scc_extension f most = do
   let x : PlainPpsSccExtension = default_pps_scc_extension

@@ -1,5 +1,5 @@
--- Picture parameter sets (7.3.2.3.1, table 11), with the sequence parameter set that they name. Each part fills in its elements of a
--- set; those that are absent stay.
+-- Picture parameter sets (7.3.2.3.1, table 11), with the sequence parameter set that they name.
+-- Each part fills in its elements of a set; those that are absent stay.
 use Rattle.std.specs.Prelude.{ℕ, pos, neg_ℤ, ◌+◌, ◌-◌, ◌*◌, ◌/◌, ◌==◌, min, not, if◌then◌else◌, List, ◌++◌, map, replicate, slice_set, Option, Some, None}
 use Rattle.std.specs.List.{range_with_len}
 use Rattle.hevc_spec.specs.declared.Row.{Row}
@@ -53,7 +53,11 @@ quantiser sps pps = do
   let pps = record pps { constrained_intra_pred_flag = (← flag_row (row 11 9)) }
   let pps = record pps { transform_skip_enabled_flag = (← flag_row (row 11 9)) }
   let pps = record pps { cu_qp_delta_enabled_flag = (← flag_row (row 11 9)) }
-  let pps = record pps { diff_cu_qp_delta_depth = (← when pps.cu_qp_delta_enabled_flag 0 (ue_row (row 11 10) 0 sps.log2_diff_max_min_luma_coding_block_size)) }
+  let pps = record pps {
+    diff_cu_qp_delta_depth =
+        (← when pps.cu_qp_delta_enabled_flag 0
+        (ue_row (row 11 10) 0 sps.log2_diff_max_min_luma_coding_block_size));
+  }
   let pps = record pps { cb_qp_offset = (← se_row (row 11 11) (neg_ℤ (pos 12)) (pos 12)) }
   let pps = record pps { cr_qp_offset = (← se_row (row 11 12) (neg_ℤ (pos 12)) (pos 12)) }
   done pps
@@ -69,7 +73,8 @@ tools pps = do
   let pps = record pps { entropy_coding_sync_enabled_flag = (← flag_row (row 11 13)) }
   done pps
 
--- ---- rows 14 to 19: tiles (6.5.1). A size is that of a column or a row, in coding tree blocks and less 1.
+-- ---- rows 14 to 19: tiles (6.5.1). A size is that of a column or a row,
+-- in coding tree blocks and less 1.
 
 -- part i of a length that is spread evenly over so many (6-3, 6-4)
 abbrev pub even_size : ℕ → ℕ → ℕ → ℕ
@@ -77,14 +82,16 @@ even_size length count i = (i + 1) * length / count - i * length / count - 1
 
 -- all parts of a length that is spread evenly, in so many places
 abbrev pub even_sizes : ℕ → ℕ → ℕ → List ℕ
-even_sizes places length count = map (even_size length count) (range_with_len 0 count) ++ replicate (places - count) 0
+even_sizes places length count =
+    map (even_size length count) (range_with_len 0 count) ++ replicate (places - count) 0
 
 -- the sizes of some parts, and how many blocks they leave
 pub record Parts : Type 0 where
   pub sizes : List ℕ
   pub left : ℕ
 
--- Part i, of which the element of a row tells the size. It leaves a block for the next: where one is left, no size is allowed.
+-- Part i, of which the element of a row tells the size. It leaves a block for the next: where one
+-- is left, no size is allowed.
 unfoldable pub told_size : Row → ℕ → Parts → Table Parts
 told_size r i parts = do
   size ← ue_row r (if parts.left == 1 then 1 else 0) (parts.left - 2)
@@ -92,7 +99,8 @@ told_size r i parts = do
 
 -- the parts before the last one
 unfoldable pub told_parts : Row → ℕ → ℕ → ℕ → Table Parts
-told_parts r places length last = repeat (told_size r) 0 last (record { sizes = replicate places 0; left = length })
+told_parts r places length last =
+    repeat (told_size r) 0 last (record { sizes = replicate places 0; left = length })
 
 -- all parts: the last one takes what is left
 unfoldable pub told_sizes : Row → ℕ → ℕ → ℕ → Table (List ℕ)
@@ -103,8 +111,12 @@ told_sizes r places length last = do
 -- rows 14 to 16: at most 20 columns and 22 rows, and not more than there are blocks
 unfoldable pub tile_counts : PlainSps → PlainPps → Table PlainPps
 tile_counts sps pps = do
-  let pps = record pps { num_tile_columns_minus1 = (← ue_row (row 11 14) 0 (min (sps.pic_width_in_ctbs_y - 1) 19)) }
-  let pps = record pps { num_tile_rows_minus1 = (← ue_row (row 11 15) 0 (min (sps.pic_height_in_ctbs_y - 1) 21)) }
+  let pps = record pps {
+    num_tile_columns_minus1 = (← ue_row (row 11 14) 0 (min (sps.pic_width_in_ctbs_y - 1) 19));
+  }
+  let pps = record pps {
+    num_tile_rows_minus1 = (← ue_row (row 11 15) 0 (min (sps.pic_height_in_ctbs_y - 1) 21));
+  }
   let pps = record pps { uniform_spacing_flag = (← flag_row (row 11 16)) }
   done pps
 
@@ -118,8 +130,14 @@ with_even_tiles sps pps = record pps {
 -- rows 17 and 18: columns and rows whose sizes the set tells
 unfoldable pub told_tiles : PlainSps → PlainPps → Table PlainPps
 told_tiles sps pps = do
-  let pps = record pps { column_width_minus1 = (← told_sizes (row 11 17) 20 sps.pic_width_in_ctbs_y pps.num_tile_columns_minus1) }
-  let pps = record pps { row_height_minus1 = (← told_sizes (row 11 18) 22 sps.pic_height_in_ctbs_y pps.num_tile_rows_minus1) }
+  let pps = record pps {
+    column_width_minus1 =
+        (← told_sizes (row 11 17) 20 sps.pic_width_in_ctbs_y pps.num_tile_columns_minus1);
+  }
+  let pps = record pps {
+    row_height_minus1 =
+        (← told_sizes (row 11 18) 22 sps.pic_height_in_ctbs_y pps.num_tile_rows_minus1);
+  }
   done pps
 
 -- rows 14 to 19
@@ -157,20 +175,25 @@ filters pps = do
 unfoldable pub scaling : PlainPps → Table PlainPps
 scaling pps = do
   let pps = record pps { scaling_list_data_present_flag = (← flag_row (row 11 24)) }
-  let pps = record pps { scaling_list = (← when pps.scaling_list_data_present_flag default_lists scaling_list_data) }
+  let pps = record pps {
+    scaling_list = (← when pps.scaling_list_data_present_flag default_lists scaling_list_data);
+  }
   done pps
 
 -- rows 26 to 28, but for the last flag: what slice headers may have, and parallel merging
 unfoldable pub merging : PlainSps → PlainPps → Table PlainPps
 merging sps pps = do
   let pps = record pps { lists_modification_present_flag = (← flag_row (row 11 26)) }
-  let pps = record pps { log2_parallel_merge_level_minus2 = (← ue_row (row 11 27) 0 (sps.ctb_log2_size_y - 2)) }
+  let pps = record pps {
+    log2_parallel_merge_level_minus2 = (← ue_row (row 11 27) 0 (sps.ctb_log2_size_y - 2));
+  }
   let pps = record pps { slice_segment_header_extension_present_flag = (← flag_row (row 11 28)) }
   done pps
 
 -- ---- rows 28 to 35: extensions, whose flags all stand before the first body
 
--- rows 29 to 33: which extensions the set has; those for several layers and for three dimensions it may not have
+-- rows 29 to 33: which extensions the set has;
+-- those for several layers and for three dimensions it may not have
 unfoldable pub extension_flags : PlainPps → Table PlainPps
 extension_flags pps = do
   let pps = record pps { range_extension_flag = (← flag_row (row 11 29)) }
@@ -183,17 +206,22 @@ extension_flags pps = do
 -- row 34
 unfoldable pub range_extension : PlainSps → PlainPps → Table PlainPps
 range_extension sps pps = do
-  let pps = record pps { range_extension = (← pps_range_extension sps pps.transform_skip_enabled_flag) }
+  let pps = record pps {
+    range_extension = (← pps_range_extension sps pps.transform_skip_enabled_flag);
+  }
   done pps
 
 -- the greatest number of palette predictors (7.4.3.2.3)
 abbrev pub max_palette_predictors : PlainSps → ℕ
-max_palette_predictors sps = sps.scc_extension.palette_max_size + sps.scc_extension.delta_palette_max_predictor_size
+max_palette_predictors sps =
+    sps.scc_extension.palette_max_size + sps.scc_extension.delta_palette_max_predictor_size
 
 -- row 35
 unfoldable pub scc_extension : PlainSps → PlainPps → Table PlainPps
 scc_extension sps pps = do
-  let pps = record pps { scc_extension = (← pps_scc_extension (sample_format sps) (max_palette_predictors sps)) }
+  let pps = record pps {
+    scc_extension = (← pps_scc_extension (sample_format sps) (max_palette_predictors sps));
+  }
   done pps
 
 -- rows 29 to 35
@@ -228,7 +256,8 @@ picture_set_of sps pps = do
   pps ← merging sps pps
   extensions sps pps
 
--- table 11 (7.3.2.3.1) of a set in a unit of this temporal id, with the sequence sets that are kept, by their ids
+-- table 11 (7.3.2.3.1) of a set in a unit of this temporal id,
+-- with the sequence sets that are kept, by their ids
 unfoldable pub picture_parameter_set : ℕ → (ℕ → Option PlainSps) → Table PlainPps
 picture_parameter_set temporal_id kept = do
   pps ← ids (record default_pps { temporal_id = temporal_id })

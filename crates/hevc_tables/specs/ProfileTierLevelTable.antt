@@ -17,8 +17,8 @@ abbrev pub row_of : Scope → ℕ → Row
 row_of general number = row 2 number
 row_of sub_layer number = row 2 30
 
--- What rows 1 to 15 tell of a layer (7.4.4): the elements of these names behind general_ for the whole stream, and behind sub_layer_
--- for a sub-layer.
+-- What rows 1 to 15 tell of a layer (7.4.4): the elements of these names behind general_ for the
+-- whole stream, and behind sub_layer_ for a sub-layer.
 pub record LayerProfile : Type 0 where
   pub profile_space : ℕ
   pub tier_flag : Bool
@@ -71,7 +71,10 @@ layer_conforms_to l number = conforms_to l.profile_idc l.profile_compatibility_f
 -- row 4 (7.3.3): the flag of profile i
 unfoldable pub compatibility_flag : Scope → ℕ → LayerProfile → Table LayerProfile
 compatibility_flag scope i l = do
-  let l = record l { profile_compatibility_flag = slice_set l.profile_compatibility_flag i (← flag_row (row_of scope 4)) }
+  let l = record l {
+    profile_compatibility_flag =
+        slice_set l.profile_compatibility_flag i (← flag_row (row_of scope 4));
+  }
   done l
 
 -- row 4 (7.3.3): the 32 compatibility flags
@@ -109,14 +112,21 @@ formats scope l = do
   let l = record l { lower_bit_rate_constraint_flag = (← flag_row (row_of scope 6)) }
   done l
 
--- general_max_14bit_constraint_flag stands among those of row 6 (7.3.3): the layer conforms to one of the profiles 5, 9, 10 and 11.
+-- general_max_14bit_constraint_flag stands among those of row 6 (7.3.3): the layer conforms to one
+-- of the profiles 5, 9, 10 and 11.
 abbrev pub has_14bit_flag : LayerProfile → Bool
-has_14bit_flag l = layer_conforms_to l 5 || layer_conforms_to l 9 || layer_conforms_to l 10 || layer_conforms_to l 11
+has_14bit_flag l =
+    layer_conforms_to l 5
+    || layer_conforms_to l 9
+    || layer_conforms_to l 10
+    || layer_conforms_to l 11
 
 -- rows 7 to 9 (7.3.3): the flag and 33 reserved bits, or 34 reserved bits
 unfoldable pub bit_depth_flag : Scope → LayerProfile → Table LayerProfile
 bit_depth_flag scope l = do
-  let l = record l { max_14bit_constraint_flag = (← when (has_14bit_flag l) false (flag_row (row_of scope 7))) }
+  let l = record l {
+    max_14bit_constraint_flag = (← when (has_14bit_flag l) false (flag_row (row_of scope 7)));
+  }
   _ ← either (has_14bit_flag l) (skip_row (row_of scope 8) 33) (skip_row (row_of scope 9) 34)
   done l
 
@@ -143,7 +153,8 @@ reserved_bits scope l = do
 -- rows 6 to 13 (7.3.3), which take 43 bits each way
 unfoldable pub constraints : Scope → LayerProfile → Table LayerProfile
 constraints scope l =
-    either (has_range_extensions_flags l.profile_idc l.profile_compatibility_flag) (range_extensions_flags scope l)
+    either (has_range_extensions_flags l.profile_idc l.profile_compatibility_flag)
+    (range_extensions_flags scope l)
     (either (layer_conforms_to l 2) (main_10_flags scope l) (reserved_bits scope l))
 
 -- rows 14 and 15 (7.3.3): the flag, or a reserved bit
@@ -204,8 +215,14 @@ general_rows t = do
 -- row 28 (7.3.3) of sub-layer i
 unfoldable pub next_presence : ℕ → PlainProfileTierLevel → Table PlainProfileTierLevel
 next_presence i t = do
-  let t = record t { sub_layer_profile_present_flag = slice_set t.sub_layer_profile_present_flag i (← flag_row (row 2 28)) }
-  let t = record t { sub_layer_level_present_flag = slice_set t.sub_layer_level_present_flag i (← flag_row (row 2 28)) }
+  let t = record t {
+    sub_layer_profile_present_flag =
+        slice_set t.sub_layer_profile_present_flag i (← flag_row (row 2 28));
+  }
+  let t = record t {
+    sub_layer_level_present_flag =
+        slice_set t.sub_layer_level_present_flag i (← flag_row (row 2 28));
+  }
   done t
 
 -- row 28 (7.3.3) for each sub-layer below the highest
@@ -214,29 +231,46 @@ presence max_sub_layers_minus1 t = repeat next_presence 0 max_sub_layers_minus1 
 
 -- row 29 (7.3.3): two reserved bits for each sub-layer up to 8 that isn't there
 unfoldable pub absent_layers : ℕ → Table ℕ
-absent_layers max_sub_layers_minus1 = when (nat_lt 0 max_sub_layers_minus1) 0 (skip_row (row 2 29) (2 * (8 - max_sub_layers_minus1)))
+absent_layers max_sub_layers_minus1 =
+    when (nat_lt 0 max_sub_layers_minus1) 0 (skip_row (row 2 29) (2 * (8 - max_sub_layers_minus1)))
 
 -- sub-layer i has this profile
-unfoldable pub with_sub_layer_profile : PlainProfileTierLevel → ℕ → LayerProfile → PlainProfileTierLevel
+unfoldable pub with_sub_layer_profile : PlainProfileTierLevel → ℕ → LayerProfile
+    → PlainProfileTierLevel
 with_sub_layer_profile t i l = record t {
   sub_layer_profile_space = slice_set t.sub_layer_profile_space i l.profile_space;
   sub_layer_tier_flag = slice_set t.sub_layer_tier_flag i l.tier_flag;
   sub_layer_profile_idc = slice_set t.sub_layer_profile_idc i l.profile_idc;
-  sub_layer_profile_compatibility_flag = slice_set t.sub_layer_profile_compatibility_flag i l.profile_compatibility_flag;
-  sub_layer_progressive_source_flag = slice_set t.sub_layer_progressive_source_flag i l.progressive_source_flag;
-  sub_layer_interlaced_source_flag = slice_set t.sub_layer_interlaced_source_flag i l.interlaced_source_flag;
-  sub_layer_non_packed_constraint_flag = slice_set t.sub_layer_non_packed_constraint_flag i l.non_packed_constraint_flag;
-  sub_layer_frame_only_constraint_flag = slice_set t.sub_layer_frame_only_constraint_flag i l.frame_only_constraint_flag;
-  sub_layer_max_12bit_constraint_flag = slice_set t.sub_layer_max_12bit_constraint_flag i l.max_12bit_constraint_flag;
-  sub_layer_max_10bit_constraint_flag = slice_set t.sub_layer_max_10bit_constraint_flag i l.max_10bit_constraint_flag;
-  sub_layer_max_8bit_constraint_flag = slice_set t.sub_layer_max_8bit_constraint_flag i l.max_8bit_constraint_flag;
-  sub_layer_max_422chroma_constraint_flag = slice_set t.sub_layer_max_422chroma_constraint_flag i l.max_422chroma_constraint_flag;
-  sub_layer_max_420chroma_constraint_flag = slice_set t.sub_layer_max_420chroma_constraint_flag i l.max_420chroma_constraint_flag;
-  sub_layer_max_monochrome_constraint_flag = slice_set t.sub_layer_max_monochrome_constraint_flag i l.max_monochrome_constraint_flag;
-  sub_layer_intra_constraint_flag = slice_set t.sub_layer_intra_constraint_flag i l.intra_constraint_flag;
-  sub_layer_one_picture_only_constraint_flag = slice_set t.sub_layer_one_picture_only_constraint_flag i l.one_picture_only_constraint_flag;
-  sub_layer_lower_bit_rate_constraint_flag = slice_set t.sub_layer_lower_bit_rate_constraint_flag i l.lower_bit_rate_constraint_flag;
-  sub_layer_max_14bit_constraint_flag = slice_set t.sub_layer_max_14bit_constraint_flag i l.max_14bit_constraint_flag;
+  sub_layer_profile_compatibility_flag =
+      slice_set t.sub_layer_profile_compatibility_flag i l.profile_compatibility_flag;
+  sub_layer_progressive_source_flag =
+      slice_set t.sub_layer_progressive_source_flag i l.progressive_source_flag;
+  sub_layer_interlaced_source_flag =
+      slice_set t.sub_layer_interlaced_source_flag i l.interlaced_source_flag;
+  sub_layer_non_packed_constraint_flag =
+      slice_set t.sub_layer_non_packed_constraint_flag i l.non_packed_constraint_flag;
+  sub_layer_frame_only_constraint_flag =
+      slice_set t.sub_layer_frame_only_constraint_flag i l.frame_only_constraint_flag;
+  sub_layer_max_12bit_constraint_flag =
+      slice_set t.sub_layer_max_12bit_constraint_flag i l.max_12bit_constraint_flag;
+  sub_layer_max_10bit_constraint_flag =
+      slice_set t.sub_layer_max_10bit_constraint_flag i l.max_10bit_constraint_flag;
+  sub_layer_max_8bit_constraint_flag =
+      slice_set t.sub_layer_max_8bit_constraint_flag i l.max_8bit_constraint_flag;
+  sub_layer_max_422chroma_constraint_flag =
+      slice_set t.sub_layer_max_422chroma_constraint_flag i l.max_422chroma_constraint_flag;
+  sub_layer_max_420chroma_constraint_flag =
+      slice_set t.sub_layer_max_420chroma_constraint_flag i l.max_420chroma_constraint_flag;
+  sub_layer_max_monochrome_constraint_flag =
+      slice_set t.sub_layer_max_monochrome_constraint_flag i l.max_monochrome_constraint_flag;
+  sub_layer_intra_constraint_flag =
+      slice_set t.sub_layer_intra_constraint_flag i l.intra_constraint_flag;
+  sub_layer_one_picture_only_constraint_flag =
+      slice_set t.sub_layer_one_picture_only_constraint_flag i l.one_picture_only_constraint_flag;
+  sub_layer_lower_bit_rate_constraint_flag =
+      slice_set t.sub_layer_lower_bit_rate_constraint_flag i l.lower_bit_rate_constraint_flag;
+  sub_layer_max_14bit_constraint_flag =
+      slice_set t.sub_layer_max_14bit_constraint_flag i l.max_14bit_constraint_flag;
   sub_layer_inbld_flag = slice_set t.sub_layer_inbld_flag i l.inbld_flag;
 }
 

@@ -17,22 +17,34 @@ unfoldable pub list_entries : Row → ℕ → ℕ → Table (List ℕ)
 list_entries r num_pic_total_curr count = repeat (list_entry r num_pic_total_curr) 0 count []
 
 -- rows 3 and 4: list 1, of so many pictures and active places less 1
-unfoldable pub modification_l1 : ℕ → ℕ → PlainRefPicListModification → Table PlainRefPicListModification
+unfoldable pub modification_l1 : ℕ → ℕ → PlainRefPicListModification
+    → Table PlainRefPicListModification
 modification_l1 num_pic_total_curr num_ref_idx_l1_active_minus1 m = do
   let m = record m { ref_pic_list_modification_flag_l1 = (← flag_row (row 15 3)) }
-  let m = record m { list_entry_l1 = (← when m.ref_pic_list_modification_flag_l1 [] (list_entries (row 15 4) num_pic_total_curr (num_ref_idx_l1_active_minus1 + 1))) }
+  let m = record m {
+    list_entry_l1 =
+        (← when m.ref_pic_list_modification_flag_l1 []
+        (list_entries (row 15 4) num_pic_total_curr (num_ref_idx_l1_active_minus1 + 1)));
+  }
   done m
 
 -- rows 1 and 2: list 0
-unfoldable pub modification_l0 : ℕ → ℕ → PlainRefPicListModification → Table PlainRefPicListModification
+unfoldable pub modification_l0 : ℕ → ℕ → PlainRefPicListModification
+    → Table PlainRefPicListModification
 modification_l0 num_pic_total_curr num_ref_idx_l0_active_minus1 m = do
   let m = record m { ref_pic_list_modification_flag_l0 = (← flag_row (row 15 1)) }
-  let m = record m { list_entry_l0 = (← when m.ref_pic_list_modification_flag_l0 [] (list_entries (row 15 2) num_pic_total_curr (num_ref_idx_l0_active_minus1 + 1))) }
+  let m = record m {
+    list_entry_l0 =
+        (← when m.ref_pic_list_modification_flag_l0 []
+        (list_entries (row 15 2) num_pic_total_curr (num_ref_idx_l0_active_minus1 + 1)));
+  }
   done m
 
--- Table 15 (7.3.6.2): of a B slice or not, the number of pictures that it may refer to (NumPicTotalCurr), and the active places of
--- both lists, less 1
+-- Table 15 (7.3.6.2): of a B slice or not, the number of pictures that it may refer to
+-- (NumPicTotalCurr), and the active places of both lists, less 1
 unfoldable pub ref_pic_list_modification : Bool → ℕ → ℕ → ℕ → Table PlainRefPicListModification
-ref_pic_list_modification b num_pic_total_curr num_ref_idx_l0_active_minus1 num_ref_idx_l1_active_minus1 = do
-  m ← modification_l0 num_pic_total_curr num_ref_idx_l0_active_minus1 default_ref_pic_list_modification
-  when b m (modification_l1 num_pic_total_curr num_ref_idx_l1_active_minus1 m)
+ref_pic_list_modification b num_pic_total_curr num_ref_idx_l0_active_minus1
+    num_ref_idx_l1_active_minus1 = do
+      m ← modification_l0 num_pic_total_curr num_ref_idx_l0_active_minus1
+          default_ref_pic_list_modification
+      when b m (modification_l1 num_pic_total_curr num_ref_idx_l1_active_minus1 m)

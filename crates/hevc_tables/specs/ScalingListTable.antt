@@ -54,22 +54,30 @@ sum_modulo_256 next_coef delta = unsigned_abs (pos next_coef +ℤ delta +ℤ pos
 unfoldable pub next_entry : ℕ → Coefs → Table Coefs
 next_entry i c = do
   delta ← se_row (row 6 4) (negsuc 127) (pos 127)
-  done (record { next_coef = sum_modulo_256 c.next_coef delta; entries = slice_set c.entries i (sum_modulo_256 c.next_coef delta) })
+  done (record {
+    next_coef = sum_modulo_256 c.next_coef delta;
+    entries = slice_set c.entries i (sum_modulo_256 c.next_coef delta);
+  })
 
 -- row 4 (7.3.4): so many entries, summed up from a number
 unfoldable pub coefs : ℕ → ℕ → Table Coefs
-coefs count start = repeat next_entry 0 count (record { next_coef = start; entries = replicate count 0 })
+coefs count start =
+    repeat next_entry 0 count (record { next_coef = start; entries = replicate count 0 })
 
 -- ---- the matrices of a size
 
--- the matrices of a size, by matrixId (7.4.5): the first entry less 8, which is kept of those of 16x16 and 32x32 alone, and the entries
+-- the matrices of a size, by matrixId (7.4.5): the first entry less 8, which is kept of those of
+-- 16x16 and 32x32 alone, and the entries
 pub record Matrices : Type 0 where
   pub dc_coef_minus8 : List ℤ
   pub entries : List (List ℕ)
 
 -- what stands where nothing was read
 abbrev pub no_matrices : Size → Matrices
-no_matrices size = record { dc_coef_minus8 = replicate 6 (pos 0); entries = replicate 6 (replicate (coef_num size) 0) }
+no_matrices size = record {
+  dc_coef_minus8 = replicate 6 (pos 0);
+  entries = replicate 6 (replicate (coef_num size) 0);
+}
 
 -- the list of a matrix
 abbrev pub list_of : List (List ℕ) → ℕ → List ℕ
@@ -89,7 +97,8 @@ with_default defaults matrix_id all = with_matrix all matrix_id (pos 8) (list_of
 -- the same as another matrix
 abbrev pub with_copy : ℕ → ℕ → Matrices → Matrices
 with_copy ref_matrix_id matrix_id all =
-    with_matrix all matrix_id (unwrap_or (slice_get all.dc_coef_minus8 ref_matrix_id) (pos 0)) (list_of all.entries ref_matrix_id)
+    with_matrix all matrix_id (unwrap_or (slice_get all.dc_coef_minus8 ref_matrix_id) (pos 0))
+    (list_of all.entries ref_matrix_id)
 
 -- refMatrixId (7-42)
 abbrev pub ref_matrix : Size → ℕ → ℕ → ℕ
@@ -106,17 +115,21 @@ coded_matrix size matrix_id all = do
 unfoldable pub predicted_matrix : Size → List (List ℕ) → ℕ → Matrices → Table Matrices
 predicted_matrix size defaults matrix_id all = do
   delta ← ue_row (row 6 2) 0 (matrix_id / matrix_step size)
-  done (if delta == 0 then with_default defaults matrix_id all else with_copy (ref_matrix size matrix_id delta) matrix_id all)
+  done (if delta == 0 then with_default defaults matrix_id all
+      else with_copy (ref_matrix size matrix_id delta) matrix_id all)
 
 -- rows 1 to 4 (7.3.4) of the matrix of this matrixId
 unfoldable pub matrix : Size → List (List ℕ) → ℕ → Matrices → Table Matrices
 matrix size defaults matrix_id all = do
   pred_mode_flag ← flag_row (row 6 1)
-  either pred_mode_flag (coded_matrix size matrix_id all) (predicted_matrix size defaults matrix_id all)
+  either pred_mode_flag
+      (coded_matrix size matrix_id all)
+      (predicted_matrix size defaults matrix_id all)
 
 -- the same, where the size has this matrix
 unfoldable pub next_matrix : Size → List (List ℕ) → ℕ → Matrices → Table Matrices
-next_matrix size defaults matrix_id all = when (has_matrix size matrix_id) all (matrix size defaults matrix_id all)
+next_matrix size defaults matrix_id all =
+    when (has_matrix size matrix_id) all (matrix size defaults matrix_id all)
 
 -- rows 1 to 4 (7.3.4) of each matrix of a size, whose default lists are these
 unfoldable pub matrices : Size → List (List ℕ) → Table Matrices

@@ -22,8 +22,10 @@ used ms = map (λ m. m.used_by_curr_pic) ms
 abbrev pub array_of : {A : Type 0} → A → List A → List A
 array_of empty xs = xs ++ replicate (16 - length xs) empty
 
--- the set has these members, those before the current picture and those after it; its counts are theirs (7-63 to 7-71)
-unfoldable pub with_members : PlainShortTermRefPicSet → List ShortTermMember → List ShortTermMember → PlainShortTermRefPicSet
+-- the set has these members, those before the current picture and those after it;
+-- its counts are theirs (7-63 to 7-71)
+unfoldable pub with_members : PlainShortTermRefPicSet → List ShortTermMember → List ShortTermMember
+    → PlainShortTermRefPicSet
 with_members set before after = record set {
   num_negative_pics = length before;
   num_positive_pics = length after;
@@ -40,30 +42,37 @@ differences s = take s.num_negative_pics s.delta_poc_s0 ++ take s.num_positive_p
 
 -- ---- predicted sets (7.4.8)
 
--- a difference with the shift added: a member where its use_delta_flag is set and the sum isn't 0, which is the current picture
+-- a difference with the shift added: a member where its use_delta_flag is set and the sum isn't 0,
+-- which is the current picture
 unfoldable pub shifted_one : ℤ → ℤ → MemberFlags → List ShortTermMember
 shifted_one shift difference f =
-    if f.use_delta_flag && not (int_eq (difference +ℤ shift) (pos 0)) then record { delta_poc = difference +ℤ shift; used_by_curr_pic = f.used_by_curr_pic_flag } ∷ [] else []
+    if f.use_delta_flag && not (int_eq (difference +ℤ shift) (pos 0))
+    then record { delta_poc = difference +ℤ shift; used_by_curr_pic = f.used_by_curr_pic_flag } ∷ []
+    else []
 
 -- the members that differences with their flags give
 unfoldable pub shifted : ℤ → List ℤ → List MemberFlags → List ShortTermMember
 shifted shift [] flags = []
 shifted shift (difference ∷ rest) [] = []
-shifted shift (difference ∷ rest) (f ∷ flags) = shifted_one shift difference f ++ shifted shift rest flags
+shifted shift (difference ∷ rest) (f ∷ flags) =
+    shifted_one shift difference f ++ shifted shift rest flags
 
 -- a member put before those that lie above it
 abbrev pub insert_rising : ShortTermMember → List ShortTermMember → List ShortTermMember
 insert_rising m [] = m ∷ []
-insert_rising m (n ∷ ns) = if int_lt m.delta_poc n.delta_poc then m ∷ n ∷ ns else n ∷ insert_rising m ns
+insert_rising m (n ∷ ns) =
+    if int_lt m.delta_poc n.delta_poc then m ∷ n ∷ ns else n ∷ insert_rising m ns
 
 -- members in rising order of their differences
 unfoldable pub rising : List ShortTermMember → List ShortTermMember
 rising [] = []
 rising (m ∷ ms) = insert_rising m (rising ms)
 
--- The members of a set that is predicted from another, in rising order: those that the other set's differences give, and 0 as
--- the last of these, which stands for the picture of the other set itself.
-unfoldable pub predicted_members : PlainShortTermRefPicSet → ℤ → List MemberFlags → List ShortTermMember
+-- The members of a set that is predicted from another, in rising
+-- order: those that the other set's differences give, and 0 as the
+-- last of these, which stands for the picture of the other set itself.
+unfoldable pub predicted_members : PlainShortTermRefPicSet → ℤ → List MemberFlags
+    → List ShortTermMember
 predicted_members other shift flags = rising (shifted shift (differences other ++ pos 0 ∷ []) flags)
 
 -- the members before the current picture, in falling order (7-61)
@@ -82,10 +91,15 @@ is_i32 d = int_le (negsuc 2147483647) d && int_le d (pos 2147483647)
 unfoldable pub has_room : List ShortTermMember → Bool
 has_room ms = nat_le (length ms) 16 && list_all is_i32 (deltas ms)
 
--- rows 2 to 4 (7.3.7): from which set, and with which shift; the number of the set, and that of the sequence parameter set's sets
+-- rows 2 to 4 (7.3.7): from which set, and with which shift; the number of the set, and that of the
+-- sequence parameter set's sets
 unfoldable pub prediction : ℕ → ℕ → PlainShortTermRefPicSet → Table PlainShortTermRefPicSet
 prediction num_short_term_ref_pic_sets st_rps_idx set = do
-  let set = record set { delta_idx_minus1 = (← when (st_rps_idx == num_short_term_ref_pic_sets) 0 (ue_row (row 7 2) 0 (st_rps_idx - 1))) }
+  let set = record set {
+    delta_idx_minus1 =
+        (← when (st_rps_idx == num_short_term_ref_pic_sets) 0
+        (ue_row (row 7 2) 0 (st_rps_idx - 1)));
+  }
   let set = record set { delta_rps_sign = (← flag_row (row 7 3)) }
   let set = record set { abs_delta_rps_minus1 = (← ue_row (row 7 4) 0 32767) }
   done set
@@ -96,7 +110,9 @@ reference_index st_rps_idx set = st_rps_idx - 1 - set.delta_idx_minus1
 
 -- deltaRps (7-60)
 unfoldable pub shift_of : PlainShortTermRefPicSet → ℤ
-shift_of set = if set.delta_rps_sign then neg_ℤ (pos (set.abs_delta_rps_minus1 + 1)) else pos (set.abs_delta_rps_minus1 + 1)
+shift_of set =
+    if set.delta_rps_sign then neg_ℤ (pos (set.abs_delta_rps_minus1 + 1))
+    else pos (set.abs_delta_rps_minus1 + 1)
 
 -- row 5 of one member (7.3.7); use_delta_flag is 1 where it is absent
 unfoldable pub member_flags : Table MemberFlags
@@ -115,16 +131,19 @@ unfoldable pub all_member_flags : ℕ → Table (List MemberFlags)
 all_member_flags num_delta_pocs = repeat next_member_flags 0 (num_delta_pocs + 1) []
 
 -- row 6, and the set with these members
-unfoldable pub fitting_set : List ShortTermMember → PlainShortTermRefPicSet → Table PlainShortTermRefPicSet
+unfoldable pub fitting_set : List ShortTermMember → PlainShortTermRefPicSet
+    → Table PlainShortTermRefPicSet
 fitting_set members set = do
   _ ← check_row (row 7 6) (has_room members)
   done (with_members set (members_before members) (members_after members))
 
 -- rows 2 to 6 (7.3.7)
-unfoldable pub predicted_set : List PlainShortTermRefPicSet → ℕ → ℕ → PlainShortTermRefPicSet → Table PlainShortTermRefPicSet
+unfoldable pub predicted_set : List PlainShortTermRefPicSet → ℕ → ℕ → PlainShortTermRefPicSet
+    → Table PlainShortTermRefPicSet
 predicted_set sets num_short_term_ref_pic_sets st_rps_idx set = do
   set ← prediction num_short_term_ref_pic_sets st_rps_idx set
-  let other : PlainShortTermRefPicSet = slice_index_or sets (reference_index st_rps_idx set) default_short_term_ref_pic_set
+  let other : PlainShortTermRefPicSet =
+      slice_index_or sets (reference_index st_rps_idx set) default_short_term_ref_pic_set
   flags ← all_member_flags other.num_delta_pocs
   fitting_set (predicted_members other (shift_of set) flags) set
 
@@ -141,7 +160,10 @@ unfoldable pub member_before : ℤ → Table ShortTermMember
 member_before last = do
   delta_poc_s0_minus1 ← ue_row (row 7 9) 0 32767
   used_by_curr_pic_s0_flag ← flag_row (row 7 10)
-  done (record { delta_poc = last -ℤ pos (delta_poc_s0_minus1 + 1); used_by_curr_pic = used_by_curr_pic_s0_flag })
+  done (record {
+    delta_poc = last -ℤ pos (delta_poc_s0_minus1 + 1);
+    used_by_curr_pic = used_by_curr_pic_s0_flag;
+  })
 
 unfoldable pub next_member_before : ℕ → List ShortTermMember → Table (List ShortTermMember)
 next_member_before i ms = do
@@ -153,7 +175,10 @@ unfoldable pub member_after : ℤ → Table ShortTermMember
 member_after last = do
   delta_poc_s1_minus1 ← ue_row (row 7 11) 0 32767
   used_by_curr_pic_s1_flag ← flag_row (row 7 12)
-  done (record { delta_poc = last +ℤ pos (delta_poc_s1_minus1 + 1); used_by_curr_pic = used_by_curr_pic_s1_flag })
+  done (record {
+    delta_poc = last +ℤ pos (delta_poc_s1_minus1 + 1);
+    used_by_curr_pic = used_by_curr_pic_s1_flag;
+  })
 
 unfoldable pub next_member_after : ℕ → List ShortTermMember → Table (List ShortTermMember)
 next_member_after i ms = do
@@ -168,7 +193,8 @@ listed_before num_negative_pics = repeat next_member_before 0 num_negative_pics 
 unfoldable pub listed_after : ℕ → Table (List ShortTermMember)
 listed_after num_positive_pics = repeat next_member_after 0 num_positive_pics []
 
--- rows 7 to 12 (7.3.7), where sps_max_dec_pic_buffering_minus1 of the highest sub-layer bounds the members
+-- rows 7 to 12 (7.3.7), where sps_max_dec_pic_buffering_minus1
+-- of the highest sub-layer bounds the members
 unfoldable pub listed_set : ℕ → PlainShortTermRefPicSet → Table PlainShortTermRefPicSet
 listed_set max_dec_pic_buffering_minus1 set = do
   num_negative_pics ← ue_row (row 7 7) 0 max_dec_pic_buffering_minus1
@@ -179,9 +205,14 @@ listed_set max_dec_pic_buffering_minus1 set = do
 
 -- ---- the table
 
--- Table 7 (7.3.7): the sets before, their number in the sequence parameter set, sps_max_dec_pic_buffering_minus1 of the highest
--- sub-layer, and the number of the set
-unfoldable pub short_term_ref_pic_set : List PlainShortTermRefPicSet → ℕ → ℕ → ℕ → Table PlainShortTermRefPicSet
+-- Table 7 (7.3.7): the sets before, their number in the sequence parameter set,
+-- sps_max_dec_pic_buffering_minus1 of the highest sub-layer, and the number of the set
+unfoldable pub short_term_ref_pic_set : List PlainShortTermRefPicSet → ℕ → ℕ → ℕ
+    → Table PlainShortTermRefPicSet
 short_term_ref_pic_set sets num_short_term_ref_pic_sets max_dec_pic_buffering_minus1 st_rps_idx = do
-  let set = record default_short_term_ref_pic_set { inter_ref_pic_set_prediction_flag = (← when (not (st_rps_idx == 0)) false (flag_row (row 7 1))) }
-  either set.inter_ref_pic_set_prediction_flag (predicted_set sets num_short_term_ref_pic_sets st_rps_idx set) (listed_set max_dec_pic_buffering_minus1 set)
+  let set = record default_short_term_ref_pic_set {
+    inter_ref_pic_set_prediction_flag = (← when (not (st_rps_idx == 0)) false (flag_row (row 7 1)));
+  }
+  either set.inter_ref_pic_set_prediction_flag
+      (predicted_set sets num_short_term_ref_pic_sets st_rps_idx set)
+      (listed_set max_dec_pic_buffering_minus1 set)

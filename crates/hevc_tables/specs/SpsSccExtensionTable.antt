@@ -16,7 +16,8 @@ num_components f = if f.chroma_format_idc == 0 then 1 else 3
 
 -- BitDepthY of component 0, and BitDepthC of the others (7-4, 7-6)
 abbrev pub bit_depth : SampleFormat → ℕ → ℕ
-bit_depth f component = if component == 0 then f.bit_depth_luma_minus8 + 8 else f.bit_depth_chroma_minus8 + 8
+bit_depth f component =
+    if component == 0 then f.bit_depth_luma_minus8 + 8 else f.bit_depth_chroma_minus8 + 8
 
 -- the first predictors of a component
 abbrev pub predictors_of : PlainSpsSccExtension → ℕ → List ℕ
@@ -26,21 +27,30 @@ predictors_of x component = unwrap_or (slice_get x.palette_predictor_initializer
 unfoldable pub predictor : SampleFormat → ℕ → ℕ → PlainSpsSccExtension → Table PlainSpsSccExtension
 predictor f component i x = do
   n ← bits_row (row 10 6) (bit_depth f component) 0 (2 ^ bit_depth f component - 1)
-  done (record x { palette_predictor_initializer = slice_set x.palette_predictor_initializer component (slice_set (predictors_of x component) i n) })
+  done (record x {
+    palette_predictor_initializer =
+        slice_set x.palette_predictor_initializer component
+        (slice_set (predictors_of x component) i n);
+  })
 
 -- row 6 of a component, of so many predictors
-unfoldable pub component_predictors : SampleFormat → ℕ → ℕ → PlainSpsSccExtension → Table PlainSpsSccExtension
+unfoldable pub component_predictors : SampleFormat → ℕ → ℕ → PlainSpsSccExtension
+    → Table PlainSpsSccExtension
 component_predictors f count component x = repeat (predictor f component) 0 count x
 
 -- row 6
 unfoldable pub predictors : SampleFormat → ℕ → PlainSpsSccExtension → Table PlainSpsSccExtension
 predictors f count x = repeat (component_predictors f count) 0 (num_components f) x
 
--- rows 5 and 6: the first palette predictors, at most as many as there are; where there are none, no number is allowed
+-- rows 5 and 6: the first palette predictors, at most as many as there are; where there are none,
+-- no number is allowed
 unfoldable pub initializers : SampleFormat → PlainSpsSccExtension → Table PlainSpsSccExtension
 initializers f x = do
   let most = x.palette_max_size + x.delta_palette_max_predictor_size
-  let x = record x { num_palette_predictor_initializer_minus1 = (← ue_row (row 10 5) (if most == 0 then 1 else 0) (most - 1)) }
+  let x = record x {
+    num_palette_predictor_initializer_minus1 =
+        (← ue_row (row 10 5) (if most == 0 then 1 else 0) (most - 1));
+  }
   predictors f (x.num_palette_predictor_initializer_minus1 + 1) x
 
 -- rows 2 to 6: palettes

@@ -1,5 +1,5 @@
--- Sequence parameter sets (7.3.2.2.1, table 5). Each part fills in its elements of a set, with what is derived from them (7.4.3.2.1);
--- those that are absent stay.
+-- Sequence parameter sets (7.3.2.2.1, table 5). Each part fills in its elements of a set, with what
+-- is derived from them (7.4.3.2.1); those that are absent stay.
 use Rattle.std.specs.Prelude.{ℕ, ◌+◌, ◌-◌, ◌*◌, ◌^◌, ◌==◌, min, nat_le, true, false, if◌then◌else◌, List, [], ◌∷◌, ◌++◌, slice_set, slice_index_or}
 use Rattle.std.specs.Int.{div_ceil}
 use Rattle.hevc_spec.specs.Table.{Table, done, ◌>>=◌}
@@ -43,10 +43,14 @@ with_picture_size sps =
 unfoldable pub samples : PlainSps → Table PlainSps
 samples sps = do
   let sps = record sps { chroma_format_idc = (← ue_row (row 5 6) 0 3) }
-  let sps = record sps { separate_colour_plane_flag = (← when (sps.chroma_format_idc == 3) false (flag_row (row 5 7))) }
+  let sps = record sps {
+    separate_colour_plane_flag = (← when (sps.chroma_format_idc == 3) false (flag_row (row 5 7)));
+  }
   let sps = record sps { pic_width_in_luma_samples = (← ue_row (row 5 8) 1 16888) }
   let sps = record sps { pic_height_in_luma_samples = (← ue_row (row 5 9) 1 16888) }
-  let sps = record sps { chroma_array_type = if sps.separate_colour_plane_flag then 0 else sps.chroma_format_idc }
+  let sps = record sps {
+    chroma_array_type = if sps.separate_colour_plane_flag then 0 else sps.chroma_format_idc;
+  }
   done (with_picture_size (record sps { conformance_window_flag = false }))
 
 -- rows 11 and 12: the conformance cropping window
@@ -56,7 +60,9 @@ window sps = do
   right ← ue_row (row 5 11) 0 2147483647
   top ← ue_row (row 5 11) 0 2147483647
   bottom ← ue_row (row 5 11) 0 2147483647
-  _ ← check_row (row 5 12) (leaves_some sps.chroma_array_type sps.pic_width_in_luma_samples sps.pic_height_in_luma_samples left right top bottom)
+  _ ← check_row (row 5 12)
+      (leaves_some sps.chroma_array_type sps.pic_width_in_luma_samples
+      sps.pic_height_in_luma_samples left right top bottom)
   done (record sps {
     conformance_window_flag = true;
     conf_win_left_offset = left;
@@ -74,8 +80,12 @@ cropping sps = do
 -- what follows from the bit depths and the range extension (7.4.3.2.2)
 unfoldable pub with_half_ranges : PlainSps → PlainSps
 with_half_ranges sps = record sps {
-  wp_offset_half_range_y = wp_offset_half_range sps.range_extension.high_precision_offsets_enabled_flag sps.bit_depth_luma_minus8;
-  wp_offset_half_range_c = wp_offset_half_range sps.range_extension.high_precision_offsets_enabled_flag sps.bit_depth_chroma_minus8;
+  wp_offset_half_range_y =
+      wp_offset_half_range sps.range_extension.high_precision_offsets_enabled_flag
+      sps.bit_depth_luma_minus8;
+  wp_offset_half_range_c =
+      wp_offset_half_range sps.range_extension.high_precision_offsets_enabled_flag
+      sps.bit_depth_chroma_minus8;
 }
 
 -- rows 13 to 15: the bit depths, and the low bits of order counts
@@ -131,7 +141,9 @@ with_block_sizes sps =
       min_cb_log2_size_y = min_cb;
       ctb_log2_size_y = ctb;
       ctb_size_y = 2 ^ ctb;
-      max_tb_log2_size_y = sps.log2_min_luma_transform_block_size_minus2 + 2 + sps.log2_diff_max_min_luma_transform_block_size;
+      max_tb_log2_size_y =
+          sps.log2_min_luma_transform_block_size_minus2 + 2
+          + sps.log2_diff_max_min_luma_transform_block_size;
     })
 
 -- rows 20 to 24: the sizes of blocks
@@ -159,7 +171,10 @@ scaling sps = do
   let sps = record sps { max_transform_hierarchy_depth_inter = (← ue_row (row 5 25) 0 4) }
   let sps = record sps { max_transform_hierarchy_depth_intra = (← ue_row (row 5 26) 0 4) }
   let sps = record sps { scaling_list_enabled_flag = (← flag_row (row 5 27)) }
-  let sps = record sps { scaling_list_data_present_flag = (← when sps.scaling_list_enabled_flag false (flag_row (row 5 28))) }
+  let sps = record sps {
+    scaling_list_data_present_flag =
+        (← when sps.scaling_list_enabled_flag false (flag_row (row 5 28)));
+  }
   when sps.scaling_list_data_present_flag sps (scaling_lists sps)
 
 -- rows 31 to 34: pulse code modulation
@@ -185,7 +200,8 @@ abbrev pub highest_buffering : PlainSps → ℕ
 highest_buffering sps = slice_index_or sps.max_dec_pic_buffering_minus1 sps.max_sub_layers_minus1 0
 
 -- row 36 of set i, behind those before it
-unfoldable pub short_term_set : ℕ → ℕ → ℕ → List PlainShortTermRefPicSet → Table (List PlainShortTermRefPicSet)
+unfoldable pub short_term_set : ℕ → ℕ → ℕ → List PlainShortTermRefPicSet
+    → Table (List PlainShortTermRefPicSet)
 short_term_set count buffering i sets = do
   set ← short_term_ref_pic_set sets count buffering i
   done (sets ++ set ∷ [])
@@ -204,7 +220,8 @@ short_term sps = do
 -- rows 39 and 40 of long-term picture i
 unfoldable pub long_term_picture : ℕ → PlainSps → Table PlainSps
 long_term_picture i sps = do
-  lsb ← bits_row (row 5 39) (sps.log2_max_pic_order_cnt_lsb_minus4 + 4) 0 (2 ^ (sps.log2_max_pic_order_cnt_lsb_minus4 + 4) - 1)
+  lsb ← bits_row (row 5 39) (sps.log2_max_pic_order_cnt_lsb_minus4 + 4) 0
+      (2 ^ (sps.log2_max_pic_order_cnt_lsb_minus4 + 4) - 1)
   used ← flag_row (row 5 40)
   done (record sps {
     lt_ref_pic_poc_lsb_sps = slice_set sps.lt_ref_pic_poc_lsb_sps i lsb;
@@ -219,7 +236,10 @@ long_term_pictures sps = repeat long_term_picture 0 sps.num_long_term_ref_pics_s
 unfoldable pub long_term : PlainSps → Table PlainSps
 long_term sps = do
   let sps = record sps { long_term_ref_pics_present_flag = (← flag_row (row 5 37)) }
-  let sps = record sps { num_long_term_ref_pics_sps = (← when sps.long_term_ref_pics_present_flag 0 (ue_row (row 5 38) 0 32)) }
+  let sps = record sps {
+    num_long_term_ref_pics_sps =
+        (← when sps.long_term_ref_pics_present_flag 0 (ue_row (row 5 38) 0 32));
+  }
   long_term_pictures sps
 
 -- row 42
@@ -238,7 +258,8 @@ usability sps = do
 
 -- ---- rows 43 to 50: extensions, whose flags all stand before the first body
 
--- rows 44 to 48: which extensions the set has; those for several layers and for three dimensions it may not have
+-- rows 44 to 48: which extensions the set has;
+-- those for several layers and for three dimensions it may not have
 unfoldable pub extension_flags : PlainSps → Table PlainSps
 extension_flags sps = do
   let sps = record sps { range_extension_flag = (← flag_row (row 5 44)) }

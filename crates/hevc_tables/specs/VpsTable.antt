@@ -1,4 +1,5 @@
--- Video parameter sets (7.3.2.1, table 1). Each part fills in its elements of a set; those that are absent stay.
+-- Video parameter sets (7.3.2.1, table 1). Each part fills in its elements of a set;
+-- those that are absent stay.
 use Rattle.std.specs.Prelude.{ℕ, ◌+◌, ◌-◌, ◌*◌, ◌==◌, not, nat_le, Bool, true, if◌then◌else◌, List, [], ◌∷◌, ◌++◌, length, replicate, slice_set, slice_get, slice_index_or, unwrap_or}
 use Rattle.hevc_spec.specs.Table.{Table, done, ◌>>=◌}
 use Rattle.hevc_spec.specs.Rows.{row, flag_row, bits_row, ue_row, check_row, skip_row, when, either, repeat}
@@ -24,7 +25,8 @@ identity vps = do
 
 -- so many sub-layers and the highest have this number, and those above it 0
 abbrev pub up_to_highest : ℕ → ℕ → List ℕ
-up_to_highest max_sub_layers_minus1 n = replicate (max_sub_layers_minus1 + 1) n ++ replicate (6 - max_sub_layers_minus1) 0
+up_to_highest max_sub_layers_minus1 n =
+    replicate (max_sub_layers_minus1 + 1) n ++ replicate (6 - max_sub_layers_minus1) 0
 
 -- a number is not below that of the sub-layer below (7.4.3.1)
 abbrev pub is_risen : List ℕ → ℕ → ℕ → Bool
@@ -36,7 +38,8 @@ own_ordering i vps = do
   buffering ← ue_row (row 1 9) 0 15
   reordering ← ue_row (row 1 10) 0 buffering
   latency ← ue_row (row 1 11) 0 2147483647
-  _ ← when (not (i == 0)) 0 (check_row (row 1 12) (is_risen vps.max_dec_pic_buffering_minus1 i buffering))
+  _ ← when (not (i == 0)) 0
+      (check_row (row 1 12) (is_risen vps.max_dec_pic_buffering_minus1 i buffering))
   _ ← when (not (i == 0)) 0 (check_row (row 1 13) (is_risen vps.max_num_reorder_pics i reordering))
   done (record vps {
     max_dec_pic_buffering_minus1 = slice_set vps.max_dec_pic_buffering_minus1 i buffering;
@@ -78,9 +81,11 @@ layer_sets vps = do
 
 -- the last structure so far; before the first one there is one of no elements
 abbrev pub last_structure : List PlainHrdParams → PlainHrdParams
-last_structure structures = unwrap_or (slice_get structures (length structures - 1)) default_hrd_params
+last_structure structures =
+    unwrap_or (slice_get structures (length structures - 1)) default_hrd_params
 
--- Rows 22 to 24 of structure i. The first one has its common elements, for which no flag is read (7.4.3.1).
+-- Rows 22 to 24 of structure i. The first one has its common elements,
+-- for which no flag is read (7.4.3.1).
 unfoldable pub structure : ℕ → PlainVps → Table PlainVps
 structure i vps = do
   layer_set ← ue_row (row 1 22) 0 65535
@@ -88,7 +93,8 @@ structure i vps = do
   hrd ← hrd_parameters common vps.max_sub_layers_minus1 (last_structure vps.hrd_parameters)
   done (record vps {
     hrd_layer_set_idx = vps.hrd_layer_set_idx ++ layer_set ∷ [];
-    cprms_present_flag = if i == 0 then vps.cprms_present_flag else vps.cprms_present_flag ++ common ∷ [];
+    cprms_present_flag =
+        if i == 0 then vps.cprms_present_flag else vps.cprms_present_flag ++ common ∷ [];
     hrd_parameters = vps.hrd_parameters ++ hrd ∷ [];
   })
 
@@ -102,7 +108,10 @@ timing vps = do
   let vps = record vps { num_units_in_tick = (← bits_row (row 1 18) 32 0 4294967295) }
   let vps = record vps { time_scale = (← bits_row (row 1 18) 32 0 4294967295) }
   let vps = record vps { poc_proportional_to_timing_flag = (← flag_row (row 1 19)) }
-  let vps = record vps { num_ticks_poc_diff_one_minus1 = (← when vps.poc_proportional_to_timing_flag 0 (ue_row (row 1 20) 0 2147483647)) }
+  let vps = record vps {
+    num_ticks_poc_diff_one_minus1 =
+        (← when vps.poc_proportional_to_timing_flag 0 (ue_row (row 1 20) 0 2147483647));
+  }
   let vps = record vps { num_hrd_parameters = (← ue_row (row 1 21) 0 1024) }
   structures vps
 

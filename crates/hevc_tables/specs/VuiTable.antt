@@ -1,4 +1,5 @@
--- Video usability information (E.2.1, table 8). Each part fills in its elements of a structure; those that are absent stay.
+-- Video usability information (E.2.1, table 8). Each part fills in its elements of a structure;
+-- those that are absent stay.
 use Rattle.std.specs.Prelude.{ℕ, true, false, ◌==◌}
 use Rattle.hevc_spec.specs.Table.{Table, done, ◌>>=◌}
 use Rattle.hevc_spec.specs.Rows.{row, flag_row, bits_row, ue_row, when}
@@ -10,16 +11,24 @@ use Rattle.hevc_tables.specs.HrdTable.{hrd_parameters}
 unfoldable pub aspect_ratio : PlainVuiParams → Table PlainVuiParams
 aspect_ratio vui = do
   let vui = record vui { aspect_ratio_info_present_flag = (← flag_row (row 8 1)) }
-  let vui = record vui { aspect_ratio_idc = (← when vui.aspect_ratio_info_present_flag 0 (bits_row (row 8 2) 8 0 255)) }
-  let vui = record vui { sar_width = (← when (vui.aspect_ratio_idc == 255) 0 (bits_row (row 8 3) 16 0 65535)) }
-  let vui = record vui { sar_height = (← when (vui.aspect_ratio_idc == 255) 0 (bits_row (row 8 3) 16 0 65535)) }
+  let vui = record vui {
+    aspect_ratio_idc = (← when vui.aspect_ratio_info_present_flag 0 (bits_row (row 8 2) 8 0 255));
+  }
+  let vui = record vui {
+    sar_width = (← when (vui.aspect_ratio_idc == 255) 0 (bits_row (row 8 3) 16 0 65535));
+  }
+  let vui = record vui {
+    sar_height = (← when (vui.aspect_ratio_idc == 255) 0 (bits_row (row 8 3) 16 0 65535));
+  }
   done vui
 
 -- rows 4 and 5: overscan
 unfoldable pub overscan : PlainVuiParams → Table PlainVuiParams
 overscan vui = do
   let vui = record vui { overscan_info_present_flag = (← flag_row (row 8 4)) }
-  let vui = record vui { overscan_appropriate_flag = (← when vui.overscan_info_present_flag false (flag_row (row 8 5))) }
+  let vui = record vui {
+    overscan_appropriate_flag = (← when vui.overscan_info_present_flag false (flag_row (row 8 5)));
+  }
   done vui
 
 -- row 9: how colours are described
@@ -48,8 +57,14 @@ signal_type vui = do
 unfoldable pub chroma_places : PlainVuiParams → Table PlainVuiParams
 chroma_places vui = do
   let vui = record vui { chroma_loc_info_present_flag = (← flag_row (row 8 10)) }
-  let vui = record vui { chroma_sample_loc_type_top_field = (← when vui.chroma_loc_info_present_flag 0 (ue_row (row 8 11) 0 5)) }
-  let vui = record vui { chroma_sample_loc_type_bottom_field = (← when vui.chroma_loc_info_present_flag 0 (ue_row (row 8 12) 0 5)) }
+  let vui = record vui {
+    chroma_sample_loc_type_top_field =
+        (← when vui.chroma_loc_info_present_flag 0 (ue_row (row 8 11) 0 5));
+  }
+  let vui = record vui {
+    chroma_sample_loc_type_bottom_field =
+        (← when vui.chroma_loc_info_present_flag 0 (ue_row (row 8 12) 0 5));
+  }
   done vui
 
 -- row 14: the default display window
@@ -82,7 +97,10 @@ timing max_sub_layers_minus1 vui = do
   let vui = record vui { num_units_in_tick = (← bits_row (row 8 16) 32 0 4294967295) }
   let vui = record vui { time_scale = (← bits_row (row 8 16) 32 0 4294967295) }
   let vui = record vui { poc_proportional_to_timing_flag = (← flag_row (row 8 17)) }
-  let vui = record vui { num_ticks_poc_diff_one_minus1 = (← when vui.poc_proportional_to_timing_flag 0 (ue_row (row 8 18) 0 2147483647)) }
+  let vui = record vui {
+    num_ticks_poc_diff_one_minus1 =
+        (← when vui.poc_proportional_to_timing_flag 0 (ue_row (row 8 18) 0 2147483647));
+  }
   let vui = record vui { hrd_parameters_present_flag = (← flag_row (row 8 19)) }
   when vui.hrd_parameters_present_flag vui (hrd max_sub_layers_minus1 vui)
 

@@ -5,7 +5,8 @@ use Rattle.hevc_spec.specs.Rows.{row, flag_row, ue_row, se_row, when, repeat}
 use Rattle.hevc_records.specs.PredWeightTable.{PlainPredWeightTable, default_pred_weight_table}
 use Rattle.hevc_records.specs.Sps.{PlainSps}
 
--- The weights of one list, each for all places. Row numbers are those of list 0, in list 1 six more.
+-- The weights of one list, each for all places. Row numbers are those of list 0,
+-- in list 1 six more.
 pub record ListWeights : Type 0 where
   pub luma_weight_flag : List Bool
   pub chroma_weight_flag : List Bool
@@ -63,7 +64,8 @@ flags sps list count = do
 unfoldable pub luma_weight : PlainSps → ℕ → ℕ → ListWeights → Table ListWeights
 luma_weight sps list i w = do
   weight ← se_row (row 16 (6 * list + 5)) (neg_ℤ (pos 128)) (pos 127)
-  offset ← se_row (row 16 (6 * list + 6)) (neg_ℤ (pos sps.wp_offset_half_range_y)) (pos (sps.wp_offset_half_range_y - 1))
+  offset ← se_row (row 16 (6 * list + 6)) (neg_ℤ (pos sps.wp_offset_half_range_y))
+      (pos (sps.wp_offset_half_range_y - 1))
   done (record w {
     delta_luma_weight = slice_set w.delta_luma_weight i weight;
     luma_offset = slice_set w.luma_offset i offset;
@@ -77,7 +79,8 @@ component_set xss i j x = slice_set xss i (slice_set (slice_index_or xss i []) j
 unfoldable pub chroma_component : PlainSps → ℕ → ℕ → ℕ → ListWeights → Table ListWeights
 chroma_component sps list i j w = do
   weight ← se_row (row 16 (6 * list + 7)) (neg_ℤ (pos 128)) (pos 127)
-  offset ← se_row (row 16 (6 * list + 8)) (neg_ℤ (pos (4 * sps.wp_offset_half_range_c))) (pos (4 * sps.wp_offset_half_range_c - 1))
+  offset ← se_row (row 16 (6 * list + 8)) (neg_ℤ (pos (4 * sps.wp_offset_half_range_c)))
+      (pos (4 * sps.wp_offset_half_range_c - 1))
   done (record w {
     delta_chroma_weight = component_set w.delta_chroma_weight i j weight;
     delta_chroma_offset = component_set w.delta_chroma_offset i j offset;
@@ -107,7 +110,8 @@ list_weights sps list count = do
 
 -- ---- the table
 
--- rows 1 and 2: the denominators. ChromaLog2WeightDenom is their sum (7.4.7.3), and 0 without chroma.
+-- rows 1 and 2: the denominators. ChromaLog2WeightDenom is their sum (7.4.7.3),
+-- and 0 without chroma.
 unfoldable pub denominators : PlainSps → PlainPredWeightTable → Table PlainPredWeightTable
 denominators sps t = do
   luma ← ue_row (row 16 1) 0 7
@@ -140,7 +144,8 @@ with_list1 t w = record t {
   delta_chroma_offset_l1 = w.delta_chroma_offset;
 }
 
--- Table 16 (7.3.6.3), with the sequence set: of a B slice or not, and the active places of both lists, less 1
+-- Table 16 (7.3.6.3), with the sequence set: of a B slice or not,
+-- and the active places of both lists, less 1
 unfoldable pub pred_weight_table : PlainSps → Bool → ℕ → ℕ → Table PlainPredWeightTable
 pred_weight_table sps b num_ref_idx_l0_active_minus1 num_ref_idx_l1_active_minus1 = do
   t ← denominators sps default_pred_weight_table

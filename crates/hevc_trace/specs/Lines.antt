@@ -15,9 +15,11 @@ use Rattle.hevc_trace.specs.Summary.{summary_line}
 -- the line of a call of the log
 abbrev pub log_line : Call ℕ → List ℕ
 log_line (NewSequence info) = sequence_line (format_of info)
-log_line (NewPicture number nalu_type order_count output timestamp) = picture_line number (nalu_type_number nalu_type) order_count output
+log_line (NewPicture number nalu_type order_count output timestamp) =
+    picture_line number (nalu_type_number nalu_type) order_count output
 log_line (BeginPicture number st_curr_before st_curr_after st_foll lt_curr lt_foll) = []
-log_line (DecodeSlice number address bytes list0 list1) = slice_line number address (length bytes) (plain_places list0) (plain_places list1)
+log_line (DecodeSlice number address bytes list0 list1) =
+    slice_line number address (length bytes) (plain_places list0) (plain_places list1)
 log_line (SubmitPicture number handle) = submission_line number handle
 
 -- the line of an output
@@ -26,7 +28,8 @@ shown_line output = output_line (output_picture output)
 
 -- a line for each call of the log, one for each output, and the last
 abbrev pub text_of : List (Call ℕ) → List (Shown ℕ) → Result ℕ Refused → List ℕ
-text_of log shown result = flat_map log_line log ++ flat_map shown_line shown ++ last_line (length shown) result
+text_of log shown result =
+    flat_map log_line log ++ flat_map shown_line shown ++ last_line (length shown) result
 
 -- the order counts of outputs
 abbrev pub shown_counts : List (Shown ℕ) → List ℤ

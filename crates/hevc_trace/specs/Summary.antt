@@ -21,7 +21,8 @@ highest (count ∷ counts) = fold int_max count counts
 -- how many of some order counts are no higher than the one before, the first of which is this one
 abbrev pub falls_behind : ℤ → List ℤ → ℕ
 falls_behind last [] = 0
-falls_behind last (count ∷ counts) = (if int_lt last count then 0 else 1) + falls_behind count counts
+falls_behind last (count ∷ counts) =
+    (if int_lt last count then 0 else 1) + falls_behind count counts
 
 -- how many neighbours don't rise
 abbrev pub falls : List ℤ → ℕ
@@ -30,22 +31,28 @@ falls (count ∷ counts) = falls_behind count counts
 
 -- the lowest and the highest order count
 abbrev pub counts_text : ℤ → ℤ → List ℕ
-counts_text lowest highest = codes "lowest " ++ signed_decimal lowest ++ codes " highest " ++ signed_decimal highest
+counts_text lowest highest =
+    codes "lowest " ++ signed_decimal lowest ++ codes " highest " ++ signed_decimal highest
 
--- the line of these numbers: pictures, outputs, the lowest and the highest order count of these, and falls
+-- the line of these numbers: pictures, outputs, the lowest and the highest order count of these,
+-- and falls
 abbrev pub numbers_line : ℕ → ℕ → ℤ → ℤ → ℕ → List ℕ
 numbers_line pictures shown lowest highest falls =
-    codes "made " ++ decimal pictures ++ codes " shown " ++ decimal shown ++ codes " " ++ counts_text lowest highest ++ codes " falls " ++ decimal falls ++ codes "\n"
+    codes "made " ++ decimal pictures ++ codes " shown " ++ decimal shown ++ codes " "
+    ++ counts_text lowest highest ++ codes " falls " ++ decimal falls ++ codes "\n"
 
 -- the line of so many pictures, where those of these order counts are output
 abbrev pub summary_line : ℕ → List ℤ → List ℕ
-summary_line pictures counts = numbers_line pictures (length counts) (lowest counts) (highest counts) (falls counts)
+summary_line pictures counts =
+    numbers_line pictures (length counts) (lowest counts) (highest counts) (falls counts)
 
--- the line of a stream that ends so and whose outputs these are: a summary, or the cause of a refusal
+-- the line of a stream that ends so and whose outputs these are: a summary,
+-- or the cause of a refusal
 abbrev pub summary_for : Result ℕ Refused → List OutputPicture → List ℕ
 summary_for (Ok pictures) given = summary_line pictures (map (λ output. output.order_count) given)
 summary_for (Err refused) given = refusal_line refused
 
 -- the line of a stream
 abbrev pub summary_of : List ℕ → List ℕ
-summary_of stream = summary_for (ending_of default_options stream) (outputs (meanings default_options stream))
+summary_of stream =
+    summary_for (ending_of default_options stream) (outputs (meanings default_options stream))

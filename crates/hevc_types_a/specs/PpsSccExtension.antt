@@ -5,7 +5,8 @@ use Rattle.hevc_types_a.specs.declared.pps_scc_extension.PpsSccExtension.{PpsScc
 abbrev pub plain_pps_scc_extension : PpsSccExtension → PlainPpsSccExtension
 plain_pps_scc_extension r = record {
   curr_pic_ref_enabled_flag = r.curr_pic_ref_enabled_flag;
-  residual_adaptive_colour_transform_enabled_flag = r.residual_adaptive_colour_transform_enabled_flag;
+  residual_adaptive_colour_transform_enabled_flag =
+      r.residual_adaptive_colour_transform_enabled_flag;
   slice_act_qp_offsets_present_flag = r.slice_act_qp_offsets_present_flag;
   act_y_qp_offset_plus5 = r.act_y_qp_offset_plus5;
   act_cb_qp_offset_plus5 = r.act_cb_qp_offset_plus5;

@@ -9,15 +9,18 @@ use Rattle.hevc_walk.specs.Results.{outputs}
 
 abbrev pub waiting_numbers : Buffer → List ℕ
 waiting_numbers [] = []
-waiting_numbers (e ∷ es) = if e.needed_for_output then e.number ∷ waiting_numbers es else waiting_numbers es
+waiting_numbers (e ∷ es) =
+    if e.needed_for_output then e.number ∷ waiting_numbers es else waiting_numbers es
 
 -- what waits for output as a picture with NoOutputOfPriorPicsFlag empties the buffer (C.5.2.2)
 abbrev pub discarded_by : Head → Store → List ℕ
-discarded_by p s = if is_decoded p && p.no_output_of_prior_pics then waiting_numbers s.buffer else []
+discarded_by p s =
+    if is_decoded p && p.no_output_of_prior_pics then waiting_numbers s.buffer else []
 
 abbrev pub discarded_in : Option (ℕ × Format) → List Picture → List ℕ
 discarded_in set [] = []
-discarded_in set (p ∷ before) = discarded_in set before ++ discarded_by p.head (store_before set p before)
+discarded_in set (p ∷ before) =
+    discarded_in set before ++ discarded_by p.head (store_before set p before)
 
 -- the numbers of the pictures that are discarded
 abbrev pub discarded_numbers : List Meaning → List ℕ
@@ -32,7 +35,11 @@ among n (m ∷ ms) = m == n || among n ms
 
 -- what becomes of a picture, where these are discarded
 abbrev pub fate_by : List ℕ → Picture → Fate
-fate_by discarded p = if p.skipped then Skipped else if not p.pic_output_flag then Hidden else if among p.number discarded then Discarded else ForOutput
+fate_by discarded p =
+    if p.skipped then Skipped
+    else if not p.pic_output_flag then Hidden
+    else if among p.number discarded then Discarded
+    else ForOutput
 
 -- what becomes of a picture of these units
 abbrev pub fate : List Meaning → Picture → Fate
@@ -45,7 +52,9 @@ is_fated_for_output f = false
 -- the numbers of the pictures whose fate it is to be output
 abbrev pub numbers_for_output : List ℕ → List Picture → List ℕ
 numbers_for_output discarded [] = []
-numbers_for_output discarded (p ∷ before) = if is_fated_for_output (fate_by discarded p) then p.number ∷ numbers_for_output discarded before else numbers_for_output discarded before
+numbers_for_output discarded (p ∷ before) =
+    if is_fated_for_output (fate_by discarded p) then p.number ∷ numbers_for_output discarded before
+    else numbers_for_output discarded before
 
 abbrev pub one : Bool → ℕ
 one true = 1

@@ -1,8 +1,9 @@
 -- What a unit means for the pictures, with the facts of the sets that are kept at it.
 use Rattle.std.specs.Prelude.{ℕ, ℤ, Bool, List, Option, ◌==◌, ◌&&◌}
 
--- What is negotiated of a sequence set (7.4.3.2.1). The first sequence set opens a negotiation, and so
--- does a picture of another format than the accepted one; a later sequence set by itself opens none.
+-- What is negotiated of a sequence set (7.4.3.2.1). The first sequence
+-- set opens a negotiation, and so does a picture of another format
+-- than the accepted one; a later sequence set by itself opens none.
 pub record Format : Type 0 where
   -- pic_width_in_luma_samples, pic_height_in_luma_samples
   pub coded_width : ℕ
@@ -15,7 +16,14 @@ pub record Format : Type 0 where
   pub max_num_pics : ℕ
 
 abbrev pub same_format : Format → Format → Bool
-same_format a b = a.coded_width == b.coded_width && a.coded_height == b.coded_height && a.general_profile_idc == b.general_profile_idc && a.bit_depth_luma_minus8 == b.bit_depth_luma_minus8 && a.bit_depth_chroma_minus8 == b.bit_depth_chroma_minus8 && a.chroma_format_idc == b.chroma_format_idc && a.max_num_pics == b.max_num_pics
+same_format a b =
+    a.coded_width == b.coded_width
+    && a.coded_height == b.coded_height
+    && a.general_profile_idc == b.general_profile_idc
+    && a.bit_depth_luma_minus8 == b.bit_depth_luma_minus8
+    && a.bit_depth_chroma_minus8 == b.bit_depth_chroma_minus8
+    && a.chroma_format_idc == b.chroma_format_idc
+    && a.max_num_pics == b.max_num_pics
 
 -- sps_max_num_reorder_pics, sps_max_latency_increase_plus1 and sps_max_dec_pic_buffering_minus1
 -- (7.4.3.2.1) of the highest sub-layer that is decoded, HighestTid (C.5.2.2)
@@ -24,7 +32,8 @@ pub record Limits : Type 0 where
   pub max_latency_increase_plus1 : ℕ
   pub max_dec_pic_buffering_minus1 : ℕ
 
--- A member of a short-term reference picture set (7.4.8): DeltaPocS0 or DeltaPocS1, and UsedByCurrPicS0 or S1.
+-- A member of a short-term reference picture set (7.4.8): DeltaPocS0 or DeltaPocS1,
+-- and UsedByCurrPicS0 or S1.
 pub record ShortTermMember : Type 0 where
   pub delta_poc : ℤ
   pub used_by_curr_pic : Bool
@@ -33,15 +42,15 @@ pub record ShortTermRefPicSet : Type 0 where
   pub negative_pics : List ShortTermMember
   pub positive_pics : List ShortTermMember
 
--- A long-term member of a slice header (7.4.7.1): PocLsbLt, UsedByCurrPicLt, and DeltaPocMsbCycleLt (7-52) where
--- delta_poc_msb_present_flag is set.
+-- A long-term member of a slice header (7.4.7.1): PocLsbLt, UsedByCurrPicLt, and DeltaPocMsbCycleLt
+-- (7-52) where delta_poc_msb_present_flag is set.
 pub record LongTermMember : Type 0 where
   pub poc_lsb : ℕ
   pub delta_poc_msb_cycle : Option ℕ
   pub used_by_curr_pic : Bool
 
--- What a slice header says of one reference list: num_ref_idx_active_minus1 + 1, and the members of list_entry where
--- ref_pic_list_modification_flag is set (7.4.7.2).
+-- What a slice header says of one reference list: num_ref_idx_active_minus1 + 1, and the members of
+-- list_entry where ref_pic_list_modification_flag is set (7.4.7.2).
 pub record ListRule : Type 0 where
   pub num_ref_idx_active : ℕ
   pub list_entry : Option (List ℕ)
@@ -49,12 +58,14 @@ pub record ListRule : Type 0 where
 pub data SliceType : Type 0 where
   B P I : SliceType
 
--- The part of a slice segment header that a dependent slice segment takes from the independent one before it (7.4.7.1).
+-- The part of a slice segment header that a dependent slice segment
+-- takes from the independent one before it (7.4.7.1).
 pub record SliceHeader : Type 0 where
   pub slice_type : SliceType
   pub pic_output_flag : Bool
   pub pic_order_cnt_lsb : ℕ
-  -- CurrRpsIdx: which set of the sequence set is meant, or their number where the header has its own
+  -- CurrRpsIdx: which set of the sequence set is meant,
+  -- or their number where the header has its own
   pub curr_rps_idx : ℕ
   -- the header's own, empty where it has none
   pub short_term_ref_pic_set : ShortTermRefPicSet
@@ -64,7 +75,8 @@ pub record SliceHeader : Type 0 where
   pub list0 : ListRule
   pub list1 : ListRule
 
--- What the picture set that a slice names, and the sequence set that this one names, say as they are kept at the slice.
+-- What the picture set that a slice names, and the sequence set that this one names,
+-- say as they are kept at the slice.
 pub record NamedSets : Type 0 where
   pub format : Format
   pub limits : Limits
@@ -90,7 +102,8 @@ pub record Slice : Type 0 where
   pub sets : NamedSets
   pub open sets use *
 
--- Why a unit is refused by what it and the kept sets say. A table and a row are those of docs/TABLES.md.
+-- Why a unit is refused by what it and the kept sets say.
+-- A table and a row are those of docs/TABLES.md.
 pub data UnitCause : Type 0 where
   TruncatedNalu : UnitCause
   InvalidNaluType : (nal_unit_type : ℕ) → UnitCause

@@ -15,9 +15,14 @@ pub record Context : Type 0 where
   -- NoRaslOutputFlag of the latest IRAP picture, false where there is none
   pub latest_irap_no_rasl : Bool
 
--- NoRaslOutputFlag (8.1.3). It holds for every other picture that is first after an end of sequence, too.
+-- NoRaslOutputFlag (8.1.3). It holds for every other picture
+-- that is first after an end of sequence, too.
 abbrev pub no_rasl_output : Context → Slice → Bool
-no_rasl_output c s = is_idr s.nal_unit_type || is_bla s.nal_unit_type || (is_cra s.nal_unit_type && (c.first_in_bitstream || s.handled_as_bla)) || c.first_after_end
+no_rasl_output c s =
+    is_idr s.nal_unit_type
+    || is_bla s.nal_unit_type
+    || (is_cra s.nal_unit_type && (c.first_in_bitstream || s.handled_as_bla))
+    || c.first_after_end
 
 -- an IRAP picture with NoRaslOutputFlag: a coded video sequence begins
 abbrev pub begins_sequence : Context → Slice → Bool
@@ -25,7 +30,9 @@ begins_sequence c s = is_irap s.nal_unit_type && no_rasl_output c s
 
 -- PicOrderCntVal (8.3.1)
 abbrev pub order_count_of : Context → Slice → ℤ
-order_count_of c s = if begins_sequence c s then pos s.pic_order_cnt_lsb else count_behind s.max_pic_order_cnt_lsb c.prev_tid0_count s.pic_order_cnt_lsb
+order_count_of c s =
+    if begins_sequence c s then pos s.pic_order_cnt_lsb
+    else count_behind s.max_pic_order_cnt_lsb c.prev_tid0_count s.pic_order_cnt_lsb
 
 -- What a picture's first slice tells of it (8.1.3, 8.3.1).
 pub record Head : Type 0 where
@@ -55,12 +62,18 @@ head c s = record {
   nal_unit_type = s.nal_unit_type;
   pic_order_cnt_lsb = s.pic_order_cnt_lsb;
   order_count = order_count_of c s;
-  valid_for_prev_tid0 = s.temporal_id == 0 && not (is_radl s.nal_unit_type || is_rasl s.nal_unit_type || is_slnr s.nal_unit_type);
+  valid_for_prev_tid0 =
+      s.temporal_id == 0
+      && not (is_radl s.nal_unit_type || is_rasl s.nal_unit_type || is_slnr s.nal_unit_type);
   starts_sequence = begins_sequence c s;
   skipped = is_rasl s.nal_unit_type && c.latest_irap_no_rasl;
   pic_output_flag = s.pic_output_flag && not (is_rasl s.nal_unit_type && no_rasl_output c s);
-  no_output_of_prior_pics = begins_sequence c s && not c.first_in_bitstream && (is_cra s.nal_unit_type || s.no_output_of_prior_pics_flag);
-  latest_irap_no_rasl = if is_irap s.nal_unit_type then no_rasl_output c s else c.latest_irap_no_rasl;
+  no_output_of_prior_pics =
+      begins_sequence c s
+      && not c.first_in_bitstream
+      && (is_cra s.nal_unit_type || s.no_output_of_prior_pics_flag);
+  latest_irap_no_rasl =
+      if is_irap s.nal_unit_type then no_rasl_output c s else c.latest_irap_no_rasl;
   format = s.format;
   limits = s.limits;
 }
@@ -85,7 +98,13 @@ pub record Picture : Type 0 where
   pub bitstream_ends : Bool
 
 abbrev pub context : List Picture → Context
-context [] = record { number = 0; first_in_bitstream = true; first_after_end = true; prev_tid0_count = None; latest_irap_no_rasl = false }
+context [] = record {
+  number = 0;
+  first_in_bitstream = true;
+  first_after_end = true;
+  prev_tid0_count = None;
+  latest_irap_no_rasl = false;
+}
 context (p ∷ before) = record {
   number = p.number + 1;
   first_in_bitstream = p.bitstream_ends;
@@ -96,14 +115,24 @@ context (p ∷ before) = record {
 
 -- a picture that begins at unit k (7.4.2.4.5)
 abbrev pub new_picture : ℕ → Slice → List Picture → Picture
-new_picture k s before = record { head = head (context before) s; first = s; unit = k; slices = (k, s) ∷ []; sequence_ends = false; bitstream_ends = false }
+new_picture k s before = record {
+  head = head (context before) s;
+  first = s;
+  unit = k;
+  slices = (k, s) ∷ [];
+  sequence_ends = false;
+  bitstream_ends = false;
+}
 
 -- a slice at unit k begins a picture, or belongs to the latest one (7.4.2.4.5)
 abbrev pub with_slice : ℕ → Slice → List Picture → List Picture
 with_slice k s [] = new_picture k s [] ∷ []
-with_slice k s (p ∷ before) = if s.first_slice_segment_in_pic_flag then new_picture k s (p ∷ before) ∷ p ∷ before else record p { slices = p.slices ++ (k, s) ∷ [] } ∷ before
+with_slice k s (p ∷ before) =
+    if s.first_slice_segment_in_pic_flag then new_picture k s (p ∷ before) ∷ p ∷ before
+    else record p { slices = p.slices ++ (k, s) ∷ [] } ∷ before
 
--- an end of sequence (7.4.3.6) or of bitstream (7.4.3.7) counts for the next picture, and ends no picture that is open
+-- an end of sequence (7.4.3.6) or of bitstream (7.4.3.7) counts for the next picture,
+-- and ends no picture that is open
 abbrev pub with_sequence_end : List Picture → List Picture
 with_sequence_end [] = []
 with_sequence_end (p ∷ before) = record p { sequence_ends = true } ∷ before
@@ -133,8 +162,12 @@ with_whole k (Some s) pictures = with_slice k s pictures
 
 -- one more unit, the k-th
 abbrev pub with_unit : ℕ → Meaning → Stream → Stream
-with_unit k (SequenceSet format) v = record v { first_set = with_set k format v.first_set v.pictures }
-with_unit k (CodedSlice s) v = record v { kept = kept_header v.kept s; pictures = with_whole k (whole_slice v.kept s) v.pictures }
+with_unit k (SequenceSet format) v =
+    record v { first_set = with_set k format v.first_set v.pictures }
+with_unit k (CodedSlice s) v = record v {
+  kept = kept_header v.kept s;
+  pictures = with_whole k (whole_slice v.kept s) v.pictures;
+}
 with_unit k EndOfSequence v = record v { pictures = with_sequence_end v.pictures }
 with_unit k EndOfBitstream v = record v { pictures = with_bitstream_end v.pictures }
 with_unit k Other v = v

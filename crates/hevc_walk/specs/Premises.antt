@@ -32,7 +32,8 @@ pub record IsShortTermRefPicSet (set : ShortTermRefPicSet) : Type 0 where
 pub record IsLongTermMember (max_pic_order_cnt_lsb : ℕ) (m : LongTermMember) : Type 0 where
   pub poc_lsb : m.poc_lsb < max_pic_order_cnt_lsb
 
--- at least one place, at most 15, and an entry for each where the list is changed (7.4.7.1, 7.4.7.2)
+-- at least one place, at most 15, and an entry for each
+-- where the list is changed (7.4.7.1, 7.4.7.2)
 pub record IsListRule (rule : ListRule) : Type 0 where
   pub some : 1 ≤ rule.num_ref_idx_active
   pub few : rule.num_ref_idx_active ≤ 15

@@ -16,10 +16,14 @@ current_picture s = if s.pps_curr_pic_ref_enabled_flag then Some CurrentPicture 
 
 -- RefPicListTemp0 (8-8) and RefPicListTemp1 (8-10), gone through once
 abbrev pub base0 : RefPicSet → Slice → List (Option RefPicListEntry)
-base0 set s = map entry_of_number (set.st_curr_before ++ set.st_curr_after ++ set.lt_curr) ++ current_picture s
+base0 set s =
+    map entry_of_number (set.st_curr_before ++ set.st_curr_after ++ set.lt_curr)
+    ++ current_picture s
 
 abbrev pub base1 : RefPicSet → Slice → List (Option RefPicListEntry)
-base1 set s = map entry_of_number (set.st_curr_after ++ set.st_curr_before ++ set.lt_curr) ++ current_picture s
+base1 set s =
+    map entry_of_number (set.st_curr_after ++ set.st_curr_before ++ set.lt_curr)
+    ++ current_picture s
 
 -- the numbers below n
 abbrev pub numbers_below : ℕ → List ℕ
@@ -33,11 +37,18 @@ entry_index (Some entries) i = get_or entries i 0
 
 -- as many places as are active, gone round the base, None where it is empty (8-9, 8-11)
 abbrev pub list_places : ListRule → List (Option RefPicListEntry) → List (Option RefPicListEntry)
-list_places rule base = map (λ i. get_or base (entry_index rule.list_entry i % length base) None) (numbers_below rule.num_ref_idx_active)
+list_places rule base =
+    map (λ i. get_or base (entry_index rule.list_entry i % length base) None)
+    (numbers_below rule.num_ref_idx_active)
 
 -- an unchanged list 0 that has no place for all ends in the current picture
 abbrev pub with_current : Slice → List (Option RefPicListEntry) → List (Option RefPicListEntry)
-with_current s places = if s.pps_curr_pic_ref_enabled_flag && is_none s.list0.list_entry && nat_lt s.list0.num_ref_idx_active s.num_pic_total_curr then take (s.list0.num_ref_idx_active - 1) places ++ Some CurrentPicture ∷ [] else places
+with_current s places =
+    if s.pps_curr_pic_ref_enabled_flag
+    && is_none s.list0.list_entry
+    && nat_lt s.list0.num_ref_idx_active s.num_pic_total_curr
+    then take (s.list0.num_ref_idx_active - 1) places ++ Some CurrentPicture ∷ []
+    else places
 
 abbrev pub list0_for : SliceType → RefPicSet → Slice → List (Option RefPicListEntry)
 list0_for I set s = []

@@ -26,11 +26,15 @@ refusal_of_picture p = if order_count_in_range p then None else Some PocOutOfRan
 
 -- the refusal of a later slice, whose picture has the format that was accepted (7.4.2.4.2)
 abbrev pub refusal_of_later : Head → Slice → Option Cause
-refusal_of_later p s = if p.skipped || same_format p.format s.format then None else Some (ChangedMidPicture p.format s.format)
+refusal_of_later p s =
+    if p.skipped || same_format p.format s.format then None
+    else Some (ChangedMidPicture p.format s.format)
 
 abbrev pub refusal_of_whole : List Picture → Slice → Option Cause
 refusal_of_whole [] s = refusal_of_picture (head (context []) s)
-refusal_of_whole (p ∷ before) s = if s.first_slice_segment_in_pic_flag then refusal_of_picture (head (context (p ∷ before)) s) else refusal_of_later p.head s
+refusal_of_whole (p ∷ before) s =
+    if s.first_slice_segment_in_pic_flag then refusal_of_picture (head (context (p ∷ before)) s)
+    else refusal_of_later p.head s
 
 abbrev pub refusal_of_slice : List Picture → Option Slice → Option Cause
 refusal_of_slice before None = Some NoIndependentSlice
@@ -54,7 +58,8 @@ stop_from k v (u ∷ us) = first_refusal k (refusal v u) (stop_from (k + 1) (wit
 abbrev pub stop : List Meaning → Option Refusal
 stop us = stop_from 0 nothing_yet us
 
--- What the walk covers: the units before the stop, and the picture at it whose order count isn't in range.
+-- What the walk covers: the units before the stop,
+-- and the picture at it whose order count isn't in range.
 abbrev pub covered_at : Option Cause → Stream → Stream → Stream → Stream
 covered_at None before at later = later
 covered_at (Some PocOutOfRange) before at later = at
@@ -62,7 +67,8 @@ covered_at (Some cause) before at later = before
 
 abbrev pub covered_from : ℕ → Stream → List Meaning → Stream
 covered_from k v [] = v
-covered_from k v (u ∷ us) = covered_at (refusal v u) v (with_unit k u v) (covered_from (k + 1) (with_unit k u v) us)
+covered_from k v (u ∷ us) =
+    covered_at (refusal v u) v (with_unit k u v) (covered_from (k + 1) (with_unit k u v) us)
 
 abbrev pub covered_stream : List Meaning → Stream
 covered_stream us = covered_from 0 nothing_yet us

@@ -29,7 +29,8 @@ call_at k (Output number order_count) = []
 
 abbrev pub output_at : ℕ → Event → List OutputPicture
 output_at k (Called call) = []
-output_at k (Output number order_count) = record { number = number; order_count = order_count; unit = k } ∷ []
+output_at k (Output number order_count) =
+    record { number = number; order_count = order_count; unit = k } ∷ []
 
 abbrev pub calls_in : List (ℕ × Event) → List (ℕ × Call)
 calls_in es = flat_map (λ e. call_at e.0 e.1) es
@@ -69,12 +70,15 @@ abbrev pub so_far : ℕ → List Meaning → List OutputPicture
 so_far k us = outputs_below k (outputs us)
 
 abbrev pub full_at_end : Option Refusal → ℕ → Stream → Option ℕ
-full_at_end None k v = if is_full (latest_head v.pictures) (store v.first_set v.pictures) then Some k else None
+full_at_end None k v =
+    if is_full (latest_head v.pictures) (store v.first_set v.pictures) then Some k else None
 full_at_end (Some refusal) k v = None
 
 -- the unit at which a picture is first to be stored into a full buffer
 abbrev pub full : List Meaning → Option ℕ
-full us = earlier_of (full_store (covered_stream us).first_set (covered_stream us).pictures) (full_at_end (stop us) (length us) (covered_stream us))
+full us =
+    earlier_of (full_store (covered_stream us).first_set (covered_stream us).pictures)
+    (full_at_end (stop us) (length us) (covered_stream us))
 
 abbrev pub full_or : Option ℕ → Result ℕ Refusal → Result ℕ Refusal
 full_or (Some k) later = Err (record { unit = k; cause = DpbFull })

@@ -1,4 +1,5 @@
--- The walk over the pictures, as the output order decoding process goes (C.5.2): calls, and pictures that are output.
+-- The walk over the pictures, as the output order decoding process goes (C.5.2): calls, and
+-- pictures that are output.
 use Rattle.std.specs.Prelude.{ℕ, ℤ, Bool, false, not, ◌&&◌, List, [], ◌∷◌, ◌++◌, length, map, filter, if◌then◌else◌, Option, Some, None, nat_le}
 use Rattle.hevc_walk.specs.Meanings.{Format, Slice, same_format}
 use Rattle.hevc_walk.specs.Pictures.{Head, Picture, order_count_in_range}
@@ -9,9 +10,11 @@ use Rattle.hevc_walk.specs.ReferenceLists.{RefPicListEntry, ref_pic_list0, ref_p
 -- What the backend is asked, handles left out.
 pub data Call : Type 0 where
   NewSequence : (info : Format) → Call
-  NewPicture : (number nal_unit_type : ℕ) (pic_order_cnt_val : ℤ) (pic_output_flag : Bool) (timestamp : ℕ) → Call
+  NewPicture : (number nal_unit_type : ℕ) (pic_order_cnt_val : ℤ) (pic_output_flag : Bool)
+      (timestamp : ℕ) → Call
   BeginPicture : (number : ℕ) (set : RefPicSet) → Call
-  DecodeSlice : (number segment_address : ℕ) (bytes : List ℕ) (list0 list1 : List (Option RefPicListEntry)) → Call
+  DecodeSlice : (number segment_address : ℕ) (bytes : List ℕ)
+      (list0 list1 : List (Option RefPicListEntry)) → Call
   SubmitPicture : (number : ℕ) → Call
 
 -- What happens: a call is made, or a picture is output.
@@ -44,11 +47,16 @@ abbrev pub output_of : Entry → Event
 output_of e = Output e.number e.order_count
 
 abbrev pub output_by : (Buffer → Bumped) → Store → Part Store
-output_by rule s = record { events = map output_of (rule s.buffer).outputs; next = record s { buffer = (rule s.buffer).left } }
+output_by rule s = record {
+  events = map output_of (rule s.buffer).outputs;
+  next = record s { buffer = (rule s.buffer).left };
+}
 
 -- The picture before is over: it is submitted and stored, and what is then due is output (C.5.2.3).
 unfoldable pub store_picture : Head → Store → Part Store
-store_picture q s = call (SubmitPicture q.number) (record s { buffer = with_stored q s.buffer }) >>= output_by (bumping (needs_additional_bumping q.limits))
+store_picture q s =
+    call (SubmitPicture q.number) (record s { buffer = with_stored q s.buffer })
+    >>= output_by (bumping (needs_additional_bumping q.limits))
 
 -- the picture before, if there is one that isn't skipped
 unfoldable pub finish : Option Head → Store → Part Store
@@ -65,7 +73,9 @@ open_sequence format s = call (NewSequence format) (record s { accepted = Some f
 -- Where the format of a picture differs from the accepted one, what waits is output before it is
 -- negotiated, in every case: no NoOutputOfPriorPicsFlag is looked at.
 unfoldable pub change_format : Format → Store → Part Store
-change_format format s = if is_accepted format s.accepted then nothing s else output_by draining s >>= open_sequence format
+change_format format s =
+    if is_accepted format s.accepted then nothing s
+    else output_by draining s >>= open_sequence format
 
 -- A picture whose order count isn't in range, or that is skipped (8.1.3), isn't decoded.
 abbrev pub is_decoded : Head → Bool
@@ -75,18 +85,34 @@ is_decoded p = order_count_in_range p && not p.skipped
 abbrev pub needed_entries : Buffer → Buffer
 needed_entries es = filter is_needed es
 
--- Pictures leave before a picture is decoded (C.5.2.2): all where NoOutputOfPriorPicsFlag holds; where a sequence starts
--- without it all are output; else those that aren't needed leave, and bumping goes on until there is room.
+-- Pictures leave before a picture is decoded (C.5.2.2): all where NoOutputOfPriorPicsFlag holds;
+-- where a sequence starts without it all are output; else those that aren't needed leave, and
+-- bumping goes on until there is room.
 unfoldable pub make_room : Head → Store → Part Store
-make_room p s = if p.no_output_of_prior_pics then nothing (record s { buffer = [] }) else if p.starts_sequence then output_by draining s else output_by (bumping (needs_bumping p.limits)) (record s { buffer = needed_entries s.buffer })
+make_room p s =
+    if p.no_output_of_prior_pics then nothing (record s { buffer = [] })
+    else if p.starts_sequence then output_by draining s
+    else output_by (bumping (needs_bumping p.limits)) (record s {
+      buffer = needed_entries s.buffer;
+    })
 
 -- the two calls that begin a picture
 unfoldable pub start_decoding : Head → RefPicSet → Store → Part Store
-start_decoding p set s = record { events = Called (NewPicture p.number p.nal_unit_type p.order_count p.pic_output_flag 0) ∷ Called (BeginPicture p.number set) ∷ []; next = s }
+start_decoding p set s = record {
+  events =
+      Called (NewPicture p.number p.nal_unit_type p.order_count p.pic_output_flag 0)
+      ∷ Called (BeginPicture p.number set) ∷ [];
+  next = s;
+}
 
--- A picture begins (8.1.3): entries are marked (8.3.2), and leave (C.5.2.2), and the backend is asked to decode.
+-- A picture begins (8.1.3): entries are marked (8.3.2), and leave (C.5.2.2),
+-- and the backend is asked to decode.
 unfoldable pub begin_picture : Head → Slice → Store → Part Store
-begin_picture p first s = if is_decoded p then make_room p (record s { buffer = with_marks p first s.buffer }) >>= start_decoding p (reference_set p first s.buffer) else nothing s
+begin_picture p first s =
+    if is_decoded p
+    then make_room p (record s { buffer = with_marks p first s.buffer })
+    >>= start_decoding p (reference_set p first s.buffer)
+    else nothing s
 
 -- What comes before it begins.
 abbrev pub prepare : Option Head → Head → Store → Part Store
@@ -122,7 +148,8 @@ at_unit k events = map (λ e. (k, e)) events
 
 -- a slice with its reference picture lists (8.3.4)
 abbrev pub slice_call : Head → RefPicSet → Slice → Call
-slice_call p set s = DecodeSlice p.number s.segment_address s.bytes (ref_pic_list0 set s) (ref_pic_list1 set s)
+slice_call p set s =
+    DecodeSlice p.number s.segment_address s.bytes (ref_pic_list0 set s) (ref_pic_list1 set s)
 
 -- each slice is decoded at its own unit
 abbrev pub decode_slice : Head → RefPicSet → ℕ × Slice → List (ℕ × Event)
@@ -140,7 +167,10 @@ opening (Some set) = (set.0, Called (NewSequence set.1)) ∷ []
 -- what the pictures ask, each at the unit of its first slice
 abbrev pub picture_events : Option (ℕ × Format) → List Picture → List (ℕ × Event)
 picture_events set [] = opening set
-picture_events set (p ∷ before) = picture_events set before ++ at_unit p.unit (picture_part (latest_head before) p.head p.first (store set before)).events ++ decode_slices p.head (reference_set_of set p before) p.slices
+picture_events set (p ∷ before) =
+    picture_events set before
+    ++ at_unit p.unit (picture_part (latest_head before) p.head p.first (store set before)).events
+    ++ decode_slices p.head (reference_set_of set p before) p.slices
 
 -- behind the last unit the last picture is over, and all that waits is output (C.5.2.2)
 abbrev pub closing : Option Head → Store → Part Store
@@ -164,4 +194,6 @@ earlier_of None later = later
 -- the unit of the first store into a full buffer
 abbrev pub full_store : Option (ℕ × Format) → List Picture → Option ℕ
 full_store set [] = None
-full_store set (p ∷ before) = earlier_of (full_store set before) (if is_full (latest_head before) (store set before) then Some p.unit else None)
+full_store set (p ∷ before) =
+    earlier_of (full_store set before)
+    (if is_full (latest_head before) (store set before) then Some p.unit else None)

@@ -7,24 +7,38 @@ use Rattle.hevc_walk_order.specs.Sequences.{Sequence, sequences, pictures_of, ou
 
 -- TRAIL_R, an I slice of order count 2
 abbrev pub i2 : Meaning
-i2 = CodedSlice (first_slice 1 (2 ∷ 1 ∷ 217 ∷ 60 ∷ 128 ∷ []) (plain_sets plain_format) (plain_header I 2 [] [] 0))
+i2 =
+    CodedSlice (first_slice 1 (2 ∷ 1 ∷ 217 ∷ 60 ∷ 128 ∷ []) (plain_sets plain_format)
+    (plain_header I 2 [] [] 0))
 
 -- the same of order count 1
 abbrev pub i1 : Meaning
-i1 = CodedSlice (first_slice 1 (2 ∷ 1 ∷ 216 ∷ 188 ∷ 128 ∷ []) (plain_sets plain_format) (plain_header I 1 [] [] 0))
+i1 =
+    CodedSlice (first_slice 1 (2 ∷ 1 ∷ 216 ∷ 188 ∷ 128 ∷ []) (plain_sets plain_format)
+    (plain_header I 1 [] [] 0))
 
--- A sequence that begins without an IRAP picture, of order counts 4 and 2, then one of 0, 4 and 2. The sets declare that at
--- most one picture precedes another in decoding order and follows it in output order.
+-- A sequence that begins without an IRAP picture, of order counts 4 and
+-- 2, then one of 0, 4 and 2. The sets declare that at most one picture
+-- precedes another in decoding order and follows it in output order.
 abbrev pub two_sequences : List Meaning
-two_sequences = SequenceSet plain_format ∷ Other ∷ p4 ∷ p2 ∷ idr (plain_sets plain_format) ∷ p4 ∷ p2 ∷ []
+two_sequences =
+    SequenceSet plain_format ∷ Other ∷ p4 ∷ p2 ∷ idr (plain_sets plain_format) ∷ p4 ∷ p2 ∷ []
 
--- under the same sets order counts 0, 4, 2 and 1: two pictures precede the last, and are to be output behind it
+-- under the same sets order counts 0, 4, 2 and 1: two pictures precede the last,
+-- and are to be output behind it
 abbrev pub reordered_too_far : List Meaning
-reordered_too_far = SequenceSet plain_format ∷ Other ∷ idr (plain_sets plain_format) ∷ p4 ∷ i2 ∷ i1 ∷ []
+reordered_too_far =
+    SequenceSet plain_format ∷ Other ∷ idr (plain_sets plain_format) ∷ p4 ∷ i2 ∷ i1 ∷ []
 
 -- sets that declare at most 2 pictures so, with a latency and a size of the buffer
 abbrev pub sets_of : ℕ → ℕ → NamedSets
-sets_of increase buffering = record (plain_sets plain_format) { limits = record { max_num_reorder_pics = 2; max_latency_increase_plus1 = increase; max_dec_pic_buffering_minus1 = buffering } }
+sets_of increase buffering = record (plain_sets plain_format) {
+  limits = record {
+    max_num_reorder_pics = 2;
+    max_latency_increase_plus1 = increase;
+    max_dec_pic_buffering_minus1 = buffering;
+  };
+}
 
 -- TRAIL_R, an I slice of this order count; its bytes are left out
 abbrev pub i_picture : NamedSets → ℕ → Meaning
@@ -52,4 +66,5 @@ sequence_numbers us = map (λ (q : Sequence). map (λ p. p.number) (pictures_of 
 
 -- the order counts of the outputs of each sequence, in output order, and the latest sequence first
 abbrev pub output_counts : List Meaning → List (List ℤ)
-output_counts us = map (λ (q : Sequence). map (λ o. o.order_count) (outputs_of q (outputs us))) (sequences us)
+output_counts us =
+    map (λ (q : Sequence). map (λ o. o.order_count) (outputs_of q (outputs us))) (sequences us)

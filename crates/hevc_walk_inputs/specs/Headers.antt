@@ -7,7 +7,10 @@ use Rattle.hevc_walk.specs.ReferenceLists.{numbers_below}
 
 -- member i of one half of a short-term set
 abbrev pub short_term_member : List ℤ → List Bool → ℕ → ShortTermMember
-short_term_member deltas used i = record { delta_poc = slice_index_or deltas i (pos 0); used_by_curr_pic = slice_index_or used i false }
+short_term_member deltas used i = record {
+  delta_poc = slice_index_or deltas i (pos 0);
+  used_by_curr_pic = slice_index_or used i false;
+}
 
 abbrev pub short_term_members : ℕ → List ℤ → List Bool → List ShortTermMember
 short_term_members count deltas used = map (short_term_member deltas used) (numbers_below count)
@@ -26,17 +29,23 @@ told_cycle is_present cycle = if is_present then Some cycle else None
 abbrev pub long_term_member : PlainSliceSegmentHeader → ℕ → LongTermMember
 long_term_member h i = record {
   poc_lsb = slice_index_or h.poc_lsb_lt i 0;
-  delta_poc_msb_cycle = told_cycle (slice_index_or h.delta_poc_msb_present_flag i false) (slice_index_or h.delta_poc_msb_cycle_lt i 0);
+  delta_poc_msb_cycle =
+      told_cycle (slice_index_or h.delta_poc_msb_present_flag i false)
+      (slice_index_or h.delta_poc_msb_cycle_lt i 0);
   used_by_curr_pic = slice_index_or h.used_by_curr_pic_lt i false;
 }
 
 -- num_long_term_sps + num_long_term_pics of them
 abbrev pub long_term_members : PlainSliceSegmentHeader → List LongTermMember
-long_term_members h = map (long_term_member h) (numbers_below (h.num_long_term_sps + h.num_long_term_pics))
+long_term_members h =
+    map (long_term_member h) (numbers_below (h.num_long_term_sps + h.num_long_term_pics))
 
 -- num_ref_idx_active_minus1 + 1 places, and list_entry where ref_pic_list_modification_flag is set
 abbrev pub list_rule : ℕ → Bool → List ℕ → ListRule
-list_rule active_minus1 is_changed entries = record { num_ref_idx_active = active_minus1 + 1; list_entry = if is_changed then Some entries else None }
+list_rule active_minus1 is_changed entries = record {
+  num_ref_idx_active = active_minus1 + 1;
+  list_entry = if is_changed then Some entries else None;
+}
 
 abbrev pub slice_type_of : ℕ → SliceType
 slice_type_of type = if type == 0 then B else if type == 1 then P else I
@@ -51,6 +60,12 @@ slice_header_of h = record {
   short_term_ref_pic_set = short_term_set_of h.short_term_ref_pic_set;
   long_term_pics = long_term_members h;
   num_pic_total_curr = h.num_pic_total_curr;
-  list0 = list_rule h.num_ref_idx_l0_active_minus1 h.ref_pic_list_modification.ref_pic_list_modification_flag_l0 h.ref_pic_list_modification.list_entry_l0;
-  list1 = list_rule h.num_ref_idx_l1_active_minus1 h.ref_pic_list_modification.ref_pic_list_modification_flag_l1 h.ref_pic_list_modification.list_entry_l1;
+  list0 =
+      list_rule h.num_ref_idx_l0_active_minus1
+      h.ref_pic_list_modification.ref_pic_list_modification_flag_l0
+      h.ref_pic_list_modification.list_entry_l0;
+  list1 =
+      list_rule h.num_ref_idx_l1_active_minus1
+      h.ref_pic_list_modification.ref_pic_list_modification_flag_l1
+      h.ref_pic_list_modification.list_entry_l1;
 }

@@ -1,4 +1,5 @@
--- What a sequence set says of the pictures of its sequence (7.4.3.2.1): their format, and the limits of their output.
+-- What a sequence set says of the pictures of its sequence (7.4.3.2.1): their format,
+-- and the limits of their output.
 use Rattle.std.specs.Prelude.{ℕ, min, List, slice_index_or}
 use Rattle.hevc_records.specs.Sps.{PlainSps}
 use Rattle.hevc_records.specs.SpsSizes.{max_dpb_size_of}
@@ -16,7 +17,8 @@ format_of_set s = record {
   max_num_pics = max_dpb_size_of s;
 }
 
--- HighestTid (8.1.2), where sub-layers up to this one are wanted: the highest of them that the set has
+-- HighestTid (8.1.2), where sub-layers up to this one are wanted:
+-- the highest of them that the set has
 abbrev pub highest_sub_layer : ℕ → PlainSps → ℕ
 highest_sub_layer wanted s = min wanted s.max_sub_layers_minus1
 
@@ -24,7 +26,8 @@ highest_sub_layer wanted s = min wanted s.max_sub_layers_minus1
 abbrev pub of_highest : ℕ → PlainSps → List ℕ → ℕ
 of_highest wanted s numbers = slice_index_or numbers (highest_sub_layer wanted s) 0
 
--- what a set declares for the highest sub-layer that is decoded, where sub-layers up to this one are wanted (C.5.2.2)
+-- what a set declares for the highest sub-layer that is decoded,
+-- where sub-layers up to this one are wanted (C.5.2.2)
 abbrev pub limits_of_set : ℕ → PlainSps → Limits
 limits_of_set wanted s = record {
   max_num_reorder_pics = of_highest wanted s s.max_num_reorder_pics;

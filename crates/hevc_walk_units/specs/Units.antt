@@ -1,5 +1,5 @@
--- What each unit does where the units before it have led. The parts are those of the walk over pictures; that both forms
--- ask for the same is proved in hevc_walk_joined.
+-- What each unit does where the units before it have led. The parts are those of the walk over
+-- pictures; that both forms ask for the same is proved in hevc_walk_joined.
 use Rattle.std.specs.Prelude.{ℕ, ℤ, ◌+◌, Bool, true, false, ◌&&◌, List, [], ◌∷◌, ◌++◌, if◌then◌else◌, Option, Some, None, is_some, Result, Ok, Err}
 use Rattle.hevc_walk.specs.Meanings.{Format, Slice, Meaning, SequenceSet, CodedSlice, EndOfSequence, EndOfBitstream, Other, Refused, same_format}
 use Rattle.hevc_walk.specs.DependentSlices.{KeptHeader, whole_slice, kept_header}
@@ -9,7 +9,8 @@ use Rattle.hevc_walk.specs.Walk.{Event, Call, Part, ◌>>=◌, nothing, call, St
 use Rattle.hevc_walk.specs.Refusals.{Cause, UnitRefused, NoIndependentSlice, ChangedMidPicture, DpbFull, Refusal, refusal_of_picture}
 use Rattle.hevc_walk.specs.Results.{OutputPicture, calls_in, outputs_in}
 
--- The picture whose slices come: none, one that is passed over, or one that is decoded, with its reference picture set.
+-- The picture whose slices come: none, one that is passed over, or one that is decoded,
+-- with its reference picture set.
 pub data Current : Type 0 where
   NoPicture : Current
   SkippedPicture : Current
@@ -28,7 +29,13 @@ at_first = record {
   store = record { accepted = None; buffer = [] };
   current = NoPicture;
   kept = None;
-  next = record { number = 0; first_in_bitstream = true; first_after_end = true; prev_tid0_count = None; latest_irap_no_rasl = false };
+  next = record {
+    number = 0;
+    first_in_bitstream = true;
+    first_after_end = true;
+    prev_tid0_count = None;
+    latest_irap_no_rasl = false;
+  };
 }
 
 abbrev pub on_store : (Store → Part Store) → Standing → Part Standing
@@ -49,26 +56,46 @@ tid0_behind (Some p) count = if is_tid0 p then Some p.order_count else count
 
 -- the open picture is over, or the skipped one
 abbrev pub finish_current : Standing → Part Standing
-finish_current s = on_store (finish (open_head s.current)) (record s { current = NoPicture; next = record s.next { prev_tid0_count = tid0_behind (open_head s.current) s.next.prev_tid0_count } })
+finish_current s =
+    on_store (finish (open_head s.current)) (record s {
+      current = NoPicture;
+      next = record s.next {
+        prev_tid0_count = tid0_behind (open_head s.current) s.next.prev_tid0_count;
+      };
+    })
 
 abbrev pub context_behind : Head → Context → Context
-context_behind p c = record c { number = p.number + 1; first_in_bitstream = false; first_after_end = false; latest_irap_no_rasl = p.latest_irap_no_rasl }
+context_behind p c = record c {
+  number = p.number + 1;
+  first_in_bitstream = false;
+  first_after_end = false;
+  latest_irap_no_rasl = p.latest_irap_no_rasl;
+}
 
 -- a picture begins, or is passed over
 abbrev pub open_picture : Head → Slice → Standing → Part Standing
-open_picture p first s = record { events = (begin_picture p first s.store).events; next = record s { store = (begin_picture p first s.store).next; current = current_of p (reference_set p first s.store.buffer); next = context_behind p s.next } }
+open_picture p first s = record {
+  events = (begin_picture p first s.store).events;
+  next = record s {
+    store = (begin_picture p first s.store).next;
+    current = current_of p (reference_set p first s.store.buffer);
+    next = context_behind p s.next;
+  };
+}
 
 -- a slice of the current picture
 abbrev pub decode_current : Current → Slice → Standing → Part Standing
 decode_current NoPicture slice s = nothing s
 decode_current SkippedPicture slice s = nothing s
-decode_current (OpenPicture p set) slice s = if is_decoded p then call (slice_call p set slice) s else nothing s
+decode_current (OpenPicture p set) slice s =
+    if is_decoded p then call (slice_call p set slice) s else nothing s
 
 abbrev pub decode_slice : Slice → Standing → Part Standing
 decode_slice slice s = decode_current s.current slice s
 
 abbrev pub begin_by : Head → Slice → Standing → Part Standing
-begin_by p slice s = on_store (change_format p.format) s >>= open_picture p slice >>= decode_slice slice
+begin_by p slice s =
+    on_store (change_format p.format) s >>= open_picture p slice >>= decode_slice slice
 
 -- a slice begins a picture where none is current
 abbrev pub begin_slice : Slice → Standing → Part Standing
@@ -80,7 +107,8 @@ first_slice slice s = finish_current s >>= begin_slice slice
 -- the refusal of a later slice
 abbrev pub changed_by : Format → Option Format → Option Cause
 changed_by named None = None
-changed_by named (Some accepted) = if same_format accepted named then None else Some (ChangedMidPicture accepted named)
+changed_by named (Some accepted) =
+    if same_format accepted named then None else Some (ChangedMidPicture accepted named)
 
 abbrev pub refusal_of_later : Current → Slice → Option Format → Option Cause
 refusal_of_later NoPicture slice accepted = None
@@ -88,7 +116,9 @@ refusal_of_later SkippedPicture slice accepted = None
 refusal_of_later (OpenPicture p set) slice accepted = changed_by slice.format accepted
 
 abbrev pub later_slice : Slice → Standing → Part Standing
-later_slice slice s = if is_some (refusal_of_later s.current slice s.store.accepted) then nothing s else decode_slice slice s
+later_slice slice s =
+    if is_some (refusal_of_later s.current slice s.store.accepted) then nothing s
+    else decode_slice slice s
 
 abbrev pub begins_picture : Current → Slice → Bool
 begins_picture NoPicture slice = true
@@ -96,7 +126,8 @@ begins_picture SkippedPicture slice = slice.first_slice_segment_in_pic_flag
 begins_picture (OpenPicture p set) slice = slice.first_slice_segment_in_pic_flag
 
 abbrev pub slice_part : Slice → Standing → Part Standing
-slice_part slice s = if begins_picture s.current slice then first_slice slice s else later_slice slice s
+slice_part slice s =
+    if begins_picture s.current slice then first_slice slice s else later_slice slice s
 
 -- nothing where the slice lacks an independent one
 abbrev pub whole_part : Option Slice → Standing → Part Standing
@@ -111,9 +142,11 @@ sequence_part (Some accepted) format s = nothing s
 -- what a unit does
 abbrev pub unit_part : Meaning → Standing → Part Standing
 unit_part (SequenceSet format) s = sequence_part s.store.accepted format s
-unit_part (CodedSlice slice) s = whole_part (whole_slice s.kept slice) (record s { kept = kept_header s.kept slice })
+unit_part (CodedSlice slice) s =
+    whole_part (whole_slice s.kept slice) (record s { kept = kept_header s.kept slice })
 unit_part EndOfSequence s = nothing (record s { next = record s.next { first_after_end = true } })
-unit_part EndOfBitstream s = nothing (record s { next = record s.next { first_in_bitstream = true } })
+unit_part EndOfBitstream s =
+    nothing (record s { next = record s.next { first_in_bitstream = true } })
 unit_part Other s = nothing s
 unit_part (Refused cause) s = nothing s
 
@@ -121,7 +154,9 @@ abbrev pub refusal_of_first : Slice → Standing → Option Cause
 refusal_of_first slice s = refusal_of_picture (head (finish_current s).next.next slice)
 
 abbrev pub refusal_of_slice : Slice → Standing → Option Cause
-refusal_of_slice slice s = if begins_picture s.current slice then refusal_of_first slice s else refusal_of_later s.current slice s.store.accepted
+refusal_of_slice slice s =
+    if begins_picture s.current slice then refusal_of_first slice s
+    else refusal_of_later s.current slice s.store.accepted
 
 abbrev pub refusal_of_whole : Option Slice → Standing → Option Cause
 refusal_of_whole None s = Some NoIndependentSlice
@@ -152,7 +187,9 @@ closing_part s = on_store (closing (open_head s.current)) s
 -- the events from the unit k on
 abbrev pub events_from : Standing → ℕ → List Meaning → List (ℕ × Event)
 events_from s k [] = at_unit k (closing_part s).events
-events_from s k (u ∷ us) = at_unit k (unit_part u s).events ++ (if is_some (refusal_at u s) then [] else events_from (unit_part u s).next (k + 1) us)
+events_from s k (u ∷ us) =
+    at_unit k (unit_part u s).events
+    ++ (if is_some (refusal_at u s) then [] else events_from (unit_part u s).next (k + 1) us)
 
 abbrev pub calls_by_units : List Meaning → List (ℕ × Call)
 calls_by_units us = calls_in (events_from at_first 0 us)
@@ -170,7 +207,9 @@ full_or_cause full cause = if full then Some DpbFull else cause
 
 abbrev pub verdict_from : Standing → ℕ → List Meaning → Result ℕ Refusal
 verdict_from s k [] = refused_at k (full_or_cause (is_full_now s) None) (Ok s.next.number)
-verdict_from s k (u ∷ us) = refused_at k (full_or_cause (is_full_at u s) (refusal_at u s)) (verdict_from (unit_part u s).next (k + 1) us)
+verdict_from s k (u ∷ us) =
+    refused_at k (full_or_cause (is_full_at u s) (refusal_at u s))
+    (verdict_from (unit_part u s).next (k + 1) us)
 
 abbrev pub verdict_by_units : List Meaning → Result ℕ Refusal
 verdict_by_units us = verdict_from at_first 0 us
