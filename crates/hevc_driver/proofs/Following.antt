@@ -21,7 +21,7 @@ use Rattle.hevc_backend.specs.Told.{BegunPicture, begun_picture}
 use Rattle.hevc_driver.specs.declared.current.Current.{Current as CodeCurrent}
 use Rattle.hevc_driver.specs.declared.current.Current.TheVariants as code
 use Rattle.hevc_driver.specs.declared.current.Open.{Open}
-use Rattle.hevc_driver.specs.declared.walk.Walk.{Walk}
+use Rattle.hevc_driver.specs.declared.standing.Standing as driver
 use Rattle.hevc_driver.specs.Sound.{IsOpenNewest, IsNewest, IsLatest}
 use Rattle.hevc_driver.specs.Calls.{call_of, IsTimed, submissions}
 use Rattle.hevc_driver.specs.Moments.{given_up}
@@ -104,8 +104,8 @@ pub hand_changed : {H T : Type 0} (r : Result T DecodeError) (e : DecodeError) (
 hand_changed r e t a b w s is changed same = follow_changed r e t a b w s (given_up_by r s) is changed same (refused_given_up r (λ y. y ≡ e) s is)
 
 -- the open picture is the newest, and the backend's last one
-pub open_newest : {H P : Type 0} (w : Walk H P) (o : Open P) → w.current ≡ code.Opened o → IsOpenNewest w.current w → IsNewest o.head o.set w
+pub open_newest : {H P : Type 0} (w : driver.Standing H P) (o : Open P) → w.current ≡ code.OpenPicture o → IsOpenNewest w.current w → IsNewest o.head o.set w
 open_newest w o is h = subst (λ (c : CodeCurrent _). IsOpenNewest c w) is h
 
-pub open_latest : {P : Type 0} (c : CodeCurrent P) (o : Open P) (picture : Option BegunPicture) → c ≡ code.Opened o → IsLatest c picture → picture ≡ Some (begun_picture o.head.number o.head.picture)
+pub open_latest : {P : Type 0} (c : CodeCurrent P) (o : Open P) (picture : Option BegunPicture) → c ≡ code.OpenPicture o → IsLatest c picture → picture ≡ Some (begun_picture o.head.number o.head.picture)
 open_latest c o picture is h = subst (λ (c : CodeCurrent _). IsLatest c picture) is h

@@ -31,22 +31,22 @@ use Rattle.hevc_backend.specs.Trait.{Counts, CountsEmptyAnswers}
 use Rattle.hevc_backend.specs.Told.{Told, WhereTold, BegunPicture}
 use Rattle.hevc_backend.proofs.ToldLaws.{told_same}
 use Rattle.hevc_driver.specs.declared.current.Current.{Current}
-use Rattle.hevc_driver.specs.declared.current.Current.TheVariants.{NoPicture, Skipped, Opened}
-use Rattle.hevc_driver.specs.declared.walk.Walk.{Walk}
+use Rattle.hevc_driver.specs.declared.current.Current.TheVariants.{NoPicture, SkippedPicture, OpenPicture}
+use Rattle.hevc_driver.specs.declared.standing.Standing as driver
 use Rattle.hevc_driver.specs.Standings.{current_of}
 use Rattle.hevc_driver.specs.Sound.{AreBelow, IsAccepted, IsLatest, Fits, IsOpenNewest, IsSound, Leaves}
 
 -- ---- no picture is open
 
-pub none_newest : {H P : Type 0} (c : Current P) (w : Walk H P) → current_of c ≡ units.NoPicture → IsOpenNewest c w
+pub none_newest : {H P : Type 0} (c : Current P) (w : driver.Standing H P) → current_of c ≡ units.NoPicture → IsOpenNewest c w
 none_newest NoPicture w is = tt
-none_newest Skipped w is = tt
-none_newest (Opened o) w is = absurd (cc is)
+none_newest SkippedPicture w is = tt
+none_newest (OpenPicture o) w is = absurd (cc is)
 
 pub none_latest : {P : Type 0} (c : Current P) (picture : Option BegunPicture) → current_of c ≡ units.NoPicture → IsLatest c picture
 none_latest NoPicture picture is = tt
-none_latest Skipped picture is = tt
-none_latest (Opened o) picture is = absurd (cc is)
+none_latest SkippedPicture picture is = tt
+none_latest (OpenPicture o) picture is = absurd (cc is)
 
 -- ---- numbers
 
@@ -55,7 +55,7 @@ below_part n m ts us below more part = λ t k. let l = below t (part t k) in ome
 
 -- ---- pictures are output, and some leave
 
-pub left_sound : {H P : Type 0} (log : Option (List (Call H))) (old new : Walk H P) → IsSound log old → current_of old.current ≡ units.NoPicture → Leaves old new → old.next.number ≤ new.next.number → IsSound log new
+pub left_sound : {H P : Type 0} (log : Option (List (Call H))) (old new : driver.Standing H P) → IsSound log old → current_of old.current ≡ units.NoPicture → Leaves old new → old.next.number ≤ new.next.number → IsSound log new
 left_sound log old new s none l more = record {
   sized = l.size ∙ s.sized ∙ ap (λ (a : Option NegotiationInfo). accepted_size (option_map format_of a)) (sym l.accepted);
   latency = l.latency;
@@ -83,17 +83,17 @@ is_negotiated named (Some a) is = refl
 pub part_same : {H : Type 0} (es fs : List (DpbEntry H)) → fs ≡ es → IsPartOf (tickets fs) (tickets es)
 part_same {H} es fs same = λ x k. subst (λ (l : List (DpbEntry H)). Contains (tickets l) x) same k
 
-kept_newest : {H P : Type 0} (c : Current P) (old new : Walk H P) → stored_entries new.dpb ≡ stored_entries old.dpb → new.accepted ≡ old.accepted → new.next.number ≡ old.next.number → IsOpenNewest c old → IsOpenNewest c new
+kept_newest : {H P : Type 0} (c : Current P) (old new : driver.Standing H P) → stored_entries new.dpb ≡ stored_entries old.dpb → new.accepted ≡ old.accepted → new.next.number ≡ old.next.number → IsOpenNewest c old → IsOpenNewest c new
 kept_newest NoPicture old new entries accepted number h = tt
-kept_newest Skipped old new entries accepted number h = tt
-kept_newest (Opened o) old new entries accepted number h = record {
+kept_newest SkippedPicture old new entries accepted number h = tt
+kept_newest (OpenPicture o) old new entries accepted number h = record {
   newer = below_part o.head.number o.head.number (tickets (stored_entries old.dpb)) (tickets (stored_entries new.dpb)) h.newer (omega arith) (part_same (stored_entries old.dpb) (stored_entries new.dpb) entries);
   counted = (let l = h.counted in omega (arith, l, number));
   references = λ n k. subst (λ es. Contains (numbers es) n) (sym entries) (h.references n k);
   negotiated = ap is_some accepted ∙ h.negotiated;
 }
 
-pub kept_sound : {H P : Type 0} (log : Option (List (Call H))) (old new : Walk H P) → IsSound log old → stored_entries new.dpb ≡ stored_entries old.dpb → max_num_pics_of new.dpb ≡ max_num_pics_of old.dpb → new.accepted ≡ old.accepted → new.current ≡ old.current → new.next.number ≡ old.next.number → IsSound log new
+pub kept_sound : {H P : Type 0} (log : Option (List (Call H))) (old new : driver.Standing H P) → IsSound log old → stored_entries new.dpb ≡ stored_entries old.dpb → max_num_pics_of new.dpb ≡ max_num_pics_of old.dpb → new.accepted ≡ old.accepted → new.current ≡ old.current → new.next.number ≡ old.next.number → IsSound log new
 kept_sound log old new s entries size accepted current number = record {
   sized = size ∙ s.sized ∙ ap (λ (a : Option NegotiationInfo). accepted_size (option_map format_of a)) (sym accepted);
   latency = subst HaveLatency (sym entries) s.latency;
@@ -147,14 +147,14 @@ pub both_told : {H : Type 0} (P Q : Told H → Type 0) (log : Option (List (Call
 both_told P Q None p q = record { of_log = tt }
 both_told P Q (Some log) p q = record { of_log = (p.of_log, q.of_log) }
 
-pub fits_none : {H P : Type 0} (w : Walk H P) (t u : Told H) → current_of w.current ≡ units.NoPicture → u.submitted ≡ t.submitted → u.sequence ≡ t.sequence → Fits w t → Fits w u
+pub fits_none : {H P : Type 0} (w : driver.Standing H P) (t u : Told H) → current_of w.current ≡ units.NoPicture → u.submitted ≡ t.submitted → u.sequence ≡ t.sequence → Fits w t → Fits w u
 fits_none w t u none submitted sequence h = record {
   handles = λ x k. subst (λ ts. Contains ts x) (sym submitted) (h.handles x k);
   sequence = subst (IsAccepted w.accepted) (sym sequence) h.sequence;
   picture = none_latest w.current u.picture none;
 }
 
-pub sound_told : {H P : Type 0} (log now : Option (List (Call H))) (w : Walk H P) → IsSound log w → WhereTold now (Fits w) → IsSound now w
+pub sound_told : {H P : Type 0} (log now : Option (List (Call H))) (w : driver.Standing H P) → IsSound log w → WhereTold now (Fits w) → IsSound now w
 sound_told log now w s told = record { sized = s.sized; latency = s.latency; below = s.below; newest = s.newest; told = told }
 
 unchanged_by : (a named : Format) (b : Bool) → same_format a named ≡ b → (if b then None else Some (ChangedMidPicture a named)) ≡ None → b ≡ true

@@ -7,7 +7,7 @@ use Rattle.hevc_pictures.specs.Limits.{limits_of}
 use Rattle.hevc_dpb.specs.Plain.{from_zero}
 use Rattle.hevc_backend.specs.Negotiation.{format_of}
 use Rattle.hevc_driver.specs.declared.head.Head.{Head}
-use Rattle.hevc_driver.specs.declared.head.Next.{Next}
+use Rattle.hevc_driver.specs.declared.head.Context.{Context}
 
 abbrev pub head_of : Head → walk.Head
 head_of h = record {
@@ -29,7 +29,7 @@ head_of h = record {
 abbrev pub tid0_count : Option PictureData → Option ℤ
 tid0_count p = option_map (λ picture. picture.pic_order_cnt_val) p
 
-abbrev pub context_of : Next → walk.Context
+abbrev pub context_of : Context → walk.Context
 context_of n = record {
   number = n.number;
   first_in_bitstream = n.first_picture_in_bitstream;

@@ -18,9 +18,9 @@ use Rattle.hevc_backend.specs.Named.{SetNamesAmong}
 use Rattle.hevc_backend.specs.Told.{Told, WhereTold, AreSubmitted, BegunPicture, begun_picture}
 use Rattle.hevc_walk.specs.Meanings.{Format}
 use Rattle.hevc_driver.specs.declared.current.Current.{Current}
-use Rattle.hevc_driver.specs.declared.current.Current.TheVariants.{NoPicture, Skipped, Opened}
+use Rattle.hevc_driver.specs.declared.current.Current.TheVariants.{NoPicture, SkippedPicture, OpenPicture}
 use Rattle.hevc_driver.specs.declared.head.Head.{Head}
-use Rattle.hevc_driver.specs.declared.walk.Walk.{Walk}
+use Rattle.hevc_driver.specs.declared.standing.Standing as driver
 
 -- each of these numbers is below n
 abbrev pub AreBelow : {H : Type 0} → ℕ → List (ℕ × H) → Type 0
@@ -34,30 +34,30 @@ IsAccepted (Some accepted) sequence = sequence ≡ Some (format_of accepted)
 -- the backend's last picture is the open one
 abbrev pub IsLatest : {P : Type 0} → Current P → Option BegunPicture → Type 0
 IsLatest NoPicture picture = Unit {0}
-IsLatest Skipped picture = Unit {0}
-IsLatest (Opened open_) picture =
+IsLatest SkippedPicture picture = Unit {0}
+IsLatest (OpenPicture open_) picture =
     picture ≡ Some (begun_picture open_.head.number open_.head.picture)
 
 -- what the backend was told fits
-pub record Fits {H P : Type 0} (w : Walk H P) (t : Told H) : Type 0 where
+pub record Fits {H P : Type 0} (w : driver.Standing H P) (t : Told H) : Type 0 where
   pub handles : AreSubmitted (stored_entries w.dpb) t
   pub sequence : IsAccepted w.accepted t.sequence
   pub picture : IsLatest w.current t.picture
 
 -- A picture of this head and this reference picture set is newer than all that are stored, and
 -- refers to none but those.
-pub record IsNewest {H P : Type 0} (head : Head) (set : RefPicSet) (w : Walk H P) : Type 0 where
+pub record IsNewest {H P : Type 0} (head : Head) (set : RefPicSet) (w : driver.Standing H P) : Type 0 where
   pub newer : AreBelow head.number (tickets (stored_entries w.dpb))
   pub counted : head.number < w.next.number
   pub references : SetNamesAmong (numbers (stored_entries w.dpb)) set
   pub negotiated : is_some w.accepted ≡ true
 
-abbrev pub IsOpenNewest : {H P : Type 0} → Current P → Walk H P → Type 0
+abbrev pub IsOpenNewest : {H P : Type 0} → Current P → driver.Standing H P → Type 0
 IsOpenNewest NoPicture w = Unit {0}
-IsOpenNewest Skipped w = Unit {0}
-IsOpenNewest (Opened open_) w = IsNewest open_.head open_.set w
+IsOpenNewest SkippedPicture w = Unit {0}
+IsOpenNewest (OpenPicture open_) w = IsNewest open_.head open_.set w
 
-pub record IsSound {H P : Type 0} (log : Option (List (Call H))) (w : Walk H P) : Type 0 where
+pub record IsSound {H P : Type 0} (log : Option (List (Call H))) (w : driver.Standing H P) : Type 0 where
   -- the buffer has the size that was accepted
   pub sized : max_num_pics_of w.dpb ≡ accepted_size (option_map format_of w.accepted)
   pub latency : HaveLatency (stored_entries w.dpb)
@@ -66,22 +66,22 @@ pub record IsSound {H P : Type 0} (log : Option (List (Call H))) (w : Walk H P) 
   pub told : WhereTold log (Fits w)
 
 -- how many pictures came out or may come out
-abbrev pub total : {H P : Type 0} → Walk H P → ℕ
+abbrev pub total : {H P : Type 0} → driver.Standing H P → ℕ
 total w = deque_len w.queue + num_waiting (buffer_of w.dpb)
 
 -- There is room for so many pictures more than came out or wait, and for 16 that are stored.
-pub record HasRoom {H P : Type 0} (more : ℕ) (w : Walk H P) : Type 0 where
+pub record HasRoom {H P : Type 0} (more : ℕ) (w : driver.Standing H P) : Type 0 where
   pub queue : total w + more ≤ deque_capacity w.queue
   pub stored : 16 ≤ room_of w.dpb
 
 -- At most so many pictures more came out or wait, in the same memory.
-pub record Grows {H P : Type 0} (more : ℕ) (old new : Walk H P) : Type 0 where
+pub record Grows {H P : Type 0} (more : ℕ) (old new : driver.Standing H P) : Type 0 where
   pub few : total new ≤ total old + more
   pub capacity : deque_capacity new.queue ≡ deque_capacity old.queue
   pub stored : room_of new.dpb ≡ room_of old.dpb
 
 -- Pictures are output, and some leave; none comes in.
-pub record Leaves {H P : Type 0} (old new : Walk H P) : Type 0 where
+pub record Leaves {H P : Type 0} (old new : driver.Standing H P) : Type 0 where
   pub handles : IsPartOf (tickets (stored_entries new.dpb)) (tickets (stored_entries old.dpb))
   pub size : max_num_pics_of new.dpb ≡ max_num_pics_of old.dpb
   pub latency : HaveLatency (stored_entries new.dpb)
@@ -90,7 +90,7 @@ pub record Leaves {H P : Type 0} (old new : Walk H P) : Type 0 where
   pub current : new.current ≡ old.current
 
 -- the number of a picture that begins
-pub record IsNext {H P : Type 0} (head : Head) (w : Walk H P) : Type 0 where
+pub record IsNext {H P : Type 0} (head : Head) (w : driver.Standing H P) : Type 0 where
   pub number : head.number ≡ w.next.number
   pub counted : head.number < 2 ^ 64 - 1
 

@@ -10,18 +10,18 @@ use Rattle.hevc_backend.specs.Negotiation.{format_of}
 use Rattle.hevc_driver.specs.declared.current.Current.{Current}
 use Rattle.hevc_driver.specs.declared.current.Current.TheVariants as code
 use Rattle.hevc_driver.specs.declared.current.Open.{Open}
-use Rattle.hevc_driver.specs.declared.walk.Walk.{Walk}
+use Rattle.hevc_driver.specs.declared.standing.Standing as driver
 use Rattle.hevc_driver.specs.Heads.{head_of, context_of}
 use Rattle.hevc_driver.specs.Slices.{kept_of}
 use Rattle.hevc_driver.specs.Does.{Traces}
 
 abbrev pub current_of : {P : Type 0} → Current P → units.Current
 current_of code.NoPicture = units.NoPicture
-current_of code.Skipped = units.SkippedPicture
-current_of (code.Opened open_) = units.OpenPicture (head_of open_.head) (plain_set open_.set)
+current_of code.SkippedPicture = units.SkippedPicture
+current_of (code.OpenPicture open_) = units.OpenPicture (head_of open_.head) (plain_set open_.set)
 
 -- a format that is awaited counts as accepted
-abbrev pub standing : {H P : Type 0} → Walk H P → Standing
+abbrev pub standing : {H P : Type 0} → driver.Standing H P → Standing
 standing w = record {
   store = record { accepted = option_map format_of w.accepted; buffer = buffer_of w.dpb };
   current = current_of w.current;
@@ -29,7 +29,7 @@ standing w = record {
   next = context_of w.next;
 }
 
-abbrev pub traces : {H P : Type 0} → Option (List (Call H)) → Walk H P → Traces H
+abbrev pub traces : {H P : Type 0} → Option (List (Call H)) → driver.Standing H P → Traces H
 traces log w = record { log = log; queue = w.queue.items; tickets = tickets (stored_entries w.dpb) }
 
 -- with this picture open

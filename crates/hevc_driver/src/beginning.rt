@@ -10,7 +10,7 @@ ghost use Rattle.hevc_pictures.specs.OrderCounts.{IsMaxPicOrderCntLsb};
 ghost use Rattle.hevc_driver.specs.Heads.{head_of, context_of, tid0_count};
 ghost use Rattle.hevc_driver.specs.Slices.{slice_of};
 
-use crate::head::{Head, Next};
+use crate::head::{Context, Head};
 use hevc_bits::NaluType;
 use hevc_dpb::{Limits, PictureData};
 use hevc_options::Options;
@@ -30,7 +30,7 @@ pub(crate) fn max_pic_order_cnt_lsb(sps: &Sps) -> i32
 ///
 /// Errors: its order count, or its most significant bits, isn't a 32-bit number.
 pub(crate) fn head_of_first(
-    next: &Next,
+    next: &Context,
     options: Options,
     slice: &Slice<'_>,
     sps: &Sps,
@@ -81,11 +81,11 @@ fn latest_irap_no_rasl(picture: &PictureData, earlier: bool) -> bool
 }
 
 /// What the pictures with this one mean for the next.
-pub(crate) fn behind(next: &Next, head: &Head) -> Next
+pub(crate) fn behind(next: &Context, head: &Head) -> Context
     requires { head.now.number < 2 ^ 64 - 1 }
     ensures { context_of result ≡ context_behind (head_of head.now) (context_of next.now) }
 {
-    Next {
+    Context {
         number: head.number + 1,
         first_picture_in_bitstream: false,
         first_picture_after_eos: false,

@@ -22,6 +22,6 @@ pub struct Open<P> {
 pub enum Current<P> {
     NoPicture,
     /// Its slices are passed over.
-    Skipped,
-    Opened(Open<P>),
+    SkippedPicture,
+    OpenPicture(Open<P>),
 }

@@ -8,8 +8,8 @@ ghost use Rattle.hevc_driver.specs.Takes.{Closes};
 
 use crate::current::Current;
 use crate::decode_error::DecodeError;
-use crate::head::Next;
-use crate::walk::Walk;
+use crate::head::Context;
+use crate::standing::Standing;
 use hevc_backend::StatelessH265DecoderBackend;
 use hevc_dpb::Dpb;
 use hevc_refs::ReferencePicLists;
@@ -20,7 +20,7 @@ use std::collections::VecDeque;
 #[derive(Drop)]
 pub struct Driver<B: StatelessH265DecoderBackend> {
     pub backend: B,
-    pub walk: Walk<B::Handle, B::Picture>,
+    pub standing: Standing<B::Handle, B::Picture>,
     /// The reference picture lists of the latest slice: their room is used again.
     pub lists: ReferencePicLists,
 }
@@ -29,19 +29,19 @@ impl<B: StatelessH265DecoderBackend> Driver<B> {
     /// At the beginning of a stream, over a backend that was told nothing yet, or of other streams.
     pub fn new(alloc: Global, backend: B) -> Driver<B>
         ensures backend { result.backend ≡ backend }
-        ensures standing { standing result.walk ≡ at_first }
-        ensures queue { result.walk.queue.items ≡ [] }
-        ensures tickets { (traces None result.walk).tickets ≡ [] }
-        ensures sound { IsSound (B.log backend) result.walk }
+        ensures standing { standing result.standing ≡ at_first }
+        ensures queue { result.standing.queue.items ≡ [] }
+        ensures tickets { (traces None result.standing).tickets ≡ [] }
+        ensures sound { IsSound (B.log backend) result.standing }
     {
         Driver {
             backend,
-            walk: Walk {
+            standing: Standing {
                 accepted: None,
                 dpb: Dpb::new(alloc),
                 current: Current::NoPicture,
                 kept: None,
-                next: Next {
+                next: Context {
                     number: 0,
                     first_picture_in_bitstream: true,
                     first_picture_after_eos: true,
@@ -58,17 +58,17 @@ impl<B: StatelessH265DecoderBackend> Driver<B> {
     ///
     /// Errors: no memory; nothing has changed then but how much room there is.
     pub fn reserve(&mut self) -> Result<(), AllocError>
-        requires sound { IsSound (B.log self.old.backend) self.old.walk }
-        ensures sound { IsSound (B.log self.new.backend) self.new.walk }
-        ensures room { OnOk result (HasRoom 1 self.new.walk) }
-        ensures standing { standing self.new.walk ≡ standing self.old.walk }
-        ensures traces { traces (B.log self.new.backend) self.new.walk
-            ≡ traces (B.log self.old.backend) self.old.walk }
-        ensures total { total self.new.walk ≡ total self.old.walk }
+        requires sound { IsSound (B.log self.old.backend) self.old.standing }
+        ensures sound { IsSound (B.log self.new.backend) self.new.standing }
+        ensures room { OnOk result (HasRoom 1 self.new.standing) }
+        ensures standing { standing self.new.standing ≡ standing self.old.standing }
+        ensures traces { traces (B.log self.new.backend) self.new.standing
+            ≡ traces (B.log self.old.backend) self.old.standing }
+        ensures total { total self.new.standing ≡ total self.old.standing }
         ensures backend { self.new.backend ≡ self.old.backend }
     {
-        self.walk.queue.reserve(17)?;
-        self.walk.dpb.reserve()?;
+        self.standing.queue.reserve(17)?;
+        self.standing.dpb.reserve()?;
         Ok(())
     }
 
@@ -76,22 +76,22 @@ impl<B: StatelessH265DecoderBackend> Driver<B> {
     ///
     /// Errors: `Backend`, `DpbFull`, `NoMemory`; the picture is given up then, and nothing is output.
     pub fn close(&mut self) -> Result<(), DecodeError>
-        requires sound { IsSound (B.log self.old.backend) self.old.walk }
-        requires room { HasRoom 1 self.old.walk }
-        ensures sound { IsSound (B.log self.new.backend) self.new.walk }
-        ensures grows { Grows 1 self.old.walk self.new.walk }
+        requires sound { IsSound (B.log self.old.backend) self.old.standing }
+        requires room { HasRoom 1 self.old.standing }
+        ensures sound { IsSound (B.log self.new.backend) self.new.standing }
+        ensures grows { Grows 1 self.old.standing self.new.standing }
         ensures cause { CountsErrors (B.counts self.old.backend)
             (B.counts self.new.backend) result }
         ensures faultless { KeepsFaultless (B.is_faultless self.old.backend)
             (B.is_faultless self.new.backend) result }
         ensures info { KeepsInfo (B.info self.old.backend) (B.info self.new.backend) result }
         ensures part { (timestamp : ℕ) → Closes result timestamp
-            (traces (B.log self.old.backend) self.old.walk)
-            (traces (B.log self.new.backend) self.new.walk)
-            (standing self.old.walk) (standing self.new.walk) }
+            (traces (B.log self.old.backend) self.old.standing)
+            (traces (B.log self.new.backend) self.new.standing)
+            (standing self.old.standing) (standing self.new.standing) }
     {
         self.finish()?;
-        self.walk.output_all();
+        self.standing.output_all();
         Ok(())
     }
 }

@@ -12,41 +12,41 @@ use hevc_backend::StatelessH265DecoderBackend;
 impl<B: StatelessH265DecoderBackend> Driver<B> {
     /// The next picture is the first one behind an end of sequence (7.4.2.4.4).
     pub fn end_sequence(&mut self)
-        requires sound { IsSound (B.log self.old.backend) self.old.walk }
-        ensures sound { IsSound (B.log self.new.backend) self.new.walk }
-        ensures standing { standing self.new.walk
-            ≡ (step_part EndOfSequence (standing self.old.walk)).next }
-        ensures traces { traces (B.log self.new.backend) self.new.walk
-            ≡ traces (B.log self.old.backend) self.old.walk }
+        requires sound { IsSound (B.log self.old.backend) self.old.standing }
+        ensures sound { IsSound (B.log self.new.backend) self.new.standing }
+        ensures standing { standing self.new.standing
+            ≡ (step_part EndOfSequence (standing self.old.standing)).next }
+        ensures traces { traces (B.log self.new.backend) self.new.standing
+            ≡ traces (B.log self.old.backend) self.old.standing }
         ensures backend { self.new.backend ≡ self.old.backend }
     {
-        self.walk.next.first_picture_after_eos = true;
+        self.standing.next.first_picture_after_eos = true;
     }
 
     /// The next picture is the first one in the bitstream, behind an end of the one before (7.4.2.4.4).
     pub fn end_bitstream(&mut self)
-        requires sound { IsSound (B.log self.old.backend) self.old.walk }
-        ensures sound { IsSound (B.log self.new.backend) self.new.walk }
-        ensures standing { standing self.new.walk
-            ≡ (step_part EndOfBitstream (standing self.old.walk)).next }
-        ensures traces { traces (B.log self.new.backend) self.new.walk
-            ≡ traces (B.log self.old.backend) self.old.walk }
+        requires sound { IsSound (B.log self.old.backend) self.old.standing }
+        ensures sound { IsSound (B.log self.new.backend) self.new.standing }
+        ensures standing { standing self.new.standing
+            ≡ (step_part EndOfBitstream (standing self.old.standing)).next }
+        ensures traces { traces (B.log self.new.backend) self.new.standing
+            ≡ traces (B.log self.old.backend) self.old.standing }
         ensures backend { self.new.backend ≡ self.old.backend }
     {
-        self.walk.next.first_picture_in_bitstream = true;
+        self.standing.next.first_picture_in_bitstream = true;
     }
 
     /// No format is accepted any more: the next picture negotiates one.
     pub fn forget_format(&mut self)
-        requires none { current_of self.old.walk.current ≡ NoPicture }
-        requires sound { IsSound (B.log self.old.backend) self.old.walk }
-        ensures sound { IsSound (B.log self.new.backend) self.new.walk }
-        ensures standing { standing self.new.walk ≡ forgotten (standing self.old.walk) }
-        ensures traces { traces (B.log self.new.backend) self.new.walk
-            ≡ traces (B.log self.old.backend) self.old.walk }
+        requires none { current_of self.old.standing.current ≡ NoPicture }
+        requires sound { IsSound (B.log self.old.backend) self.old.standing }
+        ensures sound { IsSound (B.log self.new.backend) self.new.standing }
+        ensures standing { standing self.new.standing ≡ forgotten (standing self.old.standing) }
+        ensures traces { traces (B.log self.new.backend) self.new.standing
+            ≡ traces (B.log self.old.backend) self.old.standing }
         ensures backend { self.new.backend ≡ self.old.backend }
     {
-        self.walk.accepted = None;
-        self.walk.dpb.set_max_num_pics(0);
+        self.standing.accepted = None;
+        self.standing.dpb.set_max_num_pics(0);
     }
 }

@@ -19,44 +19,44 @@ use std::mem::replace;
 impl<B: StatelessH265DecoderBackend> Driver<B> {
     /// The picture whose slices came is over, or the one whose slices were passed over.
     pub(crate) fn finish(&mut self) -> Result<(), DecodeError>
-        requires sound { IsSound (B.log self.old.backend) self.old.walk }
-        requires room { HasRoom 1 self.old.walk }
-        ensures sound { IsSound (B.log self.new.backend) self.new.walk }
-        ensures grows { Grows 1 self.old.walk self.new.walk }
+        requires sound { IsSound (B.log self.old.backend) self.old.standing }
+        requires room { HasRoom 1 self.old.standing }
+        ensures sound { IsSound (B.log self.new.backend) self.new.standing }
+        ensures grows { Grows 1 self.old.standing self.new.standing }
         ensures cause { CountsErrors (B.counts self.old.backend)
             (B.counts self.new.backend) result }
         ensures faultless { KeepsFaultless (B.is_faultless self.old.backend)
             (B.is_faultless self.new.backend) result }
         ensures info { KeepsInfo (B.info self.old.backend) (B.info self.new.backend) result }
         ensures part { (timestamp : ℕ) → Finishes result timestamp
-            (traces (B.log self.old.backend) self.old.walk)
-            (traces (B.log self.new.backend) self.new.walk)
-            (standing self.old.walk) (standing self.new.walk) }
+            (traces (B.log self.old.backend) self.old.standing)
+            (traces (B.log self.new.backend) self.new.standing)
+            (standing self.old.standing) (standing self.new.standing) }
     {
-        match replace(&mut self.walk.current, Current::NoPicture) {
-            Current::Opened(opened) => self.store(opened),
-            Current::Skipped => Ok(()),
+        match replace(&mut self.standing.current, Current::NoPicture) {
+            Current::OpenPicture(opened) => self.store(opened),
+            Current::SkippedPicture => Ok(()),
             Current::NoPicture => Ok(()),
         }
     }
 
     /// Submits a picture and stores it; what is then due is output.
     fn store(&mut self, opened: Open<B::Picture>) -> Result<(), DecodeError>
-        requires none { current_of self.old.walk.current ≡ NoPicture }
-        requires newest { IsNewest opened.head opened.set self.old.walk }
-        requires sound { IsSound (B.log self.old.backend) self.old.walk }
-        requires room { HasRoom 1 self.old.walk }
-        ensures sound { IsSound (B.log self.new.backend) self.new.walk }
-        ensures grows { Grows 1 self.old.walk self.new.walk }
+        requires none { current_of self.old.standing.current ≡ NoPicture }
+        requires newest { IsNewest opened.head opened.set self.old.standing }
+        requires sound { IsSound (B.log self.old.backend) self.old.standing }
+        requires room { HasRoom 1 self.old.standing }
+        ensures sound { IsSound (B.log self.new.backend) self.new.standing }
+        ensures grows { Grows 1 self.old.standing self.new.standing }
         ensures cause { CountsErrors (B.counts self.old.backend)
             (B.counts self.new.backend) result }
         ensures faultless { KeepsFaultless (B.is_faultless self.old.backend)
             (B.is_faultless self.new.backend) result }
         ensures info { KeepsInfo (B.info self.old.backend) (B.info self.new.backend) result }
         ensures part { (timestamp : ℕ) → Finishes result timestamp
-            (traces (B.log self.old.backend) self.old.walk)
-            (traces (B.log self.new.backend) self.new.walk)
-            (with_open opened (standing self.old.walk)) (standing self.new.walk) }
+            (traces (B.log self.old.backend) self.old.standing)
+            (traces (B.log self.new.backend) self.new.standing)
+            (with_open opened (standing self.old.standing)) (standing self.new.standing) }
     {
         let Open {
             head,
@@ -64,11 +64,15 @@ impl<B: StatelessH265DecoderBackend> Driver<B> {
             picture,
         } = opened;
         let handle = self.backend.submit_picture(head.number, picture)?;
-        self.walk.next.prev_tid0_pic = tid0_behind(&head, self.walk.next.prev_tid0_pic);
-        self.walk
+        self.standing.next.prev_tid0_pic = tid0_behind(&head, self.standing.next.prev_tid0_pic);
+        self.standing
             .dpb
             .store_picture(head.number, head.picture, handle)?;
-        bump_additionally(&mut self.walk.dpb, &head.limits, &mut self.walk.queue);
+        bump_additionally(
+            &mut self.standing.dpb,
+            &head.limits,
+            &mut self.standing.queue,
+        );
         Ok(())
     }
 }

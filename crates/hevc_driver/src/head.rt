@@ -25,7 +25,7 @@ pub struct Head {
 
 /// What the pictures so far mean for the next one (8.1.3, 8.3.1).
 #[derive(Clone, Copy)]
-pub struct Next {
+pub struct Context {
     /// Its number.
     pub number: u64,
     /// It is the first one in the bitstream.

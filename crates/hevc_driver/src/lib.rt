@@ -15,15 +15,15 @@ mod open;
 mod references;
 mod room;
 mod slices;
+mod standing;
 #[cfg(test)]
 mod tests;
-mod walk;
 
 pub use current::{Current, Open};
 pub use decode_error::DecodeError;
 pub use driver::Driver;
-pub use head::{Head, Next};
+pub use head::{Context, Head};
 pub use hevc_backend::{BackendError, NegotiationInfo, StatelessH265DecoderBackend, StreamInfo};
 pub use hevc_bumping::Frame;
 pub use hevc_options::Options;
-pub use walk::Walk;
+pub use standing::Standing;

@@ -36,27 +36,27 @@ impl<B: StatelessH265DecoderBackend> Driver<B> {
         sps: &Sps,
         pps: &Pps,
     ) -> Result<(), DecodeError>
-        requires none { current_of self.old.walk.current ≡ NoPicture }
+        requires none { current_of self.old.standing.current ≡ NoPicture }
         requires named { AreNamed slice.now sps.now pps.now }
-        requires sound { IsSound (B.log self.old.backend) self.old.walk }
-        requires room { HasRoom 0 self.old.walk }
-        ensures sound { IsSound (B.log self.new.backend) self.new.walk }
-        ensures grows { Grows 0 self.old.walk self.new.walk }
+        requires sound { IsSound (B.log self.old.backend) self.old.standing }
+        requires room { HasRoom 0 self.old.standing }
+        ensures sound { IsSound (B.log self.new.backend) self.new.standing }
+        ensures grows { Grows 0 self.old.standing self.new.standing }
         ensures cause { CountsErrors (B.counts self.old.backend)
             (B.counts self.new.backend) result }
         ensures faultless { KeepsFaultless (B.is_faultless self.old.backend)
             (B.is_faultless self.new.backend) result }
         ensures info { KeepsInfo (B.info self.old.backend) (B.info self.new.backend) result }
         ensures part { Begins result timestamp
-            (traces (B.log self.old.backend) self.old.walk)
-            (traces (B.log self.new.backend) self.new.walk)
+            (traces (B.log self.old.backend) self.old.standing)
+            (traces (B.log self.new.backend) self.new.standing)
             (slice_of options slice.now sps.now pps.now)
-            (standing self.old.walk) (standing self.new.walk) }
+            (standing self.old.standing) (standing self.new.standing) }
     {
         if self.backend.num_free_frames() == 0 {
             return Err(DecodeError::NotEnoughOutputBuffers(1));
         }
-        if is_accepted(&sps.into(), self.walk.accepted) {
+        if is_accepted(&sps.into(), self.standing.accepted) {
             self.start(timestamp, options, slice, sps, pps)
         } else {
             self.negotiate(sps)?;
@@ -66,22 +66,22 @@ impl<B: StatelessH265DecoderBackend> Driver<B> {
 
     /// Another format is negotiated: what waits is output before.
     fn negotiate(&mut self, sps: &Sps) -> Result<(), DecodeError>
-        requires none { current_of self.old.walk.current ≡ NoPicture }
-        requires sound { IsSound (B.log self.old.backend) self.old.walk }
-        requires room { HasRoom 0 self.old.walk }
-        ensures sound { IsSound (B.log self.new.backend) self.new.walk }
-        ensures grows { Grows 0 self.old.walk self.new.walk }
+        requires none { current_of self.old.standing.current ≡ NoPicture }
+        requires sound { IsSound (B.log self.old.backend) self.old.standing }
+        requires room { HasRoom 0 self.old.standing }
+        ensures sound { IsSound (B.log self.new.backend) self.new.standing }
+        ensures grows { Grows 0 self.old.standing self.new.standing }
         ensures cause { CountsErrors (B.counts self.old.backend)
             (B.counts self.new.backend) result }
         ensures faultless { KeepsFaultless (B.is_faultless self.old.backend)
             (B.is_faultless self.new.backend) result }
         ensures part { (timestamp : ℕ) → Negotiates result timestamp
-            (traces (B.log self.old.backend) self.old.walk)
-            (traces (B.log self.new.backend) self.new.walk)
-            (format_of_set (plain_sps sps.now)) (standing self.old.walk)
-            (standing self.new.walk) }
+            (traces (B.log self.old.backend) self.old.standing)
+            (traces (B.log self.new.backend) self.new.standing)
+            (format_of_set (plain_sps sps.now)) (standing self.old.standing)
+            (standing self.new.standing) }
     {
-        self.walk.output_all();
+        self.standing.output_all();
         self.open_sequence(sps)
     }
 
@@ -89,26 +89,28 @@ impl<B: StatelessH265DecoderBackend> Driver<B> {
     ///
     /// Errors: `Backend`, `NoMemory`; nothing has changed then.
     pub fn open_sequence(&mut self, sps: &Sps) -> Result<(), DecodeError>
-        requires none { current_of self.old.walk.current ≡ NoPicture }
-        requires sound { IsSound (B.log self.old.backend) self.old.walk }
-        ensures sound { IsSound (B.log self.new.backend) self.new.walk }
-        ensures grows { Grows 0 self.old.walk self.new.walk }
+        requires none { current_of self.old.standing.current ≡ NoPicture }
+        requires sound { IsSound (B.log self.old.backend) self.old.standing }
+        ensures sound { IsSound (B.log self.new.backend) self.new.standing }
+        ensures grows { Grows 0 self.old.standing self.new.standing }
         ensures cause { CountsErrors (B.counts self.old.backend)
             (B.counts self.new.backend) result }
         ensures faultless { KeepsFaultless (B.is_faultless self.old.backend)
             (B.is_faultless self.new.backend) result }
         ensures part { (timestamp : ℕ) → Runs result timestamp
-            (traces (B.log self.old.backend) self.old.walk)
-            (traces (B.log self.new.backend) self.new.walk)
+            (traces (B.log self.old.backend) self.old.standing)
+            (traces (B.log self.new.backend) self.new.standing)
             (on_store (open_sequence (format_of_set (plain_sps sps.now)))
-            (standing self.old.walk))
-            (λ call. IsNewSequence call × (standing self.new.walk ≡ standing self.old.walk))
-            (standing self.new.walk) }
+            (standing self.old.standing))
+            (λ call. IsNewSequence call × (standing self.new.standing ≡ standing self.old.standing))
+            (standing self.new.standing) }
     {
         self.backend.new_sequence(sps)?;
         let format = NegotiationInfo::from(sps);
-        self.walk.dpb.set_max_num_pics(format.max_num_pics as usize);
-        self.walk.accepted = Some(format);
+        self.standing
+            .dpb
+            .set_max_num_pics(format.max_num_pics as usize);
+        self.standing.accepted = Some(format);
         Ok(())
     }
 }

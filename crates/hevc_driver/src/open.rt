@@ -41,33 +41,33 @@ impl<B: StatelessH265DecoderBackend> Driver<B> {
         sps: &Sps,
         pps: &Pps,
     ) -> Result<(), DecodeError>
-        requires none { current_of self.old.walk.current ≡ NoPicture }
+        requires none { current_of self.old.standing.current ≡ NoPicture }
         requires accepted { is_accepted (format_of_set (plain_sps sps.now))
-            (option_map format_of self.old.walk.accepted) ≡ true }
+            (option_map format_of self.old.standing.accepted) ≡ true }
         requires named { AreNamed slice.now sps.now pps.now }
         requires frame { IsTrue (B.room self.old.backend) }
-        requires sound { IsSound (B.log self.old.backend) self.old.walk }
-        requires room { HasRoom 0 self.old.walk }
-        ensures sound { IsSound (B.log self.new.backend) self.new.walk }
-        ensures grows { Grows 0 self.old.walk self.new.walk }
+        requires sound { IsSound (B.log self.old.backend) self.old.standing }
+        requires room { HasRoom 0 self.old.standing }
+        ensures sound { IsSound (B.log self.new.backend) self.new.standing }
+        ensures grows { Grows 0 self.old.standing self.new.standing }
         ensures cause { CountsErrors (B.counts self.old.backend)
             (B.counts self.new.backend) result }
         ensures faultless { KeepsFaultless (B.is_faultless self.old.backend)
             (B.is_faultless self.new.backend) result }
         ensures info { KeepsInfo (B.info self.old.backend) (B.info self.new.backend) result }
         ensures part { Starts result timestamp
-            (traces (B.log self.old.backend) self.old.walk)
-            (traces (B.log self.new.backend) self.new.walk)
+            (traces (B.log self.old.backend) self.old.standing)
+            (traces (B.log self.new.backend) self.new.standing)
             (slice_of options slice.now sps.now pps.now)
-            (standing self.old.walk) (standing self.new.walk) }
+            (standing self.old.standing) (standing self.new.standing) }
     {
-        if self.walk.next.number == u64::MAX {
+        if self.standing.next.number == u64::MAX {
             return Err(DecodeError::PictureNumbersSpent);
         }
-        let head = head_of_first(&self.walk.next, options, slice, sps)?;
+        let head = head_of_first(&self.standing.next, options, slice, sps)?;
         if head.skipped {
-            self.walk.next = behind(&self.walk.next, &head);
-            self.walk.current = Current::Skipped;
+            self.standing.next = behind(&self.standing.next, &head);
+            self.standing.current = Current::SkippedPicture;
             return Ok(());
         }
         self.open(timestamp, &head, slice, sps, pps)
@@ -82,33 +82,33 @@ impl<B: StatelessH265DecoderBackend> Driver<B> {
         sps: &Sps,
         pps: &Pps,
     ) -> Result<(), DecodeError>
-        requires none { current_of self.old.walk.current ≡ NoPicture }
-        requires number { IsNext head.now self.old.walk }
+        requires none { current_of self.old.standing.current ≡ NoPicture }
+        requires number { IsNext head.now self.old.standing }
         requires decoded { is_decoded (head_of head.now) ≡ true }
         requires accepted { is_accepted (format_of_set (plain_sps sps.now))
-            (option_map format_of self.old.walk.accepted) ≡ true }
+            (option_map format_of self.old.standing.accepted) ≡ true }
         requires named { AreNamed slice.now sps.now pps.now }
         requires frame { IsTrue (B.room self.old.backend) }
-        requires sound { IsSound (B.log self.old.backend) self.old.walk }
-        requires room { HasRoom 0 self.old.walk }
-        ensures sound { IsSound (B.log self.new.backend) self.new.walk }
-        ensures grows { Grows 0 self.old.walk self.new.walk }
+        requires sound { IsSound (B.log self.old.backend) self.old.standing }
+        requires room { HasRoom 0 self.old.standing }
+        ensures sound { IsSound (B.log self.new.backend) self.new.standing }
+        ensures grows { Grows 0 self.old.standing self.new.standing }
         ensures cause { CountsErrors (B.counts self.old.backend)
             (B.counts self.new.backend) result }
         ensures faultless { KeepsFaultless (B.is_faultless self.old.backend)
             (B.is_faultless self.new.backend) result }
         ensures info { KeepsInfo (B.info self.old.backend) (B.info self.new.backend) result }
         ensures part { (o : code_options.Options) → Runs result timestamp
-            (traces (B.log self.old.backend) self.old.walk)
-            (traces (B.log self.new.backend) self.new.walk)
+            (traces (B.log self.old.backend) self.old.standing)
+            (traces (B.log self.new.backend) self.new.standing)
             (starts (head_of head.now) (slice_of o slice.now sps.now pps.now)
-            (standing self.old.walk))
-            (λ call. LeftStarted call × (standing self.new.walk
+            (standing self.old.standing))
+            (λ call. LeftStarted call × (standing self.new.standing
             ≡ given_up (starts (head_of head.now) (slice_of o slice.now sps.now pps.now)
-            (standing self.old.walk)).next))
-            (standing self.new.walk) }
+            (standing self.old.standing)).next))
+            (standing self.new.standing) }
     {
-        let set = self.walk.enter(head, slice, sps);
+        let set = self.standing.enter(head, slice, sps);
         self.hand_over(timestamp, head, set, slice, sps, pps)
     }
 
@@ -122,32 +122,32 @@ impl<B: StatelessH265DecoderBackend> Driver<B> {
         sps: &Sps,
         pps: &Pps,
     ) -> Result<(), DecodeError>
-        requires none { current_of self.old.walk.current ≡ NoPicture }
-        requires newest { IsNewest head.now set self.old.walk }
+        requires none { current_of self.old.standing.current ≡ NoPicture }
+        requires newest { IsNewest head.now set self.old.standing }
         requires decoded { is_decoded (head_of head.now) ≡ true }
         requires accepted { is_accepted (format_of_set (plain_sps sps.now))
-            (option_map format_of self.old.walk.accepted) ≡ true }
+            (option_map format_of self.old.standing.accepted) ≡ true }
         requires named { AreNamed slice.now sps.now pps.now }
         requires frame { IsTrue (B.room self.old.backend) }
-        requires sound { IsSound (B.log self.old.backend) self.old.walk }
-        ensures sound { IsSound (B.log self.new.backend) self.new.walk }
-        ensures grows { Grows 0 self.old.walk self.new.walk }
+        requires sound { IsSound (B.log self.old.backend) self.old.standing }
+        ensures sound { IsSound (B.log self.new.backend) self.new.standing }
+        ensures grows { Grows 0 self.old.standing self.new.standing }
         ensures cause { CountsErrors (B.counts self.old.backend)
             (B.counts self.new.backend) result }
         ensures faultless { KeepsFaultless (B.is_faultless self.old.backend)
             (B.is_faultless self.new.backend) result }
         ensures info { KeepsInfo (B.info self.old.backend) (B.info self.new.backend) result }
         ensures part { (o : code_options.Options) → Runs result timestamp
-            (traces (B.log self.old.backend) self.old.walk)
-            (traces (B.log self.new.backend) self.new.walk)
+            (traces (B.log self.old.backend) self.old.standing)
+            (traces (B.log self.new.backend) self.new.standing)
             (hands_over (head_of head.now) (plain_set set)
-            (slice_of o slice.now sps.now pps.now) (standing self.old.walk))
-            (λ call. LeftStarted call × (standing self.new.walk ≡ standing self.old.walk))
-            (standing self.new.walk) }
+            (slice_of o slice.now sps.now pps.now) (standing self.old.standing))
+            (λ call. LeftStarted call × (standing self.new.standing ≡ standing self.old.standing))
+            (standing self.new.standing) }
     {
         let number = head.number;
         let mut picture = self.backend.new_picture(number, &head.picture, timestamp)?;
-        let dpb = &self.walk.dpb;
+        let dpb = &self.standing.dpb;
         self.backend.begin_picture(
             number,
             &mut picture,
@@ -169,7 +169,7 @@ impl<B: StatelessH265DecoderBackend> Driver<B> {
             &self.lists.ref_pic_list0,
             &self.lists.ref_pic_list1,
         )?;
-        self.walk.current = Current::Opened(Open {
+        self.standing.current = Current::OpenPicture(Open {
             head: *head,
             set,
             picture,

@@ -15,13 +15,13 @@ ghost use Rattle.hevc_backend.specs.Named.{SetNamesAmong};
 use crate::beginning::{behind, starts_sequence};
 use crate::head::Head;
 use crate::references::reference_set;
-use crate::walk::Walk;
+use crate::standing::Standing;
 use hevc_bumping::{bump_for_room, output_all};
 use hevc_refs::RefPicSet;
 use hevc_types_c::Sps;
 use hevc_types_d::Slice;
 
-impl<H: Copy, P> Walk<H, P> {
+impl<H: Copy, P> Standing<H, P> {
     ghost use Rattle.hevc_options.specs.declared.Options.{Options};
     ghost use Rattle.hevc_driver.specs.Heads.{head_of, context_of};
     ghost use Rattle.hevc_driver.specs.Slices.{slice_of};

@@ -10,7 +10,7 @@ ghost use Rattle.hevc_driver.specs.Slices.{slice_of, kept_of, LeavesSlice};
 ghost use Rattle.hevc_driver.specs.Answers.{CountsErrors, KeepsFaultless, KeepsInfo};
 ghost use Rattle.hevc_driver.specs.Standings.{standing, traces, current_of, with_open};
 ghost use Rattle.hevc_backend.specs.Told.{WhereTold};
-ghost use Rattle.hevc_driver.specs.declared.current.Current.TheVariants.{Opened};
+ghost use Rattle.hevc_driver.specs.declared.current.Current.TheVariants.{OpenPicture};
 ghost use Rattle.hevc_driver.specs.Sound.{IsSound, IsNewest, IsLatest, HasRoom, Grows, AreNamed};
 ghost use Rattle.hevc_driver.specs.Takes.{Takes, Changes, Follows, given_up_by, ChecksFormat};
 ghost use Rattle.hevc_types_c.specs.declared.sps.Sps as code_sps;
@@ -81,31 +81,31 @@ impl<B: StatelessH265DecoderBackend> Driver<B> {
         pps: &Pps,
     ) -> Result<(), DecodeError>
         requires named { AreNamed slice.old sps.now pps.now }
-        requires sound { IsSound (B.log self.old.backend) self.old.walk }
-        requires room { HasRoom 1 self.old.walk }
-        ensures sound { IsSound (B.log self.new.backend) self.new.walk }
-        ensures grows { Grows 1 self.old.walk self.new.walk }
+        requires sound { IsSound (B.log self.old.backend) self.old.standing }
+        requires room { HasRoom 1 self.old.standing }
+        ensures sound { IsSound (B.log self.new.backend) self.new.standing }
+        ensures grows { Grows 1 self.old.standing self.new.standing }
         ensures cause { CountsErrors (B.counts self.old.backend)
             (B.counts self.new.backend) result }
         ensures faultless { KeepsFaultless (B.is_faultless self.old.backend)
             (B.is_faultless self.new.backend) result }
         ensures info { KeepsInfo (B.info self.old.backend) (B.info self.new.backend) result }
         ensures part { Takes result timestamp
-            (traces (B.log self.old.backend) self.old.walk)
-            (traces (B.log self.new.backend) self.new.walk)
+            (traces (B.log self.old.backend) self.old.standing)
+            (traces (B.log self.new.backend) self.new.standing)
             (CodedSlice (slice_of options slice.old sps.now pps.now))
-            (standing self.old.walk) (standing self.new.walk) }
+            (standing self.old.standing) (standing self.new.standing) }
         ensures slice { LeavesSlice
-            (whole_slice (option_map kept_of self.old.walk.kept)
+            (whole_slice (option_map kept_of self.old.standing.kept)
             (slice_of options slice.old sps.now pps.now))
             (slice_of options slice.old sps.now pps.now)
             (slice_of options slice.new sps.now pps.now) }
     {
-        if !complete(&self.walk.kept, slice, sps) {
+        if !complete(&self.standing.kept, slice, sps) {
             return Err(DecodeError::NoIndependentSlice);
         }
-        keep(&mut self.walk.kept, slice)?;
-        if begins(&self.walk.current, slice) {
+        keep(&mut self.standing.kept, slice)?;
+        if begins(&self.standing.current, slice) {
             self.change_picture(timestamp, options, slice, sps, pps)
         } else {
             self.follow(slice, sps, pps)
@@ -122,20 +122,20 @@ impl<B: StatelessH265DecoderBackend> Driver<B> {
         pps: &Pps,
     ) -> Result<(), DecodeError>
         requires named { AreNamed slice.now sps.now pps.now }
-        requires sound { IsSound (B.log self.old.backend) self.old.walk }
-        requires room { HasRoom 1 self.old.walk }
-        ensures sound { IsSound (B.log self.new.backend) self.new.walk }
-        ensures grows { Grows 1 self.old.walk self.new.walk }
+        requires sound { IsSound (B.log self.old.backend) self.old.standing }
+        requires room { HasRoom 1 self.old.standing }
+        ensures sound { IsSound (B.log self.new.backend) self.new.standing }
+        ensures grows { Grows 1 self.old.standing self.new.standing }
         ensures cause { CountsErrors (B.counts self.old.backend)
             (B.counts self.new.backend) result }
         ensures faultless { KeepsFaultless (B.is_faultless self.old.backend)
             (B.is_faultless self.new.backend) result }
         ensures info { KeepsInfo (B.info self.old.backend) (B.info self.new.backend) result }
         ensures part { Changes result timestamp
-            (traces (B.log self.old.backend) self.old.walk)
-            (traces (B.log self.new.backend) self.new.walk)
+            (traces (B.log self.old.backend) self.old.standing)
+            (traces (B.log self.new.backend) self.new.standing)
             (slice_of options slice.now sps.now pps.now)
-            (standing self.old.walk) (standing self.new.walk) }
+            (standing self.old.standing) (standing self.new.standing) }
     {
         self.finish()?;
         self.begin(timestamp, options, slice, sps, pps)
@@ -144,9 +144,9 @@ impl<B: StatelessH265DecoderBackend> Driver<B> {
     /// A later slice of the current picture.
     fn follow(&mut self, slice: &Slice<'_>, sps: &Sps, pps: &Pps) -> Result<(), DecodeError>
         requires named { AreNamed slice.now sps.now pps.now }
-        requires sound { IsSound (B.log self.old.backend) self.old.walk }
-        ensures sound { IsSound (B.log self.new.backend) self.new.walk }
-        ensures grows { Grows 0 self.old.walk self.new.walk }
+        requires sound { IsSound (B.log self.old.backend) self.old.standing }
+        ensures sound { IsSound (B.log self.new.backend) self.new.standing }
+        ensures grows { Grows 0 self.old.standing self.new.standing }
         ensures cause { CountsErrors (B.counts self.old.backend)
             (B.counts self.new.backend) result }
         ensures faultless { KeepsFaultless (B.is_faultless self.old.backend)
@@ -154,14 +154,14 @@ impl<B: StatelessH265DecoderBackend> Driver<B> {
         ensures info { KeepsInfo (B.info self.old.backend) (B.info self.new.backend) result }
         ensures part { (timestamp : ℕ) (o : code_options.Options)
             → Follows result timestamp
-            (traces (B.log self.old.backend) self.old.walk)
-            (traces (B.log self.new.backend) self.new.walk)
+            (traces (B.log self.old.backend) self.old.standing)
+            (traces (B.log self.new.backend) self.new.standing)
             (slice_of o slice.now sps.now pps.now)
-            (standing self.old.walk) (standing self.new.walk) }
+            (standing self.old.standing) (standing self.new.standing) }
     {
         let result = self.hand_slice(slice, sps, pps);
         if result.is_err() {
-            self.walk.current = Current::NoPicture;
+            self.standing.current = Current::NoPicture;
         }
         result
     }
@@ -169,9 +169,9 @@ impl<B: StatelessH265DecoderBackend> Driver<B> {
     /// A later slice is handed over, where a picture is open. Where that is refused the picture is to be given up.
     fn hand_slice(&mut self, slice: &Slice<'_>, sps: &Sps, pps: &Pps) -> Result<(), DecodeError>
         requires named { AreNamed slice.now sps.now pps.now }
-        requires sound { IsSound (B.log self.old.backend) self.old.walk }
-        ensures sound { IsSound (B.log self.new.backend) self.new.walk }
-        ensures grows { Grows 0 self.old.walk self.new.walk }
+        requires sound { IsSound (B.log self.old.backend) self.old.standing }
+        ensures sound { IsSound (B.log self.new.backend) self.new.standing }
+        ensures grows { Grows 0 self.old.standing self.new.standing }
         ensures cause { CountsErrors (B.counts self.old.backend)
             (B.counts self.new.backend) result }
         ensures faultless { KeepsFaultless (B.is_faultless self.old.backend)
@@ -179,17 +179,17 @@ impl<B: StatelessH265DecoderBackend> Driver<B> {
         ensures info { KeepsInfo (B.info self.old.backend) (B.info self.new.backend) result }
         ensures part { (timestamp : ℕ) (o : code_options.Options)
             → Follows result timestamp
-            (traces (B.log self.old.backend) self.old.walk)
-            (traces (B.log self.new.backend) self.new.walk)
+            (traces (B.log self.old.backend) self.old.standing)
+            (traces (B.log self.new.backend) self.new.standing)
             (slice_of o slice.now sps.now pps.now)
-            (standing self.old.walk) (given_up_by result (standing self.new.walk)) }
+            (standing self.old.standing) (given_up_by result (standing self.new.standing)) }
     {
-        let opened = match &mut self.walk.current {
-            Current::Opened(opened) => opened,
-            Current::Skipped => return Ok(()),
+        let opened = match &mut self.standing.current {
+            Current::OpenPicture(opened) => opened,
+            Current::SkippedPicture => return Ok(()),
             Current::NoPicture => return Ok(()),
         };
-        check_format(self.walk.accepted, &sps.into())?;
+        check_format(self.standing.accepted, &sps.into())?;
         build_lists(&mut self.lists, slice, pps, &opened.set);
         self.backend.decode_slice(
             opened.head.number,
@@ -197,7 +197,7 @@ impl<B: StatelessH265DecoderBackend> Driver<B> {
             slice,
             sps,
             pps,
-            &self.walk.dpb,
+            &self.standing.dpb,
             &self.lists.ref_pic_list0,
             &self.lists.ref_pic_list1,
         )?;

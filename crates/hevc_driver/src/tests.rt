@@ -8,7 +8,7 @@ use streams::{IDR, close, give, slice, start};
 
 /// The number of pictures that came out, and the number of the last one.
 fn outputs(driver: &Driver<Backend>) -> (usize, Option<u64>) {
-    let queue = &driver.walk.queue;
+    let queue = &driver.standing.queue;
     (queue.len(), queue.back().map(|frame| frame.number))
 }
 
@@ -61,7 +61,7 @@ fn a_backend_without_a_frame_is_asked_again(rt: HostRuntime) -> Result<(), Fail>
     assert!(rt; give(&mut driver, 0, &mut idr, &sps) == full);
     assert_eq!(rt; driver.backend.calls().len(), 1);
     assert!(rt; give(&mut driver, 0, &mut idr, &sps) == Ok(()));
-    assert_eq!(rt; driver.walk.next.number, 1);
+    assert_eq!(rt; driver.standing.next.number, 1);
     Ok(())
 }
 
@@ -74,7 +74,7 @@ fn a_failed_call_gives_the_picture_up_and_takes_its_number(rt: HostRuntime) -> R
     let mut idr = slice(alloc, IDR).ok_or("no unit")?;
     assert!(rt; start(&mut driver, &sps) == Ok(()));
     assert!(rt; give(&mut driver, 0, &mut idr, &sps) == Err(DecodeError::Backend));
-    assert_eq!(rt; driver.walk.next.number, 1);
+    assert_eq!(rt; driver.standing.next.number, 1);
     assert!(rt; close(&mut driver) == Ok(()));
     assert!(rt; outputs(&driver) == (0, None));
     assert_eq!(rt; driver.backend.calls().len(), 2);

@@ -40,9 +40,9 @@ impl<B: StatelessH265DecoderBackend> Model for Session<B> {
 
     ghost Value = { View B B.Handle };
 
-    ghost view = { λ s. record { backend = s.driver.backend; state = s.state; standing = standing s.driver.walk; queue = s.driver.walk.queue.items; tickets = tickets (stored_entries s.driver.walk.dpb) } };
+    ghost view = { λ s. record { backend = s.driver.backend; state = s.state; standing = standing s.driver.standing; queue = s.driver.standing.queue.items; tickets = tickets (stored_entries s.driver.standing.dpb) } };
 
-    ghost invariant = { λ s. IsSound (B.log s.driver.backend) s.driver.walk × IsIdleBefore s.state (current_of s.driver.walk.current) };
+    ghost invariant = { λ s. IsSound (B.log s.driver.backend) s.driver.standing × IsIdleBefore s.state (current_of s.driver.standing.current) };
 }
 
 impl<B: StatelessH265DecoderBackend> Session<B> {
@@ -121,7 +121,7 @@ impl<B: StatelessH265DecoderBackend> Session<B> {
     pub(crate) fn num_pictures(&self) -> u64
         ensures { result ≡ self.now.standing.next.number }
     {
-        self.driver.walk.next.number
+        self.driver.standing.next.number
     }
 
     /// The next picture that came out.
@@ -129,7 +129,7 @@ impl<B: StatelessH265DecoderBackend> Session<B> {
         ensures frame { PopsFrame result self.old.queue self.new.queue }
         ensures others { self.new ≡ record self.old { queue = self.new.queue } }
     {
-        self.driver.walk.queue.pop_front()
+        self.driver.standing.queue.pop_front()
     }
 
     /// The first sequence set: its format is negotiated.

@@ -32,9 +32,9 @@ pub(crate) fn start<B: StatelessH265DecoderBackend>(
     driver: &mut Driver<B>,
     sps: &Sps,
 ) -> Result<(), DecodeError>
-    requires none { current_of driver.old.walk.current ≡ NoPicture }
-    requires sound { IsSound (B.log driver.old.backend) driver.old.walk }
-    ensures sound { IsSound (B.log driver.new.backend) driver.new.walk }
+    requires none { current_of driver.old.standing.current ≡ NoPicture }
+    requires sound { IsSound (B.log driver.old.backend) driver.old.standing }
+    ensures sound { IsSound (B.log driver.new.backend) driver.new.standing }
 {
     driver.reserve()?;
     driver.open_sequence(sps)
@@ -47,8 +47,8 @@ pub(crate) fn give<B: StatelessH265DecoderBackend>(
     slice: &mut Slice<'_>,
     sps: &Sps,
 ) -> Result<(), DecodeError>
-    requires sound { IsSound (B.log driver.old.backend) driver.old.walk }
-    ensures sound { IsSound (B.log driver.new.backend) driver.new.walk }
+    requires sound { IsSound (B.log driver.old.backend) driver.old.standing }
+    ensures sound { IsSound (B.log driver.new.backend) driver.new.standing }
 {
     let pps = Pps::new();
     if pps.pic_parameter_set_id != slice.header.pic_parameter_set_id
@@ -64,8 +64,8 @@ pub(crate) fn give<B: StatelessH265DecoderBackend>(
 pub(crate) fn close<B: StatelessH265DecoderBackend>(
     driver: &mut Driver<B>,
 ) -> Result<(), DecodeError>
-    requires sound { IsSound (B.log driver.old.backend) driver.old.walk }
-    ensures sound { IsSound (B.log driver.new.backend) driver.new.walk }
+    requires sound { IsSound (B.log driver.old.backend) driver.old.standing }
+    ensures sound { IsSound (B.log driver.new.backend) driver.new.standing }
 {
     driver.reserve()?;
     driver.close()

@@ -20,9 +20,9 @@ pub returns-then-is_accepted-clause-part : goal.returns-then-is_accepted-clause-
 returns-then-is_accepted-clause-part g c =
     let w = slice_of c.args.options c.args.slice.now c.args.sps.now c.args.pps.now in
     let named = slice_format c.args.options c.args.slice.now c.args.sps.now c.args.pps.now ∙ sym (ap format_of c.into.ensures) in
-    let accepted = ap (λ (f : Format). is_accepted f (option_map format_of c.args.self.now.walk.accepted)) named ∙ sym c.is_accepted.ensures ∙ c.if-is_accepted.true in
-    subst (λ (log : Option (List (Call g.row.B-Handle.Denot))). Begins c.start.result c.args.timestamp (traces log c.args.self.now.walk) (traces (g.B.StatelessH265DecoderBackend.log c.start.new.self.backend) c.start.new.self.walk) w (standing c.args.self.now.walk) (standing c.start.new.self.walk)) c.num_free_frames.ensures.log
-    (begins_accepted _ _ _ _ w (standing c.args.self.now.walk) _ accepted c.start.ensures.part)
+    let accepted = ap (λ (f : Format). is_accepted f (option_map format_of c.args.self.now.standing.accepted)) named ∙ sym c.is_accepted.ensures ∙ c.if-is_accepted.true in
+    subst (λ (log : Option (List (Call g.row.B-Handle.Denot))). Begins c.start.result c.args.timestamp (traces log c.args.self.now.standing) (traces (g.B.StatelessH265DecoderBackend.log c.start.new.self.backend) c.start.new.self.standing) w (standing c.args.self.now.standing) (standing c.start.new.self.standing)) c.num_free_frames.ensures.log
+    (begins_accepted _ _ _ _ w (standing c.args.self.now.standing) _ accepted c.start.ensures.part)
 
 pub returns-then-is_accepted-clause-cause : goal.returns-then-is_accepted-clause-cause
 returns-then-is_accepted-clause-cause g c =
@@ -32,22 +32,22 @@ pub returns-in_ok-negotiate-clause-part : goal.returns-in_ok-negotiate-clause-pa
 returns-in_ok-negotiate-clause-part g c =
     let w = slice_of c.args.options c.args.slice.now c.args.sps.now c.args.pps.now in
     let is = slice_format c.args.options c.args.slice.now c.args.sps.now c.args.pps.now in
-    let other = ap (λ (f : Format). is_accepted f (option_map format_of c.args.self.now.walk.accepted)) (is ∙ sym (ap format_of c.into.ensures)) ∙ sym c.is_accepted.ensures ∙ c.if-is_accepted.false in
-    begins_negotiated c.args.timestamp _ _ w (standing c.args.self.now.walk) _ other
-    (subst (λ (log : Option (List (Call g.row.B-Handle.Denot))). Completes c.args.timestamp (traces log c.args.self.now.walk) (traces (g.B.StatelessH265DecoderBackend.log c.negotiate.new.self.backend) c.negotiate.new.self.walk) (renegotiates w.format (standing c.args.self.now.walk)) (standing c.negotiate.new.self.walk)) c.num_free_frames.ensures.log
-    (subst (λ (f : Format). Completes c.args.timestamp (traces (g.B.StatelessH265DecoderBackend.log c.num_free_frames.new.self) c.args.self.now.walk) (traces (g.B.StatelessH265DecoderBackend.log c.negotiate.new.self.backend) c.negotiate.new.self.walk) (renegotiates f (standing c.args.self.now.walk)) (standing c.negotiate.new.self.walk)) (sym is)
+    let other = ap (λ (f : Format). is_accepted f (option_map format_of c.args.self.now.standing.accepted)) (is ∙ sym (ap format_of c.into.ensures)) ∙ sym c.is_accepted.ensures ∙ c.if-is_accepted.false in
+    begins_negotiated c.args.timestamp _ _ w (standing c.args.self.now.standing) _ other
+    (subst (λ (log : Option (List (Call g.row.B-Handle.Denot))). Completes c.args.timestamp (traces log c.args.self.now.standing) (traces (g.B.StatelessH265DecoderBackend.log c.negotiate.new.self.backend) c.negotiate.new.self.standing) (renegotiates w.format (standing c.args.self.now.standing)) (standing c.negotiate.new.self.standing)) c.num_free_frames.ensures.log
+    (subst (λ (f : Format). Completes c.args.timestamp (traces (g.B.StatelessH265DecoderBackend.log c.num_free_frames.new.self) c.args.self.now.standing) (traces (g.B.StatelessH265DecoderBackend.log c.negotiate.new.self.backend) c.negotiate.new.self.standing) (renegotiates f (standing c.args.self.now.standing)) (standing c.negotiate.new.self.standing)) (sym is)
     (c.in_ok-negotiate.ensures.part c.args.timestamp)))
 
 pub returns-in_err-negotiate-clause-part : goal.returns-in_err-negotiate-clause-part
 returns-in_err-negotiate-clause-part g c =
     let w = slice_of c.args.options c.args.slice.now c.args.sps.now c.args.pps.now in
     let is = slice_format c.args.options c.args.slice.now c.args.sps.now c.args.pps.now in
-    let other = ap (λ (f : Format). is_accepted f (option_map format_of c.args.self.now.walk.accepted)) (is ∙ sym (ap format_of c.into.ensures)) ∙ sym c.is_accepted.ensures ∙ c.if-is_accepted.false in
-    let s = standing c.args.self.now.walk in
-    let st = standing c.negotiate.new.self.walk in
+    let other = ap (λ (f : Format). is_accepted f (option_map format_of c.args.self.now.standing.accepted)) (is ∙ sym (ap format_of c.into.ensures)) ∙ sym c.is_accepted.ensures ∙ c.if-is_accepted.false in
+    let s = standing c.args.self.now.standing in
+    let st = standing c.negotiate.new.self.standing in
     begins_refused _ c.in_err-negotiate.field-0.0 c.args.timestamp _ _ w s st c.from_residual.ensures.1 other
-    (subst (λ (log : Option (List (Call g.row.B-Handle.Denot))). StopsBy c.in_err-negotiate.field-0.0 c.args.timestamp (traces log c.args.self.now.walk) (traces (g.B.StatelessH265DecoderBackend.log c.negotiate.new.self.backend) c.negotiate.new.self.walk) (renegotiates w.format s).events (λ call. IsNewSequence call × (st ≡ drained s))) c.num_free_frames.ensures.log
-    (subst (λ (f : Format). StopsBy c.in_err-negotiate.field-0.0 c.args.timestamp (traces (g.B.StatelessH265DecoderBackend.log c.num_free_frames.new.self) c.args.self.now.walk) (traces (g.B.StatelessH265DecoderBackend.log c.negotiate.new.self.backend) c.negotiate.new.self.walk) (renegotiates f s).events (λ call. IsNewSequence call × (st ≡ drained s))) (sym is)
+    (subst (λ (log : Option (List (Call g.row.B-Handle.Denot))). StopsBy c.in_err-negotiate.field-0.0 c.args.timestamp (traces log c.args.self.now.standing) (traces (g.B.StatelessH265DecoderBackend.log c.negotiate.new.self.backend) c.negotiate.new.self.standing) (renegotiates w.format s).events (λ call. IsNewSequence call × (st ≡ drained s))) c.num_free_frames.ensures.log
+    (subst (λ (f : Format). StopsBy c.in_err-negotiate.field-0.0 c.args.timestamp (traces (g.B.StatelessH265DecoderBackend.log c.num_free_frames.new.self) c.args.self.now.standing) (traces (g.B.StatelessH265DecoderBackend.log c.negotiate.new.self.backend) c.negotiate.new.self.standing) (renegotiates f s).events (λ call. IsNewSequence call × (st ≡ drained s))) (sym is)
     (c.in_err-negotiate.ensures.part c.args.timestamp)))
 
 pub returns-in_err-negotiate-clause-info : goal.returns-in_err-negotiate-clause-info

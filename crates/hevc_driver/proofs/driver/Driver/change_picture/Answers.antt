@@ -12,9 +12,9 @@ pub returns-clause-part : goal.returns-clause-part
 returns-clause-part g c =
     let f = c.in_ok-finish.ensures.part c.args.timestamp in
     inl (record {
-      mid = traces (g.B.StatelessH265DecoderBackend.log c.finish.new.self.backend) c.finish.new.self.walk;
+      mid = traces (g.B.StatelessH265DecoderBackend.log c.finish.new.self.backend) c.finish.new.self.standing;
       room = f.0;
       finishes = f.1.does;
-      begins = subst (λ (s : Standing). Begins c.begin.result c.args.timestamp (traces (g.B.StatelessH265DecoderBackend.log c.finish.new.self.backend) c.finish.new.self.walk) (traces (g.B.StatelessH265DecoderBackend.log c.begin.new.self.backend) c.begin.new.self.walk)
-          (slice_of c.args.options c.args.slice.now c.args.sps.now c.args.pps.now) s (standing c.begin.new.self.walk)) f.1.next c.begin.ensures.part;
+      begins = subst (λ (s : Standing). Begins c.begin.result c.args.timestamp (traces (g.B.StatelessH265DecoderBackend.log c.finish.new.self.backend) c.finish.new.self.standing) (traces (g.B.StatelessH265DecoderBackend.log c.begin.new.self.backend) c.begin.new.self.standing)
+          (slice_of c.args.options c.args.slice.now c.args.sps.now c.args.pps.now) s (standing c.begin.new.self.standing)) f.1.next c.begin.ensures.part;
     })

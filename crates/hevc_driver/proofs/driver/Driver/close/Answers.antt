@@ -1,6 +1,6 @@
 use Rattle.std.proofs.Common.{ap, arith}
 use Rattle.hevc_walk_units.specs.Units.{Standing}
-use Rattle.hevc_driver.specs.declared.head.Next.{Next}
+use Rattle.hevc_driver.specs.declared.head.Context.{Context}
 use Rattle.hevc_driver.proofs.Closing.{close_refused, close_done}
 use Rattle.hevc_driver.proofs.Soundness.{left_sound}
 use Rattle.hevc_driver.proofs.driver.Driver.close.Goals as goal
@@ -13,5 +13,5 @@ returns-clause-part g c t = close_done t _ _ _ _ _ _ (c.in_ok-finish.ensures.par
 
 pub returns-clause-sound : goal.returns-clause-sound
 returns-clause-sound g c =
-    let number = ap (λ (n : Next). n.number) c.output_all.ensures.next in
+    let number = ap (λ (n : Context). n.number) c.output_all.ensures.next in
     left_sound _ _ _ c.in_ok-finish.ensures.sound (ap (λ (s : Standing). s.current) (c.in_ok-finish.ensures.part 0).1.next) c.output_all.ensures.leaves (omega (arith, number))

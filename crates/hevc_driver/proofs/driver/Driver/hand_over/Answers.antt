@@ -33,7 +33,7 @@ pub returns-in_err-begin_picture-clause-part : goal.returns-in_err-begin_picture
 returns-in_err-begin_picture-clause-part g c o =
     let p = head_of c.args.head.now in
     runs_stop _ _ _ _ _ _ _ _ c.from_residual-in_err-begin_picture.ensures.1
-    (stops_then _ _ (traces (g.B.StatelessH265DecoderBackend.log c.new_picture.new.self) c.args.self.now.walk) _ (walk.Called (new_call p) ∷ []) _ _
+    (stops_then _ _ (traces (g.B.StatelessH265DecoderBackend.log c.new_picture.new.self) c.args.self.now.standing) _ (walk.Called (new_call p) ∷ []) _ _
     (does_call _ _ _ (new_picture_call c.args.head.now.number c.args.head.now.picture c.args.timestamp) c.in_ok-picture.ensures.log refl (keeps_more _ _ _ refl) refl)
     (stops_at _ _ _ (begin_call p (plain_set c.args.set)) _ _ c.in_err-begin_picture.ensures.log refl (keeps_all _ _ refl) (tt, refl)))
 
@@ -57,9 +57,9 @@ pub returns-in_err-decode_slice-clause-part : goal.returns-in_err-decode_slice-c
 returns-in_err-decode_slice-clause-part g c o =
     let p = head_of c.args.head.now in
     runs_stop _ _ _ _ _ _ _ _ c.from_residual-in_err-decode_slice.ensures.1
-    (stops_then _ _ (traces (g.B.StatelessH265DecoderBackend.log c.new_picture.new.self) c.args.self.now.walk) _ (walk.Called (new_call p) ∷ []) _ _
+    (stops_then _ _ (traces (g.B.StatelessH265DecoderBackend.log c.new_picture.new.self) c.args.self.now.standing) _ (walk.Called (new_call p) ∷ []) _ _
     (does_call _ _ _ (new_picture_call c.args.head.now.number c.args.head.now.picture c.args.timestamp) c.in_ok-picture.ensures.log refl (keeps_more _ _ _ refl) refl)
-    (stops_then _ _ (traces (g.B.StatelessH265DecoderBackend.log c.begin_picture.new.self) c.args.self.now.walk) _ (walk.Called (begin_call p (plain_set c.args.set)) ∷ []) _ _
+    (stops_then _ _ (traces (g.B.StatelessH265DecoderBackend.log c.begin_picture.new.self) c.args.self.now.standing) _ (walk.Called (begin_call p (plain_set c.args.set)) ∷ []) _ _
     (does_call _ _ _ (begin_picture_call c.args.head.now.number c.args.set) c.in_ok-begin_picture.ensures.log refl (keeps_more _ _ _ refl) tt)
     (stops_at _ _ _ (walk.slice_call p (plain_set c.args.set) (slice_of o c.args.slice.now c.args.sps.now c.args.pps.now)) [] _ c.in_err-decode_slice.ensures.log refl (keeps_all _ _ refl) (tt, refl))))
 
@@ -67,13 +67,13 @@ pub returns-clause-part : goal.returns-clause-part
 returns-clause-part g c o =
     let p = head_of c.args.head.now in
     record {
-      does = does_then _ _ (traces (g.B.StatelessH265DecoderBackend.log c.new_picture.new.self) c.args.self.now.walk) _ (walk.Called (new_call p) ∷ []) _
+      does = does_then _ _ (traces (g.B.StatelessH265DecoderBackend.log c.new_picture.new.self) c.args.self.now.standing) _ (walk.Called (new_call p) ∷ []) _
           (does_call _ _ _ (new_picture_call c.args.head.now.number c.args.head.now.picture c.args.timestamp) c.in_ok-picture.ensures.log refl (keeps_more _ _ _ refl) refl)
-          (does_then _ _ (traces (g.B.StatelessH265DecoderBackend.log c.begin_picture.new.self) c.args.self.now.walk) _ (walk.Called (begin_call p (plain_set c.args.set)) ∷ []) _
+          (does_then _ _ (traces (g.B.StatelessH265DecoderBackend.log c.begin_picture.new.self) c.args.self.now.standing) _ (walk.Called (begin_call p (plain_set c.args.set)) ∷ []) _
           (does_call _ _ _ (begin_picture_call c.args.head.now.number c.args.set) c.in_ok-begin_picture.ensures.log refl (keeps_more _ _ _ refl) tt)
-          (subst (λ (made : walk.Call). Does c.args.timestamp (traces (g.B.StatelessH265DecoderBackend.log c.begin_picture.new.self) c.args.self.now.walk) (traces (g.B.StatelessH265DecoderBackend.log c.decode_slice.new.self) c.args.self.now.walk) (walk.Called made ∷ []))
+          (subst (λ (made : walk.Call). Does c.args.timestamp (traces (g.B.StatelessH265DecoderBackend.log c.begin_picture.new.self) c.args.self.now.standing) (traces (g.B.StatelessH265DecoderBackend.log c.decode_slice.new.self) c.args.self.now.standing) (walk.Called made ∷ []))
           (slice_made g.row.B-Handle.Denot o c.args.slice.now c.args.sps.now c.args.pps.now p (plain_set c.args.set) _ _ (c.build_lists.ensures.list0 o c.args.sps.now) (c.build_lists.ensures.list1 o c.args.sps.now))
-          (does_call c.args.timestamp (traces (g.B.StatelessH265DecoderBackend.log c.begin_picture.new.self) c.args.self.now.walk) (traces (g.B.StatelessH265DecoderBackend.log c.decode_slice.new.self) c.args.self.now.walk) (decode_slice_call c.args.head.now.number c.args.slice.now c.build_lists.new.lists.ref_pic_list0 c.build_lists.new.lists.ref_pic_list1) c.in_ok-decode_slice.ensures.log refl (keeps_more _ _ _ refl) tt)));
+          (does_call c.args.timestamp (traces (g.B.StatelessH265DecoderBackend.log c.begin_picture.new.self) c.args.self.now.standing) (traces (g.B.StatelessH265DecoderBackend.log c.decode_slice.new.self) c.args.self.now.standing) (decode_slice_call c.args.head.now.number c.args.slice.now c.build_lists.new.lists.ref_pic_list0 c.build_lists.new.lists.ref_pic_list1) c.in_ok-decode_slice.ensures.log refl (keeps_more _ _ _ refl) tt)));
       next = refl;
     }
 

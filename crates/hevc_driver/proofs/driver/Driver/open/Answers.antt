@@ -10,7 +10,7 @@ use Rattle.hevc_driver.proofs.driver.Driver.open.Goals as goal
 
 pub returns-clause-part : goal.returns-clause-part
 returns-clause-part g c o =
-    opened _ _ _ _ _ (head_of c.args.head.now) (slice_of o c.args.slice.now c.args.sps.now c.args.pps.now) (standing c.args.self.now.walk) (standing c.enter-set.new.self) _ (plain_set c.enter-set.result) c.requires.decoded c.requires.none (c.enter-set.ensures.part _ c.args.timestamp o c.args.pps.now) (c.enter-set.ensures.set o c.args.pps.now) (c.hand_over.ensures.part o)
+    opened _ _ _ _ _ (head_of c.args.head.now) (slice_of o c.args.slice.now c.args.sps.now c.args.pps.now) (standing c.args.self.now.standing) (standing c.enter-set.new.self) _ (plain_set c.enter-set.result) c.requires.decoded c.requires.none (c.enter-set.ensures.part _ c.args.timestamp o c.args.pps.now) (c.enter-set.ensures.set o c.args.pps.now) (c.hand_over.ensures.part o)
 
 pub hand_over-requires-clause-newest : goal.hand_over-requires-clause-newest
 hand_over-requires-clause-newest g c =

@@ -21,8 +21,8 @@ returns-in_err-new_sequence-clause-part g c t =
 pub returns-clause-part : goal.returns-clause-part
 returns-clause-part g c t = record {
   does = does_call t _ _ (new_sequence_call c.args.sps.now) c.in_ok-new_sequence.ensures.log refl (keeps_more _ _ _ (ap tickets c.set_max_num_pics.ensures.entries)) tt;
-  next = ap (λ (es : Buffer). record (standing c.args.self.now.walk) { store = record { accepted = Some (format_of c.from-format.result); buffer = es } }) (ap plain_entries c.set_max_num_pics.ensures.entries)
-      ∙ ap (λ (f : Format). record (standing c.args.self.now.walk) { store = record { accepted = Some f; buffer = (standing c.args.self.now.walk).store.buffer } }) (ap format_of c.from-format.ensures);
+  next = ap (λ (es : Buffer). record (standing c.args.self.now.standing) { store = record { accepted = Some (format_of c.from-format.result); buffer = es } }) (ap plain_entries c.set_max_num_pics.ensures.entries)
+      ∙ ap (λ (f : Format). record (standing c.args.self.now.standing) { store = record { accepted = Some f; buffer = (standing c.args.self.now.standing).store.buffer } }) (ap format_of c.from-format.ensures);
 }
 
 pub returns-clause-sound : goal.returns-clause-sound

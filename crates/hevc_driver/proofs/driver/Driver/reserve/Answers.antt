@@ -15,7 +15,7 @@ returns-in_err-reserve-2-clause-sound g c = kept_sound _ _ _ c.requires.sound c.
 
 pub returns-clause-room : goal.returns-clause-room
 returns-clause-room g c =
-    let few = few_wait (buffer_of c.args.self.now.walk.dpb) in
-    let many = length-map (stored_entries c.args.self.now.walk.dpb) plain_entry in
+    let few = few_wait (buffer_of c.args.self.now.standing.dpb) in
+    let many = length-map (stored_entries c.args.self.now.standing.dpb) plain_entry in
     let same = ap (λ es. num_waiting (plain_entries es)) c.in_ok-reserve-2.ensures.entries in
-    record { queue = omega (arith, few, many, same, c.args.self.now.walk.dpb.few, c.in_ok-reserve.ensures.ok); stored = c.in_ok-reserve-2.ensures.room }
+    record { queue = omega (arith, few, many, same, c.args.self.now.standing.dpb.few, c.in_ok-reserve.ensures.ok); stored = c.in_ok-reserve-2.ensures.room }

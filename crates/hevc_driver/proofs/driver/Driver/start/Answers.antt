@@ -21,8 +21,8 @@ open-requires-clause-decoded g c = decoded_is _ _ (c.in_ok-head.ensures.head c.a
 
 pub returns-then-head-clause-part : goal.returns-then-head-clause-part
 returns-then-head-clause-part g c =
-    skips_at _ _ _ (slice_of c.args.options c.args.slice.now c.args.sps.now c.args.pps.now) (standing c.args.self.now.walk) _ (head_of c.in_ok-head.head) (λ e. omega (arith, e)) (c.in_ok-head.ensures.head c.args.pps.now) (c.in_ok-head.ensures.within c.args.pps.now) c.if-head.true refl refl refl
-    (ap (λ (v : Context). record (standing c.args.self.now.walk) { current = SkippedPicture; next = v }) c.behind-self.ensures)
+    skips_at _ _ _ (slice_of c.args.options c.args.slice.now c.args.sps.now c.args.pps.now) (standing c.args.self.now.standing) _ (head_of c.in_ok-head.head) (λ e. omega (arith, e)) (c.in_ok-head.ensures.head c.args.pps.now) (c.in_ok-head.ensures.within c.args.pps.now) c.if-head.true refl refl refl
+    (ap (λ (v : Context). record (standing c.args.self.now.standing) { current = SkippedPicture; next = v }) c.behind-self.ensures)
 
 pub returns-then-head-clause-sound : goal.returns-then-head-clause-sound
 returns-then-head-clause-sound g c =

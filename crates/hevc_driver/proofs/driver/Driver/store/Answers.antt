@@ -20,30 +20,30 @@ store_picture-requires-clause-other g c = below_absent _ _ c.requires.newest.new
 
 pub returns-in_err-handle-clause-part : goal.returns-in_err-handle-clause-part
 returns-in_err-handle-clause-part g c t =
-    unsubmitted _ _ _ _ _ (head_of c.args.opened.head) (plain_set c.args.opened.set) (standing c.args.self.now.walk) _ c.from_residual.ensures.1 (not_skipped _ c.args.opened.decoded) c.in_err-handle.ensures.log refl refl
-    (ap (λ (v : Current). record (standing c.args.self.now.walk) { current = v }) c.requires.none)
+    unsubmitted _ _ _ _ _ (head_of c.args.opened.head) (plain_set c.args.opened.set) (standing c.args.self.now.standing) _ c.from_residual.ensures.1 (not_skipped _ c.args.opened.decoded) c.in_err-handle.ensures.log refl refl
+    (ap (λ (v : Current). record (standing c.args.self.now.standing) { current = v }) c.requires.none)
 
 pub returns-in_err-store_picture-clause-part : goal.returns-in_err-store_picture-clause-part
 returns-in_err-store_picture-clause-part g c t =
-    fills _ _ _ _ (head_of c.args.opened.head) (plain_set c.args.opened.set) (standing c.args.self.now.walk) _ (max_num_pics_of c.args.self.now.walk.dpb) c.in_ok-handle.handle c.from_residual-in_err-store_picture.ensures.1 (not_skipped _ c.args.opened.decoded) c.requires.sound.sized
-    (no_room _ _ _ _ _ c.in_err-store_picture.was c.store_picture.ensures.full.0 (sym (length-map (stored_entries c.args.self.now.walk.dpb) plain_entry)))
+    fills _ _ _ _ (head_of c.args.opened.head) (plain_set c.args.opened.set) (standing c.args.self.now.standing) _ (max_num_pics_of c.args.self.now.standing.dpb) c.in_ok-handle.handle c.from_residual-in_err-store_picture.ensures.1 (not_skipped _ c.args.opened.decoded) c.requires.sound.sized
+    (no_room _ _ _ _ _ c.in_err-store_picture.was c.store_picture.ensures.full.0 (sym (length-map (stored_entries c.args.self.now.standing.dpb) plain_entry)))
     c.in_ok-handle.ensures.log refl (ap (λ d. tickets (stored_entries d)) c.in_err-store_picture.ensures.stays) (cc (ap buffer_of c.in_err-store_picture.ensures.stays, c.requires.none, c.tid0_behind-self.ensures))
 
 pub returns-clause-part : goal.returns-clause-part
 returns-clause-part g c t =
-    stored _ _ _ (head_of c.args.opened.head) (plain_set c.args.opened.set) (standing c.args.self.now.walk) _ (max_num_pics_of c.args.self.now.walk.dpb) c.in_ok-handle.handle c.store_picture.new.self c.bump_additionally.new.dpb c.args.self.now.walk.queue c.bump_additionally.new.queue (not_skipped _ c.args.opened.decoded) c.requires.sound.sized
-    (room_left _ _ _ _ _ c.in_ok-store_picture.was c.store_picture.ensures.full.1 (sym (length-map (stored_entries c.args.self.now.walk.dpb) plain_entry)))
+    stored _ _ _ (head_of c.args.opened.head) (plain_set c.args.opened.set) (standing c.args.self.now.standing) _ (max_num_pics_of c.args.self.now.standing.dpb) c.in_ok-handle.handle c.store_picture.new.self c.bump_additionally.new.dpb c.args.self.now.standing.queue c.bump_additionally.new.queue (not_skipped _ c.args.opened.decoded) c.requires.sound.sized
+    (room_left _ _ _ _ _ c.in_ok-store_picture.was c.store_picture.ensures.full.1 (sym (length-map (stored_entries c.args.self.now.standing.dpb) plain_entry)))
     c.in_ok-handle.ensures.log (c.in_ok-store_picture.ensures.buffer (head_of c.args.opened.head) (record { same_number = refl; order_count = refl; pic_output_flag = refl }) c.requires.sound.latency) c.in_ok-store_picture.ensures.handles c.bump_additionally.ensures refl refl refl (cc (c.requires.none, c.tid0_behind-self.ensures))
 
 pub bump_additionally-requires-clause-room : goal.bump_additionally-requires-clause-room
 bump_additionally-requires-clause-room g c =
-    let more = stored_waiting (head_of c.args.opened.head) (buffer_of c.args.self.now.walk.dpb) in
+    let more = stored_waiting (head_of c.args.opened.head) (buffer_of c.args.self.now.standing.dpb) in
     let same = ap num_waiting (c.in_ok-store_picture.ensures.buffer (head_of c.args.opened.head) (record { same_number = refl; order_count = refl; pic_output_flag = refl }) c.requires.sound.latency) in
     omega (arith, more, same, c.requires.room.queue)
 
 pub returns-clause-grows : goal.returns-clause-grows
 returns-clause-grows g c =
-    let more = stored_waiting (head_of c.args.opened.head) (buffer_of c.args.self.now.walk.dpb) in
+    let more = stored_waiting (head_of c.args.opened.head) (buffer_of c.args.self.now.standing.dpb) in
     let same = ap num_waiting (c.in_ok-store_picture.ensures.buffer (head_of c.args.opened.head) (record { same_number = refl; order_count = refl; pic_output_flag = refl }) c.requires.sound.latency) in
     let b = c.bump_additionally.ensures in
     let t = bumped_total _ _ _ _ _ b in

@@ -29,21 +29,21 @@ returns-clause-flushes g c t =
     (c.in_ok-reserve.ensures.standing ∙ ap (λ (v : View g.row.B.Denot g.row.B-Handle.Denot). v.standing) c.self.view_is)
     (c.in_ok-close.ensures.part t)
     (elim c.if-awaited.branch [
-      | then-awaited w ↦ ap (λ d. traces (g.B.StatelessH265DecoderBackend.log d.driver.backend) d.driver.walk) w.self-inside-is ∙ w.forget_format.ensures.traces
-      | else-awaited w ↦ ap (λ d. traces (g.B.StatelessH265DecoderBackend.log d.driver.backend) d.driver.walk) w.self-inside-is
+      | then-awaited w ↦ ap (λ d. traces (g.B.StatelessH265DecoderBackend.log d.driver.backend) d.driver.standing) w.self-inside-is ∙ w.forget_format.ensures.traces
+      | else-awaited w ↦ ap (λ d. traces (g.B.StatelessH265DecoderBackend.log d.driver.backend) d.driver.standing) w.self-inside-is
     ])
     (elim c.if-awaited.branch [
-      | then-awaited w ↦ ap (λ d. standing d.driver.walk) w.self-inside-is ∙ w.forget_format.ensures.standing ∙ ap (λ (b : Bool). if b then forgotten (standing c.close.new.self.walk) else standing c.close.new.self.walk) (sym w.if-awaited.true ∙ c.awaiting_format-awaited.ensures)
-      | else-awaited w ↦ ap (λ d. standing d.driver.walk) w.self-inside-is ∙ ap (λ (b : Bool). if b then forgotten (standing c.close.new.self.walk) else standing c.close.new.self.walk) (sym w.if-awaited.false ∙ c.awaiting_format-awaited.ensures)
+      | then-awaited w ↦ ap (λ d. standing d.driver.standing) w.self-inside-is ∙ w.forget_format.ensures.standing ∙ ap (λ (b : Bool). if b then forgotten (standing c.close.new.self.standing) else standing c.close.new.self.standing) (sym w.if-awaited.true ∙ c.awaiting_format-awaited.ensures)
+      | else-awaited w ↦ ap (λ d. standing d.driver.standing) w.self-inside-is ∙ ap (λ (b : Bool). if b then forgotten (standing c.close.new.self.standing) else standing c.close.new.self.standing) (sym w.if-awaited.false ∙ c.awaiting_format-awaited.ensures)
     ])
 
 pub returns-in_err-close-clause-few : goal.returns-in_err-close-clause-few
-returns-in_err-close-clause-few g c = few_came 1 c.args.self.now c.self.inside.driver.walk c.reserve.new.self.walk c.close.new.self.walk (ap (λ (v : View g.row.B.Denot g.row.B-Handle.Denot). v.queue) c.self.view_is) c.in_ok-reserve.ensures.total c.in_err-close.ensures.grows (omega arith)
+returns-in_err-close-clause-few g c = few_came 1 c.args.self.now c.self.inside.driver.standing c.reserve.new.self.standing c.close.new.self.standing (ap (λ (v : View g.row.B.Denot g.row.B-Handle.Denot). v.queue) c.self.view_is) c.in_ok-reserve.ensures.total c.in_err-close.ensures.grows (omega arith)
 
 pub returns-clause-few : goal.returns-clause-few
 returns-clause-few g c =
-    let came = few_came 1 c.args.self.now c.self.inside.driver.walk c.reserve.new.self.walk c.close.new.self.walk (ap (λ (v : View g.row.B.Denot g.row.B-Handle.Denot). v.queue) c.self.view_is) c.in_ok-reserve.ensures.total c.in_ok-close.ensures.grows (omega arith) in
+    let came = few_came 1 c.args.self.now c.self.inside.driver.standing c.reserve.new.self.standing c.close.new.self.standing (ap (λ (v : View g.row.B.Denot g.row.B-Handle.Denot). v.queue) c.self.view_is) c.in_ok-reserve.ensures.total c.in_ok-close.ensures.grows (omega arith) in
     elim c.if-awaited.branch [
-      | then-awaited w ↦ subst (λ (t : Traces g.row.B-Handle.Denot). length t.queue ≤ length c.args.self.now.queue + 17) (sym (ap (λ d. traces (g.B.StatelessH265DecoderBackend.log d.driver.backend) d.driver.walk) w.self-inside-is ∙ w.forget_format.ensures.traces)) came
-      | else-awaited w ↦ subst (λ (t : Traces g.row.B-Handle.Denot). length t.queue ≤ length c.args.self.now.queue + 17) (sym (ap (λ d. traces (g.B.StatelessH265DecoderBackend.log d.driver.backend) d.driver.walk) w.self-inside-is)) came
+      | then-awaited w ↦ subst (λ (t : Traces g.row.B-Handle.Denot). length t.queue ≤ length c.args.self.now.queue + 17) (sym (ap (λ d. traces (g.B.StatelessH265DecoderBackend.log d.driver.backend) d.driver.standing) w.self-inside-is ∙ w.forget_format.ensures.traces)) came
+      | else-awaited w ↦ subst (λ (t : Traces g.row.B-Handle.Denot). length t.queue ≤ length c.args.self.now.queue + 17) (sym (ap (λ d. traces (g.B.StatelessH265DecoderBackend.log d.driver.backend) d.driver.standing) w.self-inside-is)) came
     ]

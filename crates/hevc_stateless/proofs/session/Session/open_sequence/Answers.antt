@@ -29,10 +29,10 @@ returns-clause-part g c t =
     (c.in_ok-open_sequence.ensures.part t)
 
 pub returns-in_err-open_sequence-clause-few : goal.returns-in_err-open_sequence-clause-few
-returns-in_err-open_sequence-clause-few g c = few_came 0 c.args.self.now c.self.inside.driver.walk c.self.inside.driver.walk c.open_sequence.new.self.walk (ap (λ (v : View g.row.B.Denot g.row.B-Handle.Denot). v.queue) c.self.view_is) refl c.in_err-open_sequence.ensures.grows (omega arith)
+returns-in_err-open_sequence-clause-few g c = few_came 0 c.args.self.now c.self.inside.driver.standing c.self.inside.driver.standing c.open_sequence.new.self.standing (ap (λ (v : View g.row.B.Denot g.row.B-Handle.Denot). v.queue) c.self.view_is) refl c.in_err-open_sequence.ensures.grows (omega arith)
 
 pub returns-clause-few : goal.returns-clause-few
-returns-clause-few g c = few_came 0 c.args.self.now c.self.inside.driver.walk c.self.inside.driver.walk c.open_sequence.new.self.walk (ap (λ (v : View g.row.B.Denot g.row.B-Handle.Denot). v.queue) c.self.view_is) refl c.in_ok-open_sequence.ensures.grows (omega arith)
+returns-clause-few g c = few_came 0 c.args.self.now c.self.inside.driver.standing c.self.inside.driver.standing c.open_sequence.new.self.standing (ap (λ (v : View g.row.B.Denot g.row.B-Handle.Denot). v.queue) c.self.view_is) refl c.in_ok-open_sequence.ensures.grows (omega arith)
 
 pub returns-in_err-open_sequence-clause-info : goal.returns-in_err-open_sequence-clause-info
 returns-in_err-open_sequence-clause-info g c = refused_info _ _ 0 _ _ _ _ _ _ c.from_residual.ensures.1 (c.in_err-open_sequence.ensures.part 0)

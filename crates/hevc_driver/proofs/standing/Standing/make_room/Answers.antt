@@ -9,7 +9,7 @@ use Rattle.hevc_driver.specs.Standings.{standing}
 use Rattle.hevc_driver.proofs.PictureBegins.{clears, drains, bumps}
 use Rattle.hevc_driver.proofs.Rooms.{needed_order}
 use Rattle.hevc_driver.proofs.Soundness.{bumped_total}
-use Rattle.hevc_driver.proofs.walk.Walk.make_room.Goals as goal
+use Rattle.hevc_driver.proofs.standing.Standing.make_room.Goals as goal
 
 pub returns-then-head-clause-part : goal.returns-then-head-clause-part
 returns-then-head-clause-part g c log t = clears t _ _ (head_of c.args.head.now) (standing c.args.self.now) c.clear.new.self c.if-head.true (ap plain_entries c.clear.ensures.entries) (ap tickets c.clear.ensures.entries) refl refl refl

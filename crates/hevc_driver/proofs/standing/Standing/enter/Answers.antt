@@ -10,7 +10,7 @@ use Rattle.hevc_driver.specs.Slices.{slice_of}
 use Rattle.hevc_driver.specs.Standings.{standing}
 use Rattle.hevc_driver.proofs.PictureBegins.{entered}
 use Rattle.hevc_driver.proofs.Rooms.{reference_stays, marks_wait}
-use Rattle.hevc_driver.proofs.walk.Walk.enter.Goals as goal
+use Rattle.hevc_driver.proofs.standing.Standing.enter.Goals as goal
 
 pub returns-clause-part : goal.returns-clause-part
 returns-clause-part g c log t o pps =

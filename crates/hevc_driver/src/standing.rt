@@ -1,6 +1,6 @@
 //! What stands between two calls.
 use crate::current::Current;
-use crate::head::Next;
+use crate::head::Context;
 use hevc_backend::NegotiationInfo;
 use hevc_bumping::Frame;
 use hevc_dpb::Dpb;
@@ -9,7 +9,7 @@ use std::collections::VecDeque;
 
 /// All but the backend and the parameter sets. While a format is awaited it counts as accepted here.
 #[derive(Drop)]
-pub struct Walk<H: Copy, P> {
+pub struct Standing<H: Copy, P> {
     /// The format that was negotiated last.
     pub accepted: Option<NegotiationInfo>,
     /// The decoded picture buffer.
@@ -19,7 +19,7 @@ pub struct Walk<H: Copy, P> {
     /// The header of the latest independent slice segment (7.4.7.1).
     pub kept: Option<SliceHeader>,
     /// What stands for the next picture.
-    pub next: Next,
+    pub next: Context,
     /// The pictures that came out.
     pub queue: VecDeque<Frame<H>>,
 }
