@@ -17,6 +17,18 @@ format_of info = record {
   max_num_pics = info.max_num_pics;
 }
 
+-- all numbers 0
+abbrev pub no_format : Format
+no_format = record {
+  coded_width = 0;
+  coded_height = 0;
+  general_profile_idc = 0;
+  bit_depth_luma_minus8 = 0;
+  bit_depth_chroma_minus8 = 0;
+  chroma_format_idc = 0;
+  max_num_pics = 0;
+}
+
 abbrev pub info_of : Format → NegotiationInfo
 info_of f = record {
   coded_resolution = record { width = f.coded_width; height = f.coded_height };

@@ -4,6 +4,7 @@
 
 mod backend;
 mod call;
+pub mod comparisons;
 mod error;
 mod laws;
 mod negotiation;

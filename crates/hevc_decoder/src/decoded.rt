@@ -3,6 +3,7 @@ ghost use Rattle.std.specs.Prelude.{◌≡◌};
 ghost use Rattle.hevc_decoder.specs.Names.{shown_at};
 
 use hevc_stateless::{DecodeError, Frame};
+use thiserror::Error;
 
 /// An output: a picture at the moment that it is due (C.5.2).
 #[derive(Clone, Copy, PartialEq, Eq)]
@@ -32,7 +33,8 @@ impl<H: Copy> Shown<H> {
 }
 
 /// A refusal.
-#[derive(Clone, Copy, PartialEq, Eq)]
+#[derive(Clone, Copy, Debug, PartialEq, Eq, Drop, Error)]
+#[error("unit {unit} is refused: {error}")]
 pub struct Refused {
     /// The number, from 0, of the unit at which it came; behind the last unit the number of units.
     pub unit: u64,

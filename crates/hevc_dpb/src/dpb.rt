@@ -11,9 +11,11 @@ use crate::output::{append_in_order, output_first};
 use arrayvec::ArrayVec;
 use hevc_pictures::{Limits, PictureData, Reference};
 use std::alloc::{AllocError, Global};
+use thiserror::Error;
 
 /// The buffer holds as many pictures as it may.
-#[derive(Clone, Copy, PartialEq, Eq)]
+#[derive(Clone, Copy, Debug, PartialEq, Eq, Drop, Error)]
+#[error("the decoded picture buffer is full")]
 pub struct DpbFull;
 
 /// Stored pictures, in the order in which they were stored: at most 16, each with a number of its own.

@@ -1,8 +1,7 @@
 -- What the code's records of pictures stand for.
-use Rattle.std.specs.Prelude.{ℤ, ◌&&◌, Option, option_map}
+use Rattle.std.specs.Prelude.{◌&&◌}
 use Rattle.hevc_bits.specs.NaluType.{nalu_type_number}
 use Rattle.hevc_walk.specs.Pictures as walk
-use Rattle.hevc_pictures.specs.declared.picture_data.PictureData.{PictureData}
 use Rattle.hevc_pictures.specs.Limits.{limits_of}
 use Rattle.hevc_dpb.specs.Plain.{from_zero}
 use Rattle.hevc_backend.specs.Negotiation.{format_of}
@@ -25,15 +24,11 @@ head_of h = record {
   limits = limits_of h.limits;
 }
 
--- the order count of prevTid0Pic (8.3.1)
-abbrev pub tid0_count : Option PictureData → Option ℤ
-tid0_count p = option_map (λ picture. picture.pic_order_cnt_val) p
-
 abbrev pub context_of : Context → walk.Context
 context_of n = record {
   number = n.number;
   first_in_bitstream = n.first_picture_in_bitstream;
   first_after_end = n.first_picture_after_eos;
-  prev_tid0_count = tid0_count n.prev_tid0_pic;
+  prev_tid0_count = n.prev_tid0_count;
   latest_irap_no_rasl = n.latest_irap_no_rasl;
 }

@@ -7,7 +7,7 @@ ghost use Rattle.hevc_types_d.specs.declared.pps.Pps.{Pps};
 ghost use Rattle.hevc_walk.specs.Pictures.{head, order_count_in_range, is_tid0};
 ghost use Rattle.hevc_walk_units.specs.Units.{context_behind, tid0_behind};
 ghost use Rattle.hevc_pictures.specs.OrderCounts.{IsMaxPicOrderCntLsb};
-ghost use Rattle.hevc_driver.specs.Heads.{head_of, context_of, tid0_count};
+ghost use Rattle.hevc_driver.specs.Heads.{head_of, context_of};
 ghost use Rattle.hevc_driver.specs.Slices.{slice_of};
 
 use crate::head::{Context, Head};
@@ -43,11 +43,11 @@ pub(crate) fn head_of_first(
         (head (context_of next.now) (slice_of options slice.now sps.now pps)) ≡ false) }
 {
     let nalu_type = slice.nalu().header().nalu_type();
-    let picture = PictureData::new_from_slice(
+    let picture = PictureData::new_after(
         slice,
         next.first_picture_in_bitstream,
         next.first_picture_after_eos,
-        next.prev_tid0_pic.as_ref(),
+        next.prev_tid0_count,
         max_pic_order_cnt_lsb(sps),
         options.handle_cra_as_bla,
     )?;
@@ -89,25 +89,18 @@ pub(crate) fn behind(next: &Context, head: &Head) -> Context
         number: head.number + 1,
         first_picture_in_bitstream: false,
         first_picture_after_eos: false,
-        prev_tid0_pic: next.prev_tid0_pic,
+        prev_tid0_count: next.prev_tid0_count,
         latest_irap_no_rasl: head.latest_irap_no_rasl,
     }
 }
 
-/// prevTid0Pic, once this picture is over (8.3.1).
-pub(crate) fn tid0_behind(head: &Head, earlier: Option<PictureData>) -> Option<PictureData>
-    ensures { tid0_count result ≡ tid0_behind (Some (head_of head.now)) (tid0_count earlier) }
+/// The order count of prevTid0Pic, once this picture is over (8.3.1).
+pub(crate) fn tid0_behind(head: &Head, earlier: Option<i32>) -> Option<i32>
+    ensures { result ≡ tid0_behind (Some (head_of head.now)) earlier }
 {
     if !head.skipped && head.picture.valid_for_prev_tid0_pic {
-        Some(head.picture)
+        Some(head.picture.pic_order_cnt_val)
     } else {
         earlier
     }
-}
-
-/// Whether it is an IRAP picture with NoRaslOutputFlag: a coded video sequence begins.
-pub(crate) fn starts_sequence(head: &Head) -> bool
-    ensures { result ≡ (head_of head.now).starts_sequence }
-{
-    head.picture.is_irap && head.picture.no_rasl_output_flag
 }

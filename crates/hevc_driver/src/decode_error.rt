@@ -6,6 +6,7 @@ ghost use Rattle.hevc_driver.specs.declared.decode_error.DecodeError.TheVariants
 use hevc_backend::{BackendError, NegotiationInfo};
 use hevc_bits::UnitError;
 use std::alloc::{AllocError, AllocFailed};
+use thiserror::Error;
 
 /// Why a stream is refused, or a call of the decoder.
 ///
@@ -22,28 +23,43 @@ use std::alloc::{AllocError, AllocFailed};
 ///
 /// Of the backend: `NotEnoughOutputBuffers`, it has no free frame, and so many are needed; `CheckEvents`, a format was negotiated and is
 /// to be accepted first; `Backend`, it failed. `NoMemory`: there is no memory.
-#[derive(Clone, Copy, PartialEq, Eq)]
+#[derive(Clone, Copy, Debug, PartialEq, Eq, Drop, Error)]
 pub enum DecodeError {
+    #[error("no unit is left")]
     NoNal,
+    #[error("the unit has fewer than two bytes")]
     TruncatedNalu,
+    #[error("unit type {0} is unspecified")]
     InvalidNaluType(u8),
+    #[error("the payload ends within an element")]
     OutOfBits,
+    #[error("the element of table {table}, row {row} is out of range")]
     OutOfRange {
         table: u8,
         row: u8,
     },
+    #[error("picture parameter set {0} is not kept")]
     MissingPps(u8),
+    #[error("a dependent slice segment follows no independent one")]
     NoIndependentSlice,
+    #[error("a later slice of a picture names another format")]
     ChangedMidPicture {
         accepted: NegotiationInfo,
         named: NegotiationInfo,
     },
+    #[error("the order count is out of the range of 32 bits")]
     PocOutOfRange,
+    #[error("the decoded picture buffer is full")]
     DpbFull,
+    #[error("the backend has no free frame, and {0} are needed")]
     NotEnoughOutputBuffers(usize),
+    #[error("a format was negotiated and is to be accepted")]
     CheckEvents,
+    #[error("no number is left for a picture")]
     PictureNumbersSpent,
+    #[error("the backend failed")]
     Backend,
+    #[error("no memory")]
     NoMemory,
 }
 

@@ -45,7 +45,7 @@ impl<B: StatelessH265DecoderBackend> Driver<B> {
                     number: 0,
                     first_picture_in_bitstream: true,
                     first_picture_after_eos: true,
-                    prev_tid0_pic: None,
+                    prev_tid0_count: None,
                     latest_irap_no_rasl: false,
                 },
                 queue: VecDeque::new(alloc),

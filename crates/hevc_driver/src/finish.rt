@@ -64,7 +64,7 @@ impl<B: StatelessH265DecoderBackend> Driver<B> {
             picture,
         } = opened;
         let handle = self.backend.submit_picture(head.number, picture)?;
-        self.standing.next.prev_tid0_pic = tid0_behind(&head, self.standing.next.prev_tid0_pic);
+        self.standing.next.prev_tid0_count = tid0_behind(&head, self.standing.next.prev_tid0_count);
         self.standing
             .dpb
             .store_picture(head.number, head.picture, handle)?;

@@ -32,8 +32,8 @@ pub struct Context {
     pub first_picture_in_bitstream: bool,
     /// It is the first one behind an end of sequence.
     pub first_picture_after_eos: bool,
-    /// prevTid0Pic, if there is one.
-    pub prev_tid0_pic: Option<PictureData>,
+    /// The order count of prevTid0Pic, if there is one.
+    pub prev_tid0_count: Option<i32>,
     /// NoRaslOutputFlag of the latest IRAP picture, false where there is none.
     pub latest_irap_no_rasl: bool,
 }

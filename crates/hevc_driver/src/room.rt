@@ -12,7 +12,7 @@ ghost use Rattle.hevc_refs.specs.Sets.{plain_set};
 ghost use Rattle.hevc_backend.specs.declared.call.Call.{Call};
 ghost use Rattle.hevc_backend.specs.Named.{SetNamesAmong};
 
-use crate::beginning::{behind, starts_sequence};
+use crate::beginning::behind;
 use crate::head::Head;
 use crate::references::reference_set;
 use crate::standing::Standing;
@@ -55,7 +55,7 @@ impl<H: Copy, P> Standing<H, P> {
     {
         if head.picture.no_output_of_prior_pics_flag {
             self.dpb.clear();
-        } else if starts_sequence(head) {
+        } else if head.picture.starts_sequence() {
             output_all(&mut self.dpb, &mut self.queue);
         } else {
             self.dpb.remove_unused();

@@ -5,16 +5,20 @@ ghost use Rattle.hevc_faults.specs.Faults.{Rose};
 
 use crate::source::{Failed, Source};
 use std::alloc::{AllocError, Global};
+use thiserror::Error;
 
 /// For how many bytes at least one read has room.
 const BLOCK: usize = 65_536;
 
 /// Why the input can't be had: a read failed, there are more bytes than may be, or there was no memory for
 /// them.
-#[derive(Clone, Copy, Debug, PartialEq, Eq)]
+#[derive(Clone, Copy, Debug, PartialEq, Eq, Drop, Error)]
 pub enum InputError {
+    #[error("a read failed")]
     Failed,
+    #[error("the input is too long")]
     TooLong,
+    #[error("no memory")]
     NoMemory,
 }
 

@@ -6,11 +6,15 @@ ghost use Rattle.std.specs.Io.KnownBytes.{WriteAppends};
 ghost use Rattle.hevc_faults.specs.Faults.{Rose};
 ghost use Rattle.hevc_io.specs.Writes.{TakesSome};
 
+use thiserror::Error;
+
 /// Why a write was refused: it failed and the sink counted a fault, or there was no memory for the
 /// bytes.
-#[derive(Clone, Copy, Debug, PartialEq, Eq)]
+#[derive(Clone, Copy, Debug, PartialEq, Eq, Drop, Error)]
 pub enum SinkError {
+    #[error("a write failed")]
     Failed,
+    #[error("no memory")]
     NoMemory,
 }
 

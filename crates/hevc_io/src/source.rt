@@ -5,8 +5,11 @@ ghost use Rattle.std.specs.Io.{ReadsAtMost};
 ghost use Rattle.std.specs.Io.KnownBytes.{ReadConsumes};
 ghost use Rattle.hevc_faults.specs.Faults.{HasCause};
 
+use thiserror::Error;
+
 /// A read failed. A source that answers so has counted a fault.
-#[derive(Clone, Copy, Debug, PartialEq, Eq)]
+#[derive(Clone, Copy, Debug, PartialEq, Eq, Drop, Error)]
+#[error("a read failed")]
 pub struct Failed;
 
 /// Something that hands over bytes.

@@ -5,14 +5,17 @@ ghost use Rattle.hevc_io.specs.Stops.{words_status_of};
 use crate::word::Word;
 use std::alloc::{AllocError, Global};
 use std::env::{Env, FillError};
+use thiserror::Error;
 
 /// How many bytes a word may have.
 pub const LONGEST_WORD: usize = 2_097_152;
 
 /// Why the words can't be had: there was no memory for them, or the system doesn't hand them over.
-#[derive(Clone, Copy, Debug, PartialEq, Eq)]
+#[derive(Clone, Copy, Debug, PartialEq, Eq, Drop, Error)]
 pub enum WordsError {
+    #[error("no memory")]
     NoMemory,
+    #[error("the system doesn't hand over the words of the command line")]
     Refused,
 }
 

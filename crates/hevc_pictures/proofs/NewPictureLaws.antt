@@ -6,11 +6,10 @@ use Rattle.hevc_types_d.specs.declared.slice.Slice.{Slice}
 use Rattle.hevc_walk.specs.Meanings as walk
 use Rattle.hevc_walk.specs.OrderCounts.{count_behind, is_i32}
 use Rattle.hevc_walk.specs.Pictures.{Context, head, no_rasl_output, begins_sequence, order_count_of, order_count_in_range}
-use Rattle.hevc_pictures.specs.declared.picture_data.PictureData.{PictureData}
 use Rattle.hevc_pictures.specs.OrderCounts.{count_by}
 use Rattle.hevc_pictures.specs.NewPicture.{IsContext, IsFirstSlice}
 
-module _ (c : Context) (s : walk.Slice) (in_bitstream after_eos : Bool) (prev : Option PictureData) (slice : Slice) (max_lsb : ℤ) (handle : Bool)
+module _ (c : Context) (s : walk.Slice) (in_bitstream after_eos : Bool) (prev : Option ℤ) (slice : Slice) (max_lsb : ℤ) (handle : Bool)
     (k : IsContext c in_bitstream after_eos prev) (f : IsFirstSlice s slice max_lsb handle) (t : ℕ) (is_t : t ≡ s.nal_unit_type) where
   pub no_rasl_is : (r : Bool) → r ≡ (is_idr t || is_bla t || (is_cra t && (in_bitstream || handle)) || after_eos) → r ≡ no_rasl_output c s
   no_rasl_is r is =

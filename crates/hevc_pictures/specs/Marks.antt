@@ -1,5 +1,6 @@
 -- How a picture is marked (8.3.2).
-use Rattle.std.specs.Prelude.{Bool, true, false}
+use Rattle.std.specs.Prelude.{◌≡◌, Bool, true, false, pos}
+use Rattle.hevc_bits.specs.NaluType.{nalu_type_number}
 use Rattle.hevc_walk.specs.Buffer.{Mark}
 use Rattle.hevc_walk.specs.Buffer as walk
 use Rattle.hevc_pictures.specs.declared.reference.Reference.{Reference}
@@ -22,6 +23,23 @@ reference_of p = p.reference
 
 abbrev pub with_reference : Reference → PictureData → PictureData
 with_reference mark p = record p { reference = mark }
+
+-- a picture of which nothing is known: no number but 0, no flag, no mark
+pub record Unmarked (p : PictureData) : Type 0 where
+  pub nalu_type : nalu_type_number p.nalu_type ≡ 0
+  pub no_rasl_output_flag : p.no_rasl_output_flag ≡ false
+  pub pic_output_flag : p.pic_output_flag ≡ false
+  pub valid_for_prev_tid0_pic : p.valid_for_prev_tid0_pic ≡ false
+  pub slice_pic_order_cnt_lsb : p.slice_pic_order_cnt_lsb ≡ pos 0
+  pub pic_order_cnt_msb : p.pic_order_cnt_msb ≡ pos 0
+  pub pic_order_cnt_val : p.pic_order_cnt_val ≡ pos 0
+  pub no_output_of_prior_pics_flag : p.no_output_of_prior_pics_flag ≡ false
+  pub is_irap : p.is_irap ≡ false
+  pub first_picture_after_eos : p.first_picture_after_eos ≡ false
+  pub pic_latency_cnt : p.pic_latency_cnt ≡ pos 0
+  pub needed_for_output : p.needed_for_output ≡ false
+  pub short_term_ref_pic_set_size_bits : p.short_term_ref_pic_set_size_bits ≡ 0
+  pub mark : reference_of p ≡ None
 
 -- the mark of an entry of the walk
 abbrev pub mark_of : Reference → Mark

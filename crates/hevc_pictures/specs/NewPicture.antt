@@ -1,5 +1,5 @@
 -- What a picture's first slice tells of it, as the walk has it.
-use Rattle.std.specs.Prelude.{◌≡◌, ℕ, ℤ, pos, ◌+◌, ◌-ℤ◌, Bool, false, ◌&&◌, Option, option_map}
+use Rattle.std.specs.Prelude.{◌≡◌, ℕ, ℤ, pos, ◌+◌, ◌-ℤ◌, Bool, false, ◌&&◌, Option}
 use Rattle.hevc_spec.specs.UnitTypes.{is_irap}
 use Rattle.hevc_bits.specs.NaluType.{nalu_type_number}
 use Rattle.hevc_types_d.specs.declared.slice.Slice.{Slice}
@@ -10,12 +10,12 @@ use Rattle.hevc_pictures.specs.declared.reference.Reference.TheVariants as mark
 use Rattle.hevc_pictures.specs.Marks.{reference_of}
 
 -- The pictures before tell this of the next one: whether it is first in the bitstream, or first
--- behind an end of sequence, and prevTid0Pic.
-pub record IsContext (c : Context) (in_bitstream after_eos : Bool) (prev : Option PictureData)
+-- after an end of sequence, and the order count of prevTid0Pic.
+pub record IsContext (c : Context) (in_bitstream after_eos : Bool) (prev_count : Option ℤ)
     : Type 0 where
   pub first_in_bitstream : c.first_in_bitstream ≡ in_bitstream
   pub first_after_end : c.first_after_end ≡ after_eos
-  pub prev_tid0_count : c.prev_tid0_count ≡ option_map (λ p. p.pic_order_cnt_val) prev
+  pub prev_tid0_count : c.prev_tid0_count ≡ prev_count
 
 -- a slice segment has these values of the walk's slice, where MaxPicOrderCntLsb and
 -- HandleCraAsBlaFlag are these

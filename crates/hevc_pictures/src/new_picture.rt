@@ -1,5 +1,5 @@
 //! What a picture's first slice tells of it (8.1.3, 8.3.1).
-ghost use Rattle.std.specs.Prelude.{◌≡◌, ◌↔◌, ◌||◌, ◌&&◌, ◌==◌, ◌+◌, not, false, ℕ, IfOk, IsErr};
+ghost use Rattle.std.specs.Prelude.{◌≡◌, ◌↔◌, ◌||◌, ◌&&◌, ◌==◌, ◌+◌, not, false, ℕ, IfOk, IsErr, option_map};
 ghost use Rattle.std.specs.Option.{option_copied};
 ghost use Rattle.hevc_spec.specs.UnitTypes.{is_idr, is_bla, is_cra, is_irap, is_radl, is_rasl, is_slnr};
 ghost use Rattle.hevc_bits.specs.NaluType.{nalu_type_number};
@@ -63,6 +63,16 @@ fn is_valid_for_prev_tid0(nalu_type: NaluType, temporal_id_plus1: u8) -> bool
     temporal_id_plus1 == 1 && !(nalu_type.is_radl() || nalu_type.is_rasl() || nalu_type.is_slnr())
 }
 
+/// The order count of a picture, if there is one.
+fn order_count_of(picture: Option<&PictureData>) -> Option<i32>
+    ensures { result ≡ option_map (λ p. p.pic_order_cnt_val) (option_copied picture.entry) }
+{
+    match picture {
+        None => None,
+        Some(picture) => Some(picture.pic_order_cnt_val),
+    }
+}
+
 impl PictureData {
     ghost use Rattle.hevc_walk.specs.Meanings as walk;
     ghost use Rattle.hevc_walk.specs.Pictures.{Context, head, order_count_in_range};
@@ -84,12 +94,43 @@ impl PictureData {
         requires { IsMaxPicOrderCntLsb max_pic_order_cnt_lsb }
         ensures told { (c : Context) (s : walk.Slice)
             → IsContext c first_picture_in_bitstream first_picture_after_eos
-            (option_copied prev_tid0_pic.entry)
+            (option_map (λ p. p.pic_order_cnt_val) (option_copied prev_tid0_pic.entry))
             → IsFirstSlice s slice.now max_pic_order_cnt_lsb handle_cra_as_bla
             → IfOk result (IsNewPicture c s slice.now.header.st_rps_bits) }
         ensures refused { (c : Context) (s : walk.Slice)
             → IsContext c first_picture_in_bitstream first_picture_after_eos
-            (option_copied prev_tid0_pic.entry)
+            (option_map (λ p. p.pic_order_cnt_val) (option_copied prev_tid0_pic.entry))
+            → IsFirstSlice s slice.now max_pic_order_cnt_lsb handle_cra_as_bla
+            → IsErr result ↔ (order_count_in_range (head c s) ≡ false) }
+    {
+        PictureData::new_after(
+            slice,
+            first_picture_in_bitstream,
+            first_picture_after_eos,
+            order_count_of(prev_tid0_pic),
+            max_pic_order_cnt_lsb,
+            handle_cra_as_bla,
+        )
+    }
+
+    /// The same, where `prev_tid0_count` is the order count of prevTid0Pic (8.3.1), if there is such a picture.
+    ///
+    /// Errors: its order count, or the most significant bits of it, isn't a 32-bit number.
+    pub fn new_after(
+        slice: &Slice<'_>,
+        first_picture_in_bitstream: bool,
+        first_picture_after_eos: bool,
+        prev_tid0_count: Option<i32>,
+        max_pic_order_cnt_lsb: i32,
+        handle_cra_as_bla: bool,
+    ) -> Result<PictureData, PocOutOfRange>
+        requires { IsMaxPicOrderCntLsb max_pic_order_cnt_lsb }
+        ensures told { (c : Context) (s : walk.Slice)
+            → IsContext c first_picture_in_bitstream first_picture_after_eos prev_tid0_count
+            → IsFirstSlice s slice.now max_pic_order_cnt_lsb handle_cra_as_bla
+            → IfOk result (IsNewPicture c s slice.now.header.st_rps_bits) }
+        ensures refused { (c : Context) (s : walk.Slice)
+            → IsContext c first_picture_in_bitstream first_picture_after_eos prev_tid0_count
             → IsFirstSlice s slice.now max_pic_order_cnt_lsb handle_cra_as_bla
             → IsErr result ↔ (order_count_in_range (head c s) ≡ false) }
     {
@@ -104,7 +145,7 @@ impl PictureData {
         );
         let begins_sequence = begins_sequence(nalu_type, no_rasl_output_flag);
         let lsb = header.pic_order_cnt_lsb as i32;
-        let count = order_count(begins_sequence, prev_tid0_pic, lsb, max_pic_order_cnt_lsb)?;
+        let count = order_count(begins_sequence, prev_tid0_count, lsb, max_pic_order_cnt_lsb)?;
         let mut picture = PictureData::default();
         picture.nalu_type = nalu_type;
         picture.no_rasl_output_flag = no_rasl_output_flag;

@@ -1,14 +1,14 @@
 //! Picture order counts (8.3.1).
-ghost use Rattle.std.specs.Prelude.{◌≡◌, ◌↔◌, ◌&&◌, ℕ, pos, ◌-ℤ◌, ◌≤ℤ◌, ◌<ℤ◌, false, true, IfOk, OnOk, OnErr, IsErr, option_map};
-ghost use Rattle.std.specs.Option.{option_copied};
+ghost use Rattle.std.specs.Prelude.{◌≡◌, ◌↔◌, ◌&&◌, ℕ, pos, ◌-ℤ◌, ◌≤ℤ◌, ◌<ℤ◌, false, true, IfOk, OnOk, OnErr, IsErr};
 ghost use Rattle.std.specs.Int.{int_rem_euclid};
 ghost use Rattle.hevc_walk.specs.OrderCounts.{centred_difference, nearest, count_behind, is_i32};
 ghost use Rattle.hevc_pictures.specs.OrderCounts.{IsMaxPicOrderCntLsb, count_by};
 
-use crate::picture_data::PictureData;
+use thiserror::Error;
 
 /// An order count, or its most significant bits, isn't a 32-bit number.
-#[derive(Clone, Copy, PartialEq, Eq)]
+#[derive(Clone, Copy, Debug, PartialEq, Eq, Drop, Error)]
+#[error("the order count is out of the range of 32 bits")]
 pub struct PocOutOfRange;
 
 /// PicOrderCntVal, and PicOrderCntMsb, which is that less the low bits.
@@ -18,10 +18,11 @@ pub(crate) struct OrderCount {
     pub msb: i32,
 }
 
-/// The order count of a picture with these low bits, which begins a sequence or stands behind prevTid0Pic.
+/// The order count of a picture with these low bits, which begins a sequence or follows prevTid0Pic, which has this
+/// order count, if there is such a picture.
 pub(crate) fn order_count(
     begins_sequence: bool,
-    prev_tid0_pic: Option<&PictureData>,
+    prev_tid0_count: Option<i32>,
     lsb: i32,
     modulus: i32,
 ) -> Result<OrderCount, PocOutOfRange>
@@ -29,49 +30,36 @@ pub(crate) fn order_count(
     requires lsb { pos 0 ≤ℤ lsb }
     ensures val { (m n : ℕ) → modulus ≡ pos m → lsb ≡ pos n
         → IfOk result
-        (λ o. o.val ≡ count_by begins_sequence m (option_copied prev_tid0_pic.entry) n) }
+        (λ o. o.val ≡ count_by begins_sequence m prev_tid0_count n) }
     ensures msb { IfOk result (λ o. o.msb ≡ o.val -ℤ lsb) }
     ensures refused { (m n : ℕ) → modulus ≡ pos m → lsb ≡ pos n
         → IsErr result
-        ↔ ((is_i32 (count_by begins_sequence m (option_copied prev_tid0_pic.entry) n)
-        && is_i32 (count_by begins_sequence m (option_copied prev_tid0_pic.entry) n -ℤ pos n))
+        ↔ ((is_i32 (count_by begins_sequence m prev_tid0_count n)
+        && is_i32 (count_by begins_sequence m prev_tid0_count n -ℤ pos n))
         ≡ false) }
 {
     let count = if begins_sequence {
         lsb as i64
     } else {
-        count_behind(prev_tid0_pic, lsb, modulus)
+        count_behind(prev_tid0_count, lsb, modulus)
     };
     let val = in_range(count)?;
     let msb = in_range(count - lsb as i64)?;
     Ok(OrderCount { val, msb })
 }
 
-/// The order count behind that of prevTid0Pic, if there is such a picture.
-fn count_behind(prev_tid0_pic: Option<&PictureData>, lsb: i32, modulus: i32) -> i64
+/// The order count after that of prevTid0Pic, if there is such a picture.
+fn count_behind(prev_tid0_count: Option<i32>, lsb: i32, modulus: i32) -> i64
     requires { IsMaxPicOrderCntLsb modulus }
     ensures value { (m n : ℕ) → modulus ≡ pos m → lsb ≡ pos n
-        → result ≡ count_behind m
-        (option_map (λ p. p.pic_order_cnt_val) (option_copied prev_tid0_pic.entry)) n }
+        → result ≡ count_behind m prev_tid0_count n }
     ensures above { (pos 0 -ℤ pos 4294967296) <ℤ result }
     ensures below { result <ℤ pos 4294967296 }
 {
-    match prev_tid0_pic {
+    match prev_tid0_count {
         None => lsb as i64,
-        Some(prev) => nearest_behind(prev, lsb, modulus),
+        Some(earlier) => nearest(earlier, lsb, modulus),
     }
-}
-
-/// The order count that is nearest to that of an earlier picture.
-fn nearest_behind(prev: &PictureData, lsb: i32, modulus: i32) -> i64
-    requires { IsMaxPicOrderCntLsb modulus }
-    ensures value { (m n : ℕ) → modulus ≡ pos m → lsb ≡ pos n
-        → result ≡ nearest m prev.now.pic_order_cnt_val n }
-    ensures above { (pos 0 -ℤ pos 4294967296) <ℤ result }
-    ensures below { result <ℤ pos 4294967296 }
-{
-    let earlier = prev.pic_order_cnt_val;
-    nearest(earlier, lsb, modulus)
 }
 
 /// A number of 32 bits.

@@ -1,5 +1,5 @@
 //! What is known of a picture.
-ghost use Rattle.std.specs.Prelude.{◌≡◌};
+ghost use Rattle.std.specs.Prelude.{◌≡◌, ◌&&◌};
 ghost use Rattle.hevc_pictures.specs.Marks.{is_reference};
 
 use crate::reference::Reference;
@@ -39,6 +39,13 @@ pub struct PictureData {
 
 impl PictureData {
     ghost use Rattle.hevc_pictures.specs.Marks.{reference_of, with_reference};
+
+    /// Whether it begins a coded video sequence: an IRAP picture with NoRaslOutputFlag (8.1.3).
+    pub fn starts_sequence(&self) -> bool
+        ensures { result ≡ (self.now.is_irap && self.now.no_rasl_output_flag) }
+    {
+        self.is_irap && self.no_rasl_output_flag
+    }
 
     /// Whether it is marked as used for reference.
     pub fn is_ref(&self) -> bool

@@ -84,7 +84,7 @@ pub(crate) fn read_sub_layers(
 }
 
 /// Rows 30 and 31 of table 2, for one sub-layer.
-#[tactic(auto, unfolding(hevc_tables::specs::ProfileTierLevelTable::next_sub_layer, hevc_spec::specs::Rows::when))]
+#[tactic(auto, unfolding(hevc_tables::specs::ProfileTierLevelTable::next_sub_layer))]
 fn read_next_sub_layer(
     r: &mut NaluReader<'_>,
     i: usize,
@@ -94,13 +94,46 @@ fn read_next_sub_layer(
     ensures { Fills plain_profile_tier_level
         (table.next_sub_layer i) result all.old all.new r.old r.new }
 {
+    read_profile_if_present(r, i, all)?;
+    read_level_if_present(r, i, all)
+}
+
+/// Row 30 of table 2, where its flag is set.
+#[tactic(auto, unfolding(hevc_spec::specs::Rows::when))]
+fn read_profile_if_present(
+    r: &mut NaluReader<'_>,
+    i: usize,
+    all: &mut ProfileTierLevel,
+) -> Result<(), ParseError>
+    requires { i < 6 }
+    ensures { Fills plain_profile_tier_level
+        (λ t. when (table.flag_of t.sub_layer_profile_present_flag i) t (table.sub_layer_profile i t))
+        result all.old all.new r.old r.new }
+{
     if all.sub_layer_profile_present_flag[i] {
-        read_sub_layer_profile(r, i, all)?;
+        read_sub_layer_profile(r, i, all)
+    } else {
+        Ok(())
     }
+}
+
+/// Row 31 of table 2, where its flag is set.
+#[tactic(auto, unfolding(hevc_spec::specs::Rows::when))]
+fn read_level_if_present(
+    r: &mut NaluReader<'_>,
+    i: usize,
+    all: &mut ProfileTierLevel,
+) -> Result<(), ParseError>
+    requires { i < 6 }
+    ensures { Fills plain_profile_tier_level
+        (λ t. when (table.flag_of t.sub_layer_level_present_flag i) t (table.sub_layer_level i t))
+        result all.old all.new r.old r.new }
+{
     if all.sub_layer_level_present_flag[i] {
-        read_sub_layer_level(r, i, all)?;
+        read_sub_layer_level(r, i, all)
+    } else {
+        Ok(())
     }
-    Ok(())
 }
 
 /// Row 30 of table 2.

@@ -33,7 +33,7 @@ fn unmark_before_sequence<T: Copy>(dpb: &mut Dpb<T>, pic: &PictureData)
         → buffer_of dpb.new ≡ references_before p (buffer_of dpb.old) }
     ensures kept { KeepsAllButMarks dpb.old dpb.new }
 {
-    if pic.is_irap && pic.no_rasl_output_flag {
+    if pic.starts_sequence() {
         dpb.mark_all_as_unused_for_ref();
     }
 }

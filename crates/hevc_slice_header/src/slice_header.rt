@@ -117,7 +117,9 @@ fn set_sizes(size: u32, r: &NaluReader<'_>, h: &mut SliceHeader)
     requires few { size < 2 ^ 32 - 16 }
     requires dropped { r.now.dropped ≤ size }
     ensures set { plain_slice_header h.new ≡ record (plain_slice_header h.old) {
-        header_bit_size = 16 + size; n_emulation_prevention_bytes = r.now.dropped } }
+      header_bit_size = 16 + size;
+      n_emulation_prevention_bytes = r.now.dropped;
+    } }
     ensures lists { HasLists (plain_slice_header h.old) → HasLists (plain_slice_header h.new) }
 {
     h.header_bit_size = 16 + size;

@@ -1,7 +1,7 @@
 -- Loading a byte changes no payload bit.
 use Rattle.std.proofs.Common.{◌≡◌, ℕ, zero, suc, ◌+◌, ◌*◌, ◌<◌, Bool, true, false, cond, eqb, List, [], ◌∷◌, length, drop, Some, None, refl, ap, sym, ◌∙◌, subst, arith, Option, ◌-◌, ◌≤◌}
 use Rattle.std.specs.Prelude.{option_map, option_and_then, ◌&&◌}
-use Rattle.hevc_spec.specs.Payload.{Place, bits, payload_after, payload_bits, low_bits, run_behind, loading, with_bits, no_bits, bits_left, next_place, place_behind, IsAhead, IsReached}
+use Rattle.hevc_spec.specs.Payload.{Place, bits, payload_after, payload_bits, low_bits, run_behind, loading, with_bits, no_bits, bits_left, next_place, place_behind, IsAhead, IsReached, LeadsTo}
 
 pub low_bits_length : (n byte : ℕ) → length (low_bits n byte) ≡ n
 low_bits_length zero byte = refl
@@ -111,6 +111,7 @@ pub same_ahead : (p : Place) → IsAhead p p
 same_ahead p = record { moved = refl; fewer = omega arith; onward = λ _ way. way }
 
 pub bit_ahead : (p q : Place) (b : Bool) → bits p ≡ b ∷ bits q → next_place p ≡ Some q → bits_left p + 8 * p.dropped ≡ bits_left q + 8 * q.dropped + 1 → IsAhead p q
+unfolding LeadsTo
 bit_ahead p q b e next level =
     let l = ap length e in
     record { moved = omega arith; fewer = omega arith; onward = λ o way. reached_then o p q way (bit_reached p q b e next) }
@@ -120,6 +121,7 @@ ahead_then p q s a b = record { moved = omega arith; fewer = omega arith; onward
 
 -- what is ahead is reached
 pub is_reached : (p q : Place) → IsAhead p q → IsReached p q
+unfolding LeadsTo
 is_reached p q a = a.onward p (same_reached p)
 
 -- ---- so many bits on

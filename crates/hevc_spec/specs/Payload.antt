@@ -91,13 +91,17 @@ pub record IsReached (old new : Place) : Type 0 where
   pub place : place_behind (length (bits old) - length (bits new)) old ≡ Some new
   pub fewer : length (bits new) ≤ length (bits old)
 
--- The second place is reached from the first, so from whatever the first is reached from. The bits
--- left fall by the payload bits between them, and by eight for each 03 that was dropped.
+-- the same, as a word that stays shut
+unfoldable pub LeadsTo : Place → Place → Type 0
+LeadsTo old new = IsReached old new
+
+-- What leads to the first place leads to the second, so the first itself does. The bits left fall by
+-- the payload bits between them, and by eight for each 03 that was dropped.
 pub record IsAhead (old new : Place) : Type 0 where
   pub moved : bits_left old + 8 * old.dropped + length (bits new)
       ≡ bits_left new + 8 * new.dropped + length (bits old)
   pub fewer : length (bits new) ≤ length (bits old)
-  pub onward : (p : Place) → IsReached p old → IsReached p new
+  pub onward : (p : Place) → LeadsTo p old → LeadsTo p new
 
 -- more_rbsp_data (7.2): the next bit isn't the stop bit, since a one stands behind it in its byte,
 -- or a byte that isn't 0 behind that

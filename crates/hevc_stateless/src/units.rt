@@ -2,7 +2,6 @@
 ghost use Rattle.std.specs.Prelude.{◌≡◌, ◌<◌, ◌≤◌, ◌^◌, ℕ, length, true, false, Ok, Some, IsSome, IfErr};
 ghost use Rattle.hevc_spec.specs.UnitHeader.{unit_header};
 ghost use Rattle.hevc_spec.specs.UnitTypes.{is_slice};
-ghost use Rattle.hevc_bits.specs.NaluType.{nalu_type_number};
 ghost use Rattle.hevc_bits.specs.FoundUnit.{bytes_of};
 ghost use Rattle.hevc_stream.specs.Slices.{temporal_id};
 ghost use Rattle.hevc_kept_sets.specs.Kept.{kept_of, options_in};
@@ -189,14 +188,14 @@ impl<B: StatelessH265DecoderBackend> StatelessDecoder<B> {
             self.old.session.standing self.new.session.standing }
         ensures state { AwaitsOrStays result self.old.session.state self.new.session.state }
     {
-        let number = type_number(nalu.header().nalu_type());
-        if is_slice(number) {
+        let nalu_type = nalu.header().nalu_type();
+        if nalu_type.is_slice() {
             return self.take_slice(timestamp, nalu);
         }
-        if number == 36 {
-            self.session.end_sequence();
-        } else if number == 37 {
-            self.session.end_bitstream();
+        match nalu_type {
+            NaluType::EosNut => self.session.end_sequence(),
+            NaluType::EobNut => self.session.end_bitstream(),
+            _ => {}
         }
         Ok(())
     }
@@ -254,25 +253,11 @@ impl<B: StatelessH265DecoderBackend> StatelessDecoder<B> {
         if header.temporal_id_plus1() - 1 > self.kept.options().highest_tid {
             return Ok(());
         }
-        match type_number(header.nalu_type()) {
-            32 => self.take_video_set(&nalu),
-            33 => self.take_sequence_set(&nalu),
-            34 => self.take_picture_set(&nalu),
+        match header.nalu_type() {
+            NaluType::VpsNut => self.take_video_set(&nalu),
+            NaluType::SpsNut => self.take_sequence_set(&nalu),
+            NaluType::PpsNut => self.take_picture_set(&nalu),
             _ => self.take_coded(timestamp, nalu),
         }
     }
-}
-
-/// The number by which a unit names its type (Table 7-1): 0 to 47.
-fn type_number(nalu_type: NaluType) -> u8
-    ensures { result ≡ nalu_type_number nalu_type }
-{
-    nalu_type as u8
-}
-
-/// Whether this is the type of a slice segment that isn't reserved: 0 to 9 and 16 to 21 (Table 7-1).
-fn is_slice(nal_unit_type: u8) -> bool
-    ensures { result ≡ is_slice nal_unit_type }
-{
-    nal_unit_type <= 9 || (16 <= nal_unit_type && nal_unit_type <= 21)
 }

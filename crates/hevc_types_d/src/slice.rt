@@ -5,9 +5,11 @@ ghost use Rattle.hevc_types_d.specs.SliceHeader.{plain_slice_header};
 
 use crate::slice_header::SliceHeader;
 use hevc_bits::{Nalu, NaluHeader};
+use thiserror::Error;
 
 /// A slice segment isn't a dependent one, so it has a whole header of its own.
-#[derive(Clone, Copy, PartialEq, Eq)]
+#[derive(Clone, Copy, Debug, PartialEq, Eq, Drop, Error)]
+#[error("the slice segment is not a dependent one")]
 pub struct NotDependent;
 
 /// A slice segment: its header, and the unit that it was read from.

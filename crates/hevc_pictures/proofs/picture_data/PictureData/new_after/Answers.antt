@@ -2,14 +2,13 @@ use Rattle.std.proofs.Common.{◌≡◌, ℕ, ℤ, pos, ◌-ℤ◌, ◌&&◌, �
 use Rattle.std.specs.Prelude.{IsErr}
 use Rattle.hevc_spec.specs.UnitTypes.{is_cra, is_irap, is_rasl}
 use Rattle.std.proofs.lemmas.Int.{ints, to_z-of_z}
-use Rattle.std.specs.Option.{option_copied}
 use Rattle.hevc_bits.specs.NaluType.{nalu_type_number}
 use Rattle.hevc_pictures.proofs.NewPictureLaws.{no_rasl_is, begins_is, output_is, discards_is, valid_is, count_is, range_is, head_count, head_starts, head_type, head_lsb}
-use Rattle.hevc_pictures.proofs.picture_data.PictureData.new_from_slice.Goals as goal
+use Rattle.hevc_pictures.proofs.picture_data.PictureData.new_after.Goals as goal
 
 pub returns-clause-told : goal.returns-clause-told
 returns-clause-told c con s k f =
-    let prev = option_copied c.args.prev_tid0_pic in
+    let prev = c.args.prev_tid0_count in
     let t : ℕ = nalu_type_number c.nalu_type-nalu_type.result in
     let is_t : t ≡ s.nal_unit_type = c.nalu_type-nalu_type.ensures ∙ ap (λ h. h.nal_unit_type) c.header-unit.ensures.value ∙ ap (λ u. u.header.nal_unit_type) c.nalu.ensures ∙ f.nal_unit_type in
     let small : to_z w32 c.header-header.result.now.pic_order_cnt_lsb ≡ pos c.header-header.result.now.pic_order_cnt_lsb = omega (arith, ints) in
@@ -44,7 +43,7 @@ returns-clause-told c con s k f =
 
 pub returns-in_err-count-clause-refused : goal.returns-in_err-count-clause-refused
 returns-in_err-count-clause-refused c con s k f =
-    let prev = option_copied c.args.prev_tid0_pic in
+    let prev = c.args.prev_tid0_count in
     let t : ℕ = nalu_type_number c.nalu_type-nalu_type.result in
     let is_t : t ≡ s.nal_unit_type = c.nalu_type-nalu_type.ensures ∙ ap (λ h. h.nal_unit_type) c.header-unit.ensures.value ∙ ap (λ u. u.header.nal_unit_type) c.nalu.ensures ∙ f.nal_unit_type in
     let small : to_z w32 c.header-header.result.now.pic_order_cnt_lsb ≡ pos c.header-header.result.now.pic_order_cnt_lsb = omega (arith, ints) in
@@ -59,7 +58,7 @@ returns-in_err-count-clause-refused c con s k f =
 
 pub returns-clause-refused : goal.returns-clause-refused
 returns-clause-refused c con s k f =
-    let prev = option_copied c.args.prev_tid0_pic in
+    let prev = c.args.prev_tid0_count in
     let t : ℕ = nalu_type_number c.nalu_type-nalu_type.result in
     let is_t : t ≡ s.nal_unit_type = c.nalu_type-nalu_type.ensures ∙ ap (λ h. h.nal_unit_type) c.header-unit.ensures.value ∙ ap (λ u. u.header.nal_unit_type) c.nalu.ensures ∙ f.nal_unit_type in
     let small : to_z w32 c.header-header.result.now.pic_order_cnt_lsb ≡ pos c.header-header.result.now.pic_order_cnt_lsb = omega (arith, ints) in
