@@ -59,8 +59,8 @@ IsOfSet error = ⊥
 pub record Step {B H T : Type 0} (result : Result T DecodeError) (timestamp : ℕ) (options : Options)
     (header : UnitHeader) (bytes : List ℕ) (old new : Seen B H) : Type 0 where
   pub part : Takes result timestamp (traces_of old.log old.view) (traces_of new.log new.view)
-      (meaning_in old.view.state (unit_at options old.kept header bytes)) old.view.standing
-      new.view.standing
+      (meaning_in old.view.state (unit_at options old.kept header bytes))
+      old.view.standing new.view.standing
   pub state : Moves old.view.state (unit_at options old.kept header bytes) result new.view.state
   pub kept : KeepsBehind result options bytes old.kept new.kept
 
