@@ -15,8 +15,6 @@ mod open;
 mod references;
 mod room;
 mod slices;
-#[cfg(test)]
-mod tests;
 mod walk;
 
 pub use current::{Current, Open};

@@ -7,7 +7,5 @@ mod history;
 mod made;
 mod program;
 mod report;
-#[cfg(test)]
-mod tests;
 
 pub use program::{INPUT_LIMIT, run};
