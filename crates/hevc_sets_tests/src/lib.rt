@@ -7,3 +7,5 @@ mod kept_sets;
 mod sets;
 #[cfg(test)]
 mod slice;
+#[cfg(test)]
+mod streams;

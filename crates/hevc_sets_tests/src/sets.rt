@@ -4,7 +4,6 @@ mod profile;
 mod scaling;
 mod sequence_set;
 mod short_term;
-mod streams;
 mod timing;
 mod usability;
 mod video_set;

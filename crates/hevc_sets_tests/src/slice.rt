@@ -3,4 +3,3 @@ mod parser;
 mod parts;
 mod references;
 mod slice_header;
-mod streams;

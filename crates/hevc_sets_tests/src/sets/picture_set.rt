@@ -1,9 +1,10 @@
 //! Worked sets, each in a stream of its own.
 ghost use Rattle.std.specs.Prelude.{◌<◌, length};
 
-use super::streams::{PICTURE_SET, SEQUENCE_SET};
+use crate::streams::{PICTURE_SET, SEQUENCE_SET};
 use hevc_bits::{Nalu, NaluHeader};
 use hevc_sets::{ParseError, default_scaling_lists, read_pps};
+use hevc_types_a::{PpsRangeExtension, PpsSccExtension};
 use hevc_types_c::Sps;
 use hevc_types_d::Pps;
 use std::alloc::Global;
@@ -125,9 +126,8 @@ fn read_with(alloc: Global, spses: &BTreeMap<u8, Sps>, stream: &[u8]) -> Result<
 }
 
 /// The error of a set that isn't read.
-fn refusal(alloc: Global, stream: &[u8]) -> Option<ParseError>
-    requires { length stream.now < 1000 }
-{
+fn refusal(rt: &impl Abort, alloc: Global, stream: &[u8]) -> Option<ParseError> {
+    assert!(rt; stream.len() < 1000);
     read(alloc, ten_blocks(alloc), stream).err()
 }
 
@@ -184,13 +184,22 @@ fn offsets_of_filters(rt: HostRuntime) -> Result<(), Fail> {
 #[test]
 fn both_extensions(rt: HostRuntime) -> Result<(), Fail> {
     let pps = read(rt.alloc(), ten_blocks(rt.alloc()), EXTENDED)?;
-    let x = &pps.range_extension;
+    has_chroma_offsets(&rt, &pps.range_extension);
+    has_palettes(&rt, &pps.scc_extension);
+    Ok(())
+}
+
+/// The range extension of `EXTENDED`.
+fn has_chroma_offsets(rt: &impl Abort, x: &PpsRangeExtension) {
     assert!(rt; x.cross_component_prediction_enabled_flag);
     assert_eq!(rt; x.chroma_qp_offset_list_len_minus1, 1);
     assert_eq!(rt; x.cb_qp_offset_list, [-3, 12, 0, 0, 0, 0]);
     assert_eq!(rt; x.cr_qp_offset_list, [4, -12, 0, 0, 0, 0]);
     assert_eq!(rt; x.log2_sao_offset_scale_luma, 2);
-    let x = &pps.scc_extension;
+}
+
+/// Its extension for screen content.
+fn has_palettes(rt: &impl Abort, x: &PpsSccExtension) {
     assert_eq!(rt; x.act_y_qp_offset_plus5, -7);
     assert_eq!(rt; x.act_cr_qp_offset_plus3, 15);
     assert_eq!(rt; x.num_palette_predictor_initializers, 2);
@@ -198,28 +207,32 @@ fn both_extensions(rt: HostRuntime) -> Result<(), Fail> {
     assert_eq!(rt; predictors[0][0], 4095);
     assert_eq!(rt; predictors[1][0], 255);
     assert_eq!(rt; predictors[2][1], 9);
-    Ok(())
 }
 
 #[test]
 fn refusals_name_their_rows(rt: HostRuntime) -> Result<(), Fail> {
     let alloc = rt.alloc();
-    let at = |table, row| Some(ParseError::OutOfRange { table, row });
-    assert_eq!(rt; refusal(alloc, DEEP_QUANTISER), at(11, 10));
-    assert_eq!(rt; refusal(alloc, MANY_COLUMNS), at(11, 14));
-    assert_eq!(rt; refusal(alloc, WIDE_COLUMN), at(11, 17));
-    assert_eq!(rt; refusal(alloc, NO_COLUMN_LEFT), at(11, 17));
-    assert_eq!(rt; refusal(alloc, COARSE_MERGING), at(11, 27));
-    assert_eq!(rt; refusal(alloc, SEVERAL_LAYERS), at(11, 30));
-    assert_eq!(rt; refusal(alloc, SCALED_OFFSETS), at(12, 6));
-    assert_eq!(rt; refusal(alloc, MANY_PREDICTORS), at(13, 7));
-    assert_eq!(rt; refusal(alloc, OTHER_DEPTH), at(13, 9));
+    for (stream, table, row) in [
+        (DEEP_QUANTISER, 11, 10),
+        (MANY_COLUMNS, 11, 14),
+        (WIDE_COLUMN, 11, 17),
+        (NO_COLUMN_LEFT, 11, 17),
+        (COARSE_MERGING, 11, 27),
+        (SEVERAL_LAYERS, 11, 30),
+        (SCALED_OFFSETS, 12, 6),
+        (MANY_PREDICTORS, 13, 7),
+        (OTHER_DEPTH, 13, 9),
+    ] {
+        let refused = refusal(&rt, alloc, stream);
+        let at_row = Some(ParseError::OutOfRange { table, row });
+        assert_eq!(rt; refused, at_row, "row {row} of table {table}");
+    }
     assert_eq!(rt;
-        refusal(alloc, &PICTURE_SET[..6]),
+        refusal(&rt, alloc, &PICTURE_SET[..6]),
         Some(ParseError::OutOfBits)
     );
     assert_eq!(rt;
-        refusal(alloc, SEQUENCE_SET),
+        refusal(&rt, alloc, SEQUENCE_SET),
         Some(ParseError::WrongNaluType)
     );
     Ok(())

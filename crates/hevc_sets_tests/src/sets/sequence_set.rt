@@ -1,10 +1,10 @@
 //! Worked sets, each in a stream of its own.
 ghost use Rattle.std.specs.Prelude.{◌<◌, length};
 
-use super::streams::{PICTURE_SET, SEQUENCE_SET};
+use crate::streams::{PICTURE_SET, SEQUENCE_SET};
 use hevc_bits::{Nalu, NaluHeader};
 use hevc_sets::{ParseError, read_sps};
-use hevc_types_c::Sps;
+use hevc_types_c::{Sps, SpsSccExtension};
 use std::alloc::Global;
 use std::process::Abort;
 use std::test::Fail;
@@ -93,9 +93,8 @@ fn read(alloc: Global, stream: &[u8]) -> Result<Sps, ParseError>
 }
 
 /// The error of a set that isn't read.
-fn refusal(alloc: Global, stream: &[u8]) -> Option<ParseError>
-    requires { length stream.now < 1000 }
-{
+fn refusal(rt: &impl Abort, alloc: Global, stream: &[u8]) -> Option<ParseError> {
+    assert!(rt; stream.len() < 1000);
     read(alloc, stream).err()
 }
 
@@ -121,7 +120,12 @@ fn both_extensions(rt: HostRuntime) -> Result<(), Fail> {
     assert!(rt; !sps.range_extension.explicit_rdpcm_enabled_flag);
     assert_eq!(rt; sps.wp_offset_half_range_y, 512);
     assert_eq!(rt; sps.wp_offset_half_range_c, 256);
-    let x = &sps.scc_extension;
+    has_palettes(&rt, &sps.scc_extension);
+    Ok(())
+}
+
+/// The extension for screen content of `EXTENDED`.
+fn has_palettes(rt: &impl Abort, x: &SpsSccExtension) {
     assert_eq!(rt; x.palette_max_size, 2);
     assert_eq!(rt; x.num_palette_predictor_initializer_minus1, 1);
     let predictors = x.palette_predictor_initializer;
@@ -130,7 +134,6 @@ fn both_extensions(rt: HostRuntime) -> Result<(), Fail> {
     assert_eq!(rt; predictors[2][1], 8);
     assert_eq!(rt; x.motion_vector_resolution_control_idc, 2);
     assert!(rt; x.intra_boundary_filtering_disabled_flag);
-    Ok(())
 }
 
 #[test]
@@ -171,21 +174,26 @@ fn usability_with_both_kinds_of_schedules(rt: HostRuntime) -> Result<(), Fail> {
 #[test]
 fn refusals_name_their_rows(rt: HostRuntime) {
     let alloc = rt.alloc();
-    let at = |table, row| Some(ParseError::OutOfRange { table, row });
-    assert_eq!(rt; refusal(alloc, MANY_SUB_LAYERS), at(5, 2));
-    assert_eq!(rt; refusal(alloc, NO_LEVEL), at(2, 27));
-    assert_eq!(rt; refusal(alloc, CROPPED_AWAY), at(5, 12));
-    assert_eq!(rt; refusal(alloc, REORDERED), at(5, 18));
-    assert_eq!(rt; refusal(alloc, LATE), at(5, 19));
-    assert_eq!(rt; refusal(alloc, LARGE_TRANSFORMS), at(5, 24));
-    assert_eq!(rt; refusal(alloc, THREE_DIMENSIONS), at(5, 46));
-    assert_eq!(rt; refusal(alloc, NO_PREDICTOR), at(10, 5));
+    for (stream, table, row) in [
+        (MANY_SUB_LAYERS, 5, 2),
+        (NO_LEVEL, 2, 27),
+        (CROPPED_AWAY, 5, 12),
+        (REORDERED, 5, 18),
+        (LATE, 5, 19),
+        (LARGE_TRANSFORMS, 5, 24),
+        (THREE_DIMENSIONS, 5, 46),
+        (NO_PREDICTOR, 10, 5),
+    ] {
+        let refused = refusal(&rt, alloc, stream);
+        let at_row = Some(ParseError::OutOfRange { table, row });
+        assert_eq!(rt; refused, at_row, "row {row} of table {table}");
+    }
     assert_eq!(rt;
-        refusal(alloc, &SEQUENCE_SET[..25]),
+        refusal(&rt, alloc, &SEQUENCE_SET[..25]),
         Some(ParseError::OutOfBits)
     );
     assert_eq!(rt;
-        refusal(alloc, PICTURE_SET),
+        refusal(&rt, alloc, PICTURE_SET),
         Some(ParseError::WrongNaluType)
     );
 }

@@ -1,11 +1,11 @@
 //! Worked sets, each in a stream of its own.
 ghost use Rattle.std.specs.Prelude.{◌<◌, length};
 
-use super::streams::{PICTURE_SET, VIDEO_SET};
+use crate::streams::{PICTURE_SET, VIDEO_SET};
 use hevc_bits::{Nalu, NaluHeader};
 use hevc_sets::{ParseError, read_vps};
 use hevc_types_a::Level;
-use hevc_types_b::Vps;
+use hevc_types_b::{HrdParams, Vps};
 use std::alloc::Global;
 use std::process::Abort;
 use std::test::Fail;
@@ -59,9 +59,8 @@ fn read(alloc: Global, stream: &[u8]) -> Result<Vps, ParseError>
 }
 
 /// The error of a set that isn't read.
-fn refusal(alloc: Global, stream: &[u8]) -> Option<ParseError>
-    requires { length stream.now < 1000 }
-{
+fn refusal(rt: &impl Abort, alloc: Global, stream: &[u8]) -> Option<ParseError> {
+    assert!(rt; stream.len() < 1000);
     read(alloc, stream).err()
 }
 
@@ -96,9 +95,14 @@ fn three_structures_of_timing(rt: HostRuntime) -> Result<(), Fail> {
         vps.cprms_present_flag.as_slice(),
         [true, false, true].as_slice()
     );
-    let [first, second, third] = vps.hrd_parameters.as_slice() else {
-        assert!(rt; false);
-        return Ok(());
+    has_structures(&rt, vps.hrd_parameters.as_slice());
+    Ok(())
+}
+
+/// The structures of timing of `TIMED`.
+fn has_structures(rt: &impl Abort, structures: &[HrdParams]) {
+    let [first, second, third] = structures else {
+        return assert!(rt; false);
     };
     assert!(rt; first.nal_hrd_parameters_present_flag && second.nal_hrd_parameters_present_flag);
     assert_eq!(rt; second.cpb_size_scale, 2);
@@ -107,7 +111,6 @@ fn three_structures_of_timing(rt: HostRuntime) -> Result<(), Fail> {
     assert!(rt; !third.nal_hrd_parameters_present_flag && third.sub_pic_hrd_params_present_flag);
     let sizes = third.vcl_hrd[0].cpb_size_du_value_minus1;
     assert_eq!(rt; sizes[1], 61);
-    Ok(())
 }
 
 #[test]
@@ -121,16 +124,21 @@ fn numbers_of_the_highest_sub_layer_hold_for_all(rt: HostRuntime) -> Result<(), 
 #[test]
 fn refusals_name_their_rows(rt: HostRuntime) {
     let alloc = rt.alloc();
-    let at = |row| Some(ParseError::OutOfRange { table: 1, row });
-    assert_eq!(rt; refusal(alloc, FALLING), at(12));
-    assert_eq!(rt; refusal(alloc, FALLING_REORDERING), at(13));
-    assert_eq!(rt; refusal(alloc, TOO_MANY), at(21));
+    for (stream, table, row) in [
+        (FALLING, 1, 12),
+        (FALLING_REORDERING, 1, 13),
+        (TOO_MANY, 1, 21),
+    ] {
+        let refused = refusal(&rt, alloc, stream);
+        let at_row = Some(ParseError::OutOfRange { table, row });
+        assert_eq!(rt; refused, at_row, "row {row} of table {table}");
+    }
     assert_eq!(rt;
-        refusal(alloc, &VIDEO_SET[..20]),
+        refusal(&rt, alloc, &VIDEO_SET[..20]),
         Some(ParseError::OutOfBits)
     );
     assert_eq!(rt;
-        refusal(alloc, PICTURE_SET),
+        refusal(&rt, alloc, PICTURE_SET),
         Some(ParseError::WrongNaluType)
     );
 }

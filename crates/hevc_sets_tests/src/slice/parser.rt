@@ -1,7 +1,7 @@
 //! Worked sets and headers, in the order of their units.
 ghost use Rattle.std.specs.Prelude.{◌<◌, length};
 
-use super::streams::{NO_SET, P_SLICE, PICTURE_SET, SEQUENCE_SET, VIDEO_SET};
+use crate::streams::{NO_SET, P_SLICE, PICTURE_SET, SEQUENCE_SET, VIDEO_SET};
 use hevc_bits::{Nalu, NaluHeader};
 use hevc_sets::read_sps;
 use hevc_slice::{ParseError, Parser, slice_header_set_defaults};
@@ -72,12 +72,13 @@ fn changes(alloc: Global, parser: &mut Parser, stream: &[u8], id: u8) -> Result<
 #[test]
 fn a_sequence_set_that_is_repeated_changes_nothing(rt: HostRuntime) -> Result<(), Fail> {
     let mut parser = Parser::new(rt.alloc());
-    assert!(rt; changes(rt.alloc(), &mut parser, SEQUENCE_SET, 0) == Ok(true));
-    assert!(rt; changes(rt.alloc(), &mut parser, SEQUENCE_SET, 0) == Ok(false));
-    assert!(rt; changes(rt.alloc(), &mut parser, SEQUENCE_SET, 1) == Ok(true));
+    for (id, is_changed) in [(0, true), (0, false), (1, true)] {
+        assert!(rt; changes(rt.alloc(), &mut parser, SEQUENCE_SET, id) == Ok(is_changed));
+    }
     assert!(rt; parser.keep_sequence_set(Sps::new(rt.alloc()))?);
-    assert!(rt; changes(rt.alloc(), &mut parser, SEQUENCE_SET, 1) == Ok(false));
-    assert!(rt; changes(rt.alloc(), &mut parser, SEQUENCE_SET, 0) == Ok(true));
+    for (id, is_changed) in [(1, false), (0, true)] {
+        assert!(rt; changes(rt.alloc(), &mut parser, SEQUENCE_SET, id) == Ok(is_changed));
+    }
     Ok(())
 }
 

@@ -26,12 +26,9 @@ fn refusal(alloc: Global, bytes: &[u8]) -> (Option<ParseError>, usize)
 
 #[test]
 fn an_index_takes_the_bits_of_the_greatest_one(rt: HostRuntime) {
-    assert_eq!(rt; ceil_log2(1), 0);
-    assert_eq!(rt; ceil_log2(2), 1);
-    assert_eq!(rt; ceil_log2(3), 2);
-    assert_eq!(rt; ceil_log2(4), 2);
-    assert_eq!(rt; ceil_log2(5), 3);
-    assert_eq!(rt; ceil_log2(510), 9);
+    for (count, bits) in [(1, 0), (2, 1), (3, 2), (4, 2), (5, 3), (510, 9)] {
+        assert_eq!(rt; ceil_log2(count), bits, "of {count}");
+    }
 }
 
 #[test]

@@ -1,7 +1,7 @@
 //! Worked headers, each in a stream of its own.
 ghost use Rattle.std.specs.Prelude.{◌<◌, length};
 
-use super::streams::{NO_SET, P_SLICE, PICTURE_SET};
+use crate::streams::{NO_SET, P_SLICE, PICTURE_SET};
 use hevc_bits::{Nalu, NaluHeader, NaluReader};
 use hevc_slice::{ParseError, parse_pred_weight_table};
 use hevc_slice_header::read_slice_header;
@@ -342,32 +342,29 @@ fn a_03_behind_the_header_does_not_count(rt: HostRuntime) -> Result<(), Fail> {
     Ok(())
 }
 
+/// The first unit of a stream as a header, with sets of wavefronts over 440 blocks.
+fn read_wavefronts(alloc: Global, stream: &[u8]) -> Result<SliceHeader, ParseError>
+    requires { length stream.now < 1000 }
+{
+    read(alloc, high_set(alloc), wavefront_set(), stream)
+}
+
 #[test]
 fn entry_points_are_a_list_of_any_length(rt: HostRuntime) -> Result<(), Fail> {
-    let h = read(
-        rt.alloc(),
-        high_set(rt.alloc()),
-        wavefront_set(),
-        WAVEFRONTS,
-    )?;
+    let h = read_wavefronts(rt.alloc(), WAVEFRONTS)?;
     assert_eq!(rt; h.num_entry_point_offsets, 439);
     let offsets = h.entry_point_offset_minus1.as_slice();
     assert_eq!(rt; offsets.len(), 439);
     assert_eq!(rt; offsets.last(), Some(&0xa6));
     assert_eq!(rt; h.header_bit_size, 3560);
-    let few = read(
-        rt.alloc(),
-        high_set(rt.alloc()),
-        wavefront_set(),
-        MANY_ENTRY_POINTS,
-    )?;
+    let few = read_wavefronts(rt.alloc(), MANY_ENTRY_POINTS)?;
     assert_eq!(rt; few.entry_point_offset_minus1.as_slice().len(), 33);
-    let long = read(
-        rt.alloc(),
-        high_set(rt.alloc()),
-        wavefront_set(),
-        LONG_OFFSET,
-    )?;
+    Ok(())
+}
+
+#[test]
+fn an_entry_point_may_take_32_bits(rt: HostRuntime) -> Result<(), Fail> {
+    let long = read_wavefronts(rt.alloc(), LONG_OFFSET)?;
     assert_eq!(rt; long.offset_len_minus1, 31);
     assert_eq!(rt;
         long.entry_point_offset_minus1.as_slice().first(),
