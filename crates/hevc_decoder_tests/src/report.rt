@@ -36,6 +36,9 @@ const SCALING_LISTS_ENABLED: &[u8] = &[
     0x00, 0x3c, 0xa0, 0x88, 0x45, 0xe5, 0x5a, 0xbe, 0x10, 0x40, 0x00,
 ];
 
+/// With eight sub-layers, and no more.
+const EIGHT_SUB_LAYERS: &[u8] = &[0x42, 0x01, 0x0f, 0x80];
+
 /// With a level that isn't one of those of Annex A, and no more.
 const LEVEL_61: &[u8] = &[
     0x42, 0x01, 0x01, 0x01, 0x60, 0x00, 0x00, 0x03, 0x00, 0x90, 0x00, 0x00, 0x03, 0x00, 0x00, 0x03,
@@ -186,7 +189,7 @@ fn written_by(
 }
 
 /// A run by no words over these bytes ends with this status, and writes these pieces of text.
-fn reports(
+fn reports_on(
     rt: &impl Abort,
     alloc: Global,
     bytes: Vec<u8>,
@@ -202,8 +205,20 @@ fn reports(
     Ok(())
 }
 
+/// The same over these units.
+fn reports(
+    rt: &impl Abort,
+    alloc: Global,
+    units: &[&[u8]],
+    status: u8,
+    text: &[&str],
+) -> Result<(), Fail> {
+    let bytes = stream(alloc, units)?;
+    reports_on(rt, alloc, bytes, status, text)
+}
+
 /// A run by these words over these bytes ends with this status, and what it writes ends so.
-fn ends(
+fn ends_on(
     rt: &impl Abort,
     alloc: Global,
     texts: &[&str],
@@ -216,19 +231,35 @@ fn ends(
     Ok(())
 }
 
+/// The same over these units.
+fn ends(
+    rt: &impl Abort,
+    alloc: Global,
+    texts: &[&str],
+    units: &[&[u8]],
+    status: u8,
+    end: &str,
+) -> Result<(), Fail> {
+    let bytes = stream(alloc, units)?;
+    ends_on(rt, alloc, texts, bytes, status, end)
+}
+
 #[test]
 fn pictures_come_out_in_output_order(rt: HostRuntime) -> Result<(), Fail> {
     let alloc = rt.alloc();
-    let three = stream(alloc, &[SPS, PPS, IDR, P4, P2])?;
     let end =
         "show 0 poc 0 unit 4\nshow 2 poc 2 unit 5\nshow 1 poc 4 unit 5\nend pictures 3 shown 3\n";
-    reports(&rt, alloc, three, 0, &[SEQ, PICTURE_0, P4_1, P2_2, end])?;
-    let twice = stream(alloc, &[SPS, PPS, IDR, T0])?;
+    reports(
+        &rt,
+        alloc,
+        &[SPS, PPS, IDR, P4, P2],
+        0,
+        &[SEQ, PICTURE_0, P4_1, P2_2, end],
+    )?;
     let end = "show 0 poc 0 unit 4\nshow 1 poc 0 unit 4\nend pictures 2 shown 2\n";
-    ends(&rt, alloc, &[], twice, 0, end)?;
-    let early = stream(alloc, &[PPS, SPS, IDR])?;
+    ends(&rt, alloc, &[], &[SPS, PPS, IDR, T0], 0, end)?;
     let end = "show 0 poc 0 unit 3\nend pictures 1 shown 1\n";
-    reports(&rt, alloc, early, 0, &[SEQ, PICTURE_0, end])
+    reports(&rt, alloc, &[PPS, SPS, IDR], 0, &[SEQ, PICTURE_0, end])
 }
 
 #[test]
@@ -242,59 +273,73 @@ fn a_stream_of_an_encoder_is_decoded(rt: HostRuntime) -> Result<(), Fail> {
     let bytes = joined(alloc, &[0x00, 0x00, 0x00, 0x01], &units)?;
     let end =
         "show 0 poc 0 unit 6\nshow 2 poc 2 unit 7\nshow 1 poc 4 unit 7\nend pictures 3 shown 3\n";
-    reports(&rt, alloc, bytes, 0, &[SEQ, PICTURE_0, P4_1, B2_2, end])
+    reports_on(&rt, alloc, bytes, 0, &[SEQ, PICTURE_0, P4_1, B2_2, end])
 }
 
 #[test]
 fn reference_lists_are_printed(rt: HostRuntime) -> Result<(), Fail> {
     let alloc = rt.alloc();
     let missing: &[u8] = &[0x02, 0x01, 0xd2, 0x37, 0x80];
-    let bytes = stream(alloc, &[SPS, PPS, IDR, missing])?;
     let picture =
         "pic 1 type 1 poc 4 output 1\nslice 1 at 0 size 5 list0 x list1 -\nsubmit 1 handle 1\n";
     let end = "show 0 poc 0 unit 4\nshow 1 poc 4 unit 4\nend pictures 2 shown 2\n";
-    reports(&rt, alloc, bytes, 0, &[SEQ, PICTURE_0, picture, end])?;
-    let bytes = stream(alloc, &[SPS, PPS, IDR, P4, P8])?;
+    reports(
+        &rt,
+        alloc,
+        &[SPS, PPS, IDR, missing],
+        0,
+        &[SEQ, PICTURE_0, picture, end],
+    )?;
     let picture =
         "pic 2 type 1 poc 8 output 1\nslice 2 at 0 size 8 list0 1,0 list1 -\nsubmit 2 handle 2\n";
     let end =
         "show 0 poc 0 unit 4\nshow 1 poc 4 unit 5\nshow 2 poc 8 unit 5\nend pictures 3 shown 3\n";
-    reports(&rt, alloc, bytes, 0, &[SEQ, PICTURE_0, P4_1, picture, end])?;
-    let bytes = stream(alloc, &[SPS, PPS, B_SLICE])?;
+    reports(
+        &rt,
+        alloc,
+        &[SPS, PPS, IDR, P4, P8],
+        0,
+        &[SEQ, PICTURE_0, P4_1, picture, end],
+    )?;
     let picture =
         "pic 0 type 19 poc 0 output 1\nslice 0 at 0 size 5 list0 x list1 x\nsubmit 0 handle 0\n";
     let end = "show 0 poc 0 unit 3\nend pictures 1 shown 1\n";
-    reports(&rt, alloc, bytes, 0, &[SEQ, picture, end])?;
-    let bytes = stream(alloc, &[SPS, CURRENT_PICTURE_PPS, P_SLICE])?;
+    reports(&rt, alloc, &[SPS, PPS, B_SLICE], 0, &[SEQ, picture, end])?;
     let picture =
         "pic 0 type 19 poc 0 output 1\nslice 0 at 0 size 5 list0 c list1 -\nsubmit 0 handle 0\n";
-    reports(&rt, alloc, bytes, 0, &[SEQ, picture, end])
+    reports(
+        &rt,
+        alloc,
+        &[SPS, CURRENT_PICTURE_PPS, P_SLICE],
+        0,
+        &[SEQ, picture, end],
+    )
 }
 
 #[test]
 fn pictures_are_shown_or_discarded(rt: HostRuntime) -> Result<(), Fail> {
     let alloc = rt.alloc();
-    let two = stream(alloc, &[SPS, PPS, IDR, DISCARDING_IDR])?;
     let end = "show 1 poc 0 unit 4\nend pictures 2 shown 1\n";
-    reports(&rt, alloc, two, 0, &[SEQ, PICTURE_0, PICTURE_1, end])?;
-    let three = stream(alloc, &[SPS, PPS, IDR, DISCARDING_IDR, IDR])?;
+    reports(
+        &rt,
+        alloc,
+        &[SPS, PPS, IDR, DISCARDING_IDR],
+        0,
+        &[SEQ, PICTURE_0, PICTURE_1, end],
+    )?;
     let end = "show 1 poc 0 unit 4\nshow 2 poc 0 unit 5\nend pictures 3 shown 2\n";
     reports(
         &rt,
         alloc,
-        three,
+        &[SPS, PPS, IDR, DISCARDING_IDR, IDR],
         0,
         &[SEQ, PICTURE_0, PICTURE_1, PICTURE_2, end],
-    )?;
-    let five = stream(
-        alloc,
-        &[SPS, PPS, IDR, IDR, DISCARDING_IDR, IDR, DISCARDING_IDR],
     )?;
     let shown = "show 0 poc 0 unit 3\nshow 2 poc 0 unit 5\nshow 4 poc 0 unit 7\n";
     reports(
         &rt,
         alloc,
-        five,
+        &[SPS, PPS, IDR, IDR, DISCARDING_IDR, IDR, DISCARDING_IDR],
         0,
         &[
             SEQ,
@@ -312,11 +357,16 @@ fn pictures_are_shown_or_discarded(rt: HostRuntime) -> Result<(), Fail> {
 #[test]
 fn hidden_pictures_are_not_shown(rt: HostRuntime) -> Result<(), Fail> {
     let alloc = rt.alloc();
-    let hidden = stream(alloc, &[SPS, OUTPUT_FLAG_PPS, HIDDEN_IDR])?;
     let picture =
         "pic 0 type 19 poc 0 output 0\nslice 0 at 0 size 4 list0 - list1 -\nsubmit 0 handle 0\n";
     let end = "end pictures 1 shown 0\n";
-    reports(&rt, alloc, hidden, 0, &[SEQ, picture, end])
+    reports(
+        &rt,
+        alloc,
+        &[SPS, OUTPUT_FLAG_PPS, HIDDEN_IDR],
+        0,
+        &[SEQ, picture, end],
+    )
 }
 
 #[test]
@@ -325,52 +375,69 @@ fn leading_pictures_are_skipped(rt: HostRuntime) -> Result<(), Fail> {
     let skipped: &[u8] = &[0x12, 0x01, 0xdb, 0x3c, 0x80];
     let later: &[u8] = &[0x12, 0x01, 0x5b, 0x3c, 0x80];
     let second: &[u8] = &[0x12, 0x01, 0xda, 0x3c, 0x80];
-    let bytes = stream(alloc, &[SPS, PPS, CRA, skipped, later, second])?;
     let picture =
         "pic 0 type 21 poc 8 output 1\nslice 0 at 0 size 5 list0 - list1 -\nsubmit 0 handle 0\n";
     let end = "show 0 poc 8 unit 6\nend pictures 3 shown 1\n";
-    reports(&rt, alloc, bytes, 0, &[SEQ, picture, end])
+    reports(
+        &rt,
+        alloc,
+        &[SPS, PPS, CRA, skipped, later, second],
+        0,
+        &[SEQ, picture, end],
+    )
 }
 
 #[test]
 fn sequences_and_bitstreams_end(rt: HostRuntime) -> Result<(), Fail> {
     let alloc = rt.alloc();
-    let sequence = stream(alloc, &[SPS, PPS, IDR, P4, END_OF_SEQUENCE, CRA])?;
     let end = "show 0 poc 0 unit 5\nshow 2 poc 8 unit 6\nend pictures 3 shown 2\n";
-    ends(&rt, alloc, &[], sequence, 0, end)?;
-    let bitstream = stream(alloc, &[SPS, PPS, IDR, P4, END_OF_BITSTREAM, CRA])?;
+    ends(
+        &rt,
+        alloc,
+        &[],
+        &[SPS, PPS, IDR, P4, END_OF_SEQUENCE, CRA],
+        0,
+        end,
+    )?;
     let end =
         "show 0 poc 0 unit 5\nshow 1 poc 4 unit 5\nshow 2 poc 8 unit 6\nend pictures 3 shown 3\n";
-    ends(&rt, alloc, &[], bitstream, 0, end)
+    ends(
+        &rt,
+        alloc,
+        &[],
+        &[SPS, PPS, IDR, P4, END_OF_BITSTREAM, CRA],
+        0,
+        end,
+    )
 }
 
 #[test]
 fn a_changed_format_is_negotiated(rt: HostRuntime) -> Result<(), Fail> {
     let alloc = rt.alloc();
-    let wide = stream(alloc, &[SPS, PPS, IDR, WIDE_SPS, PPS, IDR])?;
     let sequence = "seq 32x16 profile 1 depth 8 8 chroma 1 buffer 16\n";
     let end = "show 0 poc 0 unit 5\nshow 1 poc 0 unit 6\nend pictures 2 shown 2\n";
     reports(
         &rt,
         alloc,
-        wide,
+        &[SPS, PPS, IDR, WIDE_SPS, PPS, IDR],
         0,
         &[SEQ, PICTURE_0, sequence, PICTURE_1, end],
     )?;
     // What waits comes out as the format changes, before a picture could discard it.
     let units = [SPS, PPS, IDR, P4, TEN_BIT_LUMA, PPS, DISCARDING_IDR];
-    let bytes = stream(alloc, &units)?;
     let sequence = "seq 16x16 profile 1 depth 10 8 chroma 1 buffer 16\n";
     let end =
         "show 0 poc 0 unit 6\nshow 1 poc 4 unit 6\nshow 2 poc 0 unit 7\nend pictures 3 shown 3\n";
     reports(
         &rt,
         alloc,
-        bytes,
+        &units,
         0,
         &[SEQ, PICTURE_0, P4_1, sequence, PICTURE_2, end],
     )?;
-    let within = stream(
+    let end = "refused unit 5 ChangedMidPicture\n";
+    reports(
+        &rt,
         alloc,
         &[
             SPS,
@@ -380,9 +447,9 @@ fn a_changed_format_is_negotiated(rt: HostRuntime) -> Result<(), Fail> {
             PPS,
             &[0x26, 0x01, 0x37, 0x80, 0x80],
         ],
-    )?;
-    let end = "refused unit 5 ChangedMidPicture\n";
-    reports(&rt, alloc, within, 1, &[SEQ, BEGUN_0, end])
+        1,
+        &[SEQ, BEGUN_0, end],
+    )
 }
 
 #[test]
@@ -390,107 +457,112 @@ fn a_picture_has_several_slices(rt: HostRuntime) -> Result<(), Fail> {
     let alloc = rt.alloc();
     let begun = "slice 0 at 0 size 4 list0 - list1 -\nsubmit 0 handle 0\n";
     let end = "show 0 poc 0 unit 4\nend pictures 1 shown 1\n";
-    let independent = stream(alloc, &[SPS, PPS, IDR, LATER_SLICE])?;
-    reports(&rt, alloc, independent, 0, &[SEQ, BEGUN_0, begun, end])?;
-    let dependent = stream(alloc, &[SPS, DEPENDENT_SLICES_PPS, IDR, DEPENDENT_SLICE])?;
-    reports(&rt, alloc, dependent, 0, &[SEQ, BEGUN_0, begun, end])?;
-    let alone = stream(alloc, &[SPS, DEPENDENT_SLICES_PPS, DEPENDENT_SLICE])?;
+    reports(
+        &rt,
+        alloc,
+        &[SPS, PPS, IDR, LATER_SLICE],
+        0,
+        &[SEQ, BEGUN_0, begun, end],
+    )?;
+    reports(
+        &rt,
+        alloc,
+        &[SPS, DEPENDENT_SLICES_PPS, IDR, DEPENDENT_SLICE],
+        0,
+        &[SEQ, BEGUN_0, begun, end],
+    )?;
     let end = "refused unit 2 NoIndependentSlice\n";
-    reports(&rt, alloc, alone, 1, &[SEQ, end])
+    reports(
+        &rt,
+        alloc,
+        &[SPS, DEPENDENT_SLICES_PPS, DEPENDENT_SLICE],
+        1,
+        &[SEQ, end],
+    )
 }
 
 #[test]
 fn a_full_buffer_is_refused(rt: HostRuntime) -> Result<(), Fail> {
     let alloc = rt.alloc();
-    let bytes = stream(alloc, &[LARGE_SPS, PPS, IDR, T0, T0, T0, T0, T0, T0])?;
     let end = "submit 6 handle 6\nrefused unit 9 DpbFull\n";
-    ends(&rt, alloc, &[], bytes, 1, end)
+    ends(
+        &rt,
+        alloc,
+        &[],
+        &[LARGE_SPS, PPS, IDR, T0, T0, T0, T0, T0, T0],
+        1,
+        end,
+    )
 }
 
 #[test]
 fn broken_units_are_refused(rt: HostRuntime) -> Result<(), Fail> {
     let alloc = rt.alloc();
-    let truncated = stream(alloc, &[&[0x42]])?;
-    reports(
-        &rt,
-        alloc,
-        truncated,
-        1,
-        &["refused unit 0 TruncatedNalu\n"],
-    )?;
-    let unspecified = stream(alloc, &[&[0x7c, 0x01, 0x80]])?;
-    reports(
-        &rt,
-        alloc,
-        unspecified,
-        1,
-        &["refused unit 0 InvalidNaluType 62\n"],
-    )?;
-    let no_temporal_id = stream(alloc, &[&[0x40, 0x00, 0x80]])?;
-    reports(
-        &rt,
-        alloc,
-        no_temporal_id,
-        1,
-        &["refused unit 0 OutOfRange 0 1\n"],
-    )?;
-    let end_without = stream(alloc, &[&[0x48, 0x00, 0x05]])?;
-    reports(
-        &rt,
-        alloc,
-        end_without,
-        1,
-        &["refused unit 0 OutOfRange 0 1\n"],
-    )
+    for (unit, end) in [
+        ([0x42].as_slice(), "refused unit 0 TruncatedNalu\n"),
+        (
+            [0x7c, 0x01, 0x80].as_slice(),
+            "refused unit 0 InvalidNaluType 62\n",
+        ),
+        (
+            [0x40, 0x00, 0x80].as_slice(),
+            "refused unit 0 OutOfRange 0 1\n",
+        ),
+        (
+            [0x48, 0x00, 0x05].as_slice(),
+            "refused unit 0 OutOfRange 0 1\n",
+        ),
+    ] {
+        reports(&rt, alloc, &[unit], 1, &[end])?;
+    }
+    Ok(())
 }
 
 #[test]
 fn sequence_sets_out_of_range_are_refused(rt: HostRuntime) -> Result<(), Fail> {
     let alloc = rt.alloc();
-    let sub_layers = stream(alloc, &[&[0x42, 0x01, 0x0f, 0x80]])?;
-    reports(
-        &rt,
-        alloc,
-        sub_layers,
-        1,
-        &["refused unit 0 OutOfRange 5 2\n"],
-    )?;
-    let level = stream(alloc, &[LEVEL_61])?;
-    reports(&rt, alloc, level, 1, &["refused unit 0 OutOfRange 2 27\n"])?;
-    let latency = stream(alloc, &[LATENCY_256])?;
-    reports(
-        &rt,
-        alloc,
-        latency,
-        1,
-        &["refused unit 0 OutOfRange 5 19\n"],
-    )
+    for (unit, end) in [
+        (EIGHT_SUB_LAYERS, "refused unit 0 OutOfRange 5 2\n"),
+        (LEVEL_61, "refused unit 0 OutOfRange 2 27\n"),
+        (LATENCY_256, "refused unit 0 OutOfRange 5 19\n"),
+    ] {
+        reports(&rt, alloc, &[unit], 1, &[end])?;
+    }
+    Ok(())
 }
 
 #[test]
 fn broken_slices_are_refused(rt: HostRuntime) -> Result<(), Fail> {
     let alloc = rt.alloc();
-    let short = stream(alloc, &[SPS, PPS, IDR, &[0x02, 0x01, 0xd2]])?;
     let end = "refused unit 3 OutOfBits\n";
-    reports(&rt, alloc, short, 1, &[SEQ, BEGUN_0, end])?;
-    let missing = stream(alloc, &[SPS, PPS, &[0x26, 0x01, 0x8d, 0x80]])?;
     reports(
         &rt,
         alloc,
-        missing,
+        &[SPS, PPS, IDR, &[0x02, 0x01, 0xd2]],
+        1,
+        &[SEQ, BEGUN_0, end],
+    )?;
+    reports(
+        &rt,
+        alloc,
+        &[SPS, PPS, &[0x26, 0x01, 0x8d, 0x80]],
         1,
         &[SEQ, "refused unit 2 MissingPps 5\n"],
     )?;
     // Its reference picture set is one of the sequence set's, which has none.
-    let no_set = stream(alloc, &[SPS, PPS, IDR, &[0x02, 0x01, 0xd8, 0x40, 0x80]])?;
     let end = "refused unit 3 OutOfRange 14 11\n";
-    reports(&rt, alloc, no_set, 1, &[SEQ, BEGUN_0, end])?;
-    // The bound of the quantiser is that of the sequence set that the picture set was read with.
-    let replaced = stream(alloc, &[SPS, PPS, TEN_BIT_LUMA, QUANTISER_MINUS_6])?;
     reports(
         &rt,
         alloc,
-        replaced,
+        &[SPS, PPS, IDR, &[0x02, 0x01, 0xd8, 0x40, 0x80]],
+        1,
+        &[SEQ, BEGUN_0, end],
+    )?;
+    // The bound of the quantiser is that of the sequence set that the picture set was read with.
+    reports(
+        &rt,
+        alloc,
+        &[SPS, PPS, TEN_BIT_LUMA, QUANTISER_MINUS_6],
         1,
         &[SEQ, "refused unit 3 OutOfRange 14 36\n"],
     )
@@ -508,50 +580,65 @@ fn cuts_end(
     for length in first..=last {
         let mut bytes = stream(alloc, &[SPS, PPS, IDR, P4, P2])?;
         bytes.truncate(length);
-        ends(rt, alloc, &[], bytes, status, end)?;
+        ends_on(rt, alloc, &[], bytes, status, end)?;
     }
     Ok(())
 }
 
 #[test]
 fn cut_streams_are_decoded_up_to_the_cut(rt: HostRuntime) -> Result<(), Fail> {
-    let alloc = rt.alloc();
-    cuts_end(&rt, alloc, 0, 2, 0, "end pictures 0 shown 0\n")?;
-    cuts_end(&rt, alloc, 28, 31, 0, "end pictures 0 shown 0\n")?;
-    cuts_end(&rt, alloc, 34, 40, 0, "end pictures 0 shown 0\n")?;
-    cuts_end(&rt, alloc, 44, 47, 0, "end pictures 1 shown 1\n")?;
-    cuts_end(&rt, alloc, 53, 56, 0, "end pictures 2 shown 2\n")?;
-    cuts_end(&rt, alloc, 63, 64, 0, "end pictures 3 shown 3\n")
+    for (first, last, end) in [
+        (0, 2, "end pictures 0 shown 0\n"),
+        (28, 31, "end pictures 0 shown 0\n"),
+        (34, 40, "end pictures 0 shown 0\n"),
+        (44, 47, "end pictures 1 shown 1\n"),
+        (53, 56, "end pictures 2 shown 2\n"),
+        (63, 64, "end pictures 3 shown 3\n"),
+    ] {
+        cuts_end(&rt, rt.alloc(), first, last, 0, end)?;
+    }
+    Ok(())
 }
 
 #[test]
 fn units_cut_within_their_headers_are_refused(rt: HostRuntime) -> Result<(), Fail> {
-    let alloc = rt.alloc();
-    cuts_end(&rt, alloc, 3, 4, 1, "refused unit 0 TruncatedNalu\n")?;
-    cuts_end(&rt, alloc, 32, 33, 1, "refused unit 1 TruncatedNalu\n")?;
-    cuts_end(&rt, alloc, 41, 42, 1, "refused unit 2 TruncatedNalu\n")?;
-    cuts_end(&rt, alloc, 48, 49, 1, "refused unit 3 TruncatedNalu\n")?;
-    cuts_end(&rt, alloc, 57, 58, 1, "refused unit 4 TruncatedNalu\n")
+    for (first, last, end) in [
+        (3, 4, "refused unit 0 TruncatedNalu\n"),
+        (32, 33, "refused unit 1 TruncatedNalu\n"),
+        (41, 42, "refused unit 2 TruncatedNalu\n"),
+        (48, 49, "refused unit 3 TruncatedNalu\n"),
+        (57, 58, "refused unit 4 TruncatedNalu\n"),
+    ] {
+        cuts_end(&rt, rt.alloc(), first, last, 1, end)?;
+    }
+    Ok(())
 }
 
 #[test]
 fn units_cut_within_their_payloads_are_refused(rt: HostRuntime) -> Result<(), Fail> {
-    let alloc = rt.alloc();
-    cuts_end(&rt, alloc, 5, 27, 1, "refused unit 0 OutOfBits\n")?;
-    cuts_end(&rt, alloc, 43, 43, 1, "refused unit 2 OutOfBits\n")?;
-    cuts_end(&rt, alloc, 50, 52, 1, "refused unit 3 OutOfBits\n")?;
-    cuts_end(&rt, alloc, 59, 62, 1, "refused unit 4 OutOfBits\n")
+    for (first, last, end) in [
+        (5, 27, "refused unit 0 OutOfBits\n"),
+        (43, 43, "refused unit 2 OutOfBits\n"),
+        (50, 52, "refused unit 3 OutOfBits\n"),
+        (59, 62, "refused unit 4 OutOfBits\n"),
+    ] {
+        cuts_end(&rt, rt.alloc(), first, last, 1, end)?;
+    }
+    Ok(())
 }
 
 #[test]
 fn units_before_a_sequence_set_are_passed_over(rt: HostRuntime) -> Result<(), Fail> {
     let alloc = rt.alloc();
-    let nothing = Vec::new(alloc);
-    reports(&rt, alloc, nothing, 0, &["end pictures 0 shown 0\n"])?;
-    let ended = stream(alloc, &[END_OF_SEQUENCE, SPS])?;
-    reports(&rt, alloc, ended, 0, &[SEQ, "end pictures 0 shown 0\n"])?;
-    let slice = stream(alloc, &[IDR])?;
-    reports(&rt, alloc, slice, 0, &["end pictures 0 shown 0\n"])
+    reports(&rt, alloc, &[], 0, &["end pictures 0 shown 0\n"])?;
+    reports(
+        &rt,
+        alloc,
+        &[END_OF_SEQUENCE, SPS],
+        0,
+        &[SEQ, "end pictures 0 shown 0\n"],
+    )?;
+    reports(&rt, alloc, &[IDR], 0, &["end pictures 0 shown 0\n"])
 }
 
 #[test]
@@ -559,9 +646,8 @@ fn other_spellings_of_sets_are_read(rt: HostRuntime) -> Result<(), Fail> {
     let alloc = rt.alloc();
     // Scaling lists that are enabled without data are the default ones; a set may end without its trailing bits.
     for set in [SCALING_LISTS_ENABLED, &SPS[..SPS.len() - 1]] {
-        let bytes = stream(alloc, &[set, PPS, IDR])?;
         let end = "show 0 poc 0 unit 3\nend pictures 1 shown 1\n";
-        reports(&rt, alloc, bytes, 0, &[SEQ, PICTURE_0, end])?;
+        reports(&rt, alloc, &[set, PPS, IDR], 0, &[SEQ, PICTURE_0, end])?;
     }
     Ok(())
 }
@@ -569,15 +655,13 @@ fn other_spellings_of_sets_are_read(rt: HostRuntime) -> Result<(), Fail> {
 #[test]
 fn cra_pictures_are_handled_as_bla_pictures(rt: HostRuntime) -> Result<(), Fail> {
     let alloc = rt.alloc();
-    let bytes = stream(alloc, &[SPS, PPS, IDR, P4, CRA])?;
     let end =
         "show 0 poc 0 unit 4\nshow 1 poc 4 unit 5\nshow 2 poc 8 unit 5\nend pictures 3 shown 3\n";
-    ends(&rt, alloc, &[], bytes, 0, end)?;
+    ends(&rt, alloc, &[], &[SPS, PPS, IDR, P4, CRA], 0, end)?;
     for words in [["cra"].as_slice(), &["layer", "6", "cra"]] {
-        let bytes = stream(alloc, &[SPS, PPS, IDR, P4, CRA])?;
         let end =
             "submit 2 handle 2\nshow 0 poc 0 unit 4\nshow 2 poc 8 unit 5\nend pictures 3 shown 2\n";
-        ends(&rt, alloc, words, bytes, 0, end)?;
+        ends(&rt, alloc, words, &[SPS, PPS, IDR, P4, CRA], 0, end)?;
     }
     Ok(())
 }
@@ -585,10 +669,16 @@ fn cra_pictures_are_handled_as_bla_pictures(rt: HostRuntime) -> Result<(), Fail>
 #[test]
 fn upper_sub_layers_are_left_out(rt: HostRuntime) -> Result<(), Fail> {
     let alloc = rt.alloc();
-    let bytes = stream(alloc, &[SPS, PPS, IDR, P4, UPPER_P2])?;
     let end =
         "submit 1 handle 1\nshow 0 poc 0 unit 5\nshow 1 poc 4 unit 5\nend pictures 2 shown 2\n";
-    ends(&rt, alloc, &["layer", "0"], bytes, 0, end)?;
+    ends(
+        &rt,
+        alloc,
+        &["layer", "0"],
+        &[SPS, PPS, IDR, P4, UPPER_P2],
+        0,
+        end,
+    )?;
     let bytes = stream(alloc, &[SPS, PPS, IDR, P4, UPPER_P2])?;
     let sink = written_by(&rt, alloc, &["layer", "1"], bytes, 0)?;
     let shown =
@@ -641,17 +731,19 @@ fn makes(rt: &impl Abort, alloc: Global, number: &str, line: &str) -> Result<(),
 
 #[test]
 fn made_streams_are_summed_up(rt: HostRuntime) -> Result<(), Fail> {
-    let alloc = rt.alloc();
-    let one = "made 1 shown 1 lowest 0 highest 0 falls 0\n";
-    makes(&rt, alloc, "1", one)?;
-    let two = "made 2 shown 2 lowest 0 highest 8 falls 0\n";
-    makes(&rt, alloc, "2", two)?;
-    let nine = "made 9 shown 9 lowest 0 highest 8 falls 0\n";
-    makes(&rt, alloc, "9", nine)?;
-    let hundred = "made 100 shown 100 lowest 0 highest 104 falls 0\n";
-    makes(&rt, alloc, "100", hundred)?;
-    let thousand = "made 1000 shown 1000 lowest 0 highest 1000 falls 0\n";
-    makes(&rt, alloc, "1000", thousand)
+    for (number, line) in [
+        ("1", "made 1 shown 1 lowest 0 highest 0 falls 0\n"),
+        ("2", "made 2 shown 2 lowest 0 highest 8 falls 0\n"),
+        ("9", "made 9 shown 9 lowest 0 highest 8 falls 0\n"),
+        ("100", "made 100 shown 100 lowest 0 highest 104 falls 0\n"),
+        (
+            "1000",
+            "made 1000 shown 1000 lowest 0 highest 1000 falls 0\n",
+        ),
+    ] {
+        makes(&rt, rt.alloc(), number, line)?;
+    }
+    Ok(())
 }
 
 #[test]
@@ -661,7 +753,7 @@ fn a_made_stream_is_a_stream(rt: HostRuntime) -> Result<(), Fail> {
     let picture =
         "pic 1 type 1 poc 8 output 1\nslice 1 at 0 size 7 list0 0 list1 -\nsubmit 1 handle 1\n";
     let end = "show 0 poc 0 unit 4\nshow 1 poc 8 unit 4\nend pictures 2 shown 2\n";
-    reports(&rt, alloc, bytes, 0, &[SEQ, PICTURE_0, picture, end])
+    reports_on(&rt, alloc, bytes, 0, &[SEQ, PICTURE_0, picture, end])
 }
 
 #[test]
@@ -680,12 +772,13 @@ fn a_made_line_that_is_not_written_is_a_fault(rt: HostRuntime) -> Result<(), Fai
 fn fails(
     rt: &impl Abort,
     alloc: Global,
-    reads: Vec<u64>,
-    writes: Vec<u64>,
+    reads: &[u64],
+    writes: &[u64],
     status: u8,
 ) -> Result<(), Fail> {
-    let mut source = MemorySource::new(stream(alloc, &[SPS, PPS, IDR, P4, P2])?, reads);
-    let mut sink = MemorySink::new(alloc, writes);
+    let bytes = stream(alloc, &[SPS, PPS, IDR, P4, P2])?;
+    let mut source = MemorySource::new(bytes, Vec::from_slice(alloc, reads)?);
+    let mut sink = MemorySink::new(alloc, Vec::from_slice(alloc, writes)?);
     assert_eq!(rt; run(alloc, &[], &mut source, &mut sink), status);
     let end = "end pictures 3 shown 3\n";
     let is_whole = sink.written().ends_with(end.as_bytes());
@@ -702,9 +795,11 @@ fn fails(
 #[test]
 fn faults_have_their_statuses(rt: HostRuntime) -> Result<(), Fail> {
     let alloc = rt.alloc();
-    fails(&rt, alloc, vec![in alloc; 1]?, Vec::new(alloc), 3)?;
-    fails(&rt, alloc, vec![in alloc; 2]?, Vec::new(alloc), 3)?;
-    fails(&rt, alloc, vec![in alloc; 3]?, Vec::new(alloc), 0)?;
-    fails(&rt, alloc, Vec::new(alloc), vec![in alloc; 1]?, 4)?;
-    fails(&rt, alloc, Vec::new(alloc), vec![in alloc; 2]?, 0)
+    for (call, status) in [(1, 3), (2, 3), (3, 0)] {
+        fails(&rt, alloc, &[call], &[], status)?;
+    }
+    for (call, status) in [(1, 4), (2, 0)] {
+        fails(&rt, alloc, &[], &[call], status)?;
+    }
+    Ok(())
 }

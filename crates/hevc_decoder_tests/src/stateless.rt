@@ -1,5 +1,7 @@
+//! A decoder, unit by unit, with its events.
 use hevc_backend::Backend;
 use hevc_stateless::{DecodeError, DecoderEvent, Options, StatelessDecoder};
+use std::process::Abort;
 use std::test::Fail;
 
 /// A sequence set: 16 by 16 luma samples.
@@ -55,17 +57,32 @@ fn begin(decoder: &mut StatelessDecoder<Backend>) -> Result<usize, DecodeError> 
     decoder.decode(0, PICTURE_SET)
 }
 
+/// The decoder takes each of these units whole.
+fn takes(rt: &impl Abort, decoder: &mut StatelessDecoder<Backend>, units: &[&[u8]]) {
+    for unit in units {
+        assert!(rt; unit.len() < 1000);
+        assert!(rt; decoder.decode(0, unit) == Ok(unit.len()));
+    }
+}
+
+/// The next pictures that come out have these numbers.
+fn come_out(rt: &impl Abort, decoder: &mut StatelessDecoder<Backend>, numbers: &[u64]) {
+    for number in numbers {
+        assert!(rt; next_number(decoder) == Some(*number));
+    }
+}
+
 #[test]
 fn the_first_sequence_set_is_negotiated_and_given_again(rt: HostRuntime) -> Result<(), Fail> {
     let alloc = rt.alloc();
     let mut decoder = StatelessDecoder::new(alloc, Backend::new(alloc));
-    assert!(rt; decoder.decode(0, IDR) == Ok(7));
+    takes(&rt, &mut decoder, &[IDR]);
     assert!(rt; decoder.decode(0, SEQUENCE_SET) == Err(DecodeError::CheckEvents));
     assert!(rt; decoder.decode(0, SEQUENCE_SET) == Err(DecodeError::CheckEvents));
     assert!(rt; matches!(decoder.next_event(), Some(DecoderEvent::FormatChanged)));
     assert!(rt; accept(&mut decoder));
     assert!(rt; !decoder.awaiting_format());
-    assert!(rt; decoder.decode(0, SEQUENCE_SET) == Ok(29));
+    takes(&rt, &mut decoder, &[SEQUENCE_SET]);
     assert_eq!(rt; decoder.backend().calls().len(), 1);
     Ok(())
 }
@@ -74,14 +91,14 @@ fn the_first_sequence_set_is_negotiated_and_given_again(rt: HostRuntime) -> Resu
 fn a_picture_set_waits_for_its_sequence_set(rt: HostRuntime) -> Result<(), Fail> {
     let alloc = rt.alloc();
     let mut decoder = StatelessDecoder::new(alloc, Backend::new(alloc));
-    assert!(rt; decoder.decode(0, PICTURE_SET) == Ok(9));
+    takes(&rt, &mut decoder, &[PICTURE_SET]);
     assert!(rt; decoder.decode(0, SEQUENCE_SET) == Err(DecodeError::CheckEvents));
     assert!(rt; accept(&mut decoder));
     assert!(rt; decoder.decode(0, IDR) == Err(DecodeError::MissingPps(0)));
-    assert!(rt; decoder.decode(0, SEQUENCE_SET) == Ok(29));
+    takes(&rt, &mut decoder, &[SEQUENCE_SET]);
     assert!(rt; decoder.decode(5, IDR) == Ok(7));
     assert!(rt; decoder.flush() == Ok(()));
-    assert!(rt; next_number(&mut decoder) == Some(0));
+    come_out(&rt, &mut decoder, &[0]);
     assert!(rt; next_number(&mut decoder).is_none());
     Ok(())
 }
@@ -91,20 +108,14 @@ fn behind_a_flush_an_idr_picture_is_waited_for(rt: HostRuntime) -> Result<(), Fa
     let alloc = rt.alloc();
     let mut decoder = StatelessDecoder::new(alloc, Backend::new(alloc));
     assert!(rt; begin(&mut decoder) == Ok(9));
-    assert!(rt; decoder.decode(0, IDR) == Ok(7));
-    assert!(rt; decoder.decode(0, LATER) == Ok(9));
-    assert!(rt; decoder.decode(0, END) == Ok(5));
+    takes(&rt, &mut decoder, &[IDR, LATER, END]);
     assert!(rt; decoder.flush() == Ok(()));
     let calls = decoder.backend().calls().len();
-    assert!(rt; decoder.decode(0, LATER) == Ok(9));
+    takes(&rt, &mut decoder, &[LATER]);
     assert_eq!(rt; decoder.backend().calls().len(), calls);
-    assert!(rt; decoder.decode(0, IDR) == Ok(7));
-    assert!(rt; decoder.decode(0, LATER) == Ok(9));
+    takes(&rt, &mut decoder, &[IDR, LATER]);
     assert!(rt; decoder.flush() == Ok(()));
-    assert!(rt; next_number(&mut decoder) == Some(0));
-    assert!(rt; next_number(&mut decoder) == Some(1));
-    assert!(rt; next_number(&mut decoder) == Some(2));
-    assert!(rt; next_number(&mut decoder) == Some(3));
+    come_out(&rt, &mut decoder, &[0, 1, 2, 3]);
     Ok(())
 }
 
@@ -115,11 +126,10 @@ fn a_flush_forgets_a_format_that_is_awaited(rt: HostRuntime) -> Result<(), Fail>
     assert!(rt; decoder.decode(0, SEQUENCE_SET) == Err(DecodeError::CheckEvents));
     assert!(rt; decoder.flush() == Ok(()));
     assert!(rt; !decoder.awaiting_format());
-    assert!(rt; decoder.decode(0, PICTURE_SET) == Ok(9));
-    assert!(rt; decoder.decode(0, SEQUENCE_SET) == Ok(29));
+    takes(&rt, &mut decoder, &[PICTURE_SET, SEQUENCE_SET]);
     assert!(rt; decoder.decode(0, IDR) == Err(DecodeError::CheckEvents));
     assert!(rt; accept(&mut decoder));
-    assert!(rt; decoder.decode(0, IDR) == Ok(7));
+    takes(&rt, &mut decoder, &[IDR]);
     Ok(())
 }
 
@@ -130,9 +140,9 @@ fn sub_layers_above_the_wanted_ones_are_passed_over(rt: HostRuntime) -> Result<(
     options.highest_tid = 0;
     let mut decoder = StatelessDecoder::new_with(alloc, Backend::new(alloc), options);
     assert!(rt; begin(&mut decoder) == Ok(9));
-    assert!(rt; decoder.decode(0, IDR) == Ok(7));
+    takes(&rt, &mut decoder, &[IDR]);
     let calls = decoder.backend().calls().len();
-    assert!(rt; decoder.decode(0, UPPER) == Ok(9));
+    takes(&rt, &mut decoder, &[UPPER]);
     assert_eq!(rt; decoder.backend().calls().len(), calls);
     Ok(())
 }
@@ -148,13 +158,12 @@ fn a_refusal_leaves_the_decoder_where_it_stood(rt: HostRuntime) -> Result<(), Fa
     assert!(rt; decoder.decode(0, &[0, 0, 1, 0x60, 1]) == unspecified);
     assert!(rt; decoder.decode(0, SEQUENCE_SET) == Err(DecodeError::Backend));
     assert!(rt; begin(&mut decoder) == Ok(9));
-    assert!(rt; decoder.decode(0, IDR) == Ok(7));
+    takes(&rt, &mut decoder, &[IDR]);
     let full = Err(DecodeError::NotEnoughOutputBuffers(1));
     assert!(rt; decoder.decode(0, LATER) == full);
-    assert!(rt; decoder.decode(0, LATER) == Ok(9));
+    takes(&rt, &mut decoder, &[LATER]);
     assert!(rt; decoder.flush() == Ok(()));
-    assert!(rt; next_number(&mut decoder) == Some(0));
-    assert!(rt; next_number(&mut decoder) == Some(1));
+    come_out(&rt, &mut decoder, &[0, 1]);
     Ok(())
 }
 
@@ -163,15 +172,14 @@ fn another_format_is_negotiated_behind_what_waits(rt: HostRuntime) -> Result<(),
     let alloc = rt.alloc();
     let mut decoder = StatelessDecoder::new(alloc, Backend::new(alloc));
     assert!(rt; begin(&mut decoder) == Ok(9));
-    assert!(rt; decoder.decode(0, IDR) == Ok(7));
-    assert!(rt; decoder.decode(0, WIDE_SET) == Ok(29));
+    takes(&rt, &mut decoder, &[IDR, WIDE_SET]);
     assert!(rt; next_number(&mut decoder).is_none());
     assert!(rt; decoder.decode(0, IDR) == Err(DecodeError::CheckEvents));
-    assert!(rt; next_number(&mut decoder) == Some(0));
+    come_out(&rt, &mut decoder, &[0]);
     assert!(rt; matches!(decoder.next_event(), Some(DecoderEvent::FormatChanged)));
     assert!(rt; accept(&mut decoder));
     let calls = decoder.backend().calls().len();
-    assert!(rt; decoder.decode(0, IDR) == Ok(7));
+    takes(&rt, &mut decoder, &[IDR]);
     assert_eq!(rt; decoder.backend().calls().len(), calls + 3);
     Ok(())
 }
