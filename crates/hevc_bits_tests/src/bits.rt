@@ -6,21 +6,17 @@ use std::convert::AsSlice;
 #[test]
 fn reads_bits_across_bytes(rt: HostRuntime) {
     let mut r = NaluReader::new(&[0x01, 0x23, 0x45, 0x67, 0x89, 0xA0]);
-    assert_eq!(rt; r.read_bits(1), Ok(0));
-    assert_eq!(rt; r.num_bits_left(), 47);
-    assert!(rt; r.has_more_rsbp_data());
-    assert_eq!(rt; r.read_bits(8), Ok(2));
-    assert_eq!(rt; r.num_bits_left(), 39);
-    assert!(rt; r.has_more_rsbp_data());
-    assert_eq!(rt; r.read_bits(31), Ok(0x2345_6789));
-    assert_eq!(rt; r.num_bits_left(), 8);
-    assert!(rt; r.has_more_rsbp_data());
-    assert_eq!(rt; r.read_bits(1), Ok(1));
-    assert_eq!(rt; r.num_bits_left(), 7);
-    assert!(rt; r.has_more_rsbp_data());
-    assert_eq!(rt; r.read_bits(1), Ok(0));
-    assert_eq!(rt; r.num_bits_left(), 6);
-    assert!(rt; !r.has_more_rsbp_data());
+    for (count, bits, left, has_more) in [
+        (1, 0, 47, true),
+        (8, 2, 39, true),
+        (31, 0x2345_6789, 8, true),
+        (1, 1, 7, true),
+        (1, 0, 6, false),
+    ] {
+        assert_eq!(rt; r.read_bits(count), Ok(bits));
+        assert_eq!(rt; r.num_bits_left(), left);
+        assert_eq!(rt; r.has_more_rsbp_data(), has_more, "with {left} left");
+    }
     assert_eq!(rt; r.read_bits(32), Err(BitError::OutOfRange));
 }
 

@@ -6,14 +6,12 @@ use hevc_elements::rows::{
     out_of_range, refusal, se, se_i8, skip, ue, ue_if, ue_u8, ue_u8_if, ue_u16, zero, zero_if,
 };
 use hevc_spec::Row;
+use std::process::Abort;
 
 const ROW: Row = Row(5, 8);
 
-#[test]
-fn elements_are_read_where_they_stand(rt: HostRuntime) {
-    // 1 | 1 | 0 | 10110 | 101 | 10 | 00101 | 011 | 0001000 | 010 | 00101 | 00110 | 0 | 0 | 111 | 1 | 0
-    let mut r = NaluReader::new(&[0xd6, 0xb1, 0x58, 0x84, 0x53, 0x1e]);
-    let r = &mut r;
+/// Reads 1 | 1 | 0 | 10110 | 101 | 10.
+fn reads_flags_and_bits(rt: &impl Abort, r: &mut NaluReader<'_>) {
     assert_eq!(rt; flag(r, ROW), Ok(true));
     assert_eq!(rt; flag_if(r, true, ROW), Ok(true));
     assert_eq!(rt; flag_if(r, false, ROW), Ok(false));
@@ -23,6 +21,10 @@ fn elements_are_read_where_they_stand(rt: HostRuntime) {
     assert_eq!(rt; bits_u8(r, ROW, 3, 0, 7), Ok(5));
     assert_eq!(rt; bits_u8_if(r, true, ROW, 2, 0, 3), Ok(2));
     assert_eq!(rt; bits_u8_if(r, false, ROW, 2, 0, 3), Ok(0));
+}
+
+/// Reads 00101 | 011 | 0001000 | 010 | 00101 | 00110.
+fn reads_numbers(rt: &impl Abort, r: &mut NaluReader<'_>) {
     assert_eq!(rt; ue(r, ROW, 0, 4), Ok(4));
     assert_eq!(rt; ue_u8(r, ROW, 0, 2), Ok(2));
     assert_eq!(rt; ue_u16(r, ROW, 1, 16_888), Ok(7));
@@ -30,12 +32,24 @@ fn elements_are_read_where_they_stand(rt: HostRuntime) {
     assert_eq!(rt; ue_u8_if(r, false, ROW, 0, 3), Ok(0));
     assert_eq!(rt; se(r, ROW, -2, 2), Ok(-2));
     assert_eq!(rt; se_i8(r, ROW, -6, 6), Ok(3));
+}
+
+/// Reads 0 | 0 | 111 | 1.
+fn reads_what_has_no_value(rt: &impl Abort, r: &mut NaluReader<'_>) {
     assert_eq!(rt; zero(r, ROW), Ok(()));
     assert_eq!(rt; zero_if(r, true, ROW), Ok(()));
     assert_eq!(rt; zero_if(r, false, ROW), Ok(()));
     assert_eq!(rt; skip(r, ROW, 3), Ok(()));
     assert_eq!(rt; check(r, ROW, true), Ok(()));
     assert_eq!(rt; flag(r, ROW), Ok(true));
+}
+
+#[test]
+fn elements_are_read_where_they_stand(rt: HostRuntime) {
+    let mut r = NaluReader::new(&[0xd6, 0xb1, 0x58, 0x84, 0x53, 0x1e]);
+    reads_flags_and_bits(&rt, &mut r);
+    reads_numbers(&rt, &mut r);
+    reads_what_has_no_value(&rt, &mut r);
 }
 
 #[test]

@@ -1,3 +1,4 @@
+//! Backends, each call once.
 mod caller;
 mod over_device;
 

@@ -1,3 +1,4 @@
+//! Whole streams over backends that fail at a planned call, or have no frame.
 mod calling;
 mod pieces;
 mod plans;
@@ -91,16 +92,20 @@ fn fails(
 
 #[test]
 fn a_call_that_fails_is_told_at_its_unit(rt: HostRuntime) -> Result<(), Fail> {
-    let alloc = rt.alloc();
-    fails(&rt, alloc, 1, 0, 0)?;
-    fails(&rt, alloc, 2, 2, 0)?;
-    fails(&rt, alloc, 3, 2, 0)?;
-    fails(&rt, alloc, 4, 2, 0)?;
-    fails(&rt, alloc, 5, 3, 0)?;
-    fails(&rt, alloc, 6, 3, 1)?;
-    fails(&rt, alloc, 7, 3, 1)?;
-    fails(&rt, alloc, 8, 3, 1)?;
-    fails(&rt, alloc, 9, 4, 1)
+    for (call, unit, pictures) in [
+        (1, 0, 0),
+        (2, 2, 0),
+        (3, 2, 0),
+        (4, 2, 0),
+        (5, 3, 0),
+        (6, 3, 1),
+        (7, 3, 1),
+        (8, 3, 1),
+        (9, 4, 1),
+    ] {
+        fails(&rt, rt.alloc(), call, unit, pictures)?;
+    }
+    Ok(())
 }
 
 #[test]

@@ -1,3 +1,4 @@
+//! A driver over a backend that fails at a planned call, or has no frame.
 mod streams;
 
 use hevc_backend::{Backend, Call};

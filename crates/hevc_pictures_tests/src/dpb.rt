@@ -1,3 +1,4 @@
+//! Small buffers, each call once.
 use hevc_dpb::{Dpb, Limits, PictureData, Reference};
 use std::test::Fail;
 

@@ -1,3 +1,4 @@
+//! Pictures by their first slice.
 use hevc_bits::{Nalu, NaluHeader};
 use hevc_pictures::{Limits, PictureData, PocOutOfRange, Reference};
 use hevc_types_c::Sps;

@@ -1,3 +1,4 @@
+//! Sets and lists over a buffer of three pictures.
 ghost use Rattle.std.specs.Prelude.{pos, ◌<ℤ◌};
 
 use hevc_bits::NaluType;

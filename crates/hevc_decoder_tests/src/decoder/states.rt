@@ -1,6 +1,7 @@
 //! A decoder that is driven by hand, over a backend that fails and has no frame by a plan.
 use hevc_backend::Backend;
 use hevc_decoder::{DecodeError, DecoderEvent, StatelessDecoder};
+use std::process::Abort;
 use std::test::Fail;
 
 /// A sequence set: 16 by 16 luma samples.
@@ -35,49 +36,67 @@ fn accepts(decoder: &mut StatelessDecoder<Backend>) -> bool {
     awaited
 }
 
-#[test]
-fn four_states_by_hand(rt: HostRuntime) -> Result<(), Fail> {
-    let alloc = rt.alloc();
-    let backend = Backend::with_plan(alloc, vec![in alloc; 2]?, vec![in alloc; 16, 0, 16]?);
-    let mut decoder = StatelessDecoder::new(alloc, backend);
-
-    // The first sequence set is waited for.
+/// The first sequence set is waited for.
+fn waits_for_a_sequence_set(rt: &impl Abort, decoder: &mut StatelessDecoder<Backend>) {
     assert!(rt; decoder.decode(0, IDR) == Ok(7));
     assert!(rt; decoder.stream_info().is_none());
     assert!(rt; decoder.decode(0, SEQUENCE_SET) == Err(DecodeError::CheckEvents));
+}
 
-    // That its format is accepted.
+/// That its format is accepted, or forgotten by a flush.
+fn waits_for_a_format(rt: &impl Abort, decoder: &mut StatelessDecoder<Backend>) {
     assert!(rt; decoder.decode(0, SEQUENCE_SET) == Err(DecodeError::CheckEvents));
     assert!(rt; decoder.decode(0, PICTURE_SET) == Err(DecodeError::CheckEvents));
     assert!(rt; matches!(decoder.next_event(), Some(DecoderEvent::FormatChanged)));
     assert!(rt; decoder.stream_info().is_some());
     assert!(rt; decoder.flush() == Ok(()));
     assert!(rt; !decoder.awaiting_format());
+}
 
-    // Behind a flush, an IDR picture or a sequence set.
+/// Behind a flush, an IDR picture or a sequence set.
+fn waits_behind_a_flush(rt: &impl Abort, decoder: &mut StatelessDecoder<Backend>) {
     assert!(rt; decoder.flush() == Ok(()));
     assert!(rt; decoder.decode(0, LATER) == Ok(9));
     assert!(rt; decoder.decode(0, SEQUENCE_SET) == Ok(29));
     assert!(rt; decoder.decode(0, PICTURE_SET) == Ok(9));
     assert_eq!(rt; decoder.num_pictures(), 0);
+}
 
-    // Nothing: the format is negotiated anew, by the second call of that kind, with a frame.
+/// Nothing: the format is negotiated anew, by the second call of that kind, with a frame.
+fn negotiates_anew(rt: &impl Abort, decoder: &mut StatelessDecoder<Backend>) {
     assert!(rt; decoder.decode(7, IDR) == Err(DecodeError::Backend));
     assert!(rt; decoder.decode(7, IDR) == Err(DecodeError::NotEnoughOutputBuffers(1)));
     assert!(rt; decoder.decode(7, IDR) == Err(DecodeError::CheckEvents));
-    assert!(rt; accepts(&mut decoder));
+    assert!(rt; accepts(decoder));
     assert!(rt; decoder.decode(7, IDR) == Ok(7));
     assert_eq!(rt; decoder.num_pictures(), 1);
-    assert!(rt; next_number(&mut decoder).is_none());
+}
+
+/// The next pictures that come out have these numbers, and no more do.
+fn come_out(rt: &impl Abort, decoder: &mut StatelessDecoder<Backend>, numbers: &[u64]) {
+    for number in numbers {
+        assert!(rt; next_number(decoder) == Some(*number));
+    }
+    assert!(rt; next_number(decoder).is_none());
+}
+
+#[test]
+fn four_states_by_hand(rt: HostRuntime) -> Result<(), Fail> {
+    let alloc = rt.alloc();
+    let backend = Backend::with_plan(alloc, vec![in alloc; 2]?, vec![in alloc; 16, 0, 16]?);
+    let mut decoder = StatelessDecoder::new(alloc, backend);
+    waits_for_a_sequence_set(&rt, &mut decoder);
+    waits_for_a_format(&rt, &mut decoder);
+    waits_behind_a_flush(&rt, &mut decoder);
+    negotiates_anew(&rt, &mut decoder);
+    come_out(&rt, &mut decoder, &[]);
     assert!(rt; decoder.flush() == Ok(()));
-    assert!(rt; next_number(&mut decoder) == Some(0));
-    assert!(rt; next_number(&mut decoder).is_none());
+    come_out(&rt, &mut decoder, &[0]);
 
     // And once more behind a flush.
     assert!(rt; decoder.decode(8, IDR) == Ok(7));
     assert!(rt; decoder.decode(9, LATER) == Ok(9));
     assert!(rt; decoder.flush() == Ok(()));
-    assert!(rt; next_number(&mut decoder) == Some(1));
-    assert!(rt; next_number(&mut decoder) == Some(2));
+    come_out(&rt, &mut decoder, &[1, 2]);
     Ok(())
 }
