@@ -18,8 +18,8 @@ CRATES = TOP / "crates"
 
 # The pages with an example, and the file that has it.
 EXAMPLES = {
-    "BACKENDS.md": "hevc_backend/src/tests/over_device.rt",
-    "CALLING.md": "hevc_decoder/src/tests/calling.rt",
+    "BACKENDS.md": "hevc_decoder_tests/src/backend/over_device.rt",
+    "CALLING.md": "hevc_decoder_tests/src/decoder/calling.rt",
 }
 
 # Fields whose elements have another name in TABLES.md.

@@ -20,6 +20,3 @@ pub use negotiation::{NegotiationInfo, Resolution};
 pub use recording::Backend;
 pub use silent::SilentBackend;
 pub use stream_info::StreamInfo;
-
-#[cfg(test)]
-mod tests;

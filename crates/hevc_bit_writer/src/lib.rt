@@ -3,8 +3,6 @@
 
 mod bit_writer;
 mod laws;
-#[cfg(test)]
-mod tests;
 mod unit;
 
 pub use bit_writer::BitWriter;

@@ -10,8 +10,6 @@ mod nalu_header;
 mod nalu_type;
 mod reader;
 mod start_code;
-#[cfg(test)]
-mod tests;
 mod word;
 
 pub use bit_error::BitError;

@@ -67,6 +67,3 @@ fn bump_while<H: Copy>(rule: Rule, dpb: &mut Dpb<H>, queue: &mut VecDeque<Frame<
         }
     }
 }
-
-#[cfg(test)]
-mod tests;

@@ -5,8 +5,6 @@ mod decoded;
 mod feed;
 mod source;
 mod stream;
-#[cfg(test)]
-mod tests;
 mod units;
 mod window;
 

@@ -14,6 +14,3 @@ pub use entry::DpbEntry;
 pub use finds::Sought;
 pub use hevc_pictures::{Limits, PictureData, Reference};
 pub use pictures::Pictures;
-
-#[cfg(test)]
-mod tests;

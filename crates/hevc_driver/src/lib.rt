@@ -16,8 +16,6 @@ mod references;
 mod room;
 mod slices;
 mod standing;
-#[cfg(test)]
-mod tests;
 
 pub use current::{Current, Open};
 pub use decode_error::DecodeError;

@@ -23,6 +23,3 @@ pub use standard::{StdSink, StdSource};
 pub use stop::Stop;
 pub use word::Word;
 pub use words::{LONGEST_WORD, WordsError, command_line};
-
-#[cfg(test)]
-mod tests;

@@ -8,6 +8,3 @@ mod waiting_unit;
 pub use hevc_options::Options;
 pub use hevc_slice::{ParseError, Parser};
 pub use kept_sets::KeptSets;
-
-#[cfg(test)]
-mod tests;

@@ -8,8 +8,6 @@ ghost use Rattle.hevc_made.specs.Made.{made, picture_unit};
 mod group;
 mod laws;
 mod slice;
-#[cfg(test)]
-mod tests;
 
 use hevc_bit_writer::{BitWriter, append_unit};
 pub use laws::{made_streams_are_short, made_units_are_found};

@@ -13,6 +13,3 @@ pub use limits::Limits;
 pub use order_count::PocOutOfRange;
 pub use picture_data::PictureData;
 pub use reference::Reference;
-
-#[cfg(test)]
-mod tests;

@@ -14,6 +14,3 @@ pub use derive::derive_and_mark;
 pub use ref_pic_list::{RefPicList, RefPicListEntry, ReferencePicLists};
 pub use ref_pic_lists::build_ref_pic_lists;
 pub use ref_pic_set::RefPicSet;
-
-#[cfg(test)]
-mod tests;

@@ -13,6 +13,3 @@ pub use hevc_short_term::read_short_term_set;
 pub use hevc_hrd::read_hrd_parameters;
 pub use hevc_vui::read_vui_parameters;
 pub use hevc_vps::read_vps;
-
-#[cfg(test)]
-mod tests;

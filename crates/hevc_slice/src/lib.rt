@@ -6,6 +6,3 @@ mod parser;
 pub use hevc_sets::ParseError;
 pub use hevc_slice_header::{parse_pred_weight_table, slice_header_set_defaults};
 pub use parser::Parser;
-
-#[cfg(test)]
-mod tests;

@@ -6,8 +6,6 @@ mod event;
 mod refusal;
 mod session;
 mod state;
-#[cfg(test)]
-mod tests;
 mod units;
 
 pub use decoder::StatelessDecoder;

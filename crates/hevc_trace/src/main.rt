@@ -2,16 +2,8 @@
 //! the pictures that come out.
 #![tactic(auto)]
 
-mod command;
-mod history;
-mod made;
-mod program;
-mod report;
-#[cfg(test)]
-mod tests;
-
 use hevc_io::{StdSink, StdSource, command_line};
-use program::run;
+use hevc_report::run;
 use std::io;
 use std::process::ExitCode;
 

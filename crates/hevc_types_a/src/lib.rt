@@ -27,6 +27,3 @@ pub use ref_pic_list_modification::RefPicListModification;
 pub use scaling_lists::ScalingLists;
 pub use short_term_ref_pic_set::ShortTermRefPicSet;
 pub use slice_type::SliceType;
-
-#[cfg(test)]
-mod tests;

@@ -17,6 +17,3 @@ pub use pred_weight_table::PredWeightTable;
 pub use sublayer_hrd_parameters::SublayerHrdParameters;
 pub use vps::Vps;
 pub use vui_params::VuiParams;
-
-#[cfg(test)]
-mod tests;

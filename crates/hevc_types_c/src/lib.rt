@@ -19,6 +19,3 @@ pub use rect::Rect;
 pub use sps::Sps;
 pub use sps_range_extension::SpsRangeExtension;
 pub use sps_scc_extension::SpsSccExtension;
-
-#[cfg(test)]
-mod tests;

@@ -15,6 +15,3 @@ mod slice_header_getters;
 pub use pps::Pps;
 pub use slice::{NotDependent, Slice};
 pub use slice_header::SliceHeader;
-
-#[cfg(test)]
-mod tests;

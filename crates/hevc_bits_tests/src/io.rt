@@ -1,0 +1,161 @@
+//! Sources and sinks, each once.
+use hevc_io::{
+    Failed, InputError, MemorySink, MemorySource, Sink, SinkError, Source, StdSink, StdSource,
+    Word, WordsError, command_line, read_all, write_all,
+};
+use std::alloc::Global;
+use std::env::{Env, FillError};
+use std::process::Abort;
+use std::test::Fail;
+
+fn planned(alloc: Global, number: u64) -> Result<Vec<u64>, Fail> {
+    Ok(vec![in alloc; number]?)
+}
+
+#[test]
+fn a_source_fails_at_the_planned_call(rt: HostRuntime) -> Result<(), Fail> {
+    let alloc = rt.alloc();
+    let mut source = MemorySource::new(vec![in alloc; 7u8, 8, 9]?, planned(alloc, 2)?);
+    let mut buf = [0u8; 2];
+    assert_eq!(rt; source.read(&mut buf), Ok(2));
+    assert_eq!(rt; buf, [7, 8]);
+    assert_eq!(rt; source.read(&mut buf), Err(Failed));
+    assert_eq!(rt; source.read(&mut buf), Ok(1));
+    assert_eq!(rt; buf[0], 9);
+    assert_eq!(rt; source.read(&mut buf), Ok(0));
+    Ok(())
+}
+
+#[test]
+fn a_sink_fails_at_the_planned_call(rt: HostRuntime) -> Result<(), Fail> {
+    let alloc = rt.alloc();
+    let mut sink = MemorySink::new(alloc, planned(alloc, 1)?);
+    assert_eq!(rt; sink.write(&[1, 2]), Err(SinkError::Failed));
+    assert_eq!(rt; sink.write(&[3]), Ok(1));
+    assert_eq!(rt; sink.written(), [3].as_slice());
+    Ok(())
+}
+
+#[test]
+fn readers_and_writers_are_passed_on(rt: HostRuntime) -> Result<(), Fail> {
+    let alloc = rt.alloc();
+    let mut source = StdSource::new([5u8, 6].as_slice());
+    let mut buf = [0u8; 4];
+    assert_eq!(rt; source.read(&mut buf), Ok(2));
+    assert_eq!(rt; source.read(&mut buf), Ok(0));
+    let mut sink = StdSink::new(Vec::<u8>::new(alloc));
+    assert_eq!(rt; sink.write(&buf[..2]), Ok(2));
+    Ok(())
+}
+
+#[test]
+fn a_word_has_its_bytes(rt: HostRuntime) -> Result<(), Fail> {
+    let word = Word::new(vec![in rt.alloc(); 0x78]?);
+    assert_eq!(rt; word.as_bytes(), [0x78].as_slice());
+    Ok(())
+}
+
+/// A source of so many bytes, the first 0 and each one more than the byte before it, whose call of this number
+/// fails.
+fn counting(alloc: Global, size: usize, failing: u64) -> Result<MemorySource, Fail> {
+    let mut bytes = Vec::new(alloc);
+    for number in 0..size {
+        bytes.push((number % 256) as u8)?;
+    }
+    Ok(MemorySource::new(bytes, planned(alloc, failing)?))
+}
+
+#[test]
+fn a_source_is_read_to_its_end(rt: HostRuntime) -> Result<(), Fail> {
+    let alloc = rt.alloc();
+    for size in [0usize, 1, 65_536, 200_000] {
+        let mut source = counting(alloc, size, 9)?;
+        let input = read_all(alloc, &mut source, 200_000)?;
+        assert_eq!(rt; input.len(), size);
+        for (number, byte) in input.iter().enumerate() {
+            assert_eq!(rt; *byte, (number % 256) as u8);
+        }
+    }
+    Ok(())
+}
+
+#[test]
+fn an_input_is_within_its_limit(rt: HostRuntime) -> Result<(), Fail> {
+    let alloc = rt.alloc();
+    let mut source = counting(alloc, 70_000, 9)?;
+    assert_eq!(rt;
+        read_all(alloc, &mut source, 69_999).err(),
+        Some(InputError::TooLong)
+    );
+    let mut source = counting(alloc, 1, 9)?;
+    assert_eq!(rt;
+        read_all(alloc, &mut source, 0).err(),
+        Some(InputError::TooLong)
+    );
+    let mut source = counting(alloc, 0, 9)?;
+    assert!(rt; read_all(alloc, &mut source, 0).is_ok());
+    Ok(())
+}
+
+#[test]
+fn a_failed_read_is_no_end(rt: HostRuntime) -> Result<(), Fail> {
+    let alloc = rt.alloc();
+    for call in 1..4u64 {
+        let mut source = counting(alloc, 70_000, call)?;
+        assert_eq!(rt;
+            read_all(alloc, &mut source, 70_000).err(),
+            Some(InputError::Failed)
+        );
+    }
+    let mut source = counting(alloc, 70_000, 4)?;
+    assert!(rt; read_all(alloc, &mut source, 70_000).is_ok());
+    Ok(())
+}
+
+#[test]
+fn a_text_is_written_whole(rt: HostRuntime) -> Result<(), Fail> {
+    let alloc = rt.alloc();
+    let mut sink = MemorySink::new(alloc, planned(alloc, 2)?);
+    assert_eq!(rt; write_all(&mut sink, &[4, 5]), Ok(()));
+    assert_eq!(rt; write_all(&mut sink, &[6]), Err(SinkError::Failed));
+    assert_eq!(rt; sink.written(), [4, 5].as_slice());
+    Ok(())
+}
+
+/// A system whose program has a word of 100 bytes, or of more than may be.
+struct OneWord {
+    is_short: bool,
+}
+
+impl Env for OneWord {
+    fn arg(&self, i: usize, buf: &mut [u8]) -> Result<usize, FillError> {
+        match i {
+            1 if buf.len() >= 100 && self.is_short => {
+                buf[0] = 7;
+                Ok(100)
+            }
+            1 => Err(FillError::TooLong),
+            _ => Err(FillError::NotPresent),
+        }
+    }
+
+    fn var(&self, _name: &str, _buf: &mut [u8]) -> Result<usize, FillError> {
+        Err(FillError::NotPresent)
+    }
+
+    fn var_at(&self, _i: usize, _buf: &mut [u8]) -> Result<usize, FillError> {
+        Err(FillError::NotPresent)
+    }
+}
+
+#[test]
+fn a_command_line_has_its_words(rt: HostRuntime) -> Result<(), Fail> {
+    let alloc = rt.alloc();
+    let words = command_line(&OneWord { is_short: true }, alloc)?;
+    assert_eq!(rt; words.len(), 1);
+    assert_eq!(rt; words[0].as_bytes().len(), 100);
+    assert_eq!(rt; words[0].as_bytes()[0], 7);
+    let refused = command_line(&OneWord { is_short: false }, alloc).err();
+    assert_eq!(rt; refused, Some(WordsError::Refused));
+    Ok(())
+}

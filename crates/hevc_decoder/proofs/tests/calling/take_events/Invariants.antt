@@ -1,6 +1,0 @@
-use Rattle.std.proofs.Common.{length}
-use Rattle.hevc_stateless.specs.Decoders.{view_of}
-use Rattle.hevc_decoder.proofs.tests.calling.take_events.Given as goal
-
-abbrev pub decreases-loop-frame : goal.decreases-loop-frame
-decreases-loop-frame g l = length (view_of l.decoder).queue

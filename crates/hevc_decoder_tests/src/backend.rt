@@ -1,0 +1,234 @@
+//! Backends, each call once.
+mod caller;
+mod over_device;
+
+use caller::{First, decode_picture};
+use hevc_backend::{
+    Backend, BackendError, Call, Resolution, SilentBackend, StatelessH265DecoderBackend,
+};
+use hevc_bits::{Nalu, NaluHeader, NaluType};
+use hevc_dpb::PictureData;
+use hevc_types_c::Sps;
+use hevc_types_d::{Pps, Slice, SliceHeader};
+use over_device::{Device, OverDevice};
+use std::alloc::Global;
+use std::test::Fail;
+
+/// A unit of an IDR picture behind its start code.
+const UNIT: &[u8] = &[0, 0, 1, 38, 1, 175, 128];
+
+/// What picture 7 begins with, if the first unit of the stream is one.
+fn first(alloc: Global, stream: &[u8]) -> Option<First<'_>> {
+    let mut position = 0;
+    match Nalu::<NaluHeader>::next(stream, &mut position) {
+        Ok(nalu) => {
+            let mut header = SliceHeader::new(alloc);
+            header.segment_address = 3;
+            let mut picture = PictureData::default();
+            picture.nalu_type = NaluType::IdrWRadl;
+            picture.pic_order_cnt_val = -4;
+            picture.pic_output_flag = true;
+            Some(First {
+                number: 7,
+                picture,
+                slice: Slice::new(header, nalu),
+                pps: Pps::new(),
+            })
+        }
+        Err(_) => None,
+    }
+}
+
+/// The first call is a sequence of one luma sample.
+fn begins_sequence(calls: &[Call<u64>]) -> bool {
+    match calls.first() {
+        Some(Call::NewSequence { info }) => {
+            info.coded_resolution
+                == Resolution {
+                    width: 1,
+                    height: 1,
+                }
+        }
+        _ => false,
+    }
+}
+
+/// The second call is picture 7 with what is known of it.
+fn begins_picture(calls: &[Call<u64>]) -> bool {
+    match calls.get(1) {
+        Some(
+            Call::NewPicture {
+                number: 7,
+                nalu_type: NaluType::IdrWRadl,
+                pic_order_cnt_val: -4,
+                pic_output_flag: true,
+                timestamp: 90000,
+            },
+        ) => true,
+        _ => false,
+    }
+}
+
+/// The third call is picture 7 without references.
+fn names_no_references(calls: &[Call<u64>]) -> bool {
+    match calls.get(2) {
+        Some(
+            Call::BeginPicture {
+                number: 7,
+                st_curr_before,
+                lt_foll,
+                ..
+            },
+        ) => st_curr_before.as_slice().is_empty() && lt_foll.as_slice().is_empty(),
+        _ => false,
+    }
+}
+
+/// The fourth call is the slice of picture 7, with its bytes and without lists.
+fn has_slice(calls: &[Call<u64>]) -> bool {
+    match calls.get(3) {
+        Some(
+            Call::DecodeSlice {
+                number: 7,
+                address: 3,
+                bytes,
+                list0,
+                list1,
+            },
+        ) => {
+            bytes.as_slice() == [38, 1, 175, 128].as_slice()
+                && list0.as_slice().is_empty()
+                && list1.as_slice().is_empty()
+        }
+        _ => false,
+    }
+}
+
+/// The fifth call submits picture 7.
+fn submits(calls: &[Call<u64>]) -> bool {
+    match calls.get(4) {
+        Some(
+            Call::SubmitPicture {
+                number: 7,
+                handle: 0,
+            },
+        ) => true,
+        _ => false,
+    }
+}
+
+#[test]
+fn each_call_is_recorded_once(rt: HostRuntime) -> Result<(), Fail> {
+    let alloc = rt.alloc();
+    let mut backend = Backend::new(alloc);
+    let sps = Sps::new(alloc);
+    let first = first(alloc, UNIT).ok_or("no unit")?;
+    assert!(rt; decode_picture(alloc, &mut backend, &sps, &first) == Ok(Some(0)));
+    let calls = backend.calls();
+    assert_eq!(rt; calls.len(), 5);
+    assert!(rt; begins_sequence(calls) && begins_picture(calls) && names_no_references(calls));
+    assert!(rt; has_slice(calls) && submits(calls));
+    Ok(())
+}
+
+#[test]
+fn a_planned_call_fails_and_is_not_recorded(rt: HostRuntime) -> Result<(), Fail> {
+    let alloc = rt.alloc();
+    let mut backend = Backend::with_plan(alloc, vec![in alloc; 3]?, vec![in alloc; 16, 0]?);
+    let sps = Sps::new(alloc);
+    let picture = PictureData::default();
+    assert!(rt; backend.new_sequence(&sps) == Ok(()));
+    assert!(rt; backend.new_picture(0, &picture, 0) == Ok(0));
+    assert!(rt; backend.submit_picture(0, 0) == Err(BackendError::Failed));
+    assert_eq!(rt; backend.calls().len(), 2);
+    assert!(rt; backend.submit_picture(0, 0) == Ok(0));
+    assert!(rt; backend.submit_picture(1, 1) == Ok(1));
+    assert_eq!(rt; backend.calls().len(), 4);
+    Ok(())
+}
+
+#[test]
+fn frames_are_those_of_the_plan(rt: HostRuntime) -> Result<(), Fail> {
+    let alloc = rt.alloc();
+    let mut backend = Backend::with_plan(alloc, Vec::new(alloc), vec![in alloc; 16, 0]?);
+    assert_eq!(rt; backend.num_free_frames(), 16);
+    assert_eq!(rt; backend.num_free_frames(), 0);
+    assert_eq!(rt; backend.num_free_frames(), 16);
+    assert_eq!(rt; backend.num_free_frames(), 16);
+    assert!(rt; backend.calls().is_empty());
+    Ok(())
+}
+
+#[test]
+fn info_is_that_of_the_sequence(rt: HostRuntime) -> Result<(), Fail> {
+    let alloc = rt.alloc();
+    let mut backend = Backend::with_plan(alloc, vec![in alloc; 1]?, Vec::new(alloc));
+    let sps = Sps::new(alloc);
+    assert!(rt; backend.stream_info().is_none());
+    assert!(rt; backend.new_sequence(&sps) == Err(BackendError::Failed));
+    assert!(rt; backend.stream_info().is_none());
+    assert!(rt; backend.new_sequence(&sps) == Ok(()));
+    let one = Resolution {
+        width: 1,
+        height: 1,
+    };
+    let info = backend.stream_info().ok_or("no info")?;
+    assert!(rt; info.coded_resolution == one && info.display_resolution == one);
+    assert_eq!(rt; info.min_num_frames, sps.max_dpb_size() + 1);
+    Ok(())
+}
+
+#[test]
+fn a_silent_backend_takes_all(rt: HostRuntime) -> Result<(), Fail> {
+    let alloc = rt.alloc();
+    let mut backend = SilentBackend::new();
+    let sps = Sps::new(alloc);
+    let first = first(alloc, UNIT).ok_or("no unit")?;
+    assert!(rt; decode_picture(alloc, &mut backend, &sps, &first) == Ok(Some(())));
+    assert!(rt; backend.num_free_frames() != 0 && backend.stream_info().is_none());
+    Ok(())
+}
+
+/// A device that makes frames, and hands out so many.
+#[derive(Drop)]
+struct Frames {
+    left: u32,
+}
+
+impl Device for Frames {
+    fn make_frames(&mut self, width: u32, height: u32, count: usize) -> bool {
+        width > 0 && height > 0 && count > 0
+    }
+
+    fn take_frame(&mut self, _timestamp: u64) -> Option<u32> {
+        self.left = self.left.checked_sub(1)?;
+        Some(self.left)
+    }
+
+    fn decode(&mut self, frame: u32, slice: &[u8]) -> bool {
+        frame == self.left && slice.len() > 2
+    }
+
+    fn free_frames(&mut self) -> usize {
+        self.left as usize
+    }
+}
+
+#[test]
+fn a_device_runs_out_of_frames(rt: HostRuntime) -> Result<(), Fail> {
+    let alloc = rt.alloc();
+    let mut backend = OverDevice {
+        device: Frames { left: 1 },
+        faults: 0,
+        empty_answers: 0,
+        room: false,
+        info: None,
+    };
+    let sps = Sps::new(alloc);
+    let first = first(alloc, UNIT).ok_or("no unit")?;
+    assert!(rt; decode_picture(alloc, &mut backend, &sps, &first) == Ok(Some(0)));
+    assert!(rt; backend.stream_info().is_some());
+    assert!(rt; decode_picture(alloc, &mut backend, &sps, &first) == Ok(None));
+    assert!(rt; backend.faults == 0 && backend.empty_answers == 1);
+    Ok(())
+}

@@ -1,0 +1,102 @@
+//! A decoder that is driven by hand, over a backend that fails and has no frame by a plan.
+use hevc_backend::Backend;
+use hevc_decoder::{DecodeError, DecoderEvent, StatelessDecoder};
+use std::process::Abort;
+use std::test::Fail;
+
+/// A sequence set: 16 by 16 luma samples.
+const SEQUENCE_SET: &[u8] = &[
+    0x00, 0x00, 0x01, 0x42, 0x01, 0x01, 0x01, 0x60, 0x00, 0x00, 0x03, 0x00, 0x90, 0x00, 0x00, 0x03,
+    0x00, 0x00, 0x03, 0x00, 0x3c, 0xa0, 0x88, 0x45, 0xe5, 0x5a, 0xbc, 0x20, 0x80,
+];
+
+/// A picture set.
+const PICTURE_SET: &[u8] = &[0x00, 0x00, 0x01, 0x44, 0x01, 0xc0, 0x71, 0x80, 0x12];
+
+/// An IDR picture.
+const IDR: &[u8] = &[0x00, 0x00, 0x01, 0x26, 0x01, 0xaf, 0x80];
+
+/// A picture of order count 4.
+const LATER: &[u8] = &[0x00, 0x00, 0x01, 0x02, 0x01, 0xd2, 0x14, 0x97, 0x80];
+
+/// The number of the next picture that came out.
+fn next_number(decoder: &mut StatelessDecoder<Backend>) -> Option<u64> {
+    match decoder.next_event() {
+        Some(DecoderEvent::FrameReady(frame)) => Some(frame.number),
+        _ => None,
+    }
+}
+
+/// Accepts the format, if one is awaited.
+fn accepts(decoder: &mut StatelessDecoder<Backend>) -> bool {
+    let awaited = decoder.awaiting_format();
+    if awaited {
+        decoder.accept_format();
+    }
+    awaited
+}
+
+/// The first sequence set is waited for.
+fn waits_for_a_sequence_set(rt: &impl Abort, decoder: &mut StatelessDecoder<Backend>) {
+    assert!(rt; decoder.decode(0, IDR) == Ok(7));
+    assert!(rt; decoder.stream_info().is_none());
+    assert!(rt; decoder.decode(0, SEQUENCE_SET) == Err(DecodeError::CheckEvents));
+}
+
+/// That its format is accepted, or forgotten by a flush.
+fn waits_for_a_format(rt: &impl Abort, decoder: &mut StatelessDecoder<Backend>) {
+    assert!(rt; decoder.decode(0, SEQUENCE_SET) == Err(DecodeError::CheckEvents));
+    assert!(rt; decoder.decode(0, PICTURE_SET) == Err(DecodeError::CheckEvents));
+    assert!(rt; matches!(decoder.next_event(), Some(DecoderEvent::FormatChanged)));
+    assert!(rt; decoder.stream_info().is_some());
+    assert!(rt; decoder.flush() == Ok(()));
+    assert!(rt; !decoder.awaiting_format());
+}
+
+/// Behind a flush, an IDR picture or a sequence set.
+fn waits_behind_a_flush(rt: &impl Abort, decoder: &mut StatelessDecoder<Backend>) {
+    assert!(rt; decoder.flush() == Ok(()));
+    assert!(rt; decoder.decode(0, LATER) == Ok(9));
+    assert!(rt; decoder.decode(0, SEQUENCE_SET) == Ok(29));
+    assert!(rt; decoder.decode(0, PICTURE_SET) == Ok(9));
+    assert_eq!(rt; decoder.num_pictures(), 0);
+}
+
+/// Nothing: the format is negotiated anew, by the second call of that kind, with a frame.
+fn negotiates_anew(rt: &impl Abort, decoder: &mut StatelessDecoder<Backend>) {
+    assert!(rt; decoder.decode(7, IDR) == Err(DecodeError::Backend));
+    assert!(rt; decoder.decode(7, IDR) == Err(DecodeError::NotEnoughOutputBuffers(1)));
+    assert!(rt; decoder.decode(7, IDR) == Err(DecodeError::CheckEvents));
+    assert!(rt; accepts(decoder));
+    assert!(rt; decoder.decode(7, IDR) == Ok(7));
+    assert_eq!(rt; decoder.num_pictures(), 1);
+}
+
+/// The next pictures that come out have these numbers, and no more do.
+fn come_out(rt: &impl Abort, decoder: &mut StatelessDecoder<Backend>, numbers: &[u64]) {
+    for number in numbers {
+        assert!(rt; next_number(decoder) == Some(*number));
+    }
+    assert!(rt; next_number(decoder).is_none());
+}
+
+#[test]
+fn four_states_by_hand(rt: HostRuntime) -> Result<(), Fail> {
+    let alloc = rt.alloc();
+    let backend = Backend::with_plan(alloc, vec![in alloc; 2]?, vec![in alloc; 16, 0, 16]?);
+    let mut decoder = StatelessDecoder::new(alloc, backend);
+    waits_for_a_sequence_set(&rt, &mut decoder);
+    waits_for_a_format(&rt, &mut decoder);
+    waits_behind_a_flush(&rt, &mut decoder);
+    negotiates_anew(&rt, &mut decoder);
+    come_out(&rt, &mut decoder, &[]);
+    assert!(rt; decoder.flush() == Ok(()));
+    come_out(&rt, &mut decoder, &[0]);
+
+    // And once more behind a flush.
+    assert!(rt; decoder.decode(8, IDR) == Ok(7));
+    assert!(rt; decoder.decode(9, LATER) == Ok(9));
+    assert!(rt; decoder.flush() == Ok(()));
+    come_out(&rt, &mut decoder, &[1, 2]);
+    Ok(())
+}

@@ -1,0 +1,13 @@
+//! Tests of backends and of the decoder, unit by unit and over whole streams, up to the report.
+#![tactic(auto)]
+
+#[cfg(test)]
+mod backend;
+#[cfg(test)]
+mod decoder;
+#[cfg(test)]
+mod driver;
+#[cfg(test)]
+mod report;
+#[cfg(test)]
+mod stateless;

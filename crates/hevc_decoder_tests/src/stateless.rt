@@ -1,0 +1,185 @@
+//! A decoder, unit by unit, with its events.
+use hevc_backend::Backend;
+use hevc_stateless::{DecodeError, DecoderEvent, Options, StatelessDecoder};
+use std::process::Abort;
+use std::test::Fail;
+
+/// A sequence set: 16 by 16 luma samples.
+const SEQUENCE_SET: &[u8] = &[
+    0x00, 0x00, 0x01, 0x42, 0x01, 0x01, 0x01, 0x60, 0x00, 0x00, 0x03, 0x00, 0x90, 0x00, 0x00, 0x03,
+    0x00, 0x00, 0x03, 0x00, 0x3c, 0xa0, 0x88, 0x45, 0xe5, 0x5a, 0xbc, 0x20, 0x80,
+];
+
+/// The same of 32 by 16 luma samples.
+const WIDE_SET: &[u8] = &[
+    0x00, 0x00, 0x01, 0x42, 0x01, 0x01, 0x01, 0x60, 0x00, 0x00, 0x03, 0x00, 0x90, 0x00, 0x00, 0x03,
+    0x00, 0x00, 0x03, 0x00, 0x3c, 0xa0, 0x42, 0x11, 0x79, 0x56, 0xaf, 0x08, 0x20,
+];
+
+/// A picture set.
+const PICTURE_SET: &[u8] = &[0x00, 0x00, 0x01, 0x44, 0x01, 0xc0, 0x71, 0x80, 0x12];
+
+/// An IDR picture.
+const IDR: &[u8] = &[0x00, 0x00, 0x01, 0x26, 0x01, 0xaf, 0x80];
+
+/// A picture of order count 4.
+const LATER: &[u8] = &[0x00, 0x00, 0x01, 0x02, 0x01, 0xd2, 0x14, 0x97, 0x80];
+
+/// The same of temporal sub-layer 1.
+const UPPER: &[u8] = &[0x00, 0x00, 0x01, 0x02, 0x02, 0xd2, 0x14, 0x97, 0x80];
+
+/// An end of sequence.
+const END: &[u8] = &[0x00, 0x00, 0x01, 0x48, 0x01];
+
+/// Accepts a format, if one is awaited.
+fn accept(decoder: &mut StatelessDecoder<Backend>) -> bool {
+    let awaited = decoder.awaiting_format();
+    if awaited {
+        decoder.accept_format();
+    }
+    awaited
+}
+
+/// The number of the next picture that came out.
+fn next_number(decoder: &mut StatelessDecoder<Backend>) -> Option<u64> {
+    match decoder.next_event() {
+        Some(DecoderEvent::FrameReady(frame)) => Some(frame.number),
+        _ => None,
+    }
+}
+
+/// A decoder whose first format is accepted, with a picture set.
+fn begin(decoder: &mut StatelessDecoder<Backend>) -> Result<usize, DecodeError> {
+    if decoder.decode(0, SEQUENCE_SET) != Err(DecodeError::CheckEvents) || !accept(decoder) {
+        return Err(DecodeError::NoNal);
+    }
+    decoder.decode(0, SEQUENCE_SET)?;
+    decoder.decode(0, PICTURE_SET)
+}
+
+/// The decoder takes each of these units whole.
+fn takes(rt: &impl Abort, decoder: &mut StatelessDecoder<Backend>, units: &[&[u8]]) {
+    for unit in units {
+        assert!(rt; unit.len() < 1000);
+        assert!(rt; decoder.decode(0, unit) == Ok(unit.len()));
+    }
+}
+
+/// The next pictures that come out have these numbers.
+fn come_out(rt: &impl Abort, decoder: &mut StatelessDecoder<Backend>, numbers: &[u64]) {
+    for number in numbers {
+        assert!(rt; next_number(decoder) == Some(*number));
+    }
+}
+
+#[test]
+fn the_first_sequence_set_is_negotiated_and_given_again(rt: HostRuntime) -> Result<(), Fail> {
+    let alloc = rt.alloc();
+    let mut decoder = StatelessDecoder::new(alloc, Backend::new(alloc));
+    takes(&rt, &mut decoder, &[IDR]);
+    assert!(rt; decoder.decode(0, SEQUENCE_SET) == Err(DecodeError::CheckEvents));
+    assert!(rt; decoder.decode(0, SEQUENCE_SET) == Err(DecodeError::CheckEvents));
+    assert!(rt; matches!(decoder.next_event(), Some(DecoderEvent::FormatChanged)));
+    assert!(rt; accept(&mut decoder));
+    assert!(rt; !decoder.awaiting_format());
+    takes(&rt, &mut decoder, &[SEQUENCE_SET]);
+    assert_eq!(rt; decoder.backend().calls().len(), 1);
+    Ok(())
+}
+
+#[test]
+fn a_picture_set_waits_for_its_sequence_set(rt: HostRuntime) -> Result<(), Fail> {
+    let alloc = rt.alloc();
+    let mut decoder = StatelessDecoder::new(alloc, Backend::new(alloc));
+    takes(&rt, &mut decoder, &[PICTURE_SET]);
+    assert!(rt; decoder.decode(0, SEQUENCE_SET) == Err(DecodeError::CheckEvents));
+    assert!(rt; accept(&mut decoder));
+    assert!(rt; decoder.decode(0, IDR) == Err(DecodeError::MissingPps(0)));
+    takes(&rt, &mut decoder, &[SEQUENCE_SET]);
+    assert!(rt; decoder.decode(5, IDR) == Ok(7));
+    assert!(rt; decoder.flush() == Ok(()));
+    come_out(&rt, &mut decoder, &[0]);
+    assert!(rt; next_number(&mut decoder).is_none());
+    Ok(())
+}
+
+#[test]
+fn behind_a_flush_an_idr_picture_is_waited_for(rt: HostRuntime) -> Result<(), Fail> {
+    let alloc = rt.alloc();
+    let mut decoder = StatelessDecoder::new(alloc, Backend::new(alloc));
+    assert!(rt; begin(&mut decoder) == Ok(9));
+    takes(&rt, &mut decoder, &[IDR, LATER, END]);
+    assert!(rt; decoder.flush() == Ok(()));
+    let calls = decoder.backend().calls().len();
+    takes(&rt, &mut decoder, &[LATER]);
+    assert_eq!(rt; decoder.backend().calls().len(), calls);
+    takes(&rt, &mut decoder, &[IDR, LATER]);
+    assert!(rt; decoder.flush() == Ok(()));
+    come_out(&rt, &mut decoder, &[0, 1, 2, 3]);
+    Ok(())
+}
+
+#[test]
+fn a_flush_forgets_a_format_that_is_awaited(rt: HostRuntime) -> Result<(), Fail> {
+    let alloc = rt.alloc();
+    let mut decoder = StatelessDecoder::new(alloc, Backend::new(alloc));
+    assert!(rt; decoder.decode(0, SEQUENCE_SET) == Err(DecodeError::CheckEvents));
+    assert!(rt; decoder.flush() == Ok(()));
+    assert!(rt; !decoder.awaiting_format());
+    takes(&rt, &mut decoder, &[PICTURE_SET, SEQUENCE_SET]);
+    assert!(rt; decoder.decode(0, IDR) == Err(DecodeError::CheckEvents));
+    assert!(rt; accept(&mut decoder));
+    takes(&rt, &mut decoder, &[IDR]);
+    Ok(())
+}
+
+#[test]
+fn sub_layers_above_the_wanted_ones_are_passed_over(rt: HostRuntime) -> Result<(), Fail> {
+    let alloc = rt.alloc();
+    let mut options = Options::new();
+    options.highest_tid = 0;
+    let mut decoder = StatelessDecoder::new_with(alloc, Backend::new(alloc), options);
+    assert!(rt; begin(&mut decoder) == Ok(9));
+    takes(&rt, &mut decoder, &[IDR]);
+    let calls = decoder.backend().calls().len();
+    takes(&rt, &mut decoder, &[UPPER]);
+    assert_eq!(rt; decoder.backend().calls().len(), calls);
+    Ok(())
+}
+
+#[test]
+fn a_refusal_leaves_the_decoder_where_it_stood(rt: HostRuntime) -> Result<(), Fail> {
+    let alloc = rt.alloc();
+    let backend = Backend::with_plan(alloc, vec![in alloc; 1]?, vec![in alloc; 16, 0]?);
+    let mut decoder = StatelessDecoder::new(alloc, backend);
+    assert!(rt; decoder.decode(0, &[]) == Err(DecodeError::NoNal));
+    assert!(rt; decoder.decode(0, &[0, 0, 1, 0x26]) == Err(DecodeError::TruncatedNalu));
+    let unspecified = Err(DecodeError::InvalidNaluType(48));
+    assert!(rt; decoder.decode(0, &[0, 0, 1, 0x60, 1]) == unspecified);
+    assert!(rt; decoder.decode(0, SEQUENCE_SET) == Err(DecodeError::Backend));
+    assert!(rt; begin(&mut decoder) == Ok(9));
+    takes(&rt, &mut decoder, &[IDR]);
+    let full = Err(DecodeError::NotEnoughOutputBuffers(1));
+    assert!(rt; decoder.decode(0, LATER) == full);
+    takes(&rt, &mut decoder, &[LATER]);
+    assert!(rt; decoder.flush() == Ok(()));
+    come_out(&rt, &mut decoder, &[0, 1]);
+    Ok(())
+}
+
+#[test]
+fn another_format_is_negotiated_behind_what_waits(rt: HostRuntime) -> Result<(), Fail> {
+    let alloc = rt.alloc();
+    let mut decoder = StatelessDecoder::new(alloc, Backend::new(alloc));
+    assert!(rt; begin(&mut decoder) == Ok(9));
+    takes(&rt, &mut decoder, &[IDR, WIDE_SET]);
+    assert!(rt; next_number(&mut decoder).is_none());
+    assert!(rt; decoder.decode(0, IDR) == Err(DecodeError::CheckEvents));
+    come_out(&rt, &mut decoder, &[0]);
+    assert!(rt; matches!(decoder.next_event(), Some(DecoderEvent::FormatChanged)));
+    assert!(rt; accept(&mut decoder));
+    let calls = decoder.backend().calls().len();
+    takes(&rt, &mut decoder, &[IDR]);
+    assert_eq!(rt; decoder.backend().calls().len(), calls + 3);
+    Ok(())
+}

@@ -1,0 +1,105 @@
+//! Small buffers, each call once.
+use hevc_dpb::{Dpb, Limits, PictureData, Reference};
+use std::test::Fail;
+
+fn picture(count: i32, output: bool) -> PictureData {
+    let mut picture = PictureData::default();
+    picture.pic_order_cnt_val = count;
+    picture.pic_output_flag = output;
+    picture
+}
+
+#[test]
+fn waiting_pictures_are_in_order(rt: HostRuntime) -> Result<(), Fail> {
+    let alloc = rt.alloc();
+    let mut dpb: Dpb<u64> = Dpb::new(alloc);
+    assert!(rt; dpb.bump(true).is_none());
+    assert!(rt; dpb.store_picture(7, picture(4, true), 70).is_err());
+    assert!(rt; dpb.is_empty());
+    dpb.reserve()?;
+    dpb.set_max_num_pics(3);
+    assert!(rt; dpb.store_picture(7, picture(4, true), 70).is_ok());
+    assert!(rt; dpb.store_picture(8, picture(0, true), 80).is_ok());
+    assert!(rt; dpb.store_picture(9, picture(2, true), 90).is_ok());
+    assert!(rt; dpb.waiting_positions().ok_or("stale")? == [1, 2, 0].as_slice());
+    assert_eq!(rt; dpb.len(), dpb.max_num_pics());
+    dpb.picture_mut(0).pic_order_cnt_val = 1;
+    assert!(rt; dpb.waiting_positions().is_none());
+    assert_eq!(rt; dpb.bump(false).ok_or("none")?.number, 8);
+    assert!(rt; dpb.waiting_positions().ok_or("stale")? == [0, 2].as_slice());
+    assert_eq!(rt; dpb.bump(false).ok_or("none")?.handle, 70);
+    assert_eq!(rt; dpb.bump(false).ok_or("none")?.number, 9);
+    assert!(rt; dpb.bump(false).is_none());
+    assert!(rt; dpb.waiting_positions().ok_or("stale")?.is_empty());
+    assert_eq!(rt; dpb.len(), 3);
+    Ok(())
+}
+
+#[test]
+fn a_late_picture_is_bumped(rt: HostRuntime) -> Result<(), Fail> {
+    let alloc = rt.alloc();
+    let mut dpb: Dpb<u64> = Dpb::new(alloc);
+    dpb.reserve()?;
+    dpb.set_max_num_pics(3);
+    let limits = Limits {
+        reorder: 2,
+        latency_plus1: 1,
+        buffering: 4,
+    };
+    assert!(rt; dpb.store_picture(0, picture(0, true), 0).is_ok());
+    assert!(rt; dpb.store_picture(1, picture(1, false), 0).is_ok());
+    assert!(rt; !dpb.needs_additional_bumping(&limits));
+    assert!(rt; dpb.store_picture(2, picture(2, false), 0).is_ok());
+    assert!(rt; dpb.needs_additional_bumping(&limits));
+    assert!(rt; dpb.needs_bumping(&limits));
+    let first = dpb.pictures().next().ok_or("none")?;
+    assert_eq!(rt; first.pic_latency_cnt, 2);
+    Ok(())
+}
+
+#[test]
+fn equal_counts_are_drained_in_stored_order(rt: HostRuntime) -> Result<(), Fail> {
+    let alloc = rt.alloc();
+    let mut dpb: Dpb<u64> = Dpb::new(alloc);
+    dpb.reserve()?;
+    dpb.set_max_num_pics(4);
+    assert!(rt; dpb.store_picture(7, picture(4, true), 0).is_ok());
+    assert!(rt; dpb.store_picture(8, picture(0, true), 0).is_ok());
+    assert!(rt; dpb.store_picture(9, picture(0, true), 0).is_ok());
+    assert!(rt; dpb.store_picture(10, picture(1, false), 0).is_ok());
+    let mut out = Vec::new(alloc);
+    dpb.drain(&mut out)?;
+    assert_eq!(rt; out.len(), 3);
+    assert_eq!(rt; out[0].number, 8);
+    assert_eq!(rt; out[1].number, 9);
+    assert_eq!(rt; out[2].number, 7);
+    assert_eq!(rt; dpb.len(), 1);
+    dpb.clear();
+    assert!(rt; dpb.is_empty());
+    Ok(())
+}
+
+#[test]
+fn marked_pictures_are_found(rt: HostRuntime) -> Result<(), Fail> {
+    let alloc = rt.alloc();
+    let mut dpb: Dpb<u64> = Dpb::new(alloc);
+    dpb.reserve()?;
+    dpb.set_max_num_pics(3);
+    assert!(rt; dpb.store_picture(1, picture(-3, false), 0).is_ok());
+    assert!(rt; dpb.store_picture(2, picture(29, false), 0).is_ok());
+    assert!(rt; dpb.store_picture(3, picture(-3, false), 0).is_ok());
+    dpb.set_reference_at(0, Reference::LongTerm);
+    assert!(rt; dpb.find_ref_by_poc(-3) == Some(1));
+    assert!(rt; dpb.find_short_term_ref_by_poc(-3) == Some(3));
+    assert!(rt; dpb.find_ref_by_poc_masked(13, 15) == Some(1));
+    dpb.set_reference_at(0, Reference::None);
+    assert!(rt; dpb.find_ref_by_poc_masked(13, 15) == Some(2));
+    assert!(rt; dpb.find_ref_by_poc(13).is_none());
+    assert!(rt; dpb.get_all_references().as_slice() == [2, 3].as_slice());
+    dpb.remove_unused();
+    assert_eq!(rt; dpb.entries()[0].number, 2);
+    dpb.mark_all_as_unused_for_ref();
+    dpb.remove_unused();
+    assert!(rt; dpb.is_empty());
+    Ok(())
+}

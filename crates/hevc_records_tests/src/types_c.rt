@@ -1,0 +1,122 @@
+//! Values from outside, and each call once.
+use hevc_types_a::{Items, Level, ProfileTierLevel, ScalingLists, ShortTermRefPicSet};
+use hevc_types_b::VuiParams;
+use hevc_types_c::{Point, Rect, Sps, SpsRangeExtension, SpsSccExtension, comparisons};
+use std::alloc::{AllocError, Global};
+use std::test::Fail;
+
+/// A set of 320 by 180 samples, coded as 320 by 184, of the Main profile at level 2.
+#[tactic(auto, unfolding(hevc_records::specs::SpsSizes::leaves_some))]
+fn small_set(alloc: Global) -> Sps {
+    let mut set = Sps::new(alloc);
+    set.chroma_format_idc = 1;
+    set.chroma_array_type = 1;
+    set.pic_width_in_luma_samples = 320;
+    set.pic_height_in_luma_samples = 184;
+    set.conformance_window_flag = true;
+    set.conf_win_bottom_offset = 2;
+    set.log2_diff_max_min_luma_coding_block_size = 3;
+    set.ctb_log2_size_y = 6;
+    set.ctb_size_y = 64;
+    set.pic_width_in_ctbs_y = 5;
+    set.pic_height_in_ctbs_y = 3;
+    set.pic_size_in_ctbs_y = 15;
+    set.pic_size_in_samples_y = 58_880;
+    set.profile_tier_level.general_level_idc = Level::L2;
+    set.profile_tier_level.general_profile_idc = 1;
+    set
+}
+
+/// A set of 10 bits of luma, whose offsets of weighted prediction have the precision of samples.
+fn precise_set(alloc: Global) -> Sps {
+    let mut set = Sps::new(alloc);
+    set.range_extension.high_precision_offsets_enabled_flag = true;
+    set.bit_depth_luma_minus8 = 2;
+    set.wp_offset_half_range_y = 512;
+    set
+}
+
+/// A set with one short-term reference picture set, the empty one.
+fn referring_set(alloc: Global) -> Result<Sps, AllocError> {
+    let mut sets = Items::new(alloc);
+    sets.push(ShortTermRefPicSet::new())?;
+    let mut set = Sps::new(alloc);
+    set.short_term_ref_pic_set = sets;
+    set.num_short_term_ref_pic_sets = 1;
+    Ok(set)
+}
+
+#[test]
+fn the_size_of_a_small_set(rt: HostRuntime) {
+    let set = small_set(rt.alloc());
+    assert_eq!(rt; set.max_dpb_size(), 12);
+    assert_eq!(rt; set.width(), 320);
+    assert_eq!(rt; set.height(), 184);
+    let shown = Rect {
+        min: Point { x: 0, y: 0 },
+        max: Point { x: 320, y: 180 },
+    };
+    assert!(rt; set.visible_rectangle() == shown);
+    assert!(rt; comparisons::rect_eq(&set.visible_rectangle(), &shown));
+    assert!(rt; comparisons::point_eq(&shown.min, &Point { x: 0, y: 0 }));
+    assert!(rt; shown.min != shown.max);
+}
+
+#[test]
+fn a_new_set_and_its_clone(rt: HostRuntime) -> Result<(), Fail> {
+    let set = Sps::new(rt.alloc());
+    let copy = set.try_clone()?;
+    assert!(rt; copy == set);
+    assert!(rt; comparisons::sps_eq(&copy, &set));
+    assert_eq!(rt; set.max_dpb_size(), 16);
+    Ok(())
+}
+
+#[test]
+fn a_clone_has_its_short_term_sets(rt: HostRuntime) -> Result<(), Fail> {
+    let set = referring_set(rt.alloc())?;
+    let copy = set.try_clone()?;
+    assert!(rt; copy == set);
+    assert_eq!(rt; copy.short_term_ref_pic_set().len(), 1);
+    assert!(rt; copy != Sps::new(rt.alloc()));
+    Ok(())
+}
+
+#[test]
+fn the_parts_of_a_new_set(rt: HostRuntime) {
+    let set = Sps::new(rt.alloc());
+    assert!(rt; *set.profile_tier_level() == ProfileTierLevel::new());
+    assert!(rt; *set.scaling_list() == ScalingLists::new());
+    assert!(rt; set.short_term_ref_pic_set().is_empty());
+    assert_eq!(rt; set.lt_ref_pic_poc_lsb_sps(), [0; 32].as_slice());
+    assert_eq!(rt; set.used_by_curr_pic_lt_sps_flag(), [false; 32].as_slice());
+    assert!(rt; *set.vui_parameters() == VuiParams::new());
+    assert!(rt; *set.range_extension() == SpsRangeExtension::new());
+    assert!(rt; *set.scc_extension() == SpsSccExtension::new());
+    assert!(rt; set.max_dec_pic_buffering_minus1() == [0; 7]);
+    assert!(rt; set.max_num_reorder_pics() == [0; 7]);
+    assert!(rt; set.max_latency_increase_plus1() == [0; 7]);
+}
+
+#[test]
+fn offsets_of_high_precision(rt: HostRuntime) {
+    let set = precise_set(rt.alloc());
+    assert_eq!(rt; Sps::new(rt.alloc()).wp_offset_half_range_y(), 128);
+    assert_eq!(rt; set.wp_offset_half_range_y(), 512);
+    assert_eq!(rt; set.wp_offset_half_range_c(), 128);
+    assert!(rt; set.range_extension().high_precision_offsets_enabled_flag());
+    let none = SpsRangeExtension::new();
+    assert!(rt; !comparisons::sps_range_extension_eq(set.range_extension(), &none));
+}
+
+#[test]
+fn palettes_begin_at_0(rt: HostRuntime) {
+    let mut extension = SpsSccExtension::new();
+    assert!(rt; comparisons::sps_scc_extension_eq(&extension, &SpsSccExtension::new()));
+    extension.palette_max_size = 64;
+    extension.delta_palette_max_predictor_size = 64;
+    extension.palette_predictor_initializer[2][127] = 99;
+    assert_eq!(rt; extension.palette_max_size(), 64);
+    assert_eq!(rt; extension.palette_predictor_initializer()[2][127], 99);
+    assert!(rt; extension != SpsSccExtension::new());
+}

@@ -1,0 +1,11 @@
+//! The program as a library: decodes an H.265 byte stream from a source, and writes the calls that a backend is asked for
+//! and the pictures that come out to a sink.
+#![tactic(auto)]
+
+mod command;
+mod history;
+mod made;
+mod program;
+mod report;
+
+pub use program::{INPUT_LIMIT, run};

@@ -1,0 +1,76 @@
+//! A made stream, decoded, and one line of it.
+ghost use Rattle.std.specs.Prelude.{◌≡◌, ◌≤◌, ◌<◌, length, IfOk, is_ok};
+ghost use Rattle.std.specs.Io.KnownBytes.{Appends};
+ghost use Rattle.std.specs.String.{string_bytes};
+ghost use Rattle.hevc_faults.specs.Faults.{Rose};
+ghost use Rattle.hevc_made.specs.Made.{made};
+ghost use Rattle.hevc_stream.specs.Options.{default_options};
+ghost use Rattle.hevc_io.specs.Prefix.{AppendsPrefix, AppendsLess};
+ghost use Rattle.hevc_report.specs.Report.{ending_of};
+ghost use Rattle.hevc_report.specs.Status.{IsMade, status_of};
+ghost use Rattle.hevc_report.specs.Summary.{summary_of};
+
+use crate::program::{INPUT_LIMIT, Report, wants_memory};
+use crate::report::summary_text;
+use hevc_backend::Backend;
+use hevc_decoder::{Options, decode_stream_with};
+use hevc_io::{Sink, SinkError, write_all};
+use hevc_made::make_stream;
+use std::alloc::{AllocError, Global};
+
+/// Makes a stream of so many pictures, decodes it over a backend that records its calls, and writes one line.
+/// Answers the status of the program.
+pub(crate) fn run_made<K: Sink>(alloc: Global, pictures: u32, sink: &mut K) -> u8
+    requires { (1 ≤ pictures) × (pictures ≤ 100000) }
+    ensures statuses { IsMade result }
+    ensures whole { result ≤ 1
+        → Appends (K.written sink.old) (K.written sink.new) (summary_of (made pictures))
+        × (result ≡ status_of (ending_of default_options (made pictures))) }
+    ensures part { AppendsPrefix (K.written sink.old) (K.written sink.new)
+        (summary_of (made pictures)) }
+    ensures less { 1 < result
+        → AppendsLess (K.written sink.old) (K.written sink.new) (summary_of (made pictures)) }
+    ensures write { result ≡ 4 → Rose (K.faults sink.old) (K.faults sink.new) }
+{
+    let Ok(report) = summary_on(alloc, pictures) else {
+        return 5;
+    };
+    match write_all(sink, report.text.as_bytes()) {
+        Ok(()) if report.is_decoded => 0,
+        Ok(()) => 1,
+        Err(SinkError::Failed) => 4,
+        Err(SinkError::NoMemory) => 5,
+    }
+}
+
+/// The line of a stream of so many pictures.
+fn summary_on(alloc: Global, pictures: u32) -> Result<Report, AllocError>
+    requires { (1 ≤ pictures) × (pictures ≤ 100000) }
+    ensures text { IfOk result (λ report.
+        string_bytes report.text ≡ summary_of (made pictures)) }
+    ensures decoded { IfOk result (λ report.
+        report.is_decoded ≡ is_ok (ending_of default_options (made pictures))) }
+{
+    let stream = make_stream(alloc, pictures)?;
+    decoded_line(alloc, &stream)
+}
+
+/// The line of a stream.
+fn decoded_line(alloc: Global, stream: &[u8]) -> Result<Report, AllocError>
+    requires { length stream.now ≤ INPUT_LIMIT }
+    ensures text { IfOk result (λ report. string_bytes report.text ≡ summary_of stream.now) }
+    ensures decoded { IfOk result (λ report.
+        report.is_decoded ≡ is_ok (ending_of default_options stream.now)) }
+{
+    let mut shown = Vec::new(alloc);
+    let backend = Backend::new(alloc);
+    let decoded = decode_stream_with(alloc, backend, Options::new(), stream, &mut shown);
+    if wants_memory(decoded.result) {
+        return Err(AllocError);
+    }
+    let text = summary_text(alloc, &shown, decoded.result)?;
+    Ok(Report {
+        text,
+        is_decoded: decoded.result.is_ok(),
+    })
+}

@@ -1,0 +1,212 @@
+//! The top call: from the words of the command line to the status.
+ghost use Rattle.std.specs.Prelude.{◌≡◌, ◌≤◌, ◌<◌, ◌⊎◌, ◌↔◌, ℕ, List, length, IfOk, IfSome, IsErrOf, IsTrue, OnErr, OnOk, is_ok, true};
+ghost use Rattle.std.specs.declared.option.Option.TheVariants.{None, Some};
+ghost use Rattle.std.specs.String.{string_bytes};
+ghost use Rattle.std.specs.Io.KnownBytes.{Appends, IsAtEnd};
+ghost use Rattle.hevc_faults.specs.Faults.{Rose};
+ghost use Rattle.hevc_walk.specs.Clean.{IsClean};
+ghost use Rattle.hevc_walk.specs.Results.{outputs};
+ghost use Rattle.hevc_walk_order.specs.DisplayOrder.{ComeInOrder, ComeInTurn};
+ghost use Rattle.hevc_stream.specs.Stream.{meanings};
+ghost use Rattle.hevc_options.specs.Options.{options_of};
+ghost use Rattle.hevc_decoder.specs.Sources.{OfSource};
+ghost use Rattle.hevc_made.specs.Made.{made};
+ghost use Rattle.hevc_stream.specs.Options.{default_options};
+ghost use Rattle.hevc_report.specs.Command.{command, pictures_to_make};
+ghost use Rattle.hevc_io.specs.Prefix.{AppendsPrefix, AppendsLess};
+ghost use Rattle.hevc_report.specs.Report.{ending_of, report_of};
+ghost use Rattle.hevc_report.specs.Status.{status_of, IsDone, IsMade, WantsMemory};
+ghost use Rattle.hevc_report.specs.Summary.{summary_of};
+
+use crate::command::{read_command, read_make};
+use crate::made::run_made;
+use crate::report::{ReportBackend, push_rest};
+use hevc_decoder::{DecodeError, Decoded, Options, Refused, decode_source_with};
+use hevc_io::{Sink, Source, Stop, Word, write_all};
+use std::alloc::Global;
+
+/// The longest input that is taken, in bytes.
+pub const INPUT_LIMIT: usize = 268_435_456;
+
+/// A report, and whether the stream was decoded.
+#[derive(Drop)]
+pub(crate) struct Report {
+    pub(crate) text: String,
+    pub(crate) is_decoded: bool,
+}
+
+/// Decodes the source's stream as it comes, over a backend that reports its calls, and writes the report. `words`
+/// are those of the command line behind the program's name; they are a command, which tells the options
+/// that the stream is decoded with, or are refused. By `make N` a made stream of N pictures, from 1 to 100000,
+/// takes the place of the source's, and one line that of the report. Answers the status of the program:
+///
+/// | status | where |
+/// |---|---|
+/// | 0 | the report is written, and the stream was decoded to its end |
+/// | 1 | the report is written, and its last line tells why the stream was refused |
+/// | 2 | the words are no command; nothing is read or written |
+/// | 3 | the source failed; nothing is written |
+/// | 4 | the sink failed |
+/// | 5 | there was no memory |
+/// | 6 | the stream has more than 268,435,456 bytes; nothing is written |
+pub fn run<S: Source, K: Sink>(alloc: Global, words: &[Word], source: &mut S, sink: &mut K) -> u8
+    ensures statuses { result ≤ 6 }
+
+    // On 0 and 1 all was read, the report on it was written, and the status tells whether it was decoded.
+    ensures whole { IfSome (command words.now) (λ options. result ≤ 1
+        → IsAtEnd (S.left source.new) × IfSome (S.left source.old) (λ s.
+        Appends (K.written sink.old) (K.written sink.new) (report_of options s)
+        × (result ≡ status_of (ending_of options s)))) }
+    // On 0 sequence by sequence came out, and each that keeps the order that it declares in display order.
+    ensures in_turn { IfSome (command words.now) (λ options. result ≡ 0
+        → IfSome (S.left source.old) (λ s.
+        ComeInTurn (meanings options s) (outputs (meanings options s)))) }
+    ensures display_order { IfSome (command words.now) (λ options. result ≡ 0
+        → IfSome (S.left source.old) (λ s.
+        ComeInOrder (meanings options s) (outputs (meanings options s)))) }
+    // That is so for no longer input than may be.
+    ensures limit { IfSome (command words.now) (λ options. result ≤ 1
+        → IfSome (S.left source.old) (λ s. length s ≤ INPUT_LIMIT)) }
+    // Whatever the status, what was written is a front of that report; on any but 0 and 1 not the whole.
+    ensures part { IfSome (command words.now) (λ options. IfSome (S.left source.old) (λ s.
+        AppendsPrefix (K.written sink.old) (K.written sink.new) (report_of options s))) }
+    ensures less { IfSome (command words.now) (λ options. 1 < result
+        → IfSome (S.left source.old) (λ s.
+        AppendsLess (K.written sink.old) (K.written sink.new) (report_of options s))) }
+
+    // 2 exactly where the words are no command, and then nothing is read or written.
+    ensures no_command { (result ≡ 2)
+        ↔ (command words.now ≡ None) × (pictures_to_make words.now ≡ None) }
+    ensures untouched { result ≡ 2 → (source.new ≡ source.old) × (sink.new ≡ sink.old) }
+
+    ensures read { result ≡ 3
+        → Rose (S.faults source.old) (S.faults source.new) × (sink.new ≡ sink.old) }
+    ensures write { result ≡ 4 → Rose (K.faults sink.old) (K.faults sink.new) }
+    ensures long { result ≡ 6
+        → (sink.new ≡ sink.old) × IfSome (S.left source.old) (λ s. INPUT_LIMIT < length s) }
+
+    // A command, ends that don't fail, and an input within the limit.
+    ensures completes { IfSome (command words.now) (λ options.
+        (s : List ℕ) → S.left source.old ≡ Some s → length s ≤ INPUT_LIMIT
+        → ¬ (Rose (S.faults source.old) (S.faults source.new))
+        → ¬ (Rose (K.faults sink.old) (K.faults sink.new)) → IsDone result) }
+    // Of a clean stream, then, nothing but memory is wanted.
+    ensures clean { IfSome (command words.now) (λ options.
+        (s : List ℕ) → S.left source.old ≡ Some s → length s ≤ INPUT_LIMIT
+        → IsClean (meanings options s)
+        → ¬ (Rose (S.faults source.old) (S.faults source.new))
+        → ¬ (Rose (K.faults sink.old) (K.faults sink.new)) → (result ≡ 0) ⊎ (result ≡ 5)) }
+
+    // For `make N` the source isn't read, and the status is 0, 1, 4 or 5.
+    ensures make_statuses { IfSome (pictures_to_make words.now) (λ _.
+        (source.new ≡ source.old) × IsMade result) }
+    // On 0 and 1 the line of the made stream was written, and the status tells whether it was decoded.
+    ensures make_whole { IfSome (pictures_to_make words.now) (λ n. result ≤ 1
+        → Appends (K.written sink.old) (K.written sink.new) (summary_of (made n))
+        × (result ≡ status_of (ending_of default_options (made n)))) }
+    // Whatever the status, a front of that line was written; on any but 0 and 1 not the whole.
+    ensures make_part { IfSome (pictures_to_make words.now) (λ n.
+        AppendsPrefix (K.written sink.old) (K.written sink.new) (summary_of (made n))) }
+    ensures make_less { IfSome (pictures_to_make words.now) (λ n. 1 < result
+        → AppendsLess (K.written sink.old) (K.written sink.new) (summary_of (made n))) }
+{
+    if let Some(pictures) = read_make(words) {
+        return run_made(alloc, pictures, sink);
+    }
+    let Some(options) = read_command(words) else {
+        return 2;
+    };
+    match write_report(alloc, options, source, sink) {
+        Ok(true) => 0,
+        Ok(false) => 1,
+        Err(stop) => stop.status(),
+    }
+}
+
+/// Reads the input, and writes the report on it. Answers whether the stream was decoded.
+fn write_report<S: Source, K: Sink>(
+    alloc: Global,
+    options: Options,
+    source: &mut S,
+    sink: &mut K,
+) -> Result<bool, Stop>
+    ensures whole { IfOk result
+        (λ is_decoded. IsAtEnd (S.left source.new) × IfSome (S.left source.old) (λ s.
+        Appends (K.written sink.old) (K.written sink.new) (report_of (options_of options) s)
+        × (is_decoded ≡ is_ok (ending_of (options_of options) s)))) }
+    ensures limit { IfOk result (λ _. IfSome (S.left source.old) (λ s. length s ≤ INPUT_LIMIT)) }
+    ensures part { IfSome (S.left source.old) (λ s.
+        AppendsPrefix (K.written sink.old) (K.written sink.new)
+        (report_of (options_of options) s)) }
+    ensures less { OnErr result (IfSome (S.left source.old) (λ s.
+        AppendsLess (K.written sink.old) (K.written sink.new)
+        (report_of (options_of options) s))) }
+    ensures clean { IfOk result (λ is_decoded. IfSome (S.left source.old) (λ s.
+        IsClean (meanings (options_of options) s) → is_decoded ≡ true)) }
+    ensures in_turn { IfOk result (λ is_decoded. IfSome (S.left source.old) (λ s.
+        is_decoded ≡ true → ComeInTurn (meanings (options_of options) s)
+        (outputs (meanings (options_of options) s)))) }
+    ensures display_order { IfOk result (λ is_decoded. IfSome (S.left source.old) (λ s.
+        is_decoded ≡ true → ComeInOrder (meanings (options_of options) s)
+        (outputs (meanings (options_of options) s)))) }
+    ensures read { IsErrOf result Stop.Read
+        → Rose (S.faults source.old) (S.faults source.new) × (sink.new ≡ sink.old) }
+    ensures write { IsErrOf result Stop.Write → Rose (K.faults sink.old) (K.faults sink.new) }
+    ensures long { IsErrOf result Stop.TooLong
+        → (sink.new ≡ sink.old) × IfSome (S.left source.old) (λ s. INPUT_LIMIT < length s) }
+{
+    let report = report_on(alloc, options, source)?;
+    write_all(sink, report.text.as_bytes())?;
+    Ok(report.is_decoded)
+}
+
+/// The report on the stream that a source has left.
+fn report_on<S: Source>(alloc: Global, options: Options, source: &mut S) -> Result<Report, Stop>
+    ensures end { OnOk result (IsAtEnd (S.left source.new)) }
+    ensures text { OfSource result (S.left source.old) (λ report s.
+        string_bytes report.text ≡ report_of (options_of options) s) }
+    ensures decoded { OfSource result (S.left source.old) (λ report s.
+        report.is_decoded ≡ is_ok (ending_of (options_of options) s)) }
+    ensures limit { OfSource result (S.left source.old) (λ _ s. length s ≤ INPUT_LIMIT) }
+    ensures clean { OfSource result (S.left source.old) (λ report s.
+        IsClean (meanings (options_of options) s) → report.is_decoded ≡ true) }
+    ensures in_turn { OfSource result (S.left source.old) (λ report s.
+        report.is_decoded ≡ true → ComeInTurn (meanings (options_of options) s)
+        (outputs (meanings (options_of options) s))) }
+    ensures display_order { OfSource result (S.left source.old) (λ report s.
+        report.is_decoded ≡ true → ComeInOrder (meanings (options_of options) s)
+        (outputs (meanings (options_of options) s))) }
+    ensures read { IsErrOf result Stop.Read → Rose (S.faults source.old) (S.faults source.new) }
+    ensures long { IsErrOf result Stop.TooLong
+        → IfSome (S.left source.old) (λ s. INPUT_LIMIT < length s) }
+    ensures writes_nothing { IsErrOf result Stop.Write → ⊥ }
+{
+    let mut shown = Vec::new(alloc);
+    let backend = ReportBackend::new(alloc);
+    let decoded = decode_source_with(alloc, backend, options, source, INPUT_LIMIT, &mut shown)?;
+    let Decoded { backend, result } = decoded;
+    if wants_memory(result) {
+        return Err(Stop::NoMemory);
+    }
+    let mut text = backend.into_text();
+    push_rest(&mut text, &shown, result)?;
+    Ok(Report {
+        text,
+        is_decoded: result.is_ok(),
+    })
+}
+
+/// Whether the decoding ended for want of memory.
+pub(crate) fn wants_memory(answer: Result<u64, Refused>) -> bool
+    ensures { IsTrue result ↔ WantsMemory answer }
+{
+    match answer {
+        Err(
+            Refused {
+                error: DecodeError::NoMemory,
+                ..
+            },
+        ) => true,
+        _ => false,
+    }
+}

@@ -1,0 +1,185 @@
+//! Sets in any order.
+use crate::streams::{PICTURE_SET, SEQUENCE_SET, VIDEO_SET};
+use hevc_bits::{Nalu, NaluHeader, NaluType};
+use hevc_kept_sets::{KeptSets, Options};
+use std::process::Abort;
+use std::test::Fail;
+
+/// Another sequence set of that id, with samples of 10 bits.
+const DEEP_SET: &[u8] = &[
+    0x00, 0x00, 0x01, 0x42, 0x01, 0x01, 0x01, 0x60, 0x00, 0x00, 0x03, 0x00, 0x90, 0x00, 0x00, 0x03,
+    0x00, 0x00, 0x03, 0x00, 0x3c, 0xa0, 0x88, 0x44, 0xde, 0x55, 0xab, 0xc2, 0x08,
+];
+
+/// The same one of id 1.
+const OTHER_DEEP_SET: &[u8] = &[
+    0x00, 0x00, 0x01, 0x42, 0x01, 0x01, 0x01, 0x60, 0x00, 0x00, 0x03, 0x00, 0x90, 0x00, 0x00, 0x03,
+    0x00, 0x00, 0x03, 0x00, 0x3c, 0x48, 0x22, 0x11, 0x37, 0x95, 0x6a, 0xf0, 0x82,
+];
+
+/// Another picture set of that id, with dependent slice segments.
+const LATER_SET: &[u8] = &[0x00, 0x00, 0x01, 0x44, 0x01, 0xe0, 0x71, 0x80, 0x12];
+
+/// The later set where it names the sequence set of id 1.
+const OTHER_PICTURE_SET: &[u8] = &[0x00, 0x00, 0x01, 0x44, 0x01, 0xa8, 0x1c, 0x60, 0x04, 0x80];
+
+/// Another one of that id, whose quantiser of -30 wants more than 8 bits.
+const DEEP_PICTURE_SET: &[u8] = &[
+    0x00, 0x00, 0x01, 0x44, 0x01, 0xc0, 0x60, 0xf4, 0x60, 0x04, 0x80,
+];
+
+/// A picture set whose payload ends behind its ids.
+const BROKEN_SET: &[u8] = &[0x00, 0x00, 0x01, 0x44, 0x01, 0xc0];
+
+/// Takes the first unit of each of these streams.
+fn take(sets: &mut KeptSets, streams: &[&[u8]]) -> Result<(), &'static str> {
+    for stream in streams {
+        take_one(sets, stream)?;
+    }
+    Ok(())
+}
+
+/// Takes the first unit of a short stream.
+fn take_one(sets: &mut KeptSets, stream: &[u8]) -> Result<(), &'static str> {
+    if stream.len() >= 1000 {
+        return Err("a long stream");
+    }
+    let mut position = 0;
+    let Ok(unit) = Nalu::<NaluHeader>::next(stream, &mut position) else {
+        return Err("no unit");
+    };
+    if unit.header().temporal_id_plus1() - 1 > sets.options().highest_tid {
+        return Ok(());
+    }
+    match unit.header().nalu_type() {
+        NaluType::VpsNut => sets.take_video_set(&unit).or(Err("no video set"))?,
+        NaluType::SpsNut => {
+            sets.keep_sequence_set(&unit).or(Err("no sequence set"))?;
+            sets.read_waiting().or(Err("no memory"))?;
+        }
+        NaluType::PpsNut => sets.take_picture_set(&unit).or(Err("no memory"))?,
+        _ => {}
+    }
+    Ok(())
+}
+
+/// Whether the picture set of id 0 has dependent slice segments, if it is kept.
+fn picture_set_kept(sets: &KeptSets) -> Option<bool> {
+    let set = sets.parser().get_pps(0)?;
+    Some(set.dependent_slice_segments_enabled_flag)
+}
+
+/// So many picture sets wait, and that of id 0 has dependent slice segments or hasn't, if it is kept.
+fn stand(rt: &impl Abort, sets: &KeptSets, waiting: usize, kept: Option<bool>) {
+    assert_eq!(rt; sets.num_waiting(), waiting);
+    assert_eq!(rt; picture_set_kept(sets), kept);
+}
+
+#[test]
+fn a_picture_set_waits_for_its_sequence_set(rt: HostRuntime) -> Result<(), Fail> {
+    let mut sets = KeptSets::new(rt.alloc(), Options::new());
+    take(&mut sets, &[VIDEO_SET, PICTURE_SET])?;
+    stand(&rt, &sets, 1, None);
+    take(&mut sets, &[SEQUENCE_SET])?;
+    stand(&rt, &sets, 0, Some(false));
+    assert!(rt; sets.parser().get_vps(0).is_some());
+    Ok(())
+}
+
+#[test]
+fn the_later_waiting_set_of_an_id_stands(rt: HostRuntime) -> Result<(), Fail> {
+    let mut sets = KeptSets::new(rt.alloc(), Options::new());
+    take(&mut sets, &[PICTURE_SET, LATER_SET])?;
+    assert_eq!(rt; sets.num_waiting(), 2);
+    take(&mut sets, &[SEQUENCE_SET])?;
+    stand(&rt, &sets, 0, Some(true));
+    take(&mut sets, &[PICTURE_SET])?;
+    stand(&rt, &sets, 0, Some(false));
+    Ok(())
+}
+
+#[test]
+fn a_broken_set_waits_on(rt: HostRuntime) -> Result<(), Fail> {
+    let mut sets = KeptSets::new(rt.alloc(), Options::new());
+    take(&mut sets, &[BROKEN_SET, PICTURE_SET, SEQUENCE_SET])?;
+    stand(&rt, &sets, 1, Some(false));
+    take(&mut sets, &[SEQUENCE_SET])?;
+    stand(&rt, &sets, 1, Some(false));
+    Ok(())
+}
+
+#[test]
+fn a_set_waits_on_where_its_sequence_set_is_repeated(rt: HostRuntime) -> Result<(), Fail> {
+    let mut sets = KeptSets::new(rt.alloc(), Options::new());
+    take(&mut sets, &[SEQUENCE_SET, DEEP_PICTURE_SET, SEQUENCE_SET])?;
+    stand(&rt, &sets, 1, None);
+    take(&mut sets, &[DEEP_SET])?;
+    stand(&rt, &sets, 0, Some(false));
+    Ok(())
+}
+
+#[test]
+fn a_set_waits_on_where_another_sequence_set_changes(rt: HostRuntime) -> Result<(), Fail> {
+    let mut sets = KeptSets::new(rt.alloc(), Options::new());
+    take(&mut sets, &[DEEP_PICTURE_SET, OTHER_DEEP_SET])?;
+    stand(&rt, &sets, 1, None);
+    take(&mut sets, &[SEQUENCE_SET])?;
+    assert_eq!(rt; sets.num_waiting(), 1);
+    take(&mut sets, &[OTHER_DEEP_SET])?;
+    assert_eq!(rt; sets.num_waiting(), 1);
+    take(&mut sets, &[DEEP_SET])?;
+    stand(&rt, &sets, 0, Some(false));
+    Ok(())
+}
+
+#[test]
+fn the_sets_of_one_sequence_set_are_read_in_their_order(rt: HostRuntime) -> Result<(), Fail> {
+    let mut sets = KeptSets::new(rt.alloc(), Options::new());
+    take(
+        &mut sets,
+        &[
+            LATER_SET,
+            OTHER_PICTURE_SET,
+            BROKEN_SET,
+            PICTURE_SET,
+            SEQUENCE_SET,
+        ],
+    )?;
+    stand(&rt, &sets, 2, Some(false));
+    take(&mut sets, &[OTHER_DEEP_SET])?;
+    stand(&rt, &sets, 1, Some(true));
+    Ok(())
+}
+
+#[test]
+fn a_set_that_names_none_waits_on(rt: HostRuntime) -> Result<(), Fail> {
+    let mut sets = KeptSets::new(rt.alloc(), Options::new());
+    take(
+        &mut sets,
+        &[
+            &[0x00, 0x00, 0x01, 0x44, 0x01, 0x80],
+            SEQUENCE_SET,
+            OTHER_DEEP_SET,
+        ],
+    )?;
+    assert_eq!(rt; sets.num_waiting(), 1);
+    Ok(())
+}
+
+#[test]
+fn sub_layers_above_the_wanted_ones(rt: HostRuntime) -> Result<(), Fail> {
+    let options = Options {
+        handle_cra_as_bla: false,
+        highest_tid: 0,
+    };
+    let mut sets = KeptSets::new(rt.alloc(), options);
+    take(
+        &mut sets,
+        &[
+            SEQUENCE_SET,
+            &[0x00, 0x00, 0x01, 0x44, 0x02, 0xc0, 0x71, 0x80, 0x12],
+        ],
+    )?;
+    stand(&rt, &sets, 0, None);
+    Ok(())
+}

@@ -1,6 +1,0 @@
-use Rattle.hevc_backend.specs.declared.call.Call.TheVariants.{SubmitPicture}
-use Rattle.hevc_trace.proofs.report.backend.ReportBackendStatelessH265DecoderBackend.submit_picture.Given as goal
-
--- the call that was made
-abbrev pub ghost-and : goal.ghost-and
-ghost-and a = SubmitPicture a._told.now.0 a._told.now.1

@@ -1,9 +1,0 @@
-use Rattle.std.proofs.Common.{◌≡◌, ◌++◌, take}
-use Rattle.std.specs.String.{string_bytes}
-use Rattle.std.specs.List.{flat_map}
-use Rattle.hevc_trace.specs.Lines.{shown_line}
-use Rattle.hevc_trace.proofs.report.push_outputs.Given as goal
-
--- the lines of the outputs so far
-abbrev pub invariant-loop-output : goal.invariant-loop-output
-invariant-loop-output l = string_bytes l.text ≡ string_bytes l.initial.text ++ flat_map shown_line (take l.output-index l.shown)
