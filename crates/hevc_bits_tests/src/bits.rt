@@ -106,6 +106,10 @@ fn reads_short_slices(rt: HostRuntime) {
     let mut two = NaluReader::new(&[0, 0x01]);
     assert_eq!(rt; two.read_ue(), Err(BitError::OutOfBits));
     assert_eq!(rt; two.read_bits(16), Ok(1));
+}
+
+#[test]
+fn reads_no_03_at_the_end(rt: HostRuntime) {
     let mut last_03 = NaluReader::new(&[0, 0, 0x03]);
     assert_eq!(rt; last_03.read_bits(16), Ok(0));
     assert_eq!(rt; last_03.num_bits_left(), 8);
@@ -135,9 +139,13 @@ fn reads_exp_golomb_numbers(rt: HostRuntime) {
     assert_eq!(rt; r.read_ue(), Err(BitError::OutOfBits));
     assert_eq!(rt; r.num_bits_left(), left);
     let mut signed = NaluReader::new(&[0x4C, 0x80]);
-    let mut bounded = signed.fork();
     assert_eq!(rt; signed.read_se(), Ok(1));
     assert_eq!(rt; signed.read_se(), Ok(-1));
+}
+
+#[test]
+fn reads_numbers_within_bounds(rt: HostRuntime) {
+    let mut bounded = NaluReader::new(&[0x4C, 0x80]);
     assert_eq!(rt; bounded.read_se_bounded(-1, 0), Err(BitError::OutOfRange));
     assert_eq!(rt; bounded.read_se_bounded(-1, 1), Ok(1));
     assert_eq!(rt; bounded.read_ue_max(1), Err(BitError::OutOfRange));
