@@ -1,6 +1,6 @@
 -- What holds between two calls goes on holding.
 use Rattle.std.proofs.Common.{◌≡◌, ⊎_elim, ℕ, zero, suc, map, if◌then◌else◌, ◌+◌, ◌<◌, ◌≤◌, Bool, true, false, List, [], ◌∷◌, ◌++◌, refl, sym, ap, ◌∙◌, subst, arith, Option, Some, None}
-use Rattle.std.specs.Prelude.{Contains, option_map, is_some, length}
+use Rattle.std.specs.Prelude.{Contains, option_map, length}
 use Rattle.std.specs.declared.collections.VecDeque.{VecDeque}
 use Rattle.std.specs.VecDeque.{deque_len}
 use Rattle.std.proofs.lemmas.List.{length-append}
@@ -26,7 +26,7 @@ use Rattle.hevc_dpb.specs.Plain.{HaveLatency}
 use Rattle.hevc_dpb.specs.Views.{stored_entries, max_num_pics_of, buffer_of}
 use Rattle.hevc_backend.specs.declared.call.Call.{Call}
 use Rattle.hevc_backend.specs.declared.negotiation.NegotiationInfo.{NegotiationInfo}
-use Rattle.hevc_backend.specs.Negotiation.{format_of}
+use Rattle.hevc_backend.specs.Negotiation.{format_of, info_of}
 use Rattle.hevc_backend.specs.Trait.{Counts, CountsEmptyAnswers}
 use Rattle.hevc_backend.specs.Told.{Told, WhereTold, BegunPicture}
 use Rattle.hevc_backend.proofs.ToldLaws.{told_same}
@@ -74,9 +74,9 @@ pub accepted_sequence : (named : Format) (accepted : Option NegotiationInfo) (se
 accepted_sequence named None sequence is told = absurd (cc is)
 accepted_sequence named (Some a) sequence is told = told ∙ ap Some (same_format-equal (format_of a) named is)
 
-pub is_negotiated : (named : Format) (accepted : Option NegotiationInfo) → is_accepted named (option_map format_of accepted) ≡ true → is_some accepted ≡ true
-is_negotiated named None is = absurd (cc is)
-is_negotiated named (Some a) is = refl
+pub is_format : (named : Format) (format : NegotiationInfo) (accepted : Option NegotiationInfo) → is_accepted named (option_map format_of accepted) ≡ true → format ≡ info_of named → accepted ≡ Some format
+is_format named format None is same = absurd (cc is)
+is_format named format (Some a) is same = ap Some (ap info_of (same_format-equal (format_of a) named is) ∙ sym same)
 
 -- ---- nothing but room has changed
 
@@ -90,7 +90,7 @@ kept_newest (OpenPicture o) old new entries accepted number h = record {
   newer = below_part o.head.number o.head.number (tickets (stored_entries old.dpb)) (tickets (stored_entries new.dpb)) h.newer (omega arith) (part_same (stored_entries old.dpb) (stored_entries new.dpb) entries);
   counted = (let l = h.counted in omega (arith, l, number));
   references = λ n k. subst (λ es. Contains (numbers es) n) (sym entries) (h.references n k);
-  negotiated = ap is_some accepted ∙ h.negotiated;
+  accepted = accepted ∙ h.accepted;
 }
 
 pub kept_sound : {H P : Type 0} (log : Option (List (Call H))) (old new : driver.Standing H P) → IsSound log old → stored_entries new.dpb ≡ stored_entries old.dpb → max_num_pics_of new.dpb ≡ max_num_pics_of old.dpb → new.accepted ≡ old.accepted → new.current ≡ old.current → new.next.number ≡ old.next.number → IsSound log new
@@ -161,9 +161,8 @@ unchanged_by : (a named : Format) (b : Bool) → same_format a named ≡ b → (
 unchanged_by a named true is h = refl
 unchanged_by a named false is h = absurd (cc h)
 
-pub unchanged_accepted : (named : Format) (accepted : Option NegotiationInfo) → is_some accepted ≡ true → changed_by named (option_map format_of accepted) ≡ None → is_accepted named (option_map format_of accepted) ≡ true
-unchanged_accepted named None some is = absurd (cc some)
-unchanged_accepted named (Some a) some is = unchanged_by (format_of a) named (same_format (format_of a) named) refl is
+pub unchanged_accepted : (named : Format) (format : NegotiationInfo) (accepted : Option NegotiationInfo) → accepted ≡ Some format → changed_by named (Some (format_of format)) ≡ None → is_accepted named (option_map format_of accepted) ≡ true
+unchanged_accepted named format accepted same is = rw same (unchanged_by (format_of format) named (same_format (format_of format) named) refl is)
 
 pub stored_below : {H : Type 0} (n : ℕ) (ts us : List (ℕ × H)) (t : ℕ × H) → AreBelow n ts → t.0 < n → us ≡ ts ++ t ∷ [] → AreBelow n us
 stored_below {H} n ts us t below less is = λ x k. ⊎_elim (λ old. below x old) (λ same. subst (λ (y : ℕ × H). y.0 < n) same less) (Contains-push_cases ts t x (subst (λ l. Contains l x) is k))

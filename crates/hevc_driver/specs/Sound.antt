@@ -1,6 +1,6 @@
 -- What holds between two calls, so that a backend is handed no reference that isn't stored, and no
 -- handle that it didn't give.
-use Rattle.std.specs.Prelude.{◌≡◌, ℕ, ◌+◌, ◌-◌, ◌^◌, ◌<◌, ◌≤◌, true, List, option_map, is_some, Option, Some, None, Contains}
+use Rattle.std.specs.Prelude.{◌≡◌, ℕ, ◌+◌, ◌-◌, ◌^◌, ◌<◌, ◌≤◌, true, List, option_map, Option, Some, None, Contains}
 use Rattle.std.specs.VecDeque.{deque_len, deque_capacity}
 use Rattle.hevc_walk.specs.Walk.{accepted_size}
 use Rattle.hevc_types_c.specs.declared.sps.Sps.{Sps}
@@ -50,7 +50,7 @@ pub record IsNewest {H P : Type 0} (head : Head) (set : RefPicSet) (w : driver.S
   pub newer : AreBelow head.number (tickets (stored_entries w.dpb))
   pub counted : head.number < w.next.number
   pub references : SetNamesAmong (numbers (stored_entries w.dpb)) set
-  pub negotiated : is_some w.accepted ≡ true
+  pub accepted : w.accepted ≡ Some head.format
 
 abbrev pub IsOpenNewest : {H P : Type 0} → Current P → driver.Standing H P → Type 0
 IsOpenNewest NoPicture w = Unit {0}

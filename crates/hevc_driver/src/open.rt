@@ -15,7 +15,7 @@ ghost use Rattle.hevc_driver.specs.Does.{Runs};
 ghost use Rattle.hevc_driver.specs.Moments.{starts, hands_over, given_up};
 ghost use Rattle.hevc_driver.specs.Standings.{standing, traces, current_of};
 ghost use Rattle.hevc_driver.specs.Sound.{IsSound, IsNewest, HasRoom, Grows, AreNamed, IsNext};
-ghost use Rattle.hevc_backend.specs.Negotiation.{format_of};
+ghost use Rattle.hevc_backend.specs.Negotiation.{format_of, info_of};
 ghost use Rattle.hevc_options.specs.declared.Options as code_options;
 ghost use Rattle.hevc_driver.specs.Takes.{Starts, LeftStarted};
 
@@ -84,6 +84,7 @@ impl<B: StatelessH265DecoderBackend> Driver<B> {
     ) -> Result<(), DecodeError>
         requires none { current_of self.old.standing.current ≡ NoPicture }
         requires number { IsNext head.now self.old.standing }
+        requires format { head.now.format ≡ info_of (format_of_set (plain_sps sps.now)) }
         requires decoded { is_decoded (head_of head.now) ≡ true }
         requires accepted { is_accepted (format_of_set (plain_sps sps.now))
             (option_map format_of self.old.standing.accepted) ≡ true }

@@ -1,5 +1,5 @@
 //! A slice segment is taken: it begins a picture, or is a later one of the current picture (7.4.2.4.5).
-ghost use Rattle.std.specs.Prelude.{◌≡◌, ℕ, option_map};
+ghost use Rattle.std.specs.Prelude.{◌≡◌, ℕ, Some, option_map};
 ghost use Rattle.hevc_types_c.specs.Sps.{plain_sps};
 ghost use Rattle.hevc_walk_inputs.specs.Sequences.{format_of_set};
 ghost use Rattle.hevc_walk.specs.Meanings.{CodedSlice, same_format};
@@ -43,22 +43,16 @@ fn is_same(one: &NegotiationInfo, other: &NegotiationInfo) -> bool
     *one == *other
 }
 
-/// Refuses a format that differs from the accepted one.
-fn check_format(
-    accepted: Option<NegotiationInfo>,
-    named: &NegotiationInfo,
-) -> Result<(), DecodeError>
+/// Refuses a format that differs from that of the current picture, which is the accepted one.
+fn check_format(accepted: &NegotiationInfo, named: &NegotiationInfo) -> Result<(), DecodeError>
     ensures { ChecksFormat result
-        (changed_by (format_of named.now) (option_map format_of accepted)) }
+        (changed_by (format_of named.now) (Some (format_of accepted.now))) }
 {
-    let Some(accepted) = accepted else {
-        return Ok(());
-    };
-    if is_same(&accepted, named) {
+    if is_same(accepted, named) {
         Ok(())
     } else {
         Err(DecodeError::ChangedMidPicture {
-            accepted,
+            accepted: *accepted,
             named: *named,
         })
     }
@@ -189,7 +183,7 @@ impl<B: StatelessH265DecoderBackend> Driver<B> {
             Current::SkippedPicture => return Ok(()),
             Current::NoPicture => return Ok(()),
         };
-        check_format(self.standing.accepted, &sps.into())?;
+        check_format(&opened.head.format, &sps.into())?;
         build_lists(&mut self.lists, slice, pps, &opened.set);
         self.backend.decode_slice(
             opened.head.number,

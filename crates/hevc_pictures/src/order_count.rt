@@ -56,9 +56,10 @@ fn count_behind(prev_tid0_count: Option<i32>, lsb: i32, modulus: i32) -> i64
     ensures above { (pos 0 -ℤ pos 4294967296) <ℤ result }
     ensures below { result <ℤ pos 4294967296 }
 {
-    match prev_tid0_count {
+    // By reference, so that the number is known to have 32 bits.
+    match &prev_tid0_count {
         None => lsb as i64,
-        Some(earlier) => nearest(earlier, lsb, modulus),
+        Some(earlier) => nearest(*earlier, lsb, modulus),
     }
 }
 

@@ -85,7 +85,7 @@ returns-clause-sound g c =
       sized = s.sized;
       latency = s.latency;
       below = s.below;
-      newest = record { newer = n.newer; counted = n.counted; references = n.references; negotiated = n.negotiated };
+      newest = record { newer = n.newer; counted = n.counted; references = n.references; accepted = n.accepted };
       told = told_call (decode_slice_call c.args.head.now.number c.args.slice.now c.build_lists.new.lists.ref_pic_list0 c.build_lists.new.lists.ref_pic_list1) c.in_ok-decode_slice.ensures.log
           (told_call (begin_picture_call c.args.head.now.number c.args.set) c.in_ok-begin_picture.ensures.log
           (told_call (new_picture_call c.args.head.now.number c.args.head.now.picture c.args.timestamp) c.in_ok-picture.ensures.log s.told (λ t h. record { handles = h.handles; sequence = h.sequence; picture = refl })) (λ t h. h)) (λ t h. h);

@@ -1,4 +1,4 @@
-use Rattle.std.proofs.Common.{refl, ap, sym, ◌∙◌, subst, Ok, false}
+use Rattle.std.proofs.Common.{refl, ap, sym, ◌∙◌, subst, Ok, false, Option, Some}
 use Rattle.std.specs.Prelude.{option_map}
 use Rattle.hevc_types_c.specs.Sps.{plain_sps}
 use Rattle.hevc_walk_inputs.specs.Sequences.{format_of_set}
@@ -6,6 +6,7 @@ use Rattle.hevc_walk.specs.Meanings.{Format}
 use Rattle.hevc_walk_units.specs.Units.{Current, NoPicture, SkippedPicture, changed_by}
 use Rattle.hevc_refs.specs.Sets.{plain_set}
 use Rattle.hevc_backend.specs.Calls.{decode_slice_call}
+use Rattle.hevc_backend.specs.declared.negotiation.NegotiationInfo.{NegotiationInfo}
 use Rattle.hevc_backend.specs.Negotiation.{format_of}
 use Rattle.hevc_backend.specs.Told.{BegunPicture}
 use Rattle.hevc_backend.proofs.ToldLaws.{told_call, told_same}
@@ -38,7 +39,7 @@ returns-in_err-check_format-clause-part g c t o =
     subst (λ (k : Current). Follows r t (traces (g.B.StatelessH265DecoderBackend.log c.args.self.now.backend) w) (traces (g.B.StatelessH265DecoderBackend.log c.args.self.now.backend) w) v (record (standing w) { current = k }) (given_up_by r after))
     (sym (ap current_of c.in-OpenPicture.is))
     (hand_changed r c.in_err-check_format.field-0.0 t _ _ v after c.from_residual.ensures.1
-    (subst (λ (f : Format). Changed c.in_err-check_format.field-0.0 (changed_by f (option_map format_of w.accepted))) (sym named) c.in_err-check_format.ensures) refl)
+    (subst (λ (f : Format). Changed c.in_err-check_format.field-0.0 (changed_by f (option_map format_of w.accepted))) (sym named) (subst (λ (a : Option NegotiationInfo). Changed c.in_err-check_format.field-0.0 (changed_by (format_of c.into.result) (option_map format_of a))) (sym (open_newest w c.in-OpenPicture.opened c.in-OpenPicture.is c.requires.sound.newest).accepted) c.in_err-check_format.ensures)) refl)
 
 pub decode_slice-requires-clause-list0 : goal.decode_slice-requires-clause-list0
 decode_slice-requires-clause-list0 g c = list0_among _ c.in-OpenPicture.opened.set (slice_of (record { handle_cra_as_bla = false; highest_tid = 6 }) c.args.slice.now c.args.sps.now c.args.pps.now) _ (c.build_lists.ensures.list0 (record { handle_cra_as_bla = false; highest_tid = 6 }) c.args.sps.now) (open_newest c.args.self.now.standing c.in-OpenPicture.opened c.in-OpenPicture.is c.requires.sound.newest).references
@@ -50,7 +51,7 @@ pub decode_slice-requires-clause-told : goal.decode_slice-requires-clause-told
 decode_slice-requires-clause-told g c =
     let w = c.args.self.now.standing in
     let n = open_newest w c.in-OpenPicture.opened c.in-OpenPicture.is c.requires.sound.newest in
-    let accepted = unchanged_accepted (format_of_set (plain_sps c.args.sps.now)) w.accepted n.negotiated (ap (λ (f : Format). changed_by f (option_map format_of w.accepted)) (sym (ap format_of c.into.ensures)) ∙ c.in_ok-check_format.ensures) in
+    let accepted = unchanged_accepted (format_of_set (plain_sps c.args.sps.now)) c.in-OpenPicture.opened.head.format w.accepted n.accepted (ap (λ (f : Format). changed_by f (Some (format_of c.in-OpenPicture.opened.head.format))) (sym (ap format_of c.into.ensures)) ∙ c.in_ok-check_format.ensures) in
     told_same refl c.requires.sound.told (λ t h. record {
       handles = h.handles;
       sequence = accepted_sequence _ _ _ accepted h.sequence;
@@ -68,7 +69,7 @@ returns-in_err-decode_slice-clause-part g c t o =
     subst (λ (k : Current). Follows r t (traces (g.B.StatelessH265DecoderBackend.log c.args.self.now.backend) w) (traces (g.B.StatelessH265DecoderBackend.log c.decode_slice.new.self) w) v (record (standing w) { current = k }) (given_up_by r after))
     (sym (ap current_of c.in-OpenPicture.is))
     (hand_stops r _ t _ _ (head_of open_.head) (plain_set open_.set) v (standing w) c.from_residual-in_err-decode_slice.ensures.1 open_.decoded
-    (ap (λ (f : Format). changed_by f (option_map format_of w.accepted)) named ∙ c.in_ok-check_format.ensures) c.in_err-decode_slice.ensures.log refl refl)
+    (ap (λ (f : Format). changed_by f (option_map format_of w.accepted)) named ∙ ap (λ (a : Option NegotiationInfo). changed_by (format_of c.into.result) (option_map format_of a)) (open_newest w c.in-OpenPicture.opened c.in-OpenPicture.is c.requires.sound.newest).accepted ∙ c.in_ok-check_format.ensures) c.in_err-decode_slice.ensures.log refl refl)
 
 pub returns-clause-part : goal.returns-clause-part
 returns-clause-part g c t o =
@@ -79,7 +80,7 @@ returns-clause-part g c t o =
     subst (λ (k : Current). Follows {T = Unit {0}} (Ok tt) t (traces (g.B.StatelessH265DecoderBackend.log c.args.self.now.backend) w) (traces (g.B.StatelessH265DecoderBackend.log c.decode_slice.new.self) w) v (record (standing w) { current = k }) (record (standing w) { current = current_of (code.OpenPicture open_) }))
     (sym (ap current_of c.in-OpenPicture.is))
     (followed t _ _ (head_of open_.head) (plain_set open_.set) v (standing w) _ (decode_slice_call open_.head.number c.args.slice.now c.build_lists.new.lists.ref_pic_list0 c.build_lists.new.lists.ref_pic_list1) open_.decoded
-    (ap (λ (f : Format). changed_by f (option_map format_of w.accepted)) named ∙ c.in_ok-check_format.ensures)
+    (ap (λ (f : Format). changed_by f (option_map format_of w.accepted)) named ∙ ap (λ (a : Option NegotiationInfo). changed_by (format_of c.into.result) (option_map format_of a)) (open_newest w c.in-OpenPicture.opened c.in-OpenPicture.is c.requires.sound.newest).accepted ∙ c.in_ok-check_format.ensures)
     (slice_made g.row.B-Handle.Denot o c.args.slice.now c.args.sps.now c.args.pps.now (head_of open_.head) (plain_set open_.set) _ _ (c.build_lists.ensures.list0 o c.args.sps.now) (c.build_lists.ensures.list1 o c.args.sps.now)) tt
     c.in_ok-decode_slice.ensures.log refl refl refl)
 
@@ -92,6 +93,6 @@ returns-clause-sound g c =
       sized = s.sized;
       latency = s.latency;
       below = s.below;
-      newest = record { newer = n.newer; counted = n.counted; references = n.references; negotiated = n.negotiated };
+      newest = record { newer = n.newer; counted = n.counted; references = n.references; accepted = n.accepted };
       told = told_call (decode_slice_call c.in-OpenPicture.opened.head.number c.args.slice.now c.build_lists.new.lists.ref_pic_list0 c.build_lists.new.lists.ref_pic_list1) c.in_ok-decode_slice.ensures.log s.told (λ t h. record { handles = h.handles; sequence = h.sequence; picture = open_latest w.current c.in-OpenPicture.opened t.picture c.in-OpenPicture.is h.picture });
     }

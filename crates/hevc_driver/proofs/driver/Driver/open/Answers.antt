@@ -1,11 +1,10 @@
-use Rattle.std.proofs.Common.{arith, ap, ◌∙◌}
-use Rattle.std.specs.Prelude.{is_some}
+use Rattle.std.proofs.Common.{arith, ◌∙◌}
 use Rattle.hevc_refs.specs.Sets.{plain_set}
 use Rattle.hevc_driver.specs.Heads.{head_of}
 use Rattle.hevc_driver.specs.Slices.{slice_of}
 use Rattle.hevc_driver.specs.Standings.{standing}
 use Rattle.hevc_driver.proofs.PictureBegins.{opened}
-use Rattle.hevc_driver.proofs.Soundness.{below_part, is_negotiated, left_sound}
+use Rattle.hevc_driver.proofs.Soundness.{below_part, is_format, left_sound}
 use Rattle.hevc_driver.proofs.driver.Driver.open.Goals as goal
 
 pub returns-clause-part : goal.returns-clause-part
@@ -19,7 +18,7 @@ hand_over-requires-clause-newest g c =
       newer = below_part _ _ _ _ c.requires.sound.below (omega (arith, c.requires.number.number)) l.handles;
       counted = omega (arith, c.enter-set.ensures.number);
       references = c.enter-set.ensures.references;
-      negotiated = ap is_some l.accepted ∙ is_negotiated _ _ c.requires.accepted;
+      accepted = l.accepted ∙ is_format _ _ _ c.requires.accepted c.requires.format;
     }
 
 pub hand_over-requires-clause-sound : goal.hand_over-requires-clause-sound
