@@ -12,5 +12,5 @@ mod pictures;
 pub use dpb::{Dpb, DpbFull};
 pub use entry::DpbEntry;
 pub use finds::Sought;
-pub use hevc_pictures::{Limits, PictureData, Reference};
+pub use hevc_pictures::{Limits, PictureData, PocOutOfRange, Reference};
 pub use pictures::Pictures;

@@ -12,7 +12,8 @@ use Rattle.hevc_pictures.specs.declared.limits.Limits.{Limits}
 use Rattle.hevc_pictures.specs.declared.picture_data.PictureData.{PictureData}
 use Rattle.hevc_backend.specs.declared.negotiation.NegotiationInfo.{NegotiationInfo}
 use Rattle.hevc_pictures.specs.Limits.{limits_of}
-use Rattle.hevc_pictures.specs.NewPicture.{IsHeadOf, IsNewPicture}
+use Rattle.hevc_pictures.specs.NewPicture.{IsNewPicture}
+use Rattle.hevc_refs.specs.Marking.{RefersAs}
 use Rattle.hevc_dpb.specs.Plain.{from_zero}
 use Rattle.hevc_backend.specs.Negotiation.{format_of}
 use Rattle.hevc_driver.specs.declared.head.Head.{Head}
@@ -22,20 +23,8 @@ both_left : (a b c : Bool) → a && b && c ≡ true → a ≡ true
 both_left true b c h = refl
 both_left false b c h = h
 
-counts : (n : ℤ) → pos 0 ≤ℤ n → n ≡ pos (from_zero n)
-counts (pos n) h = refl
-counts (negsuc n) h = absurd (omega arith)
-
-pub is_head : (h : Head) → IsHeadOf (head_of h) h.picture
-is_head h = record {
-  nal_unit_type = refl;
-  pic_order_cnt_lsb = counts h.picture.slice_pic_order_cnt_lsb h.lsb;
-  order_count = refl;
-  valid_for_prev_tid0 = refl;
-  starts_sequence = refl;
-  pic_output_flag = refl;
-  no_output_of_prior_pics = refl;
-}
+pub refers : (h : Head) → RefersAs (head_of h) h.picture
+refers h = record { nal_unit_type = refl; order_count = refl; starts_sequence = refl }
 
 abbrev pub head_by : ℕ → PictureData → Bool → Bool → NegotiationInfo → Limits → walk.Head
 head_by number picture skipped latest format limits = record {

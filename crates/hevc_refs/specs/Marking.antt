@@ -1,16 +1,26 @@
 -- Deriving a reference picture set, and the marks that it leaves (8.3.2).
-use Rattle.std.specs.Prelude.{◌≡◌, ℤ, pos, Bool, not, map, if◌then◌else◌}
+use Rattle.std.specs.Prelude.{◌≡◌, ℤ, pos, Bool, not, ◌&&◌, map, if◌then◌else◌}
+use Rattle.hevc_bits.specs.NaluType.{nalu_type_number}
 use Rattle.hevc_walk_inputs.specs.Headers.{short_term_set_of, long_term_members}
 use Rattle.hevc_types_a.specs.declared.short_term_ref_pic_set.ShortTermRefPicSet.{ShortTermRefPicSet}
 use Rattle.hevc_types_a.specs.ShortTermRefPicSet.{plain_short_term_ref_pic_set}
 use Rattle.hevc_types_d.specs.declared.slice_header.SliceHeader.{SliceHeader}
 use Rattle.hevc_types_d.specs.SliceHeader.{plain_slice_header}
+use Rattle.hevc_pictures.specs.declared.picture_data.PictureData.{PictureData}
 use Rattle.hevc_walk.specs.Meanings as walk
+use Rattle.hevc_walk.specs.Pictures.{Head}
 use Rattle.hevc_walk.specs.ReferenceSets.{short_term_set}
 use Rattle.hevc_dpb.specs.declared.dpb.Dpb.{Dpb}
 use Rattle.hevc_dpb.specs.Entries.{tickets, unmarked}
 use Rattle.hevc_dpb.specs.Plain.{HaveLatency}
 use Rattle.hevc_dpb.specs.Views.{stored_entries, max_num_pics_of, room_of, is_stale}
+
+-- What a reference picture set reads of a picture (8.3.2) is what this head says: its type, its order
+-- count, and whether it begins a sequence.
+pub record RefersAs (h : Head) (p : PictureData) : Type 0 where
+  pub nal_unit_type : nalu_type_number p.nalu_type ≡ h.nal_unit_type
+  pub order_count : p.pic_order_cnt_val ≡ h.order_count
+  pub starts_sequence : (p.is_irap && p.no_rasl_output_flag) ≡ h.starts_sequence
 
 -- the first slice of the walk has these long-term members, this short-term set,
 -- and this MaxPicOrderCntLsb

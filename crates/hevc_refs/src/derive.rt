@@ -7,10 +7,9 @@ ghost use Rattle.hevc_walk.specs.Buffer.{is_reference};
 ghost use Rattle.hevc_walk_marks.specs.Marked.{has_reference, short_term_members, long_term_members};
 ghost use Rattle.hevc_walk.specs.ReferenceSets.{names, reference_set, with_marks, references_before, five_lists, short_term_set, with_long_term, marked_if, all_members};
 ghost use Rattle.hevc_pictures.specs.OrderCounts.{IsMaxPicOrderCntLsb};
-ghost use Rattle.hevc_pictures.specs.NewPicture.{IsHeadOf};
 ghost use Rattle.hevc_dpb.specs.Views.{buffer_of};
 ghost use Rattle.hevc_refs.specs.Sets.{plain_set};
-ghost use Rattle.hevc_refs.specs.Marking.{HasMembers, KeepsAllButMarks};
+ghost use Rattle.hevc_refs.specs.Marking.{RefersAs, HasMembers, KeepsAllButMarks};
 
 use crate::long_term::find_long_term;
 use crate::marking::{mark_long_term, unmark_others};
@@ -22,14 +21,14 @@ use hevc_types_d::SliceHeader;
 
 /// Whether it is an IDR picture.
 fn is_idr(pic: &PictureData) -> bool
-    ensures { (p : Head) → IsHeadOf p pic.now → result ≡ is_idr p.nal_unit_type }
+    ensures { (p : Head) → RefersAs p pic.now → result ≡ is_idr p.nal_unit_type }
 {
     pic.nalu_type.is_idr()
 }
 
 /// An IRAP picture with NoRaslOutputFlag refers to nothing that is stored.
 fn unmark_before_sequence<T: Copy>(dpb: &mut Dpb<T>, pic: &PictureData)
-    ensures buffer { (p : Head) → IsHeadOf p pic.now
+    ensures buffer { (p : Head) → RefersAs p pic.now
         → buffer_of dpb.new ≡ references_before p (buffer_of dpb.old) }
     ensures kept { KeepsAllButMarks dpb.old dpb.new }
 {
@@ -47,12 +46,12 @@ fn derive_members<T: Copy>(
     max_pic_order_cnt_lsb: i32,
 ) -> RefPicSet
     requires { IsMaxPicOrderCntLsb max_pic_order_cnt_lsb }
-    ensures lists { (p : Head) (first : Slice) → IsHeadOf p pic.now
+    ensures lists { (p : Head) (first : Slice) → RefersAs p pic.now
         → HasMembers first header.now set.now max_pic_order_cnt_lsb
         → plain_set result
         ≡ five_lists p first (short_term_set first) (buffer_of dpb.old)
         (with_long_term p first (buffer_of dpb.old)) }
-    ensures marks { (p : Head) (first : Slice) → IsHeadOf p pic.now
+    ensures marks { (p : Head) (first : Slice) → RefersAs p pic.now
         → HasMembers first header.now set.now max_pic_order_cnt_lsb
         → buffer_of dpb.new
         ≡ map (marked_if (all_members (plain_set result)))
@@ -83,10 +82,10 @@ fn derive<T: Copy>(
     max_pic_order_cnt_lsb: i32,
 ) -> RefPicSet
     requires { IsMaxPicOrderCntLsb max_pic_order_cnt_lsb }
-    ensures set { (p : Head) (first : Slice) → IsHeadOf p pic.now
+    ensures set { (p : Head) (first : Slice) → RefersAs p pic.now
         → HasMembers first header.now set.now max_pic_order_cnt_lsb
         → plain_set result ≡ reference_set p first (buffer_of dpb.old) }
-    ensures marks { (p : Head) (first : Slice) → IsHeadOf p pic.now
+    ensures marks { (p : Head) (first : Slice) → RefersAs p pic.now
         → HasMembers first header.now set.now max_pic_order_cnt_lsb
         → buffer_of dpb.new ≡ with_marks p first (buffer_of dpb.old) }
     ensures kept { KeepsAllButMarks dpb.old dpb.new }
@@ -112,23 +111,23 @@ pub fn derive_and_mark<T: Copy>(
     max_pic_order_cnt_lsb: i32,
 ) -> RefPicSet
     requires { IsMaxPicOrderCntLsb max_pic_order_cnt_lsb }
-    ensures set { (p : Head) (first : Slice) → IsHeadOf p pic.now
+    ensures set { (p : Head) (first : Slice) → RefersAs p pic.now
         → HasMembers first header.now set.now max_pic_order_cnt_lsb
         → plain_set result ≡ reference_set p first (buffer_of dpb.old) }
-    ensures marks { (p : Head) (first : Slice) → IsHeadOf p pic.now
+    ensures marks { (p : Head) (first : Slice) → RefersAs p pic.now
         → HasMembers first header.now set.now max_pic_order_cnt_lsb
         → buffer_of dpb.new ≡ with_marks p first (buffer_of dpb.old) }
     ensures kept { KeepsAllButMarks dpb.old dpb.new }
     // What a list names is used for reference, and nothing else is; no picture is a short-term and a long-term member.
-    ensures named { (p : Head) (first : Slice) → IsHeadOf p pic.now
+    ensures named { (p : Head) (first : Slice) → RefersAs p pic.now
         → HasMembers first header.now set.now max_pic_order_cnt_lsb
         → (n : ℕ) → names n (all_members (plain_set result)) ≡ true
         → has_reference n (buffer_of dpb.new) ≡ true }
-    ensures exactly { (p : Head) (first : Slice) → IsHeadOf p pic.now
+    ensures exactly { (p : Head) (first : Slice) → RefersAs p pic.now
         → HasMembers first header.now set.now max_pic_order_cnt_lsb
         → All (λ e. is_reference e.mark ≡ names e.number (all_members (plain_set result)))
         (buffer_of dpb.new) }
-    ensures apart { (p : Head) (first : Slice) → IsHeadOf p pic.now
+    ensures apart { (p : Head) (first : Slice) → RefersAs p pic.now
         → HasMembers first header.now set.now max_pic_order_cnt_lsb
         → (n : ℕ) → names n (short_term_members (plain_set result)) ≡ true
         → names n (long_term_members (plain_set result)) ≡ false }

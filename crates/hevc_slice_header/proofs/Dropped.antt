@@ -1,12 +1,7 @@
 -- How many 03 bytes are dropped.
 use Rattle.std.proofs.Common.{◌≡◌, ℕ, zero, suc, ◌+◌, ◌-◌, ◌≤◌, Bool, true, false, List, [], ◌∷◌, ◌++◌, length, Option, Some, None, Err, refl, ap, subst, arith}
-use Rattle.std.proofs.lemmas.List.{length-append}
-use Rattle.hevc_spec.specs.Bits.{bits_at}
-use Rattle.hevc_spec.proofs.BitSteps.{bits_at-found}
-use Rattle.hevc_bits.specs.declared.bit_error.BitError.{BitError}
-use Rattle.hevc_bits.specs.declared.bit_error.BitError.TheVariants.{OutOfBits, OutOfRange}
-use Rattle.hevc_bits.specs.Reading.{Finds}
-use Rattle.hevc_tables.specs.SliceHeaderTable.{emulation_prevention_bytes}
+use Rattle.hevc_records.specs.SliceHeader.{PlainSliceSegmentHeader}
+use Rattle.hevc_tables.specs.SliceHeaderTable.{emulation_prevention_bytes, with_sizes}
 use Rattle.std.specs.Prelude.{◌==◌, ◌&&◌, if◌then◌else◌, option_map, option_and_then}
 use Rattle.hevc_spec.specs.Payload.{Place, run_behind, low_bits, loading, no_bits, with_bits, one_bit_on, next_place, place_behind, first_place, bits, IsReached}
 
@@ -40,22 +35,24 @@ behind_next n p q None each w e = absurd cc
 behind_next n p q (Some l) each w e = grind (arith, one_on p l (with_bits p) refl w, each l e)
 
 -- not more than bits are passed
-pub few_dropped : (n : ℕ) (p q : Place) → place_behind n p ≡ Some q → q.dropped ≤ p.dropped + n
+few_dropped : (n : ℕ) (p q : Place) → place_behind n p ≡ Some q → q.dropped ≤ p.dropped + n
 few_dropped zero p q e = let same : p ≡ q = cc in rw (← same) (grind arith)
 few_dropped (suc n) p q e = behind_next n p q (next_place p) (λ l. few_dropped n l q) refl e
 
-pub counted : (bytes : List ℕ) (n : ℕ) (p q : Place) → p ≡ first_place bytes → place_behind n p ≡ Some q → emulation_prevention_bytes bytes n ≡ q.dropped
+counted : (bytes : List ℕ) (n : ℕ) (p q : Place) → p ≡ first_place bytes → place_behind n p ≡ Some q → emulation_prevention_bytes bytes n ≡ q.dropped
 unfolding emulation_prevention_bytes
 counted bytes n p q first e = let at : place_behind n (first_place bytes) ≡ Some q = subst (λ (x : Place). place_behind n x ≡ Some q) first e in rw at refl
 
--- bits that are there are passed
-pub never_refused : (e : BitError) (n : ℕ) (old new : Place) (f : ℕ) → n ≤ length (bits old) → Finds (λ (x : Unit {0}). f) (Err e) old new (bits_at n (bits old)) → ⊥
-never_refused OutOfBits n old new f le h = let there = bits_at-found n (bits old) le in let not_there = h.0 in cc
-never_refused OutOfRange n old new f le h = let there = bits_at-found n (bits old) le in let not_there = h.0 in cc
+-- What a reader has dropped since the first place is what the table counts, and no more than the bits that it has passed.
+module _ (bytes : List ℕ) (p q : Place) (first : p ≡ first_place bytes) (reached : IsReached p q) where
+  pub few_between : q.dropped ≤ length (bits p) - length (bits q)
+  few_between =
+      let few = few_dropped (length (bits p) - length (bits q)) p q reached.place in
+      let none : p.dropped ≡ 0 = rw first refl in
+      grind (arith, few, none)
 
--- the place behind so many bits that were passed
-pub is_behind : (n : ℕ) (p q : Place) → IsReached p q → (passed : List Bool) × (bits p ≡ passed ++ bits q) × (length passed ≡ n) → place_behind n p ≡ Some q
-is_behind n p q reached way =
-    let all : length (bits p) ≡ length (way.0 ++ bits q) = ap length way.1 in
-    let same : length (bits p) - length (bits q) ≡ n = grind (arith, all, way.2, length-append) in
-    subst (λ (k : ℕ). place_behind k p ≡ Some q) same reached.place
+  pub sized : (h : PlainSliceSegmentHeader) → with_sizes bytes h (length (bits p) - length (bits q))
+      ≡ record h { header_bit_size = 16 + (length (bits p) - length (bits q)); n_emulation_prevention_bytes = q.dropped }
+  unfolding with_sizes
+  sized h = ap (λ (n : ℕ). record h { header_bit_size = 16 + (length (bits p) - length (bits q)); n_emulation_prevention_bytes = n })
+      (counted bytes (length (bits p) - length (bits q)) p q first reached.place)

@@ -25,10 +25,24 @@ pub(crate) fn read_beginning(
     ensures { Fills plain_slice_header
         (table.beginning (nalu_type_number nalu_type)) result h.old h.new r.old r.new }
 {
-    h.first_slice_segment_in_pic_flag = flag(r, Row(14, 1))?;
-    h.no_output_of_prior_pics_flag = flag_if(r, nalu_type.is_irap(), Row(14, 2))?;
-    h.pic_parameter_set_id = ue_u8(r, Row(14, 3), 0, 63)?;
+    let first = flag(r, Row(14, 1))?;
+    let no_output_of_prior = flag_if(r, nalu_type.is_irap(), Row(14, 2))?;
+    let picture_set = ue_u8(r, Row(14, 3), 0, 63)?;
+    set_beginning(h, first, no_output_of_prior, picture_set);
     Ok(())
+}
+
+/// Fills in rows 1 to 3.
+fn set_beginning(h: &mut SliceHeader, first: bool, no_output_of_prior: bool, picture_set: u8)
+    ensures { plain_slice_header h.new ≡ record (plain_slice_header h.old) {
+      first_slice_segment_in_pic_flag = first;
+      no_output_of_prior_pics_flag = no_output_of_prior;
+      pic_parameter_set_id = picture_set;
+    } }
+{
+    h.first_slice_segment_in_pic_flag = first;
+    h.no_output_of_prior_pics_flag = no_output_of_prior;
+    h.pic_parameter_set_id = picture_set;
 }
 
 /// Rows 4 and 5 of table 14.
@@ -44,13 +58,21 @@ pub(crate) fn read_later_segment(
         (plain_pps pps.now)) result h.old h.new r.old r.new }
 {
     let size = size_in_blocks(sps);
-    h.dependent_slice_segment_flag = flag_if(
-        r,
-        pps.dependent_slice_segments_enabled_flag,
-        Row(14, 4),
-    )?;
-    h.segment_address = bits_u32(r, Row(14, 5), ceil_log2(size), 0, size - 1)?;
+    let dependent = flag_if(r, pps.dependent_slice_segments_enabled_flag, Row(14, 4))?;
+    let address = bits_u32(r, Row(14, 5), ceil_log2(size), 0, size - 1)?;
+    set_later_segment(h, dependent, address);
     Ok(())
+}
+
+/// Fills in rows 4 and 5.
+fn set_later_segment(h: &mut SliceHeader, dependent: bool, address: u32)
+    ensures { plain_slice_header h.new ≡ record (plain_slice_header h.old) {
+      dependent_slice_segment_flag = dependent;
+      segment_address = address;
+    } }
+{
+    h.dependent_slice_segment_flag = dependent;
+    h.segment_address = address;
 }
 
 /// PicSizeInCtbsY (7-17), at most 2^31.

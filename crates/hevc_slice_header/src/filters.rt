@@ -48,9 +48,21 @@ fn read_own_deblocking(r: &mut NaluReader<'_>, h: &mut SliceHeader) -> Result<()
 fn read_filter_offsets(r: &mut NaluReader<'_>, h: &mut SliceHeader) -> Result<(), ParseError>
     ensures { Fills plain_slice_header table.filter_offsets result h.old h.new r.old r.new }
 {
-    h.beta_offset_div2 = se_i8(r, Row(14, 45), -6, 6)?;
-    h.tc_offset_div2 = se_i8(r, Row(14, 46), -6, 6)?;
+    let beta = se_i8(r, Row(14, 45), -6, 6)?;
+    let tc = se_i8(r, Row(14, 46), -6, 6)?;
+    set_filter_offsets(h, beta, tc);
     Ok(())
+}
+
+/// Fills in rows 45 and 46.
+fn set_filter_offsets(h: &mut SliceHeader, beta: i8, tc: i8)
+    ensures { plain_slice_header h.new ≡ record (plain_slice_header h.old) {
+      beta_offset_div2 = beta;
+      tc_offset_div2 = tc;
+    } }
+{
+    h.beta_offset_div2 = beta;
+    h.tc_offset_div2 = tc;
 }
 
 /// Row 47 of table 14.

@@ -28,10 +28,24 @@ pub(crate) fn read_kind(
         (table.kind (plain_sps sps.now) (plain_pps pps.now)) result h.old h.new r.old r.new }
 {
     skip(r, Row(14, 6), usize::from(pps.num_extra_slice_header_bits))?;
-    h.type_ = read_slice_type(r)?;
-    h.pic_output_flag = flag_or(r, pps.output_flag_present_flag, true, Row(14, 8))?;
-    h.colour_plane_id = bits_u8_if(r, sps.separate_colour_plane_flag, Row(14, 9), 2, 0, 3)?;
+    let slice_type = read_slice_type(r)?;
+    let is_output = flag_or(r, pps.output_flag_present_flag, true, Row(14, 8))?;
+    let colour_plane = bits_u8_if(r, sps.separate_colour_plane_flag, Row(14, 9), 2, 0, 3)?;
+    set_kind(h, slice_type, is_output, colour_plane);
     Ok(())
+}
+
+/// Fills in rows 7 to 9.
+fn set_kind(h: &mut SliceHeader, slice_type: SliceType, is_output: bool, colour_plane: u8)
+    ensures { plain_slice_header h.new ≡ record (plain_slice_header h.old) {
+      type_ = slice_type_number slice_type;
+      pic_output_flag = is_output;
+      colour_plane_id = colour_plane;
+    } }
+{
+    h.type_ = slice_type;
+    h.pic_output_flag = is_output;
+    h.colour_plane_id = colour_plane;
 }
 
 /// Row 7 of table 14.
@@ -59,7 +73,19 @@ pub(crate) fn read_adaptive_offset(
 {
     let enabled = sps.sample_adaptive_offset_enabled_flag;
     let has_chroma = sps.chroma_array_type != 0;
-    h.sao_luma_flag = flag_if(r, enabled, Row(14, 22))?;
-    h.sao_chroma_flag = flag_if(r, enabled && has_chroma, Row(14, 23))?;
+    let luma = flag_if(r, enabled, Row(14, 22))?;
+    let chroma = flag_if(r, enabled && has_chroma, Row(14, 23))?;
+    set_adaptive_offset(h, luma, chroma);
     Ok(())
+}
+
+/// Fills in rows 22 and 23.
+fn set_adaptive_offset(h: &mut SliceHeader, luma: bool, chroma: bool)
+    ensures { plain_slice_header h.new ≡ record (plain_slice_header h.old) {
+      sao_luma_flag = luma;
+      sao_chroma_flag = chroma;
+    } }
+{
+    h.sao_luma_flag = luma;
+    h.sao_chroma_flag = chroma;
 }

@@ -91,9 +91,21 @@ fn read_chroma_offsets(
     ensures { Fills plain_slice_header
         (table.chroma_offsets (plain_pps pps.now)) result h.old h.new r.old r.new }
 {
-    h.cb_qp_offset = read_chroma_offset(r, 37, pps.cb_qp_offset)?;
-    h.cr_qp_offset = read_chroma_offset(r, 39, pps.cr_qp_offset)?;
+    let cb = read_chroma_offset(r, 37, pps.cb_qp_offset)?;
+    let cr = read_chroma_offset(r, 39, pps.cr_qp_offset)?;
+    set_chroma_offsets(h, cb, cr);
     Ok(())
+}
+
+/// Fills in rows 37 to 40.
+fn set_chroma_offsets(h: &mut SliceHeader, cb: i8, cr: i8)
+    ensures { plain_slice_header h.new ≡ record (plain_slice_header h.old) {
+      cb_qp_offset = cb;
+      cr_qp_offset = cr;
+    } }
+{
+    h.cb_qp_offset = cb;
+    h.cr_qp_offset = cr;
 }
 
 /// A row of a chroma offset, and the check behind it.
@@ -131,8 +143,22 @@ fn read_colour_transform_offsets(
     ensures { Fills plain_slice_header table.colour_transform_offsets result
         h.old h.new r.old r.new }
 {
-    h.slice_act_y_qp_offset = se_i8(r, Row(14, 41), -12, 12)?;
-    h.slice_act_cb_qp_offset = se_i8(r, Row(14, 41), -12, 12)?;
-    h.slice_act_cr_qp_offset = se_i8(r, Row(14, 41), -12, 12)?;
+    let y = se_i8(r, Row(14, 41), -12, 12)?;
+    let cb = se_i8(r, Row(14, 41), -12, 12)?;
+    let cr = se_i8(r, Row(14, 41), -12, 12)?;
+    set_colour_transform_offsets(h, y, cb, cr);
     Ok(())
+}
+
+/// Fills in row 41.
+fn set_colour_transform_offsets(h: &mut SliceHeader, y: i8, cb: i8, cr: i8)
+    ensures { plain_slice_header h.new ≡ record (plain_slice_header h.old) {
+      slice_act_y_qp_offset = y;
+      slice_act_cb_qp_offset = cb;
+      slice_act_cr_qp_offset = cr;
+    } }
+{
+    h.slice_act_y_qp_offset = y;
+    h.slice_act_cb_qp_offset = cb;
+    h.slice_act_cr_qp_offset = cr;
 }

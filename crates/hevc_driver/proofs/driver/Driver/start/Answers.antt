@@ -6,7 +6,7 @@ use Rattle.hevc_driver.specs.Heads.{head_of}
 use Rattle.hevc_driver.specs.Slices.{slice_of}
 use Rattle.hevc_driver.specs.Standings.{standing}
 use Rattle.hevc_driver.proofs.HeadViews.{decoded_is}
-use Rattle.hevc_driver.proofs.PictureBegins.{skips_at, head_number}
+use Rattle.hevc_driver.proofs.PictureBegins.{skips_at, starts_at, head_number}
 use Rattle.hevc_driver.proofs.Soundness.{below_part}
 use Rattle.hevc_driver.proofs.driver.Driver.start.Goals as goal
 
@@ -36,3 +36,7 @@ returns-then-head-clause-sound g c =
       newest = tt;
       told = told_same refl s.told (λ t f. record { handles = f.handles; sequence = f.sequence; picture = tt });
     }
+
+pub returns-clause-part : goal.returns-clause-part
+returns-clause-part g c =
+    starts_at _ _ _ _ (slice_of c.args.options c.args.slice.now c.args.sps.now c.args.pps.now) _ _ (head_of c.in_ok-head.head) (λ e. omega (arith, e)) (c.in_ok-head.ensures.head c.args.pps.now) (c.in_ok-head.ensures.within c.args.pps.now) (c.open.ensures.part c.args.options)
