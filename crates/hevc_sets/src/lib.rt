@@ -5,11 +5,11 @@
 #![tactic(auto)]
 
 pub use hevc_elements::ParseError;
+pub use hevc_hrd::read_hrd_parameters;
 pub use hevc_pps::read_pps;
 pub use hevc_profile::read_profile_tier_level;
 pub use hevc_scaling::{default_scaling_lists, read_scaling_list_data};
-pub use hevc_sps::read_sps;
 pub use hevc_short_term::read_short_term_set;
-pub use hevc_hrd::read_hrd_parameters;
-pub use hevc_vui::read_vui_parameters;
+pub use hevc_sps::read_sps;
 pub use hevc_vps::read_vps;
+pub use hevc_vui::read_vui_parameters;
