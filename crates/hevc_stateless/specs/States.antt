@@ -62,21 +62,13 @@ meaning_when state u = if is_parameter_set u.nal_unit_type then later_meaning u.
 abbrev pub meaning_in : State → Unit → Meaning
 meaning_in state u = meaning_when (state_behind state u) u
 
--- What a call of `decode` does with a unit whose header isn't refused:
--- a format that is awaited comes first.
-abbrev pub Decodes : {H T : Type 0} → State → Unit → Result T DecodeError → ℕ → Traces H → Traces H
-    → Standing → Standing → Type 0
-Decodes AwaitingFormat u result timestamp old new before standing =
-    (result ≡ Err errors.CheckEvents) × Stays old new before standing
-Decodes state u result timestamp old new before standing =
-    Takes result timestamp old new (meaning_in state u) before standing
-
+-- the state that a call leaves
 abbrev pub MovesBy : {T : Type 0} → Result T DecodeError → State → State → State → Type 0
 MovesBy (Err errors.CheckEvents) before behind now = now ≡ AwaitingFormat
 MovesBy (Err errors.NoMemory) before behind now = (now ≡ before) ⊎ (now ≡ behind)
 MovesBy result before behind now = now ≡ behind
 
--- and which state follows
+-- which state follows a unit
 abbrev pub Moves : {T : Type 0} → State → Unit → Result T DecodeError → State → Type 0
 Moves state u result now = MovesBy result state (state_behind state u) now
 
