@@ -16,11 +16,11 @@ use Rattle.hevc_driver.specs.Moments.{opening}
 use Rattle.hevc_driver.specs.Takes.{Opens, Takes}
 use Rattle.hevc_stateless.specs.declared.state.State.{State}
 use Rattle.hevc_stateless.specs.declared.state.State.TheVariants.{Decoding}
-use Rattle.hevc_stateless.specs.States.{unit_at, later_meaning, meaning_in}
+use Rattle.hevc_stateless.specs.States.{unit_at, later_meaning, meaning_in, is_awaited}
 use Rattle.hevc_stateless.specs.Steps.{Seen, Step, StepsIn}
 use Rattle.hevc_stateless.specs.Views.{traces_of}
 use Rattle.hevc_stateless_laws.specs.Stands.{state_by, meant, standing_after, StandsAfter, kept_after, meant_next, StandsBetween}
-use Rattle.hevc_stateless_laws.proofs.Standing.{Means, means, later_part, took}
+use Rattle.hevc_stateless_laws.proofs.Standing.{Means, means, later_part, took, going_by}
 use Rattle.hevc_stateless_laws.proofs.Opening.{opens, opened}
 use Rattle.hevc_stateless_laws.proofs.Again.{first_full, tw, meant_is, took_again}
 use Rattle.hevc_stateless_laws.proofs.Twice.{TwiceBy}
@@ -37,9 +37,8 @@ pub stands_with : {B H : Type 0} (o : Options) (us : List NalUnit) (s : Seen B H
 stands_with o us s out x = record { goes_on = x.goes_on; stands = x.stands; state_is = x.state_is; kept = x.kept; room = x.room; started = x.started }
 
 -- a format that is awaited isn't where a decoder stands
-step_in : {B H T : Type 0} (a : Option Format) (r : Result T DecodeError) (o : Options) (h : UnitHeader) (bytes : List ℕ) (old new : Seen B H) → StepsIn (state_by a) r 0 o h bytes old new → Step r 0 o h bytes old new
-step_in None r o h bytes old new y = y
-step_in (Some f) r o h bytes old new y = y
+step_in : {B H T : Type 0} (a : Option Format) (r : Result T DecodeError) (o : Options) (h : UnitHeader) (bytes : List ℕ) (old new : Seen B H) → old.view.state ≡ state_by a → StepsIn r 0 o h bytes old new → Step r 0 o h bytes old new
+step_in a r o h bytes old new is y = y.taken (ap is_awaited is ∙ going_by a)
 
 -- want of memory for the outputs stops a unit before it begins
 unmade : {B H T : Type 0} (r : Result T DecodeError) (k : ℕ) (old new : Scene B H) (y : Meaning) (s : Standing) → Unmade r old new → TakesUnit r k (trail_of old) (trail_of new) y s
@@ -64,7 +63,7 @@ module _ {B H : Type 0} (o : Options) (us : List NalUnit) (u : NalUnit) (h : Uni
 
   module _ (new : Scene B H) where
     step_of : {T : Type 0} (r : Result T DecodeError) (d : Delivered (Decodes o h u.bytes) r k old new) → Step r 0 o h u.bytes old.seen (with_queue d.out new.seen)
-    step_of {T} r d = step_in a r o h u.bytes old.seen (with_queue d.out new.seen) (subst (λ (x : State). StepsIn x r 0 o h u.bytes old.seen (with_queue d.out new.seen)) after.state_is d.calls)
+    step_of {T} r d = step_in a r o h u.bytes old.seen (with_queue d.out new.seen) after.state_is d.calls
 
     same : Means (meaning_in (state_by a) (unit_at o old.seen.kept h u.bytes)) y S
     same = subst (λ (s : Standing). Means (meaning_in (state_by a) (unit_at o old.seen.kept h u.bytes)) y s) after.stands

@@ -28,7 +28,7 @@ pub record Unmade {B H T : Type 0} (result : Result T DecodeError) (old new : Sc
 abbrev pub Decodes : {B H T : Type 0} → Options → UnitHeader → List ℕ → Result T DecodeError
     → Seen B H → Seen B H → Type 0
 Decodes options header bytes result old new =
-    StepsIn old.view.state result 0 options header bytes old new
+    StepsIn result 0 options header bytes old new
 
 -- the unit was given, the k-th
 abbrev pub Gives : {B H T : Type 0} → Result T DecodeError → ℕ → Options → UnitHeader → List ℕ

@@ -1,5 +1,5 @@
 -- What a call of `decode` does.
-use Rattle.std.specs.Prelude.{◌≡◌, ◌⊎◌, ℕ, ◌+◌, List, [], ◌∷◌, length, Option, Result, Ok, Err, IfOk}
+use Rattle.std.specs.Prelude.{◌≡◌, ◌⊎◌, ℕ, ◌+◌, List, [], ◌∷◌, length, Option, Result, Ok, Err, IfOk, true, false}
 use Rattle.hevc_spec.specs.Units.{NalUnit}
 use Rattle.hevc_spec.specs.UnitHeader.{UnitHeader, HeaderFault, unit_header}
 use Rattle.hevc_stream.specs.Options.{Options}
@@ -16,7 +16,7 @@ use Rattle.hevc_driver.specs.Errors.{cause_error}
 use Rattle.hevc_driver.specs.Takes.{Takes}
 use Rattle.hevc_stateless.specs.declared.state.State.{State}
 use Rattle.hevc_stateless.specs.declared.state.State.TheVariants.{AwaitingFormat}
-use Rattle.hevc_stateless.specs.States.{unit_at, meaning_in, Moves}
+use Rattle.hevc_stateless.specs.States.{unit_at, meaning_in, Moves, is_awaited}
 use Rattle.hevc_stateless.specs.Views.{View, traces_of}
 
 -- a sequence set that was read is kept
@@ -64,13 +64,12 @@ pub record Step {B H T : Type 0} (result : Result T DecodeError) (timestamp : �
   pub state : Moves old.view.state (unit_at options old.kept header bytes) result new.view.state
   pub kept : KeepsBehind result options bytes old.kept new.kept
 
--- a format that is awaited comes before the unit
-abbrev pub StepsIn : {B H T : Type 0} → State → Result T DecodeError → ℕ → Options → UnitHeader
-    → List ℕ → Seen B H → Seen B H → Type 0
-StepsIn AwaitingFormat result timestamp options header bytes old new =
-    (result ≡ Err errors.CheckEvents) × (new ≡ old)
-StepsIn state result timestamp options header bytes old new =
-    Step result timestamp options header bytes old new
+-- A unit of this header and these bytes was given: a format that is awaited comes before it.
+pub record StepsIn {B H T : Type 0} (result : Result T DecodeError) (timestamp : ℕ)
+    (options : Options) (header : UnitHeader) (bytes : List ℕ) (old new : Seen B H) : Type 0 where
+  pub awaited : is_awaited old.view.state ≡ true → (result ≡ Err errors.CheckEvents) × (new ≡ old)
+  pub taken : is_awaited old.view.state ≡ false
+      → Step result timestamp options header bytes old new
 
 -- a header that is refused comes before all else (7.3.1.2)
 abbrev pub StepsBehind : {B H T : Type 0} → Result UnitHeader HeaderFault → Result T DecodeError → ℕ
@@ -78,7 +77,7 @@ abbrev pub StepsBehind : {B H T : Type 0} → Result UnitHeader HeaderFault → 
 StepsBehind (Err fault) result timestamp options bytes old new =
     (result ≡ Err (cause_error (header_cause fault))) × (new ≡ old)
 StepsBehind (Ok header) result timestamp options bytes old new =
-    StepsIn old.view.state result timestamp options header bytes old new
+    StepsIn result timestamp options header bytes old new
 
 -- The first of these units was taken, and the answer is the place behind it; or there is none.
 abbrev pub TakesFirst : {B H : Type 0} → List NalUnit → Result ℕ DecodeError → ℕ → Options

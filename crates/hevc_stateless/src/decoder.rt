@@ -97,7 +97,7 @@ impl<B: StatelessH265DecoderBackend> StatelessDecoder<B> {
             (B.is_faultless (view_of self.new).backend) result }
         ensures info { KeepsInfo (B.info (view_of self.old).backend)
             (B.info (view_of self.new).backend) result }
-        ensures takes { StepsIn (view_of self.old).state result timestamp (set_for self.old)
+        ensures takes { StepsIn result timestamp (set_for self.old)
             nalu.now.header (bytes_of nalu.now)
             (seen_by B.log self.old) (seen_by B.log self.new) }
         ensures options { set_for self.new ≡ set_for self.old }

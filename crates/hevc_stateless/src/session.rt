@@ -70,7 +70,7 @@ impl<B: StatelessH265DecoderBackend> Session<B> {
         let Session {
             driver: Driver {
                 backend,
-                walk: _,
+                standing: _,
                 lists: _,
             },
             state: _,

@@ -30,7 +30,7 @@ use Rattle.hevc_driver.specs.Moments.{negotiates, opening, step_part}
 use Rattle.hevc_driver.specs.Takes.{Goes}
 use Rattle.hevc_stateless.specs.declared.state.State.{State}
 use Rattle.hevc_stateless.specs.declared.state.State.TheVariants.{Decoding}
-use Rattle.hevc_stateless.specs.States.{unit_at, state_behind, is_sequence_set, later_meaning, meaning_in}
+use Rattle.hevc_stateless.specs.States.{unit_at, state_behind, is_sequence_set, later_meaning, meaning_in, is_awaited}
 use Rattle.hevc_stateless.specs.Steps.{Seen, Step, StepsIn, StepsBehind, TakesFirst}
 use Rattle.hevc_stateless.specs.Views.{traces_of}
 use Rattle.hevc_stateless_laws.specs.Stands.{state_by, meant, standing_after, asked, kept_after, first_meaning, meant_next, StandsBetween, TookAgain}
@@ -149,12 +149,12 @@ module _ {B H : Type 0} (o : Options) (us : List NalUnit) (u : NalUnit) (h : Uni
       queue = goes.completes.does.queue ∙ ap (λ (l : List (Frame H)). old.view.queue ++ l) (nothing_out goes.completes.does.out (goes.completes.does.given ∙ quiet a y S refl between.negotiates)) ∙ append-nil old.view.queue;
     }
 
-goes_of : {B H : Type 0} (v t : ℕ) (o : Options) (h : UnitHeader) (bytes : List ℕ) (old new : Seen B H) → StepsIn Decoding (Ok v) t o h bytes old new → Step (Ok v) t o h bytes old new
-goes_of v t o h bytes old new y = y
+goes_of : {B H : Type 0} (v t : ℕ) (o : Options) (h : UnitHeader) (bytes : List ℕ) (old new : Seen B H) → old.view.state ≡ Decoding → StepsIn (Ok v) t o h bytes old new → Step (Ok v) t o h bytes old new
+goes_of v t o h bytes old new decoding y = y.taken (ap is_awaited decoding)
 
 pub took_first_again : {B H : Type 0} (t : ℕ) (o : Options) (us others : List NalUnit) (u : NalUnit) (old new : Seen B H) (v : ℕ) → StandsBetween o us u old → old.view.state ≡ Decoding → TakesFirst (u ∷ others) (Ok v) t o old new → TookAgain t o us u old new
 took_first_again t o us others u old new v between decoding takes = by (unit_header u.bytes) refl takes.0
   where
     by : (r : Result UnitHeader HeaderFault) → unit_header u.bytes ≡ r → StepsBehind r (Ok v) t o u.bytes old new → TookAgain t o us u old new
-    by (Ok h) is step = took_again o us u h old between is t new v decoding (goes_of v t o h u.bytes old new (subst (λ (x : State). StepsIn x (Ok v) t o h u.bytes old new) decoding step))
+    by (Ok h) is step = took_again o us u h old between is t new v decoding (goes_of v t o h u.bytes old new decoding step)
     by (Err fault) is step = absurd (cc step.0)

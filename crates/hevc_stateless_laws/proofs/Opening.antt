@@ -21,12 +21,12 @@ use Rattle.hevc_driver.specs.Does.{output_in}
 use Rattle.hevc_driver.specs.Moments.{opening, step_part}
 use Rattle.hevc_driver.specs.Takes.{Opens}
 use Rattle.hevc_stateless.specs.declared.state.State.{State}
-use Rattle.hevc_stateless.specs.States.{unit_at, later_meaning, meaning_in}
+use Rattle.hevc_stateless.specs.States.{unit_at, later_meaning, meaning_in, is_awaited}
 use Rattle.hevc_stateless.specs.Steps.{Seen, Step, StepsIn, StepsBehind, TakesFirst, with_read_set}
 use Rattle.hevc_stateless.specs.Views.{traces_of}
 use Rattle.hevc_stateless_laws.specs.Stands.{state_by, meant, standing_after, StandsAfter, frame_at, kept_after, first_meaning, meant_next, Opened}
 use Rattle.hevc_stateless_laws.proofs.Keeping.{meant_last, length_meant}
-use Rattle.hevc_stateless_laws.proofs.Standing.{outputs_are, first_is}
+use Rattle.hevc_stateless_laws.proofs.Standing.{outputs_are, first_is, going_by}
 use Rattle.hevc_stateless_laws.proofs.Twice.{TwiceBy, twice, quiet}
 
 module _ {B H : Type 0} (t : ℕ) (o : Options) (us : List NalUnit) (u : NalUnit) (h : UnitHeader) (old new : Seen B H) (after : StandsAfter o us old) (parsed : unit_header u.bytes ≡ Ok h) (step : Step {T = ℕ} (Err errors.CheckEvents) t o h u.bytes old new) where
@@ -90,13 +90,12 @@ no_check headers.truncated is = cc is
 no_check (headers.unspecified_type n) is = cc is
 no_check headers.temporal_id_zero is = cc is
 
-checks_of : {B H : Type 0} (a : Option Format) (t : ℕ) (o : Options) (h : UnitHeader) (bytes : List ℕ) (old new : Seen B H) → StepsIn {T = ℕ} (state_by a) (Err errors.CheckEvents) t o h bytes old new → Step {T = ℕ} (Err errors.CheckEvents) t o h bytes old new
-checks_of None t o h bytes old new y = y
-checks_of (Some f) t o h bytes old new y = y
+checks_of : {B H : Type 0} (a : Option Format) (t : ℕ) (o : Options) (h : UnitHeader) (bytes : List ℕ) (old new : Seen B H) → old.view.state ≡ state_by a → StepsIn {T = ℕ} (Err errors.CheckEvents) t o h bytes old new → Step {T = ℕ} (Err errors.CheckEvents) t o h bytes old new
+checks_of a t o h bytes old new is y = y.taken (ap is_awaited is ∙ going_by a)
 
 pub opens_first : {B H : Type 0} (t : ℕ) (o : Options) (us others : List NalUnit) (u : NalUnit) (old new : Seen B H) → StandsAfter o us old → TakesFirst (u ∷ others) (Err errors.CheckEvents) t o old new → Opened t o us u old new
 opens_first t o us others u old new after takes = by (unit_header u.bytes) refl takes.0
   where
     by : (r : Result UnitHeader HeaderFault) → unit_header u.bytes ≡ r → StepsBehind {T = ℕ} r (Err errors.CheckEvents) t o u.bytes old new → Opened t o us u old new
-    by (Ok h) is step = opened t o us u h old new after is (checks_of (standing_after (meant o us)).store.accepted t o h u.bytes old new (subst (λ (x : State). StepsIn {T = ℕ} x (Err errors.CheckEvents) t o h u.bytes old new) after.state_is step))
+    by (Ok h) is step = opened t o us u h old new after is (checks_of (standing_after (meant o us)).store.accepted t o h u.bytes old new after.state_is step)
     by (Err fault) is step = absurd (no_check fault (sym (cc step.0)))

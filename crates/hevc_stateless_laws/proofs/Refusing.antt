@@ -23,12 +23,12 @@ use Rattle.hevc_driver.specs.Takes as takes
 use Rattle.hevc_driver.specs.Takes.{Takes}
 use Rattle.hevc_driver.proofs.Doing.{does_nothing, keeps_all}
 use Rattle.hevc_stateless.specs.declared.state.State.{State}
-use Rattle.hevc_stateless.specs.States.{unit_at, meaning_in}
+use Rattle.hevc_stateless.specs.States.{unit_at, meaning_in, is_awaited}
 use Rattle.hevc_stateless.specs.Steps.{Seen, Step, StepsIn, StepsBehind, TakesFirst}
 use Rattle.hevc_stateless.specs.Views.{traces_of}
 use Rattle.hevc_stateless_laws.specs.Stands.{state_by, meant, standing_after, StandsAfter, asked, frame_at, kept_after, IsRefusal, RefusedUnit}
 use Rattle.hevc_stateless_laws.proofs.Keeping.{meant_last, meant_behind, length_meant}
-use Rattle.hevc_stateless_laws.proofs.Standing.{Means, means, calls_are, outputs_are}
+use Rattle.hevc_stateless_laws.proofs.Standing.{Means, means, calls_are, outputs_are, going_by}
 
 -- where a unit is refused, that is the answer to the stream
 answers_at : {B H : Type 0} {seen : Seen B H} (o : Options) (us : List NalUnit) (u : NalUnit) (back : List NalUnit) (after : StandsAfter o us seen) (r : Option Cause) (cause : Cause) → r ≡ Some cause
@@ -121,16 +121,15 @@ refuses_of errors.PictureNumbersSpent t a b u s st is y = absurd is
 refuses_of errors.Backend t a b u s st is y = absurd is
 refuses_of errors.NoMemory t a b u s st is y = absurd is
 
-step_of : {B H : Type 0} (a : Option Format) (e : DecodeError) (t : ℕ) (o : Options) (h : UnitHeader) (bytes : List ℕ) (old new : Seen B H) → StepsIn {T = ℕ} (state_by a) (Err e) t o h bytes old new → Step {T = ℕ} (Err e) t o h bytes old new
-step_of None e t o h bytes old new y = y
-step_of (Some f) e t o h bytes old new y = y
+step_of : {B H : Type 0} (a : Option Format) (e : DecodeError) (t : ℕ) (o : Options) (h : UnitHeader) (bytes : List ℕ) (old new : Seen B H) → old.view.state ≡ state_by a → StepsIn {T = ℕ} (Err e) t o h bytes old new → Step {T = ℕ} (Err e) t o h bytes old new
+step_of a e t o h bytes old new is y = y.taken (ap is_awaited is ∙ going_by a)
 
 pub refused_first : {B H : Type 0} (e : DecodeError) (t : ℕ) (o : Options) (us others : List NalUnit) (u : NalUnit) (old new : Seen B H) → IsRefusal e → StandsAfter o us old → TakesFirst (u ∷ others) (Err e) t o old new → RefusedUnit e t o us u old new
 refused_first {B} {H} e t o us others u old new is after first = by (unit_header u.bytes) refl first.0
   where
     by : (r : Result UnitHeader HeaderFault) → unit_header u.bytes ≡ r → StepsBehind {T = ℕ} r (Err e) t o u.bytes old new → RefusedUnit e t o us u old new
     by (Ok h) parsed step =
-        let s = step_of (standing_after (meant o us)).store.accepted e t o h u.bytes old new (subst (λ (x : State). StepsIn {T = ℕ} x (Err e) t o h u.bytes old new) after.state_is step) in
+        let s = step_of (standing_after (meant o us)).store.accepted e t o h u.bytes old new after.state_is step in
         read_refused e t o us u old new after h parsed (subst (λ (x : State). takes.Refuses e t (traces_of old.log old.view) (traces_of new.log new.view) (meaning_in x (unit_at o old.kept h u.bytes)) old.view.standing new.view.standing) after.state_is (refuses_of e t _ _ _ _ _ is s.part))
     by (Err fault) parsed step = header_refused e t o us u old new after fault parsed (cc step.0) step.1
 
@@ -147,7 +146,7 @@ full_first {B} {H} t o us others back u old new after first = by (unit_header u.
 
     by : (r : Result UnitHeader HeaderFault) → unit_header u.bytes ≡ r → StepsBehind {T = ℕ} r (Err errors.DpbFull) t o u.bytes old new → verdict (meant o (us ++ u ∷ back)) ≡ Err (record { unit = length us; cause = DpbFull })
     by (Ok h) parsed step =
-        let s = step_of (standing_after (meant o us)).store.accepted errors.DpbFull t o h u.bytes old new (subst (λ (x : State). StepsIn {T = ℕ} x (Err errors.DpbFull) t o h u.bytes old new) after.state_is step) in
+        let s = step_of (standing_after (meant o us)).store.accepted errors.DpbFull t o h u.bytes old new after.state_is step in
         let m = same errors.DpbFull t o us u old new after h parsed in
         let y = meaning o (kept_after o us) u.bytes in
         let S = standing_after (meant o us) in

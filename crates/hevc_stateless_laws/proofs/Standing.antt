@@ -28,7 +28,7 @@ use Rattle.hevc_driver.specs.Moments.{begins_at, step_part, negotiates}
 use Rattle.hevc_driver.specs.Takes.{Goes}
 use Rattle.hevc_stateless.specs.declared.state.State.{State}
 use Rattle.hevc_stateless.specs.declared.state.State.TheVariants.{AwaitingStreamInfo, AwaitingFormat, Decoding, Reset}
-use Rattle.hevc_stateless.specs.States.{Unit, unit_at, is_sequence_set, is_parameter_set, later_meaning, state_behind, meaning_in}
+use Rattle.hevc_stateless.specs.States.{Unit, unit_at, is_sequence_set, is_parameter_set, later_meaning, state_behind, meaning_in, is_awaited}
 use Rattle.hevc_stateless.specs.Steps.{Seen, Step, StepsIn, StepsBehind, TakesFirst}
 use Rattle.hevc_stateless.specs.Views.{traces_of}
 use Rattle.hevc_stateless_laws.specs.Stands.{state_by, meant, standing_after, StandsAfter, frame_at, asked, first_meaning, Took}
@@ -233,17 +233,23 @@ module _ {B H : Type 0} (t : ℕ) (o : Options) (us : List NalUnit) (u : NalUnit
     };
   }
 
+-- no format is awaited where a decoder stands
+pub going_by : (a : Option Format) → is_awaited (state_by a) ≡ false
+going_by None = refl
+going_by (Some f) = refl
+
 -- ---- a call that answers Ok
 
-steps_of : {B H : Type 0} (x : State) (v t : ℕ) (o : Options) (h : UnitHeader) (bytes : List ℕ) (old new : Seen B H) → StepsIn x (Ok v) t o h bytes old new → Step (Ok v) t o h bytes old new
-steps_of AwaitingStreamInfo v t o h bytes old new y = y
-steps_of AwaitingFormat v t o h bytes old new y = absurd (cc y.0)
-steps_of Decoding v t o h bytes old new y = y
-steps_of Reset v t o h bytes old new y = y
+steps_of : {B H : Type 0} (v t : ℕ) (o : Options) (h : UnitHeader) (bytes : List ℕ) (old new : Seen B H) → StepsIn (Ok v) t o h bytes old new → Step (Ok v) t o h bytes old new
+steps_of v t o h bytes old new y = by (is_awaited old.view.state) refl
+  where
+    by : (b : Bool) → is_awaited old.view.state ≡ b → Step (Ok v) t o h bytes old new
+    by true waits = absurd (cc (y.awaited waits).0)
+    by false going = y.taken going
 
 pub took_first : {B H : Type 0} (t : ℕ) (o : Options) (us others : List NalUnit) (u : NalUnit) (old new : Seen B H) (v : ℕ) → StandsAfter o us old → TakesFirst (u ∷ others) (Ok v) t o old new → Took t o us u old new
 took_first t o us others u old new v after takes = by (unit_header u.bytes) refl takes.0
   where
     by : (r : Result UnitHeader HeaderFault) → unit_header u.bytes ≡ r → StepsBehind r (Ok v) t o u.bytes old new → Took t o us u old new
-    by (Ok h) is step = took t o us u h old new v after is (steps_of old.view.state v t o h u.bytes old new step)
+    by (Ok h) is step = took t o us u h old new v after is (steps_of v t o h u.bytes old new step)
     by (Err fault) is step = absurd (cc step.0)

@@ -1,5 +1,7 @@
-use Rattle.std.proofs.Common.{◌≡◌, ◌∙◌, ap, sym, arith}
-use Rattle.std.proofs.lemmas.Bool.Decides.{nat_tests}
+use Rattle.std.proofs.Common.{◌≡◌, ◌∙◌, ap, sym}
+use Rattle.std.proofs.lemmas.Bool.{ne_eqb}
+use Rattle.hevc_bits.specs.NaluType.{nalu_type_number, nalu_type_of}
+use Rattle.hevc_bits.specs.TypeNumbers.{nalu_type_of-nalu_type_number}
 use Rattle.hevc_bits.specs.FoundUnit.{bytes_of}
 use Rattle.hevc_spec.specs.UnitHeader.{UnitHeader}
 use Rattle.hevc_spec.specs.UnitTypes.{is_slice}
@@ -7,21 +9,24 @@ use Rattle.hevc_kept_sets.specs.Kept.{kept_of, options_in}
 use Rattle.hevc_stateless.proofs.Coding.{end_means, close_means, other_means, end_step, close_step, idle_step}
 use Rattle.hevc_stateless.proofs.decoder.StatelessDecoder.take_now.Goals as goal
 
-pub returns-then-number-eq36-clause-part : goal.returns-then-number-eq36-clause-part
-returns-then-number-eq36-clause-part g c =
+pub returns-in-EosNut-clause-part : goal.returns-in-EosNut-clause-part
+returns-in-EosNut-clause-part g c =
     let r = c.requires in
-    let typed : c.args.nalu.header.nal_unit_type ≡ 36 = ap (λ (x : UnitHeader). x.nal_unit_type) (sym c.header.ensures.value) ∙ sym c.nalu_type.ensures ∙ sym c.type_number-number.ensures ∙ c.if-number-eq36.true in
+    let typed : c.args.nalu.header.nal_unit_type ≡ 36 = ap (λ (x : UnitHeader). x.nal_unit_type) (sym c.header.ensures.value) ∙ sym c.nalu_type-nalu_type.ensures ∙ ap nalu_type_number c.in-EosNut.is in
     end_step g.B.StatelessH265DecoderBackend.log c.args.timestamp c.args.self.now.session c.end_sequence.new.self _ (end_means (options_in c.args.self.now.kept) (kept_of c.args.self.now.kept) (bytes_of c.args.nalu) c.args.nalu.header r.parsed r.wanted r.other typed) c.end_sequence.ensures
 
-pub returns-then-number-eq37-clause-part : goal.returns-then-number-eq37-clause-part
-returns-then-number-eq37-clause-part g c =
+pub returns-in-EobNut-clause-part : goal.returns-in-EobNut-clause-part
+returns-in-EobNut-clause-part g c =
     let r = c.requires in
-    let typed : c.args.nalu.header.nal_unit_type ≡ 37 = ap (λ (x : UnitHeader). x.nal_unit_type) (sym c.header.ensures.value) ∙ sym c.nalu_type.ensures ∙ sym c.type_number-number.ensures ∙ c.if-number-eq37.true in
+    let typed : c.args.nalu.header.nal_unit_type ≡ 37 = ap (λ (x : UnitHeader). x.nal_unit_type) (sym c.header.ensures.value) ∙ sym c.nalu_type-nalu_type.ensures ∙ ap nalu_type_number c.in-EobNut.is in
     close_step g.B.StatelessH265DecoderBackend.log c.args.timestamp c.args.self.now.session c.end_bitstream.new.self _ (close_means (options_in c.args.self.now.kept) (kept_of c.args.self.now.kept) (bytes_of c.args.nalu) c.args.nalu.header r.parsed r.wanted r.other typed) c.end_bitstream.ensures
 
-pub returns-else-number-eq37-clause-part : goal.returns-else-number-eq37-clause-part
-returns-else-number-eq37-clause-part g c =
+pub returns-in_default-clause-part : goal.returns-in_default-clause-part
+returns-in_default-clause-part g c =
     let r = c.requires in
-    let number = ap (λ (x : UnitHeader). x.nal_unit_type) (sym c.header.ensures.value) ∙ sym c.nalu_type.ensures ∙ sym c.type_number-number.ensures in
+    let number = ap (λ (x : UnitHeader). x.nal_unit_type) (sym c.header.ensures.value) ∙ sym c.nalu_type-nalu_type.ensures in
+    let own = nalu_type_of-nalu_type_number c.nalu_type-nalu_type.result in
+    let no_end = ne_eqb c.args.nalu.header.nal_unit_type 36 (λ e. c.in_default.not-EosNut (sym own ∙ ap nalu_type_of (sym number ∙ e))) in
+    let no_close = ne_eqb c.args.nalu.header.nal_unit_type 37 (λ e. c.in_default.not-EobNut (sym own ∙ ap nalu_type_of (sym number ∙ e))) in
     idle_step g.B.StatelessH265DecoderBackend.log c.args.timestamp c.args.self.now.session _ (other_means (options_in c.args.self.now.kept) (kept_of c.args.self.now.kept) (bytes_of c.args.nalu) c.args.nalu.header r.parsed r.wanted r.other
-    (ap is_slice number ∙ sym c.is_slice.ensures ∙ c.if-is_slice.false) (let e = c.if-number-eq36.false in grind (arith, nat_tests, e, number)) (let e = c.if-number-eq37.false in grind (arith, nat_tests, e, number)))
+    (ap is_slice number ∙ sym c.is_slice.ensures ∙ c.if-is_slice.false) no_end no_close)

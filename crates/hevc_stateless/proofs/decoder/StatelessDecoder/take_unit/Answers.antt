@@ -12,11 +12,11 @@ returns-then-temporal_id_plus1-options-clause-step g c =
     unwanted_step (options_in c.args.self.now.kept) (kept_of c.args.self.now.kept) (bytes_of c.args.nalu) c.args.nalu.header c.requires.parsed tt c.args.timestamp (g.B.StatelessH265DecoderBackend.log c.args.self.now.session.backend) c.args.self.now.session
     (let above = c.if-temporal_id_plus1-options.true in let most = ap (λ (x : Options). x.highest_tid) c.options.ensures in let told = c.temporal_id_plus1.ensures.value ∙ ap (λ (x : UnitHeader). x.nuh_temporal_id_plus1) c.header-header.ensures.value in grind (arith, nat_tests, above, most, told))
 
-pub returns-in-32-clause-step : goal.returns-in-32-clause-step
-returns-in-32-clause-step g c = c.take_video_set.ensures.step c.args.timestamp
+pub returns-in-VpsNut-clause-step : goal.returns-in-VpsNut-clause-step
+returns-in-VpsNut-clause-step g c = c.take_video_set.ensures.step c.args.timestamp
 
-pub returns-in-33-clause-step : goal.returns-in-33-clause-step
-returns-in-33-clause-step g c = c.take_sequence_set.ensures.step c.args.timestamp
+pub returns-in-SpsNut-clause-step : goal.returns-in-SpsNut-clause-step
+returns-in-SpsNut-clause-step g c = c.take_sequence_set.ensures.step c.args.timestamp
 
-pub returns-in-34-clause-step : goal.returns-in-34-clause-step
-returns-in-34-clause-step g c = c.take_picture_set.ensures.step c.args.timestamp
+pub returns-in-PpsNut-clause-step : goal.returns-in-PpsNut-clause-step
+returns-in-PpsNut-clause-step g c = c.take_picture_set.ensures.step c.args.timestamp
