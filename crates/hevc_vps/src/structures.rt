@@ -10,8 +10,8 @@ ghost use Rattle.hevc_types_b.specs.Vps.{plain_vps};
 use hevc_bits::NaluReader;
 use hevc_elements::ParseError;
 use hevc_elements::rows::{bits_32, flag, flag_or, ue, ue_if, ue_u16};
-use hevc_spec::Row;
 use hevc_hrd::read_hrd_parameters;
+use hevc_spec::Row;
 use hevc_types_b::{HrdParams, Vps};
 
 /// Rows 17 to 24 of table 1.

@@ -7,8 +7,8 @@ ghost use Rattle.hevc_types_b.specs.VuiParams.{plain_vui_params};
 use hevc_bits::NaluReader;
 use hevc_elements::ParseError;
 use hevc_elements::rows::{bits_32, flag, ue_if};
-use hevc_spec::Row;
 use hevc_hrd::read_hrd_parameters;
+use hevc_spec::Row;
 use hevc_types_b::{HrdParams, VuiParams};
 
 /// Rows 15 to 20 of table 8.
