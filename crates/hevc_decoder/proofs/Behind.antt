@@ -117,7 +117,7 @@ module _ {B H : Type 0} (o : Options) (us : List NalUnit) (u : NalUnit) (h : Uni
     module _ (new : Scene B H) (r : Result T DecodeError) where
       takes : (e : Delivered (Decodes o h u.bytes) r k (accepting mid) new) → Takes r 0 (traces_of mid.seen.log (accepting mid).seen.view) (traces_of new.seen.log (with_queue e.out new.seen).view) (later_meaning y) q.next new.seen.view.standing
       takes e = subst (λ (m : Meaning). Takes r 0 (traces_of mid.seen.log (accepting mid).seen.view) (traces_of new.seen.log (with_queue e.out new.seen).view) (later_meaning m) q.next new.seen.view.standing) (meant_is o us u h (accepting mid).seen between parsed)
-          (subst (λ (s : Standing). Takes r 0 (traces_of mid.seen.log (accepting mid).seen.view) (traces_of new.seen.log (with_queue e.out new.seen).view) (meaning_in Decoding (unit_at o mid.seen.kept h u.bytes)) s new.seen.view.standing) between.stands e.calls.part)
+          (subst (λ (s : Standing). Takes r 0 (traces_of mid.seen.log (accepting mid).seen.view) (traces_of new.seen.log (with_queue e.out new.seen).view) (meaning_in Decoding (unit_at o mid.seen.kept h u.bytes)) s new.seen.view.standing) between.stands (e.calls.taken refl).part)
 
       -- once its format is accepted it opens no other
       no_more : (e : Delivered (Decodes o h u.bytes) r k (accepting mid) new) → r ≡ Err errors.CheckEvents → ⊥
@@ -132,7 +132,7 @@ module _ {B H : Type 0} (o : Options) (us : List NalUnit) (u : NalUnit) (h : Uni
     pub stands_again : (new : Scene B H) (v : T) → Gives (Ok v) k o h u.bytes (accepting mid) new → StandsAfter o (us ++ u ∷ []) new.seen
     stands_again new v (inr z) = absurd (cc z.told)
     stands_again new v (inl e) =
-        stands_with o (us ++ u ∷ []) new.seen e.out (took_again o us u h (accepting mid).seen between parsed 0 (with_queue e.out new.seen) 0 refl (record { part = e.calls.part; state = e.calls.state; kept = e.calls.kept })).stands
+        stands_with o (us ++ u ∷ []) new.seen e.out (took_again o us u h (accepting mid).seen between parsed 0 (with_queue e.out new.seen) 0 refl (record { part = (e.calls.taken refl).part; state = (e.calls.taken refl).state; kept = (e.calls.taken refl).kept })).stands
 
   -- ---- a unit as a whole
 
