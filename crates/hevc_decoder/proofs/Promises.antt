@@ -1,5 +1,5 @@
 -- From a whole run to what is promised of it.
-use Rattle.std.proofs.Common.{◌≡◌, ℕ, ◌+◌, ◌≤◌, List, [], ◌∷◌, ◌++◌, map, length, refl, sym, ◌∙◌, ap, subst, append_assoc, arith, Option, Some, None, Result, Ok, Err}
+use Rattle.std.proofs.Common.{◌≡◌, ℕ, ◌+◌, ◌-◌, ◌^◌, ◌≤◌, ◌<◌, List, [], ◌∷◌, ◌++◌, map, length, refl, sym, ◌∙◌, ap, subst, append_assoc, arith, Option, Some, None, Result, Ok, Err}
 use Rattle.std.specs.Prelude.{OnOk, IfErr, Contains}
 use Rattle.std.specs.List.{AllByRecursion}
 use Rattle.std.proofs.lemmas.List.{map-append, append-nil}
@@ -15,7 +15,7 @@ use Rattle.hevc_walk_joined.proofs.Cuts.{calls_in-append, outputs_in-append}
 use Rattle.hevc_walk_fates.specs.Submissions.{submitted_in, submitted_numbers}
 use Rattle.hevc_walk_fates.proofs.Fates.{output_once, output_by_fate}
 use Rattle.hevc_walk_fates.proofs.Submitted.{submitted_once}
-use Rattle.hevc_walk_bound.proofs.Bound.{clean_ok}
+use Rattle.hevc_walk_bound.proofs.Bound.{clean_ok, stores_few}
 use Rattle.hevc_walk_order.specs.DisplayOrder.{ComeInOrder, ComeInTurn}
 use Rattle.hevc_walk_order.proofs.Law.{law}
 use Rattle.hevc_walk_order.proofs.Turns.{in_turn}
@@ -23,10 +23,16 @@ use Rattle.hevc_backend.specs.declared.call.Call.{Call}
 use Rattle.hevc_backend.specs.declared.call.Call.TheVariants as code
 use Rattle.hevc_driver.specs.declared.decode_error.DecodeError.{DecodeError}
 use Rattle.hevc_driver.specs.declared.decode_error.DecodeError.TheVariants as errors
-use Rattle.hevc_driver.specs.Answers.{IsNotOfBackend}
-use Rattle.hevc_driver.specs.Calls.{call_of, submissions}
+use Rattle.hevc_backend.specs.Trait.{Counts, Counted}
+use Rattle.hevc_driver.specs.Answers.{CountsErrors, KeepsFaultless, IsNotOfBackend}
+use Rattle.hevc_driver.specs.Calls.{call_of, IsTimed, submissions}
+use Rattle.hevc_decoder.specs.Promise.{CountsNone, IsHonest, Decodes}
 use Rattle.hevc_driver.proofs.Members.{part_left}
 use Rattle.hevc_stateless_laws.specs.Stands.{asked}
+use Rattle.hevc_spec.specs.Units.{units}
+use Rattle.hevc_stream.specs.Options.{Options}
+use Rattle.hevc_stream.specs.Stream.{meanings}
+use Rattle.hevc_decoder.specs.declared.decoded.Decoded.{Decoded}
 use Rattle.hevc_decoder.specs.declared.decoded.Shown.{Shown}
 use Rattle.hevc_decoder.specs.declared.decoded.Refused.{Refused}
 use Rattle.hevc_decoder.specs.Answers.{without_unit, IsAnswer, AnswersOnly, IsNoMemory, IsOkOrNoMemory, IsNoFullStore, FindsRoom}
@@ -322,3 +328,63 @@ module _ {H : Type 0} (us : List Meaning) (r : Result ℕ Refused) (old new : Tr
 
   pub room_of : IsClean us → FindsRoom r
   room_of clean = room_by r (clean_ok us clean) x.ends
+
+  pub timestamps_of : Grew old.log new.log (λ l. AllByRecursion (IsTimed 0) l)
+  timestamps_of = (x.does.calls, x.does.log, x.does.timed)
+
+-- a count that is what it was, and could have risen, has not risen
+not_risen : (n m : ℕ) → m ≡ n → n < 2 ^ 64 - 1 → Counted n m → ⊥
+not_risen n m same less risen = let r = risen.1 in omega (arith, same, less, r)
+
+-- a backend that counted nothing isn't blamed
+pub blames_none : (before now : Counts) (q : Result ℕ DecodeError) → CountsErrors before now q → CountsNone before now → IsNotOfBackend q
+blames_none before now (Ok n) cause none = tt
+blames_none before now (Err errors.Backend) cause none = λ _. not_risen before.faults now.faults (ap (λ (c : Counts). c.faults) none.same) none.faults cause.0
+blames_none before now (Err (errors.NotEnoughOutputBuffers frames)) cause none = λ _. not_risen before.empty_answers now.empty_answers (ap (λ (c : Counts). c.empty_answers) none.same) none.empty_answers cause.0
+blames_none before now (Err e) cause none = λ h. h
+
+-- what a whole run promises
+module _ {B H : Type 0} (log : B → Option (List (Call H))) (counts : B → Counts) (is_faultless : B → Type 0) (backend : B) (old new : List (Shown H)) (d : Decoded B)
+    (cause : CountsErrors (counts backend) (counts d.backend) (without_unit d.result)) (faultless : KeepsFaultless (is_faultless backend) (is_faultless d.backend) (without_unit d.result)) where
+  abbrev first_trail : Trail H
+  first_trail = record { log = log backend; shown = old; tickets = [] }
+
+  abbrev last_trail : List (ℕ × H) → Trail H
+  last_trail tickets = record { log = log d.backend; shown = new; tickets = tickets }
+
+  pub honest_of : (us : List Meaning) (tickets : List (ℕ × H)) → Ended d.result us first_trail (last_trail tickets) → IsHonest log counts is_faultless backend old new d
+  honest_of us tickets x = record {
+    answers_only = answers_only_of us d.result first_trail (last_trail tickets) x;
+    handles = handles_of us d.result first_trail (last_trail tickets) x refl;
+    submitted_once = submitted_once_of us d.result first_trail (last_trail tickets) x;
+    once = once_of us d.result first_trail (last_trail tickets) x;
+    timestamps = timestamps_of us d.result first_trail (last_trail tickets) x;
+    cause = cause;
+    faultless = faultless;
+  }
+
+  pub decodes_of : (o : Options) (s : List ℕ) (tickets : List (ℕ × H)) → Ended d.result (meanings o s) first_trail (last_trail tickets) → IfErr d.result (λ refused. refused.unit ≤ length (units s)) → Decodes log counts is_faultless o s backend old new d
+  decodes_of o s tickets x within =
+      let us = meanings o s in
+      let r = d.result in
+      let begin = first_trail in
+      let end = last_trail tickets in
+      record {
+        calls = calls_of us r begin end x;
+        outputs = outputs_of us r begin end x;
+        answer = answer_is us r begin end x;
+        whole_calls = whole_calls_of us r begin end x;
+        whole_outputs = whole_outputs_of us r begin end x;
+        unit = within;
+        frames = frames_of us r begin end x;
+        fates = fates_of us r begin end x;
+        in_turn = in_turn_of us r begin end x;
+        display_order = display_order_of us r begin end x;
+        complete = λ n is none. completes us r begin end x n is (blames_none (counts backend) (counts d.backend) (without_unit r) cause none);
+        clean = λ is none. completes_clean us r begin end x is (blames_none (counts backend) (counts d.backend) (without_unit r) cause none);
+        complete_over_faultless = λ n is never. completes us r begin end x n is (faultless never).1;
+        clean_over_faultless = λ is never. completes_clean us r begin end x is (faultless never).1;
+        stores_few = stores_few us;
+        room = room_of us r begin end x;
+        honest = honest_of us tickets x;
+      }

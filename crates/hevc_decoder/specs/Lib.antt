@@ -7,3 +7,4 @@ pub mod Takes
 pub mod Runs
 pub mod Sources
 pub mod Windows
+pub mod Promise

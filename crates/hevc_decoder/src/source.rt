@@ -1,19 +1,9 @@
 //! A source decoded.
-ghost use Rattle.std.specs.Prelude.{◌≡◌, ◌<◌, ◌≤◌, ◌^◌, ℕ, List, IfErr, IfOk, OnOk, IsErrOf, length, map};
-ghost use Rattle.std.specs.declared.result.Result.TheVariants.{Ok};
+ghost use Rattle.std.specs.Prelude.{◌<◌, ◌≤◌, ◌^◌, ℕ, List, IfOk, OnOk, IsErrOf, length};
 ghost use Rattle.std.specs.Io.KnownBytes.{Consumes, IsAtEnd};
-ghost use Rattle.hevc_spec.specs.Units.{units};
 ghost use Rattle.hevc_faults.specs.Faults.{Rose};
-ghost use Rattle.hevc_walk.specs.Clean.{IsClean};
-ghost use Rattle.hevc_walk.specs.Results.{calls, outputs, verdict};
-ghost use Rattle.hevc_walk_order.specs.DisplayOrder.{ComeInOrder, ComeInTurn};
-ghost use Rattle.hevc_stream.specs.Stream.{meanings};
 ghost use Rattle.hevc_options.specs.Options.{options_of};
-ghost use Rattle.hevc_driver.specs.Answers.{CountsErrors, KeepsFaultless};
-ghost use Rattle.hevc_driver.specs.Calls.{call_of};
-ghost use Rattle.hevc_decoder.specs.Answers.{AnswersOnly, FindsRoom, IsOkOrNoMemory, without_unit};
-ghost use Rattle.hevc_decoder.specs.Headline.{Grew, Appended, IsFront, all_asked, AnswersVerdict, EndsCalls, EndsOutputs, WantsFrame, AllSubmitted, SubmittedOnce, ComeOutOnce, AreForOutput};
-ghost use Rattle.hevc_decoder.specs.Names.{output_picture};
+ghost use Rattle.hevc_decoder.specs.Promise.{Decodes, IsHonest};
 ghost use Rattle.hevc_decoder.specs.Sources.{ComeOutFirst, OfSource};
 
 use crate::decoded::{Decoded, Shown};
@@ -46,55 +36,12 @@ pub fn decode_source_with<B: StatelessH265DecoderBackend + Drop, S: Source>(
     ensures outputs { ComeOutFirst (options_of options) (S.left source.old)
         shown.old.items shown.new.items }
 
-    // The rest as for a stream that is there.
-    ensures calls { OfSource result (S.left source.old) (λ decoded stream.
-        Grew (B.log backend) (B.log decoded.backend)
-        (λ l. IsFront (map call_of l)
-        (all_asked (calls (meanings (options_of options) stream))))) }
-    ensures answer { OfSource result (S.left source.old) (λ decoded stream.
-        AnswersVerdict decoded.result (verdict (meanings (options_of options) stream))) }
-    ensures answers_only { IfOk result (λ decoded. AnswersOnly decoded.result) }
-    ensures whole_calls { OfSource result (S.left source.old) (λ decoded stream.
-        Grew (B.log backend) (B.log decoded.backend)
-        (λ l. EndsCalls decoded.result (map call_of l)
-        (calls (meanings (options_of options) stream)))) }
-    ensures whole_outputs { OfSource result (S.left source.old) (λ decoded stream.
-        Appended shown.old.items shown.new.items
-        (λ o. EndsOutputs decoded.result (map output_picture o)
-        (outputs (meanings (options_of options) stream)))) }
-    ensures unit { OfSource result (S.left source.old) (λ decoded stream.
-        IfErr decoded.result (λ refused. refused.unit ≤ length (units stream))) }
-    ensures frames { OfSource result (S.left source.old) (λ decoded stream.
-        IfErr decoded.result (λ refused. WantsFrame refused.error refused.unit
-        (meanings (options_of options) stream))) }
-    ensures handles { IfOk result (λ decoded.
-        Grew (B.log backend) (B.log decoded.backend)
-        (λ l. Appended shown.old.items shown.new.items (λ o. AllSubmitted l o))) }
-    ensures submitted_once { IfOk result (λ decoded.
-        Grew (B.log backend) (B.log decoded.backend) (λ l. SubmittedOnce l)) }
-    ensures once { OnOk result
-        (Appended shown.old.items shown.new.items (λ o. ComeOutOnce o)) }
-    ensures fates { OfSource result (S.left source.old) (λ decoded stream.
-        OnOk decoded.result (Appended shown.old.items shown.new.items
-        (λ o. AreForOutput (meanings (options_of options) stream) o))) }
-    ensures in_turn { OfSource result (S.left source.old) (λ decoded stream.
-        OnOk decoded.result (Appended shown.old.items shown.new.items
-        (λ o. ComeInTurn (meanings (options_of options) stream) (map output_picture o)))) }
-    ensures display_order { OfSource result (S.left source.old) (λ decoded stream.
-        OnOk decoded.result (Appended shown.old.items shown.new.items
-        (λ o. ComeInOrder (meanings (options_of options) stream) (map output_picture o)))) }
-    ensures cause { IfOk result (λ decoded. CountsErrors (B.counts backend)
-        (B.counts decoded.backend) (without_unit decoded.result)) }
-    ensures faultless { IfOk result (λ decoded. KeepsFaultless (B.is_faultless backend)
-        (B.is_faultless decoded.backend) (without_unit decoded.result)) }
-    ensures complete { OfSource result (S.left source.old) (λ decoded stream.
-        (n : ℕ) → verdict (meanings (options_of options) stream) ≡ Ok n
-        → B.is_faultless backend → IsOkOrNoMemory decoded.result) }
-    ensures clean { OfSource result (S.left source.old) (λ decoded stream.
-        IsClean (meanings (options_of options) stream)
-        → B.is_faultless backend → IsOkOrNoMemory decoded.result) }
-    ensures room { OfSource result (S.left source.old) (λ decoded stream.
-        IsClean (meanings (options_of options) stream) → FindsRoom decoded.result) }
+    // All else as for a stream that is there.
+    ensures decodes { OfSource result (S.left source.old) (λ decoded stream.
+        Decodes B.log B.counts B.is_faultless (options_of options) stream
+        backend shown.old.items shown.new.items decoded) }
+    ensures honest { IfOk result (λ decoded. IsHonest B.log B.counts B.is_faultless
+        backend shown.old.items shown.new.items decoded) }
 
     // Why the input can't be had.
     ensures failed { IsErrOf result InputError.Failed
