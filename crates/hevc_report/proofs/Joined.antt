@@ -150,9 +150,9 @@ report_is options stream empty after log none given shown result p q r s b m c o
     text_is us log shown result (whole_of us empty after log none given shown result p q r s b m c o a) counted
 
 -- what follows of the bytes that a source had left, where it tells them
-pub told_by : (left : Option (List ℕ)) (P Q R S : List ℕ → Type 0) → ((s : List ℕ) → P s → Q s → R s → S s) → IfSome left P → IfSome left Q → IfSome left R → IfSome left S
-told_by None P Q R S follows p q r = tt
-told_by (Some s) P Q R S follows p q r = follows s p q r
+pub told_by : (left : Option (List ℕ)) (P Q : List ℕ → Type 0) → ((s : List ℕ) → P s → Q s) → IfSome left P → IfSome left Q
+told_by None P Q follows p = tt
+told_by (Some s) P Q follows p = follows s p
 
 -- ---- a summary
 

@@ -13,9 +13,9 @@ returns-clause-text g c =
     let decoded = c.in_ok-decoded.decoded in
     let shown = c.deref.result.now in
     let given = c.decode_source_with.new.shown.items in
-    told_by (g.S.Source.left c.args.source.now) _ _ _ _
-    (λ s calls outputs answer.
+    told_by (g.S.Source.left c.args.source.now) _ _
+    (λ s x.
     c.in_ok-push_rest.ensures ∙ ap (λ (l : List ℕ). l ++ flat_map shown_line shown ++ last_line (length shown) decoded.result) c.into_text-text.ensures.lines
     ∙ report_is (options_of c.args.options) s c.new-backend.result.log decoded.backend.log decoded.backend.log c.new-shown.result.items given shown decoded.result
-    c.new-backend.ensures.log refl c.new-shown.ensures.items c.deref.ensures.value (asked.faultless tt).1 (λ m. true≢false (sym (c.wants_memory.ensures.1 m) ∙ c.if-wants_memory.false)) calls outputs answer c.into_text-text.ensures.handles)
-    asked.whole_calls asked.whole_outputs asked.answer
+    c.new-backend.ensures.log refl c.new-shown.ensures.items c.deref.ensures.value (asked.honest.faultless tt).1 (λ m. true≢false (sym (c.wants_memory.ensures.1 m) ∙ c.if-wants_memory.false)) x.whole_calls x.whole_outputs x.answer c.into_text-text.ensures.handles)
+    asked.decodes
