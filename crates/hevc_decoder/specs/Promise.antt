@@ -29,7 +29,6 @@ pub record IsHonest {B H : Type 0} (log : B → Option (List (Call H))) (counts 
     (is_faultless : B → Type 0) (backend : B) (old new : List (Shown H)) (d : Decoded B)
     : Type 0 where
   pub answers_only : AnswersOnly d.result
-
   -- each picture comes out with the handle of its one submission
   pub handles : Grew (log backend) (log d.backend)
       (λ l. Appended old new (λ o. AllSubmitted l o))
@@ -38,7 +37,6 @@ pub record IsHonest {B H : Type 0} (log : B → Option (List (Call H))) (counts 
   pub once : Appended old new (λ o. ComeOutOnce o)
   -- each new picture has timestamp 0
   pub timestamps : Grew (log backend) (log d.backend) (λ l. AllByRecursion (IsTimed 0) l)
-
   -- the backend is blamed only where it failed or had no frame
   pub cause : CountsErrors (counts backend) (counts d.backend) (without_unit d.result)
   -- one that never fails didn't, and never will
@@ -68,7 +66,6 @@ pub record Decodes {B H : Type 0} (log : B → Option (List (Call H))) (counts :
   -- a frame is wanted for a picture alone, and as it begins
   pub frames : IfErr d.result
       (λ refused. WantsFrame refused.error refused.unit (meanings options stream))
-
   -- where the stream is decoded whole, those whose fate it is to be output come out
   pub fates : OnOk d.result (Appended old new (λ o. AreForOutput (meanings options stream) o))
   -- sequence by sequence, and each that keeps the order that it declares in display order
@@ -76,7 +73,6 @@ pub record Decodes {B H : Type 0} (log : B → Option (List (Call H))) (counts :
       (Appended old new (λ o. ComeInTurn (meanings options stream) (map output_picture o)))
   pub display_order : OnOk d.result
       (Appended old new (λ o. ComeInOrder (meanings options stream) (map output_picture o)))
-
   -- Where nothing is refused, and so in every clean stream, memory is all that it takes with a
   -- backend that fails nowhere, and with one that never fails.
   pub complete : (n : ℕ) → walk.verdict (meanings options stream) ≡ Ok n
@@ -91,5 +87,4 @@ pub record Decodes {B H : Type 0} (log : B → Option (List (Call H))) (counts :
   -- backend none finds the buffer full
   pub stores_few : IsClean (meanings options stream) → NeverStoreMore (meanings options stream)
   pub room : IsClean (meanings options stream) → FindsRoom d.result
-
   pub honest : IsHonest log counts is_faultless backend old new d
