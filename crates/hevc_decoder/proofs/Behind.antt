@@ -25,7 +25,7 @@ use Rattle.hevc_stateless_laws.proofs.Opening.{opens, opened}
 use Rattle.hevc_stateless_laws.proofs.Again.{first_full, tw, meant_is, took_again}
 use Rattle.hevc_stateless_laws.proofs.Twice.{TwiceBy}
 use Rattle.hevc_decoder.specs.Scenes.{Scene, trail_of, with_queue, accepting}
-use Rattle.hevc_decoder.specs.Gives.{Delivered, Unmade, Decodes, Gives, is_check_events, GivesWhole}
+use Rattle.hevc_decoder.specs.Gives.{Delivered, Unmade, DecodesUnit, Gives, is_check_events, GivesWhole}
 use Rattle.hevc_decoder.specs.Takes.{DoesAll, TakesUnit}
 use Rattle.hevc_decoder.proofs.Doing.{lifts, does_all_nothing}
 use Rattle.hevc_decoder.proofs.Giving.{take_once}
@@ -62,7 +62,7 @@ module _ {B H : Type 0} (o : Options) (us : List NalUnit) (u : NalUnit) (h : Uni
   -- ---- a call is enough
 
   module _ (new : Scene B H) where
-    step_of : {T : Type 0} (r : Result T DecodeError) (d : Delivered (Decodes o h u.bytes) r k old new) → Step r 0 o h u.bytes old.seen (with_queue d.out new.seen)
+    step_of : {T : Type 0} (r : Result T DecodeError) (d : Delivered (DecodesUnit o h u.bytes) r k old new) → Step r 0 o h u.bytes old.seen (with_queue d.out new.seen)
     step_of {T} r d = step_in a r o h u.bytes old.seen (with_queue d.out new.seen) after.state_is d.calls
 
     same : Means (meaning_in (state_by a) (unit_at o old.seen.kept h u.bytes)) y S
@@ -85,7 +85,7 @@ module _ {B H : Type 0} (o : Options) (us : List NalUnit) (u : NalUnit) (h : Uni
 
   -- ---- the second call goes on
 
-  module _ {T : Type 0} (mid : Scene B H) (d : Delivered {T = T} (Decodes o h u.bytes) (Err errors.CheckEvents) k old mid) (emptied : mid.seen.view.queue ≡ []) where
+  module _ {T : Type 0} (mid : Scene B H) (d : Delivered {T = T} (DecodesUnit o h u.bytes) (Err errors.CheckEvents) k old mid) (emptied : mid.seen.view.queue ≡ []) where
     abbrev q : Part Standing
     q = opening (meant_next o us u) S
 
@@ -115,12 +115,12 @@ module _ {B H : Type 0} (o : Options) (us : List NalUnit) (u : NalUnit) (h : Uni
     room = sym (first_full a y S) ∙ opens_it.room
 
     module _ (new : Scene B H) (r : Result T DecodeError) where
-      takes : (e : Delivered (Decodes o h u.bytes) r k (accepting mid) new) → Takes r 0 (traces_of mid.seen.log (accepting mid).seen.view) (traces_of new.seen.log (with_queue e.out new.seen).view) (later_meaning y) q.next new.seen.view.standing
+      takes : (e : Delivered (DecodesUnit o h u.bytes) r k (accepting mid) new) → Takes r 0 (traces_of mid.seen.log (accepting mid).seen.view) (traces_of new.seen.log (with_queue e.out new.seen).view) (later_meaning y) q.next new.seen.view.standing
       takes e = subst (λ (m : Meaning). Takes r 0 (traces_of mid.seen.log (accepting mid).seen.view) (traces_of new.seen.log (with_queue e.out new.seen).view) (later_meaning m) q.next new.seen.view.standing) (meant_is o us u h (accepting mid).seen between parsed)
           (subst (λ (s : Standing). Takes r 0 (traces_of mid.seen.log (accepting mid).seen.view) (traces_of new.seen.log (with_queue e.out new.seen).view) (meaning_in Decoding (unit_at o mid.seen.kept h u.bytes)) s new.seen.view.standing) between.stands (e.calls.taken refl).part)
 
       -- once its format is accepted it opens no other
-      no_more : (e : Delivered (Decodes o h u.bytes) r k (accepting mid) new) → r ≡ Err errors.CheckEvents → ⊥
+      no_more : (e : Delivered (DecodesUnit o h u.bytes) r k (accepting mid) new) → r ≡ Err errors.CheckEvents → ⊥
       no_more e is =
           let opens_more = subst (λ (s : Result T DecodeError). Takes s 0 (traces_of mid.seen.log (accepting mid).seen.view) (traces_of new.seen.log (with_queue e.out new.seen).view) (later_meaning y) q.next new.seen.view.standing) is (takes e) in
           cc (sym twice_by.once ∙ opens_more.negotiates)

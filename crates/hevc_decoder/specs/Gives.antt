@@ -25,16 +25,16 @@ pub record Unmade {B H T : Type 0} (result : Result T DecodeError) (old new : Sc
   pub same : new ≡ old
 
 -- a call of `decode_unit`
-abbrev pub Decodes : {B H T : Type 0} → Options → UnitHeader → List ℕ → Result T DecodeError
+abbrev pub DecodesUnit : {B H T : Type 0} → Options → UnitHeader → List ℕ → Result T DecodeError
     → Seen B H → Seen B H → Type 0
-Decodes options header bytes result old new =
+DecodesUnit options header bytes result old new =
     StepsIn result 0 options header bytes old new
 
 -- the unit was given, the k-th
 abbrev pub Gives : {B H T : Type 0} → Result T DecodeError → ℕ → Options → UnitHeader → List ℕ
     → Scene B H → Scene B H → Type 0
 Gives result k options header bytes old new =
-    Delivered (Decodes options header bytes) result k old new ⊎ Unmade result old new
+    Delivered (DecodesUnit options header bytes) result k old new ⊎ Unmade result old new
 
 abbrev pub is_check_events : {T : Type 0} → Result T DecodeError → Bool
 is_check_events (Err errors.CheckEvents) = true
@@ -45,7 +45,7 @@ pub record GivesAgain {B H T : Type 0} (result : Result T DecodeError) (k : ℕ)
     (header : UnitHeader) (bytes : List ℕ) (old new : Scene B H) : Type 0 where
   pub mid : Scene B H
   pub emptied : mid.seen.view.queue ≡ []
-  pub opens : Delivered {T = T} (Decodes options header bytes) (Err errors.CheckEvents) k old mid
+  pub opens : Delivered {T = T} (DecodesUnit options header bytes) (Err errors.CheckEvents) k old mid
   pub again : Gives result k options header bytes (accepting mid) new
 
 abbrev pub GivesWhole : {B H T : Type 0} → Result T DecodeError → ℕ → Options → UnitHeader → List ℕ

@@ -1,10 +1,12 @@
 //! A made stream, decoded, and one line of it.
-ghost use Rattle.std.specs.Prelude.{◌≡◌, ◌≤◌, ◌<◌, length, IfOk, is_ok};
+ghost use Rattle.std.specs.Prelude.{◌≡◌, ◌≤◌, ◌<◌, ◌⊎◌, length, IfOk, is_ok, true};
 ghost use Rattle.std.specs.Io.KnownBytes.{Appends};
 ghost use Rattle.std.specs.String.{string_bytes};
 ghost use Rattle.hevc_faults.specs.Faults.{Rose};
 ghost use Rattle.hevc_made.specs.Made.{made};
+ghost use Rattle.hevc_walk.specs.Clean.{IsClean};
 ghost use Rattle.hevc_stream.specs.Options.{default_options};
+ghost use Rattle.hevc_stream.specs.Stream.{meanings};
 ghost use Rattle.hevc_io.specs.Prefix.{AppendsPrefix, AppendsLess};
 ghost use Rattle.hevc_report.specs.Report.{ending_of};
 ghost use Rattle.hevc_report.specs.Status.{IsMade, status_of};
@@ -31,6 +33,8 @@ pub(crate) fn run_made<K: Sink>(alloc: Global, pictures: u32, sink: &mut K) -> u
     ensures less { 1 < result
         → AppendsLess (K.written sink.old) (K.written sink.new) (summary_of (made pictures)) }
     ensures write { result ≡ 4 → Rose (K.faults sink.old) (K.faults sink.new) }
+    ensures clean { IsClean (meanings default_options (made pictures))
+        → ¬ (Rose (K.faults sink.old) (K.faults sink.new)) → (result ≡ 0) ⊎ (result ≡ 5) }
 {
     let Ok(report) = summary_on(alloc, pictures) else {
         return 5;
@@ -50,6 +54,8 @@ fn summary_on(alloc: Global, pictures: u32) -> Result<Report, AllocError>
         string_bytes report.text ≡ summary_of (made pictures)) }
     ensures decoded { IfOk result (λ report.
         report.is_decoded ≡ is_ok (ending_of default_options (made pictures))) }
+    ensures clean { IfOk result (λ report.
+        IsClean (meanings default_options (made pictures)) → report.is_decoded ≡ true) }
 {
     let stream = make_stream(alloc, pictures)?;
     decoded_line(alloc, &stream)
@@ -61,6 +67,8 @@ fn decoded_line(alloc: Global, stream: &[u8]) -> Result<Report, AllocError>
     ensures text { IfOk result (λ report. string_bytes report.text ≡ summary_of stream.now) }
     ensures decoded { IfOk result (λ report.
         report.is_decoded ≡ is_ok (ending_of default_options stream.now)) }
+    ensures clean { IfOk result (λ report.
+        IsClean (meanings default_options stream.now) → report.is_decoded ≡ true) }
 {
     let mut shown = Vec::new(alloc);
     let backend = Backend::new(alloc);

@@ -109,6 +109,10 @@ pub fn run<S: Source, K: Sink>(alloc: Global, words: &[Word], source: &mut S, si
         AppendsPrefix (K.written sink.old) (K.written sink.new) (summary_of (made n))) }
     ensures make_less { IfSome (pictures_to_make words.now) (λ n. 1 < result
         → AppendsLess (K.written sink.old) (K.written sink.new) (summary_of (made n))) }
+    // Of a clean one, where the sink doesn't fail, nothing but memory is wanted.
+    ensures make_clean { IfSome (pictures_to_make words.now) (λ n.
+        IsClean (meanings default_options (made n))
+        → ¬ (Rose (K.faults sink.old) (K.faults sink.new)) → (result ≡ 0) ⊎ (result ≡ 5)) }
 {
     if let Some(pictures) = read_make(words) {
         return run_made(alloc, pictures, sink);

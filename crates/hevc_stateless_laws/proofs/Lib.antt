@@ -4,6 +4,7 @@ pub mod Ending
 pub mod Keeping
 pub mod Opening
 pub mod Refusing
+pub mod Shortened
 pub mod Standing
 pub mod Repeating
 pub mod Twice

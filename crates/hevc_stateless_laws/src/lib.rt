@@ -1,12 +1,13 @@
 //! What stands after each unit of a stream, and the moment of each call and output.
 #![tactic(auto)]
 
-ghost use Rattle.std.specs.Prelude.{◌≡◌, ◌∷◌, ◌++◌, [], ℕ, List, length, Ok, Err};
-ghost use Rattle.hevc_spec.specs.Units.{NalUnit};
+ghost use Rattle.std.specs.Prelude.{◌≡◌, ◌+◌, ◌∷◌, ◌++◌, [], ℕ, List, drop, length, map, Ok, Err};
+ghost use Rattle.hevc_spec.specs.Units.{NalUnit, units};
 ghost use Rattle.hevc_stream.specs.Kept.{none_kept};
 ghost use Rattle.hevc_stream.specs.Options.{Options};
 ghost use Rattle.hevc_stateless.specs.Steps.{Seen, TakesFirst};
 ghost use Rattle.hevc_stateless.specs.Views.{at_beginning, traces_of};
+ghost use Rattle.hevc_stateless_laws.specs.Shortened.{moved};
 ghost use Rattle.hevc_stateless_laws.specs.Stands.{StandsAfter, StandsBetween, Took, Opened, TookAgain, IsRefusal, RefusedUnit, Ended, meant};
 ghost use Rattle.hevc_walk.specs.Refusals.{DpbFull as full_buffer};
 ghost use Rattle.hevc_walk.specs.Results.{verdict};
@@ -29,6 +30,15 @@ pub fn takes_the_next_unit<B, H>()
         (old new : Seen B H) (place : ℕ) → StandsAfter options us old
         → TakesFirst (u ∷ others) (Ok place) timestamp options old new
         → Took timestamp options us u old new }
+{}
+
+/// Where all bytes up to the end of the first unit are left out, as `decode` answers them, the units of what is left are the others: calls
+/// on the shortened input take the units of the stream in their order.
+pub fn others_are_left()
+    ensures { (stream : List ℕ) (u : NalUnit) (others : List NalUnit)
+        → units stream ≡ u ∷ others
+        → others ≡ map (moved (u.offset + length u.bytes))
+        (units (drop (u.offset + length u.bytes) stream)) }
 {}
 
 /// Where the answer is `CheckEvents`, the unit opened a negotiation: all up to there was done, and all its outputs are in the queue.
