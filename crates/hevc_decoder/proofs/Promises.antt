@@ -26,13 +26,12 @@ use Rattle.hevc_driver.specs.declared.decode_error.DecodeError.TheVariants as er
 use Rattle.hevc_backend.specs.Trait.{Counts, Counted}
 use Rattle.hevc_driver.specs.Answers.{CountsErrors, KeepsFaultless, IsNotOfBackend}
 use Rattle.hevc_driver.specs.Calls.{call_of, IsTimed, submissions}
-use Rattle.hevc_decoder.specs.Promise.{CountsNone, IsHonest, Decodes}
+use Rattle.hevc_decoder.specs.Promise.{CountsNone, Told, IsHonest, Decodes}
 use Rattle.hevc_driver.proofs.Members.{part_left}
 use Rattle.hevc_stateless_laws.specs.Stands.{asked}
 use Rattle.hevc_spec.specs.Units.{units}
 use Rattle.hevc_stream.specs.Options.{Options}
 use Rattle.hevc_stream.specs.Stream.{meanings}
-use Rattle.hevc_decoder.specs.declared.decoded.Decoded.{Decoded}
 use Rattle.hevc_decoder.specs.declared.decoded.Shown.{Shown}
 use Rattle.hevc_decoder.specs.declared.decoded.Refused.{Refused}
 use Rattle.hevc_decoder.specs.Answers.{without_unit, IsAnswer, AnswersOnly, IsNoMemory, IsOkOrNoMemory, IsNoFullStore, FindsRoom}
@@ -344,29 +343,28 @@ blames_none before now (Err (errors.NotEnoughOutputBuffers frames)) cause none =
 blames_none before now (Err e) cause none = λ h. h
 
 -- what a whole run promises
-module _ {B H : Type 0} (log : B → Option (List (Call H))) (counts : B → Counts) (is_faultless : B → Type 0) (backend : B) (old new : List (Shown H)) (d : Decoded B)
-    (cause : CountsErrors (counts backend) (counts d.backend) (without_unit d.result)) (faultless : KeepsFaultless (is_faultless backend) (is_faultless d.backend) (without_unit d.result)) where
+module _ {H : Type 0} (before now : Told H) (r : Result ℕ Refused)
+    (cause : CountsErrors before.counts now.counts (without_unit r)) (faultless : KeepsFaultless before.is_faultless now.is_faultless (without_unit r)) where
   abbrev first_trail : Trail H
-  first_trail = record { log = log backend; shown = old; tickets = [] }
+  first_trail = record { log = before.log; shown = before.shown; tickets = [] }
 
   abbrev last_trail : List (ℕ × H) → Trail H
-  last_trail tickets = record { log = log d.backend; shown = new; tickets = tickets }
+  last_trail tickets = record { log = now.log; shown = now.shown; tickets = tickets }
 
-  pub honest_of : (us : List Meaning) (tickets : List (ℕ × H)) → Ended d.result us first_trail (last_trail tickets) → IsHonest log counts is_faultless backend old new d
+  pub honest_of : (us : List Meaning) (tickets : List (ℕ × H)) → Ended r us first_trail (last_trail tickets) → IsHonest before now r
   honest_of us tickets x = record {
-    answers_only = answers_only_of us d.result first_trail (last_trail tickets) x;
-    handles = handles_of us d.result first_trail (last_trail tickets) x refl;
-    submitted_once = submitted_once_of us d.result first_trail (last_trail tickets) x;
-    once = once_of us d.result first_trail (last_trail tickets) x;
-    timestamps = timestamps_of us d.result first_trail (last_trail tickets) x;
+    answers_only = answers_only_of us r first_trail (last_trail tickets) x;
+    handles = handles_of us r first_trail (last_trail tickets) x refl;
+    submitted_once = submitted_once_of us r first_trail (last_trail tickets) x;
+    once = once_of us r first_trail (last_trail tickets) x;
+    timestamps = timestamps_of us r first_trail (last_trail tickets) x;
     cause = cause;
     faultless = faultless;
   }
 
-  pub decodes_of : (o : Options) (s : List ℕ) (tickets : List (ℕ × H)) → Ended d.result (meanings o s) first_trail (last_trail tickets) → IfErr d.result (λ refused. refused.unit ≤ length (units s)) → Decodes log counts is_faultless o s backend old new d
+  pub decodes_of : (o : Options) (s : List ℕ) (tickets : List (ℕ × H)) → Ended r (meanings o s) first_trail (last_trail tickets) → IfErr r (λ refused. refused.unit ≤ length (units s)) → Decodes o s before now r
   decodes_of o s tickets x within =
       let us = meanings o s in
-      let r = d.result in
       let begin = first_trail in
       let end = last_trail tickets in
       record {
@@ -380,8 +378,8 @@ module _ {B H : Type 0} (log : B → Option (List (Call H))) (counts : B → Cou
         fates = fates_of us r begin end x;
         in_turn = in_turn_of us r begin end x;
         display_order = display_order_of us r begin end x;
-        complete = λ n is none. completes us r begin end x n is (blames_none (counts backend) (counts d.backend) (without_unit r) cause none);
-        clean = λ is none. completes_clean us r begin end x is (blames_none (counts backend) (counts d.backend) (without_unit r) cause none);
+        complete = λ n is none. completes us r begin end x n is (blames_none before.counts now.counts (without_unit r) cause none);
+        clean = λ is none. completes_clean us r begin end x is (blames_none before.counts now.counts (without_unit r) cause none);
         complete_over_faultless = λ n is never. completes us r begin end x n is (faultless never).1;
         clean_over_faultless = λ is never. completes_clean us r begin end x is (faultless never).1;
         stores_few = stores_few us;

@@ -1,5 +1,5 @@
 -- What decoding a byte stream promises, over any backend and under any options.
-use Rattle.std.specs.Prelude.{◌≡◌, ℕ, ◌≤◌, ◌<◌, ◌-◌, ◌^◌, List, map, length, Option, Result, Ok, Err, IfErr, OnOk}
+use Rattle.std.specs.Prelude.{◌≡◌, ℕ, ◌≤◌, ◌<◌, ◌-◌, ◌^◌, List, map, length, Option, Result, Ok, IfErr, OnOk}
 use Rattle.std.specs.List.{AllByRecursion}
 use Rattle.hevc_spec.specs.Units.{units}
 use Rattle.hevc_walk.specs.Clean.{IsClean}
@@ -11,11 +11,28 @@ use Rattle.hevc_backend.specs.declared.call.Call.{Call}
 use Rattle.hevc_backend.specs.Trait.{Counts}
 use Rattle.hevc_driver.specs.Answers.{CountsErrors, KeepsFaultless}
 use Rattle.hevc_driver.specs.Calls.{call_of, IsTimed}
-use Rattle.hevc_decoder.specs.declared.decoded.Decoded.{Decoded}
+use Rattle.hevc_decoder.specs.declared.decoded.Refused.{Refused}
 use Rattle.hevc_decoder.specs.declared.decoded.Shown.{Shown}
 use Rattle.hevc_decoder.specs.Answers.{AnswersOnly, FindsRoom, IsOkOrNoMemory, without_unit}
 use Rattle.hevc_decoder.specs.Headline.{Grew, Appended, IsFront, all_asked, AnswersVerdict, EndsCalls, EndsOutputs, WantsFrame, AllSubmitted, SubmittedOnce, ComeOutOnce, AreForOutput, NeverStoreMore}
 use Rattle.hevc_decoder.specs.Names.{output_picture}
+
+-- What is told at a moment: of a backend its log, if it tells one, its counts, and its promise never
+-- to fail; and the pictures that have come out.
+pub record Told (H : Type 0) : Type 1 where
+  pub log : Option (List (Call H))
+  pub counts : Counts
+  pub is_faultless : Type 0
+  pub shown : List (Shown H)
+
+abbrev pub told : {B H : Type 0} → (log : B → Option (List (Call H))) → (counts : B → Counts)
+    → (is_faultless : B → Type 0) → B → List (Shown H) → Told H
+told log counts is_faultless backend shown = record {
+  log = log backend;
+  counts = counts backend;
+  is_faultless = is_faultless backend;
+  shown = shown;
+}
 
 -- no fault and no answer of no frame was counted, and each could have been
 pub record CountsNone (before now : Counts) : Type 0 where
@@ -23,68 +40,64 @@ pub record CountsNone (before now : Counts) : Type 0 where
   pub faults : before.faults < 2 ^ 64 - 1
   pub empty_answers : before.empty_answers < 2 ^ 64 - 1
 
--- What holds whatever the bytes are: of a backend with this log, these counts and this promise never
--- to fail, of the pictures that had come out before and that have come out now, and of the answer.
-pub record IsHonest {B H : Type 0} (log : B → Option (List (Call H))) (counts : B → Counts)
-    (is_faultless : B → Type 0) (backend : B) (old new : List (Shown H)) (d : Decoded B)
-    : Type 0 where
-  pub answers_only : AnswersOnly d.result
+-- What holds of a decoding with this answer, whatever the bytes are.
+pub record IsHonest {H : Type 0} (before now : Told H) (result : Result ℕ Refused) : Type 0 where
+  pub answers_only : AnswersOnly result
   -- each picture comes out with the handle of its one submission
-  pub handles : Grew (log backend) (log d.backend)
-      (λ l. Appended old new (λ o. AllSubmitted l o))
-  pub submitted_once : Grew (log backend) (log d.backend) (λ l. SubmittedOnce l)
+  pub handles : Grew before.log now.log
+      (λ l. Appended before.shown now.shown (λ o. AllSubmitted l o))
+  pub submitted_once : Grew before.log now.log (λ l. SubmittedOnce l)
   -- no picture comes out twice
-  pub once : Appended old new (λ o. ComeOutOnce o)
+  pub once : Appended before.shown now.shown (λ o. ComeOutOnce o)
   -- each new picture has timestamp 0
-  pub timestamps : Grew (log backend) (log d.backend) (λ l. AllByRecursion (IsTimed 0) l)
+  pub timestamps : Grew before.log now.log (λ l. AllByRecursion (IsTimed 0) l)
   -- the backend is blamed only where it failed or had no frame
-  pub cause : CountsErrors (counts backend) (counts d.backend) (without_unit d.result)
+  pub cause : CountsErrors before.counts now.counts (without_unit result)
   -- one that never fails didn't, and never will
-  pub faultless : KeepsFaultless (is_faultless backend) (is_faultless d.backend)
-      (without_unit d.result)
+  pub faultless : KeepsFaultless before.is_faultless now.is_faultless
+      (without_unit result)
 
 -- What holds of these bytes under these options.
-pub record Decodes {B H : Type 0} (log : B → Option (List (Call H))) (counts : B → Counts)
-    (is_faultless : B → Type 0) (options : Options) (stream : List ℕ) (backend : B)
-    (old new : List (Shown H)) (d : Decoded B) : Type 0 where
+pub record Decodes {H : Type 0} (options : Options) (stream : List ℕ) (before now : Told H)
+    (result : Result ℕ Refused) : Type 0 where
   -- the backend gets the calls that the units ask for, in order, and no other
-  pub calls : Grew (log backend) (log d.backend)
+  pub calls : Grew before.log now.log
       (λ l. IsFront (map call_of l) (all_asked (walk.calls (meanings options stream))))
   -- the pictures that are to be output come out in order, each with its order count and at its unit,
   -- and no others
-  pub outputs : Appended old new
+  pub outputs : Appended before.shown now.shown
       (λ o. IsFront (map output_picture o) (walk.outputs (meanings options stream)))
   -- any answer but a failed backend, one without a frame, and no memory is the verdict on the units
-  pub answer : AnswersVerdict d.result (walk.verdict (meanings options stream))
+  pub answer : AnswersVerdict result (walk.verdict (meanings options stream))
   -- On a verdict all calls are made, or those up to the picture that finds the buffer full; else, at
   -- unit k, all of units before k and none of units after it.
-  pub whole_calls : Grew (log backend) (log d.backend)
-      (λ l. EndsCalls d.result (map call_of l) (walk.calls (meanings options stream)))
-  pub whole_outputs : Appended old new
-      (λ o. EndsOutputs d.result (map output_picture o) (walk.outputs (meanings options stream)))
-  pub unit : IfErr d.result (λ refused. refused.unit ≤ length (units stream))
+  pub whole_calls : Grew before.log now.log
+      (λ l. EndsCalls result (map call_of l) (walk.calls (meanings options stream)))
+  pub whole_outputs : Appended before.shown now.shown
+      (λ o. EndsOutputs result (map output_picture o) (walk.outputs (meanings options stream)))
+  pub unit : IfErr result (λ refused. refused.unit ≤ length (units stream))
   -- a frame is wanted for a picture alone, and as it begins
-  pub frames : IfErr d.result
+  pub frames : IfErr result
       (λ refused. WantsFrame refused.error refused.unit (meanings options stream))
   -- where the stream is decoded whole, those whose fate it is to be output come out
-  pub fates : OnOk d.result (Appended old new (λ o. AreForOutput (meanings options stream) o))
+  pub fates : OnOk result (Appended before.shown now.shown (λ o. AreForOutput (meanings options stream) o))
   -- sequence by sequence, and each that keeps the order that it declares in display order
-  pub in_turn : OnOk d.result
-      (Appended old new (λ o. ComeInTurn (meanings options stream) (map output_picture o)))
-  pub display_order : OnOk d.result
-      (Appended old new (λ o. ComeInOrder (meanings options stream) (map output_picture o)))
+  pub in_turn : OnOk result
+      (Appended before.shown now.shown (λ o. ComeInTurn (meanings options stream) (map output_picture o)))
+  pub display_order : OnOk result
+      (Appended before.shown now.shown (λ o. ComeInOrder (meanings options stream) (map output_picture o)))
   -- Where nothing is refused, and so in every clean stream, memory is all that it takes with a
   -- backend that fails nowhere, and with one that never fails.
   pub complete : (n : ℕ) → walk.verdict (meanings options stream) ≡ Ok n
-      → CountsNone (counts backend) (counts d.backend) → IsOkOrNoMemory d.result
+      → CountsNone before.counts now.counts → IsOkOrNoMemory result
   pub clean : IsClean (meanings options stream)
-      → CountsNone (counts backend) (counts d.backend) → IsOkOrNoMemory d.result
+      → CountsNone before.counts now.counts → IsOkOrNoMemory result
   pub complete_over_faultless : (n : ℕ) → walk.verdict (meanings options stream) ≡ Ok n
-      → is_faultless backend → IsOkOrNoMemory d.result
+      → before.is_faultless → IsOkOrNoMemory result
   pub clean_over_faultless : IsClean (meanings options stream)
-      → is_faultless backend → IsOkOrNoMemory d.result
+      → before.is_faultless → IsOkOrNoMemory result
   -- a clean stream stores no picture where more entries stand than its sets declare, so over any
   -- backend none finds the buffer full
   pub stores_few : IsClean (meanings options stream) → NeverStoreMore (meanings options stream)
-  pub room : IsClean (meanings options stream) → FindsRoom d.result
-  pub honest : IsHonest log counts is_faultless backend old new d
+  pub room : IsClean (meanings options stream) → FindsRoom result
+  pub honest : IsHonest before now result

@@ -3,7 +3,7 @@ ghost use Rattle.std.specs.Prelude.{◌<◌, ◌≤◌, ◌^◌, ℕ, List, IfOk
 ghost use Rattle.std.specs.Io.KnownBytes.{Consumes, IsAtEnd};
 ghost use Rattle.hevc_faults.specs.Faults.{Rose};
 ghost use Rattle.hevc_options.specs.Options.{options_of};
-ghost use Rattle.hevc_decoder.specs.Promise.{Decodes, IsHonest};
+ghost use Rattle.hevc_decoder.specs.Promise.{Decodes, IsHonest, told};
 ghost use Rattle.hevc_decoder.specs.Sources.{ComeOutFirst, OfSource};
 
 use crate::decoded::{Decoded, Shown};
@@ -38,10 +38,14 @@ pub fn decode_source_with<B: StatelessH265DecoderBackend + Drop, S: Source>(
 
     // All else as for a stream that is there.
     ensures decodes { OfSource result (S.left source.old) (λ decoded stream.
-        Decodes B.log B.counts B.is_faultless (options_of options) stream
-        backend shown.old.items shown.new.items decoded) }
-    ensures honest { IfOk result (λ decoded. IsHonest B.log B.counts B.is_faultless
-        backend shown.old.items shown.new.items decoded) }
+        Decodes (options_of options) stream
+        (told B.log B.counts B.is_faultless backend shown.old.items)
+        (told B.log B.counts B.is_faultless decoded.backend shown.new.items)
+        decoded.result) }
+    ensures honest { IfOk result (λ decoded. IsHonest
+        (told B.log B.counts B.is_faultless backend shown.old.items)
+        (told B.log B.counts B.is_faultless decoded.backend shown.new.items)
+        decoded.result) }
 
     // Why the input can't be had.
     ensures failed { IsErrOf result InputError.Failed

@@ -2,7 +2,7 @@
 ghost use Rattle.std.specs.Prelude.{◌<◌, ◌^◌, length};
 ghost use Rattle.hevc_stream.specs.Options.{default_options};
 ghost use Rattle.hevc_options.specs.Options.{options_of};
-ghost use Rattle.hevc_decoder.specs.Promise.{Decodes};
+ghost use Rattle.hevc_decoder.specs.Promise.{Decodes, told};
 
 use crate::decoded::{Decoded, Shown};
 use crate::units::take_units;
@@ -23,8 +23,10 @@ pub fn decode_stream_with<B: StatelessH265DecoderBackend>(
     shown: &mut Vec<Shown<B::Handle>>,
 ) -> Decoded<B>
     requires { length stream.now < 2 ^ 60 }
-    ensures decodes { Decodes B.log B.counts B.is_faultless (options_of options) stream.now
-        backend shown.old.items shown.new.items result }
+    ensures decodes { Decodes (options_of options) stream.now
+        (told B.log B.counts B.is_faultless backend shown.old.items)
+        (told B.log B.counts B.is_faultless result.backend shown.new.items)
+        result.result }
 {
     let mut decoder = StatelessDecoder::new_with(alloc, backend, options);
     let result = take_units(&mut decoder, stream, shown);
@@ -43,8 +45,10 @@ pub fn decode_stream<B: StatelessH265DecoderBackend>(
     shown: &mut Vec<Shown<B::Handle>>,
 ) -> Decoded<B>
     requires { length stream.now < 2 ^ 60 }
-    ensures decodes { Decodes B.log B.counts B.is_faultless default_options stream.now
-        backend shown.old.items shown.new.items result }
+    ensures decodes { Decodes default_options stream.now
+        (told B.log B.counts B.is_faultless backend shown.old.items)
+        (told B.log B.counts B.is_faultless result.backend shown.new.items)
+        result.result }
 {
     decode_stream_with(alloc, backend, Options::new(), stream, shown)
 }

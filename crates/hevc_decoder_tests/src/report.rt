@@ -140,6 +140,9 @@ const BEGUN_0: &str = "pic 0 type 19 poc 0 output 1\nslice 0 at 0 size 4 list0 -
 const P4_1: &str =
     "pic 1 type 1 poc 4 output 1\nslice 1 at 0 size 6 list0 0 list1 -\nsubmit 1 handle 1\n";
 
+/// The same, not whole.
+const BEGUN_P4: &str = "pic 1 type 1 poc 4 output 1\nslice 1 at 0 size 6 list0 0 list1 -\n";
+
 const P2_2: &str =
     "pic 2 type 1 poc 2 output 1\nslice 2 at 0 size 7 list0 0 list1 -\nsubmit 2 handle 2\n";
 
@@ -259,7 +262,30 @@ fn pictures_come_out_in_output_order(rt: HostRuntime) -> Result<(), Fail> {
     let end = "show 0 poc 0 unit 4\nshow 1 poc 0 unit 4\nend pictures 2 shown 2\n";
     ends(&rt, alloc, &[], &[SPS, PPS, IDR, T0], 0, end)?;
     let end = "show 0 poc 0 unit 3\nend pictures 1 shown 1\n";
-    reports(&rt, alloc, &[PPS, SPS, IDR], 0, &[SEQ, PICTURE_0, end])
+    reports(&rt, alloc, &[SPS, PPS, IDR], 0, &[SEQ, PICTURE_0, end])?;
+    reports(&rt, alloc, &[PPS, SPS, IDR], 0, &[SEQ, PICTURE_0, end])?;
+    let end = "show 0 poc 0 unit 4\nend pictures 1 shown 1\n";
+    reports(&rt, alloc, &[VPS, SPS, PPS, IDR], 0, &[SEQ, PICTURE_0, end])
+}
+
+#[test]
+fn what_waits_at_a_refused_unit_is_not_shown(rt: HostRuntime) -> Result<(), Fail> {
+    let refused = "refused unit 4 OutOfBits\n";
+    for length in 59..=62 {
+        let mut bytes = stream(rt.alloc(), &[SPS, PPS, IDR, P4, P2])?;
+        bytes.truncate(length);
+        let text = [SEQ, PICTURE_0, BEGUN_P4, refused];
+        reports_on(&rt, rt.alloc(), bytes, 1, &text)?;
+    }
+    let refused = "refused unit 4 MissingPps 1\n";
+    let other_set: &[u8] = &[0x26, 0x01, 0x97, 0x80];
+    reports(
+        &rt,
+        rt.alloc(),
+        &[SPS, PPS, IDR, P4, other_set],
+        1,
+        &[SEQ, PICTURE_0, BEGUN_P4, refused],
+    )
 }
 
 #[test]
@@ -620,7 +646,6 @@ fn units_cut_within_their_payloads_are_refused(rt: HostRuntime) -> Result<(), Fa
         (5, 27, "refused unit 0 OutOfBits\n"),
         (43, 43, "refused unit 2 OutOfBits\n"),
         (50, 52, "refused unit 3 OutOfBits\n"),
-        (59, 62, "refused unit 4 OutOfBits\n"),
     ] {
         cuts_end(&rt, rt.alloc(), first, last, 1, end)?;
     }

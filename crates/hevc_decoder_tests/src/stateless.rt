@@ -1,5 +1,5 @@
 //! A decoder, unit by unit, with its events.
-use hevc_backend::Backend;
+use hevc_backend::{Backend, Call};
 use hevc_stateless::{DecodeError, DecoderEvent, Options, StatelessDecoder};
 use std::process::Abort;
 use std::test::Fail;
@@ -69,6 +69,28 @@ fn takes(rt: &impl Abort, decoder: &mut StatelessDecoder<Backend>, units: &[&[u8
 fn come_out(rt: &impl Abort, decoder: &mut StatelessDecoder<Backend>, numbers: &[u64]) {
     for number in numbers {
         assert!(rt; next_number(decoder) == Some(*number));
+    }
+}
+
+/// The name of a call, and the number of its picture.
+fn named(call: &Call<u64>) -> (&'static str, u64) {
+    match call {
+        Call::NewSequence { .. } => ("NewSequence", 0),
+        Call::NewPicture { number, .. } => ("NewPicture", *number),
+        Call::BeginPicture { number, .. } => ("BeginPicture", *number),
+        Call::DecodeSlice { number, .. } => ("DecodeSlice", *number),
+        Call::SubmitPicture { number, .. } => ("SubmitPicture", *number),
+    }
+}
+
+/// The backend got these calls, of these pictures, and no others.
+fn got(rt: &impl Abort, decoder: &StatelessDecoder<Backend>, calls: &[(&str, u64)]) {
+    let log = decoder.backend().calls();
+    assert_eq!(rt; log.len(), calls.len());
+    for (call, (name, number)) in log.iter().zip(calls) {
+        let (name_now, number_now) = named(call);
+        assert!(rt; name_now == *name);
+        assert_eq!(rt; number_now, *number);
     }
 }
 
@@ -181,5 +203,59 @@ fn another_format_is_negotiated_behind_what_waits(rt: HostRuntime) -> Result<(),
     let calls = decoder.backend().calls().len();
     takes(&rt, &mut decoder, &[IDR]);
     assert_eq!(rt; decoder.backend().calls().len(), calls + 3);
+    Ok(())
+}
+
+#[test]
+fn a_picture_whose_call_failed_is_given_again_as_another(rt: HostRuntime) -> Result<(), Fail> {
+    let alloc = rt.alloc();
+    let backend = Backend::with_plan(alloc, vec![in alloc; 3]?, Vec::new(alloc));
+    let mut decoder = StatelessDecoder::new(alloc, backend);
+    assert!(rt; begin(&mut decoder) == Ok(9));
+    assert!(rt; decoder.decode(0, IDR) == Err(DecodeError::Backend));
+    got(&rt, &decoder, &[("NewSequence", 0), ("NewPicture", 0)]);
+    takes(&rt, &mut decoder, &[IDR]);
+    let calls = [
+        ("NewSequence", 0),
+        ("NewPicture", 0),
+        ("NewPicture", 1),
+        ("BeginPicture", 1),
+        ("DecodeSlice", 1),
+    ];
+    got(&rt, &decoder, &calls);
+    assert!(rt; decoder.flush() == Ok(()));
+    come_out(&rt, &mut decoder, &[1]);
+    assert!(rt; next_number(&mut decoder).is_none());
+    Ok(())
+}
+
+#[test]
+fn a_picture_without_a_frame_is_given_again_as_itself(rt: HostRuntime) -> Result<(), Fail> {
+    let alloc = rt.alloc();
+    let backend = Backend::with_plan(alloc, Vec::new(alloc), vec![in alloc; 16, 0]?);
+    let mut decoder = StatelessDecoder::new(alloc, backend);
+    assert!(rt; begin(&mut decoder) == Ok(9));
+    takes(&rt, &mut decoder, &[IDR]);
+    let full = Err(DecodeError::NotEnoughOutputBuffers(1));
+    assert!(rt; decoder.decode(0, LATER) == full);
+    let calls = [
+        ("NewSequence", 0),
+        ("NewPicture", 0),
+        ("BeginPicture", 0),
+        ("DecodeSlice", 0),
+        ("SubmitPicture", 0),
+    ];
+    got(&rt, &decoder, &calls);
+    takes(&rt, &mut decoder, &[LATER]);
+    assert!(rt; decoder.flush() == Ok(()));
+    come_out(&rt, &mut decoder, &[0, 1]);
+    assert!(rt; next_number(&mut decoder).is_none());
+    let calls = decoder.backend().calls().len();
+    takes(&rt, &mut decoder, &[LATER]);
+    assert_eq!(rt; decoder.backend().calls().len(), calls);
+    takes(&rt, &mut decoder, &[IDR]);
+    assert_eq!(rt; decoder.backend().calls().len(), calls + 3);
+    assert!(rt; decoder.flush() == Ok(()));
+    come_out(&rt, &mut decoder, &[2]);
     Ok(())
 }

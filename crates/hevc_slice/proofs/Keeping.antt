@@ -1,7 +1,7 @@
 -- What the maps of parameter sets are once a set is kept in one.
 use Rattle.std.proofs.Common.{◌≡◌, ℕ, Bool, true, false, refl, ap, sym, subst, ◌∙◌, arith, Option, Some, None, if◌then◌else◌, ◌==◌, not, List, [], ◌∷◌, Result, Ok, Err}
 use Rattle.std.proofs.lemmas.Bool.Decides.{nat_tests}
-use Rattle.std.specs.Prelude.{option_map, cond, is_some, IfSome, IsSome, OnOk, OnErr, length}
+use Rattle.std.specs.Prelude.{option_map, cond, IfSome, IsSome, OnOk, OnErr, length}
 use Rattle.std.specs.Ordering.{nat_cmp}
 use Rattle.std.specs.Map.{lookup}
 use Rattle.std.specs.BTreeMap.{BTreeMap, get, is_at, Updates, IsUnchanged, btree_map_len}

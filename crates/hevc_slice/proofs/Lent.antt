@@ -7,6 +7,7 @@ use Rattle.hevc_spec.specs.Table.{Table, Reading, gives, read}
 use Rattle.hevc_elements.specs.declared.parse_error.ParseError.{ParseError}
 use Rattle.hevc_elements.specs.declared.parse_error.ParseError.TheVariants.{WrongNaluType, NoMemory}
 use Rattle.hevc_elements.specs.Sets.{RefusesSet, ReadsSet, MeansSet, NamesNoSet}
+use Rattle.hevc_slice.specs.Answers.{NamesNoPictureSet}
 use Rattle.hevc_elements.proofs.SetMeaning.{set_found, set_only, set_refused, set_broken}
 
 -- what is read is the kept set, or memory is wanted
@@ -21,6 +22,14 @@ lent_type x (Err e) refused t = (λ h. absurd (cc (h, refused)), λ h. absurd (c
 pub lent_names : {X : Type 0} (r : Result X ParseError) → IfErr r (λ e. e ≡ NoMemory) → IfErr r NamesNoSet
 lent_names (Ok x) refused = tt
 lent_names (Err e) refused = subst NamesNoSet (sym refused) tt
+
+pub lent_names_no_picture_set : {X : Type 0} (r : Result X ParseError) → IfErr r (λ e. e ≡ NoMemory) → IfErr r NamesNoPictureSet
+lent_names_no_picture_set (Ok x) refused = tt
+lent_names_no_picture_set (Err e) refused = subst NamesNoPictureSet (sym refused) tt
+
+pub lent_fact : {X : Type 0} (Fact : X → Type 0) (x : X) (r : Result (Bor X) ParseError) → IfOk r (λ kept. kept.now ≡ x) → Fact x → IfOk r (λ kept. Fact kept.now)
+lent_fact Fact x (Ok kept) same h = subst Fact (sym same) h
+lent_fact Fact x (Err e) same h = tt
 
 -- the meaning of what reading answered
 pub means_by : {X A : Type 0} (view : X → A) (t : Table A) (payload : List Bool) (r : Result X ParseError) → ReadsSet view r (read t payload) → MeansSet view t r payload

@@ -1,6 +1,6 @@
 -- A picture set that is read names a sequence set that is kept.
-use Rattle.std.proofs.Common.{◌≡◌, ℕ, Bool, true, refl, sym, subst, List, Option, Some, Result, Ok, Err, arith}
-use Rattle.std.specs.Prelude.{is_some, IsSome, IsErrOf, ◌↔◌}
+use Rattle.std.proofs.Common.{◌≡◌, ℕ, Bool, refl, sym, subst, List, Option}
+use Rattle.std.specs.Prelude.{IsSome}
 use Rattle.hevc_spec.specs.Table.{gives, read}
 use Rattle.hevc_records.specs.Sps.{PlainSps}
 use Rattle.hevc_records.specs.Pps.{PlainPps}

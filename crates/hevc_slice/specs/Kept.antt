@@ -8,6 +8,8 @@ use Rattle.hevc_types_c.specs.declared.sps.Sps.{Sps}
 use Rattle.hevc_types_c.specs.Sps.{plain_sps}
 use Rattle.hevc_types_d.specs.Pps.{plain_pps}
 use Rattle.hevc_stream.specs.Kept.{Kept}
+use Rattle.hevc_records.specs.Pps.{PlainPps}
+use Rattle.hevc_pps.specs.Tiling.{CoverKept}
 use Rattle.hevc_slice.specs.declared.parser.Parser.{Parser}
 
 -- the sets that a parser keeps; no unit waits in it
@@ -23,3 +25,8 @@ kept_by p = record {
 -- the sequence set that a parser keeps under an id
 abbrev pub sequence_set_by : Parser → ℕ → Option Sps
 sequence_set_by p id = get nat_cmp p.sequence_sets id
+
+-- With tiles, a picture set's columns and rows take all blocks of a picture of the sequence set that
+-- it names, of those that a parser keeps (6.5.1).
+abbrev pub TilesCoverKept : Parser → PlainPps → Type 0
+TilesCoverKept p pps = CoverKept p.sequence_sets pps

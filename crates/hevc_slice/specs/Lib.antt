@@ -1,3 +1,4 @@
+pub mod Answers
 pub mod OwnIds
 pub mod Kept
 pub mod Lending

@@ -20,6 +20,7 @@ ghost use Rattle.hevc_slice_header.specs.Answers.{NamesNoSequenceSet};
 ghost use Rattle.hevc_slice_header.specs.CurrentSet.{HasCurrentSet};
 ghost use Rattle.hevc_slice_header.specs.Lists.{HasLists};
 ghost use Rattle.hevc_slice.specs.Slices.{active_of, slice_table};
+ghost use Rattle.hevc_slice.specs.Answers.{NamesNoPictureSet};
 ghost use Rattle.hevc_slice.specs.OwnIds.{HasOwnIds, HasOwnIds-prop, HasNamedSets, HasNamedSets-prop};
 
 use hevc_bits::{Nalu, NaluHeader};
@@ -50,7 +51,7 @@ pub struct Parser {
 
 impl Parser {
     ghost use Rattle.std.specs.Borrow.{sem};
-    ghost use Rattle.hevc_slice.specs.Kept.{kept_by, sequence_set_by};
+    ghost use Rattle.hevc_slice.specs.Kept.{kept_by, sequence_set_by, TilesCoverKept};
     ghost use Rattle.hevc_slice.specs.Lending.{LeavesParser, Keeps};
 
     /// No set is kept. Sets take their memory from `alloc`.
@@ -202,6 +203,9 @@ impl Parser {
             (picture_parameter_set (nalu.now.header.nuh_temporal_id_plus1 - 1)
             (kept_by self.old).sequence_sets) result
             (payload (bytes_of nalu.now)) }
+        ensures names { IfErr result NamesNoPictureSet }
+        // With tiles, the columns and the rows take all blocks of the picture (6.5.1).
+        ensures tiles { IfOk result (λ set. TilesCoverKept self.old (plain_pps set.now)) }
     {
         let set = read_pps(self.alloc, nalu, &self.sequence_sets)?;
         self.lend_picture_set(set)

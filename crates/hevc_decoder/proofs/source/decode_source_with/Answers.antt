@@ -7,9 +7,8 @@ use Rattle.hevc_stateless.specs.Decoders.{view_of}
 use Rattle.hevc_stateless.specs.Views.{View}
 use Rattle.hevc_decoder.specs.Answers.{without_unit}
 use Rattle.hevc_decoder.specs.Headline.{Appended, IsFront}
-use Rattle.hevc_decoder.specs.declared.decoded.Decoded.{Decoded}
 use Rattle.hevc_decoder.specs.Names.{output_picture}
-use Rattle.hevc_decoder.specs.Promise.{Decodes}
+use Rattle.hevc_decoder.specs.Promise.{Decodes, Told, told}
 use Rattle.hevc_decoder.specs.Scenes.{Trail}
 use Rattle.hevc_decoder.specs.Runs.{Ended}
 use Rattle.hevc_decoder.proofs.Feeding.{at_end}
@@ -48,20 +47,17 @@ blamed g c = let from = ap (λ (v : View g.row.B.Denot g.row.B-Handle.Denot). v.
 abbrev kept_faultless : (g : given.Over) (c : goal.After-into_backend g) → KeepsFaultless (g.B.StatelessH265DecoderBackend.is_faultless c.args.backend) (g.B.StatelessH265DecoderBackend.is_faultless c.into_backend.result) (without_unit c.in_ok-result.result)
 kept_faultless g c = let from = ap (λ (v : View g.row.B.Denot g.row.B-Handle.Denot). v.backend) c.new_with-decoder.ensures.view in rw (from, ← c.into_backend.ensures) at c.in_ok-result.ensures.faultless
 
--- what was decoded
-abbrev made : (g : given.Over) (c : goal.After-into_backend g) → Decoded g.row.B.Denot
-made g c = record { backend = c.into_backend.result; result = c.in_ok-result.result }
+-- what is told before it and now
+abbrev told_before : (g : given.Over) (c : goal.After-into_backend g) → Told g.row.B-Handle.Denot
+told_before g c = told g.B.StatelessH265DecoderBackend.log g.B.StatelessH265DecoderBackend.counts g.B.StatelessH265DecoderBackend.is_faultless c.args.backend c.args.shown.now.items
+
+abbrev told_now : (g : given.Over) (c : goal.After-into_backend g) → Told g.row.B-Handle.Denot
+told_now g c = told g.B.StatelessH265DecoderBackend.log g.B.StatelessH265DecoderBackend.counts g.B.StatelessH265DecoderBackend.is_faultless c.into_backend.result c.take_source.new.shown.items
 
 pub returns-clause-decodes : goal.returns-clause-decodes
 returns-clause-decodes g c =
-    let log = g.B.StatelessH265DecoderBackend.log in
-    let counts = g.B.StatelessH265DecoderBackend.counts in
-    let is_faultless = g.B.StatelessH265DecoderBackend.is_faultless in
-    let old = c.args.shown.now.items in
-    let new = c.take_source.new.shown.items in
-    from_run g c (λ s. Decodes log counts is_faultless (options_of c.args.options) s c.args.backend old new (made g c))
-    (decodes_of log counts is_faultless c.args.backend old new (made g c) (blamed g c) (kept_faultless g c) (options_of c.args.options) c.in_ok-result.ensures.drained.stream _ (run g c) c.in_ok-result.ensures.drained.within)
+    from_run g c (λ s. Decodes (options_of c.args.options) s (told_before g c) (told_now g c) c.in_ok-result.result)
+    (decodes_of (told_before g c) (told_now g c) c.in_ok-result.result (blamed g c) (kept_faultless g c) (options_of c.args.options) c.in_ok-result.ensures.drained.stream _ (run g c) c.in_ok-result.ensures.drained.within)
 
 pub returns-clause-honest : goal.returns-clause-honest
-returns-clause-honest g c =
-    honest_of g.B.StatelessH265DecoderBackend.log g.B.StatelessH265DecoderBackend.counts g.B.StatelessH265DecoderBackend.is_faultless c.args.backend c.args.shown.now.items c.take_source.new.shown.items (made g c) (blamed g c) (kept_faultless g c) _ _ (run g c)
+returns-clause-honest g c = honest_of (told_before g c) (told_now g c) c.in_ok-result.result (blamed g c) (kept_faultless g c) _ _ (run g c)

@@ -3,7 +3,7 @@ use Rattle.hevc_stream.specs.Stream.{meanings}
 use Rattle.hevc_options.specs.Options.{options_of}
 use Rattle.hevc_stateless.specs.Decoders.{view_of}
 use Rattle.hevc_stateless.specs.Views.{View}
-use Rattle.hevc_decoder.specs.declared.decoded.Decoded.{Decoded}
+use Rattle.hevc_decoder.specs.Promise.{told}
 use Rattle.hevc_decoder.specs.Runs.{Ended}
 use Rattle.hevc_decoder.proofs.Walking.{whole_run}
 use Rattle.hevc_decoder.proofs.Promises.{decodes_of}
@@ -19,9 +19,10 @@ pub returns : goal.returns
 returns g c =
     let e = c.take_units-result.ensures in
     let from = ap (λ (v : View g.row.B.Denot g.row.B-Handle.Denot). v.backend) c.new_with-decoder.ensures.view in
-    let d : Decoded g.row.B.Denot = record { backend = c.into_backend.result; result = c.take_units-result.result } in
+    let before = told g.B.StatelessH265DecoderBackend.log g.B.StatelessH265DecoderBackend.counts g.B.StatelessH265DecoderBackend.is_faultless c.args.backend c.args.shown.now.items in
+    let now = told g.B.StatelessH265DecoderBackend.log g.B.StatelessH265DecoderBackend.counts g.B.StatelessH265DecoderBackend.is_faultless c.into_backend.result c.take_units-result.new.shown.items in
     record {
       decodes =
-          decodes_of g.B.StatelessH265DecoderBackend.log g.B.StatelessH265DecoderBackend.counts g.B.StatelessH265DecoderBackend.is_faultless c.args.backend c.args.shown.now.items c.take_units-result.new.shown.items d
+          decodes_of before now c.take_units-result.result
           (rw (from, ← c.into_backend.ensures) at e.cause) (rw (from, ← c.into_backend.ensures) at e.faultless) (options_of c.args.options) c.args.stream.now _ (run g c) e.unit;
     }

@@ -1,4 +1,4 @@
-use Rattle.std.proofs.Common.{◌≡◌, ap, ℕ, Option}
+use Rattle.std.proofs.Common.{ap, ℕ, Option}
 use Rattle.hevc_records.specs.Pps.{PlainPps}
 use Rattle.hevc_types_d.specs.Pps.{plain_pps}
 use Rattle.hevc_slice.specs.Kept.{kept_by}

@@ -1,12 +1,12 @@
 use Rattle.std.proofs.Common.{refl, ◌-◌}
 use Rattle.hevc_spec.specs.Payload.{payload}
-use Rattle.hevc_spec.specs.Table.{read}
 use Rattle.hevc_bits.specs.FoundUnit.{bytes_of}
 use Rattle.hevc_records.specs.SetsById.{sets_by_id}
 use Rattle.hevc_tables.specs.PpsTable.{picture_parameter_set}
 use Rattle.hevc_types_c.specs.Sps.{plain_sps}
 use Rattle.hevc_types_d.specs.Pps.{plain_pps}
-use Rattle.hevc_slice.proofs.Lent.{lent_reads, lent_type, means_by, is_type}
+use Rattle.hevc_slice.specs.Kept.{TilesCoverKept}
+use Rattle.hevc_slice.proofs.Lent.{lent_reads, lent_type, lent_names_no_picture_set, lent_fact, means_by, is_type}
 use Rattle.hevc_slice.proofs.Named.{named}
 use Rattle.hevc_slice.proofs.parser.Parser.parse_pps.Goals as goal
 
@@ -23,5 +23,7 @@ returns c = (
     wrong_type = lent_type c.in_ok-set.set c.lend_picture_set.result c.lend_picture_set.ensures.refused c.in_ok-set.ensures.wrong_type;
     read = λ is. lent_reads plain_pps c.in_ok-set.set c.lend_picture_set.result _ c.lend_picture_set.ensures.same c.lend_picture_set.ensures.refused (c.in_ok-set.ensures.read is);
     means = λ is. means_by _ (picture_parameter_set (c.args.nalu.now.header.nuh_temporal_id_plus1 - 1) (sets_by_id plain_sps c.args.self.now.sequence_sets)) (payload (bytes_of c.args.nalu.now)) c.lend_picture_set.result (lent_reads plain_pps c.in_ok-set.set c.lend_picture_set.result _ c.lend_picture_set.ensures.same c.lend_picture_set.ensures.refused (c.in_ok-set.ensures.read is));
+    names = lent_names_no_picture_set c.lend_picture_set.result c.lend_picture_set.ensures.refused;
+    tiles = lent_fact (λ set. TilesCoverKept c.args.self.now (plain_pps set)) c.in_ok-set.set c.lend_picture_set.result c.lend_picture_set.ensures.same c.in_ok-set.ensures.tiles;
   },
 )
