@@ -10,16 +10,27 @@ folder=$(mktemp -d)
 trap 'rm -rf "$folder"' EXIT
 python3 "$top/bench/headers.py" "$folder/bytes" "$bytes"
 
+# hevc_bits and the crates below it, as a crates.txt has them; the laws of reading had another name in earlier revisions.
+below() {
+    grep -E '^hevc_(spec|laws|reading_laws|bits):'
+}
+
+folders() {
+    cut -d: -f1 "$1" | sed 's,^,crates/,'
+}
+
 build() {
     mkdir -p "$folder/$1/crates/reader_bench/src"
     cp "$top/bench/reader_bench.rt.txt" "$folder/$1/crates/reader_bench/src/main.rt"
-    printf '%s\n' 'hevc_spec:' 'hevc_reading_laws: hevc_spec' 'hevc_bits: hevc_spec hevc_reading_laws thiserror' 'reader_bench: hevc_bits' >"$folder/$1/crates.txt"
+    echo 'reader_bench: hevc_bits' >>"$folder/$1/crates.txt"
     (cd "$folder/$1/crates/reader_bench" && rt run </dev/null >/dev/null)
 }
 
 mkdir "$folder/other" "$folder/this"
-git -C "$top" archive "$other" crates/hevc_spec crates/hevc_reading_laws crates/hevc_bits | tar x -C "$folder/other"
-(cd "$top" && tar c --exclude=out crates/hevc_spec crates/hevc_reading_laws crates/hevc_bits) | tar x -C "$folder/this"
+git -C "$top" show "$other:crates.txt" | below >"$folder/other/crates.txt"
+below <"$top/crates.txt" >"$folder/this/crates.txt"
+git -C "$top" archive "$other" $(folders "$folder/other/crates.txt") | tar x -C "$folder/other"
+(cd "$top" && tar c --exclude=out $(folders "$folder/this/crates.txt")) | tar x -C "$folder/this"
 build other
 build this
 for turn in 1 2 3; do
