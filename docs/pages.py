@@ -5,7 +5,7 @@ pages.py --check  says what differs, and ends with 1 where anything does:
                   those examples and fields; each bound of TABLES.md that is two numbers, beside the table's own
                   in hevc_tables; the records of RECORDS.md, and the row of TABLES.md that each field names; that MAP.md has
                   each crate of crates.txt, in its order and no other; that each definition listed in PROMISES.md stands in
-                  the file that its heading names; the numbers of edits in STRENGTH.md; that files and headings
+                  the file that its heading names; the numbers and the names of edits in STRENGTH.md; that files and headings
                   which the pages name or link to are there
 """
 import re
@@ -188,6 +188,19 @@ def wrong_edits(page):
             yield f"STRENGTH.md: {crate} has {edits} edits"
 
 
+def wrong_edit_names(page):
+    """The edits that the table of STRENGTH.md doesn't name, or names and doesn't find."""
+    table = page.split("## What each edit breaks")[1].split("\n## ")[0]
+    told = {
+        (crate, name)
+        for crate, row in re.findall(r"^\| `(hevc_\w+)` \| (.*) \|$", table, re.M)
+        for name in re.findall(r"`(\w+)`: ", row)
+    }
+    edits = {(path.parts[-3], path.stem) for path in CRATES.glob("*/must-fail/*.edit")}
+    for crate, name in sorted(told ^ edits):
+        yield f"STRENGTH.md: the edit {name} of {crate}"
+
+
 def anchors(text):
     """The places of a page that a link can name: its headings, in small letters, with hyphens and without marks."""
     headings = re.findall(r"^#+ (.*)$", text, re.M)
@@ -221,6 +234,7 @@ def complaints():
     yield from wrong_crates((DOCS / "MAP.md").read_text())
     yield from wrong_definitions((DOCS / "PROMISES.md").read_text())
     yield from wrong_edits((DOCS / "STRENGTH.md").read_text())
+    yield from wrong_edit_names((DOCS / "STRENGTH.md").read_text())
     for path in [TOP / "README.md", *sorted(DOCS.glob("*.md"))]:
         yield from wrong_files(path)
 
