@@ -1,11 +1,12 @@
 //! What a stream has: its pictures, its units or its bytes, counted.
-ghost use Rattle.std.specs.Prelude.{◌≡◌, ◌≤◌, ◌<◌, ◌^◌, length, IfOk};
+ghost use Rattle.std.specs.Prelude.{◌≡◌, ◌≤◌, ◌<◌, length, IfOk};
 ghost use Rattle.std.specs.declared.option.Option.TheVariants.{Some};
 ghost use Rattle.hevc_spec.specs.Units.{units};
 ghost use Rattle.hevc_walk.specs.Results.{verdict};
 ghost use Rattle.hevc_stream.specs.Options.{default_options};
 ghost use Rattle.hevc_stream.specs.Stream.{meanings};
 ghost use Rattle.hevc_bench.specs.Counts.{count_of, count_of_answer, count_of_pictures, count_of_units};
+ghost use Rattle.hevc_bits.specs.declared.stream_limit.TheConstants.{STREAM_LIMIT};
 
 use crate::work::Work;
 use hevc_backend::SilentBackend;
@@ -24,7 +25,7 @@ pub enum Count {
 
 /// What the work finds in a stream.
 pub(crate) fn find(alloc: Global, work: Work, stream: &[u8]) -> Result<Count, AllocError>
-    requires { length stream.now < 2 ^ 60 }
+    requires { length stream.now < STREAM_LIMIT }
     ensures { IfOk result (λ found. found ≡ count_of work stream.now) }
 {
     match work {
@@ -36,7 +37,7 @@ pub(crate) fn find(alloc: Global, work: Work, stream: &[u8]) -> Result<Count, Al
 
 /// How many pictures there are, counted as the stream is decoded over a backend that keeps nothing.
 fn count_pictures(alloc: Global, stream: &[u8]) -> Result<Count, AllocError>
-    requires { length stream.now < 2 ^ 60 }
+    requires { length stream.now < STREAM_LIMIT }
     ensures { IfOk result
         (λ found. found ≡ count_of_pictures (verdict (meanings default_options stream.now))) }
 {
@@ -63,7 +64,7 @@ fn count_answered(answer: Result<u64, Refused>) -> Result<Count, AllocError>
 
 /// How many units there are, each with a header.
 fn count_units(stream: &[u8]) -> Count
-    requires { length stream.now < 2 ^ 60 }
+    requires { length stream.now < STREAM_LIMIT }
     ensures { result ≡ count_of_units 0 (units stream.now) }
 {
     let mut number = 0;

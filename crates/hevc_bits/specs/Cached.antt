@@ -5,6 +5,7 @@ use Rattle.hevc_spec.specs.Payload.{Place, bits, low_bits, loading, place_behind
 use Rattle.hevc_spec.specs.Bits.{found, bits_after, ue_at}
 use Rattle.hevc_bits.specs.declared.load.Loaded.{Loaded}
 use Rattle.hevc_bits.specs.declared.word.Word.{Word}
+use Rattle.hevc_bits.specs.declared.stream_limit.TheConstants.{STREAM_LIMIT}
 
 -- the place behind a payload byte, none of whose bits is read
 abbrev pub loaded_place : Loaded → Place
@@ -72,8 +73,8 @@ pub record IsFilled (w : Word) : Type 0 where
   pub among : w.ahead ≤ w.filled
   pub zeros : w.zeros ≤ 2
   pub part : w.filled + length w.rest.now ≤ length w.bytes.now
-  pub short : length w.bytes.now < 2 ^ 60
-  pub few : w.dropped + length w.rest.now < 2 ^ 60
+  pub short : length w.bytes.now < STREAM_LIMIT
+  pub few : w.dropped + length w.rest.now < STREAM_LIMIT
   pub holds : Holds w.ahead w.cache w.marks (bytes_on (w.filled - w.ahead) (base_of w)) (end_of w)
 
 -- The word stands where it stood, with bits put in: so many, unless the payload has fewer.

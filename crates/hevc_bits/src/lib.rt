@@ -10,6 +10,7 @@ mod nalu_header;
 mod nalu_type;
 mod reader;
 mod start_code;
+mod stream_limit;
 mod word;
 
 pub use bit_error::BitError;
@@ -18,3 +19,4 @@ pub use nalu::Nalu;
 pub use nalu_header::NaluHeader;
 pub use nalu_type::NaluType;
 pub use reader::NaluReader;
+pub use stream_limit::STREAM_LIMIT;

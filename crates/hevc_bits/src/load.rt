@@ -1,8 +1,9 @@
 //! The next payload byte.
 
-ghost use Rattle.std.specs.Prelude.{◌≡◌, ℕ, ◌+◌, ◌≤◌, ◌<◌, ◌^◌, length, Some, None, IfSome, MatchOption};
+ghost use Rattle.std.specs.Prelude.{◌≡◌, ℕ, ◌+◌, ◌≤◌, ◌<◌, length, Some, None, IfSome, MatchOption};
 ghost use Rattle.hevc_spec.specs.Payload.{loading, run_behind};
 ghost use Rattle.hevc_bits.specs.Cached.{loaded_place};
+ghost use Rattle.hevc_bits.specs.declared.stream_limit.TheConstants.{STREAM_LIMIT};
 
 /// A payload byte and what stands behind it.
 #[derive(Drop)]
@@ -26,11 +27,11 @@ fn zeros_behind(zeros: u8, byte: u8) -> u8
 /// The next payload byte behind `zeros` zero bytes, with `dropped` 03 bytes dropped before them.
 pub fn next_byte(zeros: u8, dropped: usize, bytes: &[u8]) -> Option<Loaded<'_>>
     requires few { zeros ≤ 2 }
-    requires short { dropped + length bytes.now < 2 ^ 60 }
+    requires short { dropped + length bytes.now < STREAM_LIMIT }
     ensures loads { MatchOption result (loading zeros dropped bytes.now ≡ None)
         (λ l. loading zeros dropped bytes.now ≡ Some (loaded_place l)) }
     ensures small { IfSome result (λ l. l.zeros ≤ 2) }
-    ensures short { IfSome result (λ l. l.dropped + length l.behind.now < 2 ^ 60) }
+    ensures short { IfSome result (λ l. l.dropped + length l.behind.now < STREAM_LIMIT) }
 {
     let (&byte, behind) = bytes.split_first()?;
     if zeros < 2 || byte != 3 {

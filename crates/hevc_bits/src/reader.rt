@@ -5,6 +5,7 @@ ghost use Rattle.hevc_spec.specs.Payload.{Place, bits, payload_bits, first_place
 ghost use Rattle.std.specs.List.{list_any};
 ghost use Rattle.hevc_spec.specs.Bits.{u, skip, ue, number, IsSpelled, IsAtFront, bits_at, bits_after, golomb_at, ue_at, within, in_range, in_signed_range, signed as signed_of};
 ghost use Rattle.hevc_bits.specs.Reading.{TakesBit, Finds, FindsSigned, LooksForMore, MayFind, PassesZeros};
+ghost use Rattle.hevc_bits.specs.declared.stream_limit.TheConstants.{STREAM_LIMIT};
 
 use crate::bit_error::BitError;
 use crate::word::Word;
@@ -31,7 +32,7 @@ impl<'a> Model for NaluReader<'a> {
 impl<'a> NaluReader<'a> {
     /// A reader at the first payload bit of the bytes behind a unit's header.
     pub fn new(bytes: &'a [u8]) -> NaluReader<'a>
-        requires { length bytes.now < 2 ^ 60 }
+        requires { length bytes.now < STREAM_LIMIT }
         ensures place { result ≡ first_place bytes.now }
         ensures payload { bits result ≡ payload_bits 0 bytes.now }
     {
@@ -59,7 +60,7 @@ impl<'a> NaluReader<'a> {
     /// How many 03 bytes were dropped so far.
     pub fn num_epb(&self) -> usize
         ensures value { result ≡ self.now.dropped }
-        ensures small { result < 2 ^ 60 }
+        ensures small { result < STREAM_LIMIT }
     {
         self.word.dropped()
     }

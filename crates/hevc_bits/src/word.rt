@@ -5,6 +5,7 @@ ghost use Rattle.hevc_spec.specs.Payload.{first_place, loading, bits, PassesByte
 ghost use Rattle.hevc_spec.specs.Bits.{found, ue_at};
 ghost use Rattle.hevc_bits.specs.Cached.{loaded_place, place_of, marked, IsFilled, Fills, Takes, TakesGolomb};
 ghost use Rattle.hevc_bits.specs.Reading.{LoadsByte};
+ghost use Rattle.hevc_bits.specs.declared.stream_limit.TheConstants.{STREAM_LIMIT};
 
 use crate::load::{Loaded, next_byte};
 
@@ -30,7 +31,7 @@ pub struct Word<'a> {
 impl<'a> Word<'a> {
     /// Before the first bit of `bytes`.
     pub fn new(bytes: &'a [u8]) -> Word<'a>
-        requires { length bytes.now < 2 ^ 60 }
+        requires { length bytes.now < STREAM_LIMIT }
         ensures filled { IsFilled result }
         ensures place { place_of result ≡ first_place bytes.now }
     {
@@ -143,7 +144,7 @@ impl<'a> Word<'a> {
         requires loads { loading self.old.zeros self.old.dropped self.old.rest.now
             ≡ Some (loaded_place next) }
         requires small { next.zeros ≤ 2 }
-        requires short { next.dropped + length next.behind.now < 2 ^ 60 }
+        requires short { next.dropped + length next.behind.now < STREAM_LIMIT }
         ensures filled { IsFilled self.new }
         ensures same { place_of self.new ≡ place_of self.old }
         ensures more { self.new.left ≡ self.old.left + 8 }
@@ -236,7 +237,7 @@ impl<'a> Word<'a> {
     pub fn dropped(&self) -> usize
         requires { IsFilled self.now }
         ensures value { result ≡ (place_of self.now).dropped }
-        ensures small { result < 2 ^ 60 }
+        ensures small { result < STREAM_LIMIT }
     {
         self.dropped - self.marked()
     }
@@ -245,7 +246,7 @@ impl<'a> Word<'a> {
     pub fn behind(&self) -> &'a [u8]
         requires { IsFilled self.now }
         ensures value { result.now ≡ (place_of self.now).behind }
-        ensures short { length result.now < 2 ^ 60 }
+        ensures short { length result.now < STREAM_LIMIT }
     {
         let count = self.rest.len() + self.ahead + self.marked();
         &self.bytes[self.bytes.len() - count..]

@@ -13,7 +13,7 @@ use Rattle.hevc_bumping.specs.declared.frame.Frame.{Frame}
 use Rattle.hevc_driver.specs.declared.decode_error.DecodeError.{DecodeError}
 use Rattle.hevc_driver.specs.declared.decode_error.DecodeError.TheVariants as errors
 use Rattle.hevc_driver.specs.Moments.{opening}
-use Rattle.hevc_driver.specs.Takes.{Opens, Takes}
+use Rattle.hevc_driver.specs.Takes.{Opens}
 use Rattle.hevc_stateless.specs.declared.state.State.{State}
 use Rattle.hevc_stateless.specs.declared.state.State.TheVariants.{Decoding}
 use Rattle.hevc_stateless.specs.States.{unit_at, later_meaning, meaning_in, is_awaited}
@@ -28,7 +28,7 @@ use Rattle.hevc_decoder.specs.Scenes.{Scene, trail_of, with_queue, accepting}
 use Rattle.hevc_decoder.specs.Gives.{Delivered, Unmade, DecodesUnit, Gives, is_check_events, GivesWhole}
 use Rattle.hevc_decoder.specs.Takes.{DoesAll, TakesUnit}
 use Rattle.hevc_decoder.proofs.Doing.{lifts, does_all_nothing}
-use Rattle.hevc_decoder.proofs.Giving.{take_once}
+use Rattle.hevc_decoder.proofs.Giving.{TakesOrStays, part_of, take_once}
 use Rattle.hevc_decoder.proofs.Numbers.{opening_number}
 use Rattle.hevc_decoder.proofs.Again.{take_on}
 
@@ -73,15 +73,15 @@ module _ {B H : Type 0} (o : Options) (us : List NalUnit) (u : NalUnit) (h : Uni
     given_once {T} r isnt few (inr z) = unmade r k old new y S z
     given_once {T} r isnt few (inl d) =
         let step = step_of r d in
-        let takes = subst (λ (s : Standing). Takes r 0 (traces_of old.seen.log old.seen.view) (traces_of new.seen.log (with_queue d.out new.seen).view) (meaning_in (state_by a) (unit_at o old.seen.kept h u.bytes)) s new.seen.view.standing) after.stands
-        (subst (λ (x : State). Takes r 0 (traces_of old.seen.log old.seen.view) (traces_of new.seen.log (with_queue d.out new.seen).view) (meaning_in x (unit_at o old.seen.kept h u.bytes)) old.seen.view.standing new.seen.view.standing) after.state_is step.part) in
+        let takes = subst (λ (s : Standing). TakesOrStays r (traces_of old.seen.log old.seen.view) (traces_of new.seen.log (with_queue d.out new.seen).view) (meaning_in (state_by a) (unit_at o old.seen.kept h u.bytes)) s new.seen.view.standing) after.stands
+        (subst (λ (x : State). TakesOrStays r (traces_of old.seen.log old.seen.view) (traces_of new.seen.log (with_queue d.out new.seen).view) (meaning_in x (unit_at o old.seen.kept h u.bytes)) old.seen.view.standing new.seen.view.standing) after.state_is (part_of r o h u.bytes old.seen (with_queue d.out new.seen) step)) in
         take_once k old new d.out (meaning_in (state_by a) (unit_at o old.seen.kept h u.bytes)) y S new.seen.view.standing same empty d.shown r (isnt_check r isnt) few takes
 
     pub stands_once : {T : Type 0} (v : T) → Gives (Ok v) k o h u.bytes old new → StandsAfter o (us ++ u ∷ []) new.seen
     stands_once {T} v (inr z) = absurd (cc z.told)
     stands_once {T} v (inl d) =
         let step = step_of (Ok v) d in
-        stands_with o (us ++ u ∷ []) new.seen d.out (took 0 o us u h old.seen (with_queue d.out new.seen) 0 after parsed (record { part = step.part; state = step.state; kept = step.kept })).stands
+        stands_with o (us ++ u ∷ []) new.seen d.out (took 0 o us u h old.seen (with_queue d.out new.seen) 0 after parsed (record { takes = record { part = step.takes.part; state = step.takes.state }; kept = step.kept })).stands
 
   -- ---- the second call goes on
 
@@ -90,7 +90,7 @@ module _ {B H : Type 0} (o : Options) (us : List NalUnit) (u : NalUnit) (h : Uni
     q = opening (meant_next o us u) S
 
     first : Step {T = ℕ} (Err errors.CheckEvents) 0 o h u.bytes old.seen (with_queue d.out mid.seen)
-    first = let step = step_of mid (Err errors.CheckEvents) d in record { part = step.part; state = step.state; kept = step.kept }
+    first = let step = step_of mid (Err errors.CheckEvents) d in record { takes = record { part = step.takes.part; state = step.takes.state }; kept = step.kept }
 
     opens_it : Opens 0 (traces_of old.seen.log old.seen.view) (traces_of mid.seen.log (with_queue d.out mid.seen).view) (meant_next o us u) S mid.seen.view.standing
     opens_it = opens 0 o us u h old.seen (with_queue d.out mid.seen) after parsed first
@@ -115,14 +115,14 @@ module _ {B H : Type 0} (o : Options) (us : List NalUnit) (u : NalUnit) (h : Uni
     room = sym (first_full a y S) ∙ opens_it.room
 
     module _ (new : Scene B H) (r : Result T DecodeError) where
-      takes : (e : Delivered (DecodesUnit o h u.bytes) r k (accepting mid) new) → Takes r 0 (traces_of mid.seen.log (accepting mid).seen.view) (traces_of new.seen.log (with_queue e.out new.seen).view) (later_meaning y) q.next new.seen.view.standing
-      takes e = subst (λ (m : Meaning). Takes r 0 (traces_of mid.seen.log (accepting mid).seen.view) (traces_of new.seen.log (with_queue e.out new.seen).view) (later_meaning m) q.next new.seen.view.standing) (meant_is o us u h (accepting mid).seen between parsed)
-          (subst (λ (s : Standing). Takes r 0 (traces_of mid.seen.log (accepting mid).seen.view) (traces_of new.seen.log (with_queue e.out new.seen).view) (meaning_in Decoding (unit_at o mid.seen.kept h u.bytes)) s new.seen.view.standing) between.stands (e.calls.taken refl).part)
+      takes : (e : Delivered (DecodesUnit o h u.bytes) r k (accepting mid) new) → TakesOrStays r (traces_of mid.seen.log (accepting mid).seen.view) (traces_of new.seen.log (with_queue e.out new.seen).view) (later_meaning y) q.next new.seen.view.standing
+      takes e = subst (λ (m : Meaning). TakesOrStays r (traces_of mid.seen.log (accepting mid).seen.view) (traces_of new.seen.log (with_queue e.out new.seen).view) (later_meaning m) q.next new.seen.view.standing) (meant_is o us u h (accepting mid).seen between parsed)
+          (subst (λ (s : Standing). TakesOrStays r (traces_of mid.seen.log (accepting mid).seen.view) (traces_of new.seen.log (with_queue e.out new.seen).view) (meaning_in Decoding (unit_at o mid.seen.kept h u.bytes)) s new.seen.view.standing) between.stands (part_of r o h u.bytes (accepting mid).seen (with_queue e.out new.seen) (e.calls.taken refl)))
 
       -- once its format is accepted it opens no other
       no_more : (e : Delivered (DecodesUnit o h u.bytes) r k (accepting mid) new) → r ≡ Err errors.CheckEvents → ⊥
       no_more e is =
-          let opens_more = subst (λ (s : Result T DecodeError). Takes s 0 (traces_of mid.seen.log (accepting mid).seen.view) (traces_of new.seen.log (with_queue e.out new.seen).view) (later_meaning y) q.next new.seen.view.standing) is (takes e) in
+          let opens_more = subst (λ (s : Result T DecodeError). TakesOrStays s (traces_of mid.seen.log (accepting mid).seen.view) (traces_of new.seen.log (with_queue e.out new.seen).view) (later_meaning y) q.next new.seen.view.standing) is (takes e) in
           cc (sym twice_by.once ∙ opens_more.negotiates)
 
       pub given_again : q.next.next.number + 1 < 2 ^ 64 → Gives r k o h u.bytes (accepting mid) new → TakesUnit r k (trail_of old) (trail_of new) y S
@@ -132,7 +132,7 @@ module _ {B H : Type 0} (o : Options) (us : List NalUnit) (u : NalUnit) (h : Uni
     pub stands_again : (new : Scene B H) (v : T) → Gives (Ok v) k o h u.bytes (accepting mid) new → StandsAfter o (us ++ u ∷ []) new.seen
     stands_again new v (inr z) = absurd (cc z.told)
     stands_again new v (inl e) =
-        stands_with o (us ++ u ∷ []) new.seen e.out (took_again o us u h (accepting mid).seen between parsed 0 (with_queue e.out new.seen) 0 refl (record { part = (e.calls.taken refl).part; state = (e.calls.taken refl).state; kept = (e.calls.taken refl).kept })).stands
+        stands_with o (us ++ u ∷ []) new.seen e.out (took_again o us u h (accepting mid).seen between parsed 0 (with_queue e.out new.seen) 0 refl (record { takes = record { part = (e.calls.taken refl).takes.part; state = (e.calls.taken refl).takes.state }; kept = (e.calls.taken refl).kept })).stands
 
   -- ---- a unit as a whole
 

@@ -1,5 +1,5 @@
 -- A unit that is given once.
-use Rattle.std.proofs.Common.{◌≡◌, inl, inr, ℕ, ◌+◌, ◌-◌, ◌<◌, ◌^◌, List, [], ◌∷◌, ◌++◌, map, refl, sym, ◌∙◌, ap, subst, arith, Option, Some, None, Result, Ok, Err, Bool, true, false, not, ◌&&◌, ◌==◌, if◌then◌else◌}
+use Rattle.std.proofs.Common.{◌≡◌, ◌⊎◌, ⊎_elim, inl, inr, ℕ, ◌+◌, ◌-◌, ◌<◌, ◌^◌, List, [], ◌∷◌, ◌++◌, map, refl, sym, ◌∙◌, ap, subst, arith, Option, Some, None, Result, Ok, Err, Bool, true, false, not, ◌&&◌, ◌==◌, if◌then◌else◌}
 use Rattle.std.proofs.lemmas.Bool.Decides.{nat_tests}
 use Rattle.hevc_walk.specs.Meanings.{Slice, Meaning, SequenceSet, CodedSlice, EndOfSequence, EndOfBitstream, Other, Refused}
 use Rattle.hevc_walk.specs.DependentSlices.{whole_slice}
@@ -16,12 +16,26 @@ use Rattle.hevc_driver.specs.Does.{Traces, Does, Stops}
 use Rattle.hevc_driver.specs.Moments.{with_kept, begins_at, begins_by, negotiates, step_part, kept_behind}
 use Rattle.hevc_driver.specs.Takes.{Goes, Fills, Halts, Refuses, Stays, LeftAt, Takes}
 use Rattle.hevc_driver.proofs.Doing.{does_nothing, keeps_all}
-use Rattle.hevc_stateless.specs.Views.{traces_of}
+use Rattle.hevc_spec.specs.UnitHeader.{UnitHeader}
+use Rattle.hevc_stream.specs.Options.{Options}
+use Rattle.hevc_stateless.specs.States.{meaning_in, unit_at}
+use Rattle.hevc_stateless.specs.Steps.{Seen, Step}
+use Rattle.hevc_stateless.specs.Views.{Moment, traces_of}
 use Rattle.hevc_stateless_laws.proofs.Standing.{Means}
 use Rattle.hevc_decoder.specs.Names.{shown_at}
 use Rattle.hevc_decoder.specs.Scenes.{Scene, trail_of, with_queue}
 use Rattle.hevc_decoder.specs.Takes.{StopsPlan, TakesWhole, RefusesUnit, FillsUnit, HaltsUnit, TakesUnit}
 use Rattle.hevc_decoder.proofs.Doing.{lifts}
+
+-- what a call does, but for the state
+abbrev pub TakesOrStays : {H T : Type 0} → Result T DecodeError → Traces H → Traces H → Meaning → Standing → Standing → Type 0
+TakesOrStays {H} {T} (Err errors.NoMemory) a b x s st = Stays a b s st ⊎ Takes {T = T} (Err errors.NoMemory) 0 a b x s st
+TakesOrStays r a b x s st = Takes r 0 a b x s st
+
+pub part_of : {B H T : Type 0} (r : Result T DecodeError) (o : Options) (h : UnitHeader) (bytes : List ℕ) (old new : Seen B H) → Step r 0 o h bytes old new → TakesOrStays r (traces_of old.log old.view) (traces_of new.log new.view) (meaning_in old.view.state (unit_at o old.kept h bytes)) old.view.standing new.view.standing
+part_of (Ok v) o h bytes old new step = step.takes.part
+part_of {H = H} (Err errors.NoMemory) o h bytes old new step = ⊎_elim (λ same. inl (record { traces = ap (λ (m : Moment H). m.traces) same; left = ap (λ (m : Moment H). m.standing) same })) (λ acts. inr acts.part) step.takes
+part_of (Err e) o h bytes old new step = step.takes.part
 
 -- no cause is told as the end of the stream
 pub no_nal : (c : Cause) → error_of c ≡ errors.NoNal → ⊥
@@ -115,7 +129,7 @@ module _ {B H : Type 0} (k : ℕ) (old new : Scene B H) (out : List (Frame H)) (
     next = λ f. absurd f;
   }
 
-  pub take_once : {T : Type 0} (r : Result T DecodeError) → (r ≡ Err errors.CheckEvents → ⊥) → s.next.number + 1 < 2 ^ 64 → Takes r 0 a b x s st → TakesUnit r k (trail_of old) (trail_of new) y s
+  pub take_once : {T : Type 0} (r : Result T DecodeError) → (r ≡ Err errors.CheckEvents → ⊥) → s.next.number + 1 < 2 ^ 64 → TakesOrStays r a b x s st → TakesUnit r k (trail_of old) (trail_of new) y s
   take_once (Ok v) isnt few z = once_ok z
   take_once (Err errors.Backend) isnt few z = once_stops (Unit {0}) (λ c. LeftAt c x s st) z
   take_once (Err errors.NoMemory) isnt few (inl z) = once_stays z

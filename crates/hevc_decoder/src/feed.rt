@@ -1,15 +1,16 @@
 //! The units of a stream, taken as a source hands it over.
-ghost use Rattle.std.specs.Prelude.{◌≡◌, ◌+◌, ◌-◌, ◌≤◌, ◌<◌, ◌^◌, [], ℕ, List, length, IfOk, OnErr, OnOk, IsErrOf};
+ghost use Rattle.std.specs.Prelude.{◌≡◌, ◌+◌, ◌-◌, ◌≤◌, ◌<◌, [], ℕ, List, length, IfOk, OnErr, OnOk, IsErrOf};
 ghost use Rattle.std.specs.Io.KnownBytes.{Consumes, IsAtEnd};
 ghost use Rattle.hevc_bits.specs.StartCode.{NoneStands};
 ghost use Rattle.hevc_faults.specs.Faults.{Rose};
 ghost use Rattle.hevc_stream.specs.Kept.{none_kept};
-ghost use Rattle.hevc_driver.specs.Answers.{CountsErrors, KeepsFaultless};
+ghost use Rattle.hevc_driver.specs.Answers.{BlamesFairly};
 ghost use Rattle.hevc_stateless.specs.Decoders.{view_of, kept_in, set_for};
 ghost use Rattle.hevc_stateless.specs.Views.{at_beginning};
 ghost use Rattle.hevc_decoder.specs.Answers.{without_unit};
 ghost use Rattle.hevc_decoder.specs.Scenes.{scene, trail_of};
 ghost use Rattle.hevc_decoder.specs.Sources.{ComeOutFirst, Drained, FedTo, FeedsOn};
+ghost use Rattle.hevc_bits.specs.declared.stream_limit.TheConstants.{STREAM_LIMIT};
 
 use crate::decoded::{Refused, Shown};
 use crate::units::{take_last, take_piece};
@@ -27,15 +28,13 @@ fn take_whole<B: StatelessH265DecoderBackend>(
     unit: u64,
     shown: &mut Vec<Shown<B::Handle>>,
 ) -> Result<u64, Refused>
-    requires short { unit + length window.old < 2 ^ 60 }
+    requires short { unit + length window.old < STREAM_LIMIT }
     requires seen { NoneStands window.old 1 (seen - 2) }
     requires empty { (view_of decoder.old).queue ≡ [] }
     ensures empty { OnOk result ((view_of decoder.new).queue ≡ []) }
     ensures few { IfOk result (λ next. next + length window.new ≤ unit + length window.old) }
-    ensures cause { CountsErrors (B.counts (view_of decoder.old).backend)
-        (B.counts (view_of decoder.new).backend) (without_unit result) }
-    ensures faultless { KeepsFaultless (B.is_faultless (view_of decoder.old).backend)
-        (B.is_faultless (view_of decoder.new).backend) (without_unit result) }
+    ensures blames { BlamesFairly B.counts B.is_faultless (view_of decoder.old).backend
+        (view_of decoder.new).backend (without_unit result) }
     ensures feeds { FeedsOn result (set_for decoder.old) unit window.old window.new
         (scene B.log decoder.old shown.old.items) (scene B.log decoder.new shown.new.items) }
     ensures left { OnOk result (NoneStands window.new 1 (length window.new)) }
@@ -56,7 +55,7 @@ fn feed<B: StatelessH265DecoderBackend, S: Source>(
     left: &mut usize,
     shown: &mut Vec<Shown<B::Handle>>,
 ) -> Result<Result<u64, Refused>, InputError>
-    requires short { left.old < 2 ^ 60 }
+    requires short { left.old < STREAM_LIMIT }
     requires beginning { view_of decoder.old ≡ at_beginning (view_of decoder.old).backend }
     requires nothing { kept_in decoder.old ≡ none_kept }
     requires fresh { window.old ≡ [] }
@@ -73,11 +72,9 @@ fn feed<B: StatelessH265DecoderBackend, S: Source>(
     ensures left { IfOk result (λ fed. OnOk fed
         (NoneStands window.new 1 (length window.new))) }
     ensures empty { IfOk result (λ fed. OnOk fed ((view_of decoder.new).queue ≡ [])) }
-    ensures cause { IfOk result (λ fed. CountsErrors (B.counts (view_of decoder.old).backend)
-        (B.counts (view_of decoder.new).backend) (without_unit fed)) }
-    ensures faultless { IfOk result (λ fed.
-        KeepsFaultless (B.is_faultless (view_of decoder.old).backend)
-        (B.is_faultless (view_of decoder.new).backend) (without_unit fed)) }
+    ensures blames { IfOk result (λ fed.
+        BlamesFairly B.counts B.is_faultless (view_of decoder.old).backend
+        (view_of decoder.new).backend (without_unit fed)) }
     ensures options { OnOk result (set_for decoder.new ≡ set_for decoder.old) }
     ensures failed { IsErrOf result InputError.Failed
         → Rose (S.faults source.old) (S.faults source.new) }
@@ -113,7 +110,7 @@ pub(crate) fn take_source<B: StatelessH265DecoderBackend, S: Source>(
     limit: usize,
     shown: &mut Vec<Shown<B::Handle>>,
 ) -> Result<Result<u64, Refused>, InputError>
-    requires short { limit < 2 ^ 60 }
+    requires short { limit < STREAM_LIMIT }
     requires beginning { view_of decoder.old ≡ at_beginning (view_of decoder.old).backend }
     requires nothing { kept_in decoder.old ≡ none_kept }
     ensures drained { IfOk result (λ answer. Drained (set_for decoder.old) limit
@@ -123,11 +120,9 @@ pub(crate) fn take_source<B: StatelessH265DecoderBackend, S: Source>(
     ensures outputs { OnErr result (ComeOutFirst (set_for decoder.old) (S.left source.old)
         shown.old.items shown.new.items) }
     ensures end { OnOk result (IsAtEnd (S.left source.new)) }
-    ensures cause { IfOk result (λ answer. CountsErrors (B.counts (view_of decoder.old).backend)
-        (B.counts (view_of decoder.new).backend) (without_unit answer)) }
-    ensures faultless { IfOk result (λ answer.
-        KeepsFaultless (B.is_faultless (view_of decoder.old).backend)
-        (B.is_faultless (view_of decoder.new).backend) (without_unit answer)) }
+    ensures blames { IfOk result (λ answer.
+        BlamesFairly B.counts B.is_faultless (view_of decoder.old).backend
+        (view_of decoder.new).backend (without_unit answer)) }
     ensures failed { IsErrOf result InputError.Failed
         → Rose (S.faults source.old) (S.faults source.new) }
     ensures too_long { IsErrOf result InputError.TooLong → (given : List ℕ)

@@ -1,10 +1,11 @@
 //! A source decoded.
-ghost use Rattle.std.specs.Prelude.{◌<◌, ◌≤◌, ◌^◌, ℕ, List, IfOk, OnOk, IsErrOf, length};
+ghost use Rattle.std.specs.Prelude.{◌<◌, ◌≤◌, ℕ, List, IfOk, OnOk, IsErrOf, length};
 ghost use Rattle.std.specs.Io.KnownBytes.{Consumes, IsAtEnd};
 ghost use Rattle.hevc_faults.specs.Faults.{Rose};
 ghost use Rattle.hevc_options.specs.Options.{options_of};
 ghost use Rattle.hevc_decoder.specs.Promise.{Decodes, IsHonest, told};
 ghost use Rattle.hevc_decoder.specs.Sources.{ComeOutFirst, OfSource};
+ghost use Rattle.hevc_bits.specs.declared.stream_limit.TheConstants.{STREAM_LIMIT};
 
 use crate::decoded::{Decoded, Shown};
 use crate::feed::take_source;
@@ -26,7 +27,7 @@ pub fn decode_source_with<B: StatelessH265DecoderBackend + Drop, S: Source>(
     limit: usize,
     shown: &mut Vec<Shown<B::Handle>>,
 ) -> Result<Decoded<B>, InputError>
-    requires { limit < 2 ^ 60 }
+    requires { limit < STREAM_LIMIT }
 
     // Such a stream was read to its end.
     ensures end { OnOk result (IsAtEnd (S.left source.new)) }

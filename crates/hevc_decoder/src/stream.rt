@@ -3,6 +3,7 @@ ghost use Rattle.std.specs.Prelude.{◌<◌, ◌^◌, length};
 ghost use Rattle.hevc_stream.specs.Options.{default_options};
 ghost use Rattle.hevc_options.specs.Options.{options_of};
 ghost use Rattle.hevc_decoder.specs.Promise.{Decodes, told};
+ghost use Rattle.hevc_bits.specs.declared.stream_limit.TheConstants.{STREAM_LIMIT};
 
 use crate::decoded::{Decoded, Shown};
 use crate::units::take_units;
@@ -22,7 +23,7 @@ pub fn decode_stream_with<B: StatelessH265DecoderBackend>(
     stream: &[u8],
     shown: &mut Vec<Shown<B::Handle>>,
 ) -> Decoded<B>
-    requires { length stream.now < 2 ^ 60 }
+    requires { length stream.now < STREAM_LIMIT }
     ensures decodes { Decodes (options_of options) stream.now
         (told B.log B.counts B.is_faultless backend shown.old.items)
         (told B.log B.counts B.is_faultless result.backend shown.new.items)
@@ -44,7 +45,7 @@ pub fn decode_stream<B: StatelessH265DecoderBackend>(
     stream: &[u8],
     shown: &mut Vec<Shown<B::Handle>>,
 ) -> Decoded<B>
-    requires { length stream.now < 2 ^ 60 }
+    requires { length stream.now < STREAM_LIMIT }
     ensures decodes { Decodes default_options stream.now
         (told B.log B.counts B.is_faultless backend shown.old.items)
         (told B.log B.counts B.is_faultless result.backend shown.new.items)

@@ -1,10 +1,10 @@
 //! The units of a stream, one by one.
-ghost use Rattle.std.specs.Prelude.{◌≡◌, ◌+◌, ◌≤◌, ◌<◌, ◌^◌, ◌++◌, [], length, map, vec_len, vec_capacity, true, false, IfOk, IfErr, OnOk};
+ghost use Rattle.std.specs.Prelude.{◌≡◌, ◌+◌, ◌≤◌, ◌<◌, ◌++◌, [], length, map, vec_len, vec_capacity, true, false, IfOk, IfErr, OnOk};
 ghost use Rattle.hevc_spec.specs.Units.{units};
 ghost use Rattle.hevc_bits.specs.FoundUnit.{bytes_of};
 ghost use Rattle.hevc_stream.specs.Kept.{none_kept};
 ghost use Rattle.hevc_stream.specs.Stream.{meanings};
-ghost use Rattle.hevc_driver.specs.Answers.{CountsErrors, KeepsFaultless};
+ghost use Rattle.hevc_driver.specs.Answers.{BlamesFairly};
 ghost use Rattle.hevc_stateless.specs.Decoders.{view_of, kept_in, set_for};
 ghost use Rattle.hevc_stateless.specs.Views.{at_beginning};
 ghost use Rattle.hevc_decoder.specs.Answers.{without_unit};
@@ -12,10 +12,13 @@ ghost use Rattle.hevc_decoder.specs.Names.{shown_at};
 ghost use Rattle.hevc_decoder.specs.Scenes.{scene, trail_of};
 ghost use Rattle.hevc_decoder.specs.Gives.{Gives, GivesWhole, Closes, is_check_events};
 ghost use Rattle.hevc_decoder.specs.Runs.{TakesPiece, EndsRun, Ended};
+ghost use Rattle.hevc_bits.specs.declared.stream_limit.TheConstants.{STREAM_LIMIT};
 
 use crate::decoded::{Refused, Shown};
 use hevc_bits::{Nalu, NaluHeader, UnitError};
-use hevc_stateless::{DecodeError, DecoderEvent, StatelessDecoder, StatelessH265DecoderBackend};
+use hevc_stateless::{
+    DecodeError, DecoderEvent, MAX_OUTPUTS_OF_UNIT, StatelessDecoder, StatelessH265DecoderBackend,
+};
 
 /// Moves what came out to the outputs of a unit.
 fn deliver<B: StatelessH265DecoderBackend>(
@@ -43,18 +46,16 @@ fn give<B: StatelessH265DecoderBackend>(
     unit: u64,
     shown: &mut Vec<Shown<B::Handle>>,
 ) -> Result<(), DecodeError>
-    requires short { length nalu.now.stream < 2 ^ 60 }
+    requires short { length nalu.now.stream < STREAM_LIMIT }
     requires empty { (view_of decoder.old).queue ≡ [] }
     ensures empty { (view_of decoder.new).queue ≡ [] }
-    ensures cause { CountsErrors (B.counts (view_of decoder.old).backend)
-        (B.counts (view_of decoder.new).backend) result }
-    ensures faultless { KeepsFaultless (B.is_faultless (view_of decoder.old).backend)
-        (B.is_faultless (view_of decoder.new).backend) result }
+    ensures blames { BlamesFairly B.counts B.is_faultless (view_of decoder.old).backend
+        (view_of decoder.new).backend result }
     ensures gives { Gives result unit (set_for decoder.old) nalu.now.header (bytes_of nalu.now)
         (scene B.log decoder.old shown.old.items) (scene B.log decoder.new shown.new.items) }
     ensures options { set_for decoder.new ≡ set_for decoder.old }
 {
-    shown.reserve(17)?;
+    shown.reserve(MAX_OUTPUTS_OF_UNIT)?;
     let taken = decoder.decode_unit(0, nalu);
     deliver(decoder, unit, shown);
     taken
@@ -74,13 +75,11 @@ fn take_unit<B: StatelessH265DecoderBackend>(
     unit: u64,
     shown: &mut Vec<Shown<B::Handle>>,
 ) -> Result<(), DecodeError>
-    requires short { length nalu.now.stream < 2 ^ 60 }
+    requires short { length nalu.now.stream < STREAM_LIMIT }
     requires empty { (view_of decoder.old).queue ≡ [] }
     ensures empty { (view_of decoder.new).queue ≡ [] }
-    ensures cause { CountsErrors (B.counts (view_of decoder.old).backend)
-        (B.counts (view_of decoder.new).backend) result }
-    ensures faultless { KeepsFaultless (B.is_faultless (view_of decoder.old).backend)
-        (B.is_faultless (view_of decoder.new).backend) result }
+    ensures blames { BlamesFairly B.counts B.is_faultless (view_of decoder.old).backend
+        (view_of decoder.new).backend result }
     ensures gives { GivesWhole result unit (set_for decoder.old) nalu.now.header
         (bytes_of nalu.now)
         (scene B.log decoder.old shown.old.items) (scene B.log decoder.new shown.new.items) }
@@ -101,14 +100,12 @@ fn close<B: StatelessH265DecoderBackend>(
     shown: &mut Vec<Shown<B::Handle>>,
 ) -> Result<(), DecodeError>
     requires empty { (view_of decoder.old).queue ≡ [] }
-    ensures cause { CountsErrors (B.counts (view_of decoder.old).backend)
-        (B.counts (view_of decoder.new).backend) result }
-    ensures faultless { KeepsFaultless (B.is_faultless (view_of decoder.old).backend)
-        (B.is_faultless (view_of decoder.new).backend) result }
+    ensures blames { BlamesFairly B.counts B.is_faultless (view_of decoder.old).backend
+        (view_of decoder.new).backend result }
     ensures closes { Closes result unit
         (scene B.log decoder.old shown.old.items) (scene B.log decoder.new shown.new.items) }
 {
-    shown.reserve(17)?;
+    shown.reserve(MAX_OUTPUTS_OF_UNIT)?;
     let flushed = decoder.flush();
     deliver(decoder, unit, shown);
     flushed
@@ -121,14 +118,12 @@ pub(crate) fn take_piece<B: StatelessH265DecoderBackend>(
     first: u64,
     shown: &mut Vec<Shown<B::Handle>>,
 ) -> Result<u64, Refused>
-    requires short { first + length piece.now < 2 ^ 60 }
+    requires short { first + length piece.now < STREAM_LIMIT }
     requires empty { (view_of decoder.old).queue ≡ [] }
     ensures empty { OnOk result ((view_of decoder.new).queue ≡ []) }
     ensures few { IfOk result (λ next. next ≤ first + length piece.now) }
-    ensures cause { CountsErrors (B.counts (view_of decoder.old).backend)
-        (B.counts (view_of decoder.new).backend) (without_unit result) }
-    ensures faultless { KeepsFaultless (B.is_faultless (view_of decoder.old).backend)
-        (B.is_faultless (view_of decoder.new).backend) (without_unit result) }
+    ensures blames { BlamesFairly B.counts B.is_faultless (view_of decoder.old).backend
+        (view_of decoder.new).backend (without_unit result) }
     ensures takes { TakesPiece result (set_for decoder.old) first (units piece.now)
         (scene B.log decoder.old shown.old.items) (scene B.log decoder.new shown.new.items) }
     ensures options { set_for decoder.new ≡ set_for decoder.old }
@@ -163,10 +158,8 @@ fn finish<B: StatelessH265DecoderBackend>(
     shown: &mut Vec<Shown<B::Handle>>,
 ) -> Result<u64, Refused>
     requires empty { (view_of decoder.old).queue ≡ [] }
-    ensures cause { CountsErrors (B.counts (view_of decoder.old).backend)
-        (B.counts (view_of decoder.new).backend) (without_unit result) }
-    ensures faultless { KeepsFaultless (B.is_faultless (view_of decoder.old).backend)
-        (B.is_faultless (view_of decoder.new).backend) (without_unit result) }
+    ensures blames { BlamesFairly B.counts B.is_faultless (view_of decoder.old).backend
+        (view_of decoder.new).backend (without_unit result) }
     ensures ends { EndsRun result (set_for decoder.old) unit []
         (scene B.log decoder.old shown.old.items) (scene B.log decoder.new shown.new.items) }
 {
@@ -184,12 +177,10 @@ pub(crate) fn take_last<B: StatelessH265DecoderBackend>(
     first: u64,
     shown: &mut Vec<Shown<B::Handle>>,
 ) -> Result<u64, Refused>
-    requires short { first + length piece.now < 2 ^ 60 }
+    requires short { first + length piece.now < STREAM_LIMIT }
     requires empty { (view_of decoder.old).queue ≡ [] }
-    ensures cause { CountsErrors (B.counts (view_of decoder.old).backend)
-        (B.counts (view_of decoder.new).backend) (without_unit result) }
-    ensures faultless { KeepsFaultless (B.is_faultless (view_of decoder.old).backend)
-        (B.is_faultless (view_of decoder.new).backend) (without_unit result) }
+    ensures blames { BlamesFairly B.counts B.is_faultless (view_of decoder.old).backend
+        (view_of decoder.new).backend (without_unit result) }
     ensures ends { EndsRun result (set_for decoder.old) first (units piece.now)
         (scene B.log decoder.old shown.old.items) (scene B.log decoder.new shown.new.items) }
 {
@@ -203,13 +194,11 @@ pub(crate) fn take_units<B: StatelessH265DecoderBackend>(
     stream: &[u8],
     shown: &mut Vec<Shown<B::Handle>>,
 ) -> Result<u64, Refused>
-    requires short { length stream.now < 2 ^ 60 }
+    requires short { length stream.now < STREAM_LIMIT }
     requires beginning { view_of decoder.old ≡ at_beginning (view_of decoder.old).backend }
     requires nothing { kept_in decoder.old ≡ none_kept }
-    ensures cause { CountsErrors (B.counts (view_of decoder.old).backend)
-        (B.counts (view_of decoder.new).backend) (without_unit result) }
-    ensures faultless { KeepsFaultless (B.is_faultless (view_of decoder.old).backend)
-        (B.is_faultless (view_of decoder.new).backend) (without_unit result) }
+    ensures blames { BlamesFairly B.counts B.is_faultless (view_of decoder.old).backend
+        (view_of decoder.new).backend (without_unit result) }
     ensures ended { Ended result (meanings (set_for decoder.old) stream.now)
         (trail_of (scene B.log decoder.old shown.old.items))
         (trail_of (scene B.log decoder.new shown.new.items)) }

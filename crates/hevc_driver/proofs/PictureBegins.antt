@@ -20,7 +20,6 @@ use Rattle.hevc_walk.specs.Walk.{Event, Called, Output, Part, ◌>>=◌, nothing
 use Rattle.hevc_walk_units.specs.Units.{Standing, Current, NoPicture, SkippedPicture, OpenPicture, on_store, context_behind, current_of, decode_current, open_picture, decode_slice, begin_slice}
 use Rattle.hevc_driver.specs.declared.decode_error.DecodeError.{DecodeError}
 use Rattle.hevc_driver.specs.declared.decode_error.DecodeError.TheVariants as errors
-use Rattle.hevc_driver.specs.Answers.{KeepsInfo}
 use Rattle.hevc_driver.specs.Moments.{given_up, drained, renegotiates, starts, enters, hands_over, room_of, new_call, begin_call}
 use Rattle.hevc_driver.specs.Does.{Traces, Stops, StopsBy, Completes, Runs}
 use Rattle.hevc_driver.specs.Takes.{LeftStarted, Starts, IsNewSequence, LeftBegun, Begins}
@@ -224,15 +223,6 @@ begins_refused {H} {T} r e t a b w s st is other x = let q = err_from_is_err_and
     by : (e : DecodeError) → StopsBy e t a b (renegotiates w.format s).events (λ c. IsNewSequence c × (st ≡ drained s)) → Begins {H = H} {T = T} (Err e) t a b w s st
     by errors.Backend x = stops x
     by errors.NoMemory x = stops x
-    by other x = absurd x
-
--- a refused call may have told another format
-pub refused_info : {H T I : Type 0} (r : Result T DecodeError) (e : DecodeError) (t : ℕ) (a b : Traces H) (plan : List Event) (Left : walk.Call → Type 0) (before now : I) → IsErrAnd r (λ y. y ≡ e) → StopsBy e t a b plan Left → KeepsInfo before now r
-refused_info {H} {T} {I} r e t a b plan Left before now is x = let q = err_from_is_err_and r is in rw q.1 (rw q.2 (by e x))
-  where
-    by : (e : DecodeError) → StopsBy e t a b plan Left → KeepsInfo {I = I} {T = T} before now (Err e)
-    by errors.Backend x = tt
-    by errors.NoMemory x = tt
     by other x = absurd x
 
 -- ---- a count that isn't in range

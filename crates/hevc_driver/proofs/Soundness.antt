@@ -34,7 +34,7 @@ use Rattle.hevc_driver.specs.declared.current.Current.{Current}
 use Rattle.hevc_driver.specs.declared.current.Current.TheVariants.{NoPicture, SkippedPicture, OpenPicture}
 use Rattle.hevc_driver.specs.declared.standing.Standing as driver
 use Rattle.hevc_driver.specs.Standings.{current_of}
-use Rattle.hevc_driver.specs.Sound.{AreBelow, IsAccepted, IsLatest, Fits, IsOpenNewest, IsSound, Leaves}
+use Rattle.hevc_driver.specs.Sound.{AreBelow, IsAccepted, IsLatest, Fits, IsOpenNewest, IsSound, Leaves, Grows}
 
 -- ---- no picture is open
 
@@ -172,3 +172,8 @@ stored_below {H} n ts us t below less is = λ x k. ⊎_elim (λ old. below x old
 pub has_frames : (before now : Counts) (frames : ℕ) → (frames ≡ 0 → ⊥) → CountsEmptyAnswers before now frames → now ≡ before
 has_frames before now zero is h = absurd (is refl)
 has_frames before now (suc n) is h = h
+
+-- ---- nothing comes in
+
+pub same_grows : {H P : Type 0} (more : ℕ) (old new : driver.Standing H P) → new.queue ≡ old.queue → new.dpb ≡ old.dpb → Grows more old new
+same_grows more old new queue dpb = rw (queue, dpb) (record { few = omega arith; capacity = refl; stored = refl })

@@ -110,7 +110,7 @@ module _ {H : Type 0} (t : ℕ) (a b : Traces H) (x w : Slice) (s st : Standing)
     pub takes_later : {T : Type 0} (r : Result T DecodeError) → Follows r t a b w k st → Takes r t a b u s st
     takes_later (Ok v) y = record { accepted = negotiates_is false later; room = full_is false later; numbered = numbered_later; goes_on = refusal_is false later ∙ y.0; completes = subst (λ (q : Part Standing). Completes t a b q st) (sym (part_is false later)) y.1 }
     takes_later (Err errors.Backend) y = stops_later y
-    takes_later (Err errors.NoMemory) y = inr (stops_later y)
+    takes_later (Err errors.NoMemory) y = stops_later y
     takes_later (Err errors.CheckEvents) y = absurd (cc y.0.told)
     takes_later (Err errors.DpbFull) y = absurd (cc y.0.told)
     takes_later (Err errors.PictureNumbersSpent) y = absurd (cc y.0.told)
@@ -165,7 +165,7 @@ module _ {H : Type 0} (t : ℕ) (a b : Traces H) (x w : Slice) (s st : Standing)
     unfinished : {T : Type 0} (r : Result T DecodeError) → IsRefused r → Finishes r t a b k st → Takes r t a b u s st
     unfinished (Ok v) i y = absurd i
     unfinished (Err errors.Backend) i y = stops_first y
-    unfinished (Err errors.NoMemory) i y = inr (stops_first y)
+    unfinished (Err errors.NoMemory) i y = stops_first y
     unfinished (Err errors.DpbFull) i y = full_first y
     unfinished (Err e) i y = absurd y
 
@@ -217,7 +217,7 @@ module _ {H : Type 0} (t : ℕ) (a b : Traces H) (x w : Slice) (s st : Standing)
         completes = subst (λ (q : Part Standing). Completes t a b q st) (sym opening_is) (record { does = does_then t a mid b (finish_current k).events (on_store (change_format w.format) m).events finishes y.1.does; next = y.1.next });
       }
       behind (Err errors.Backend) y = stops_behind y
-      behind (Err errors.NoMemory) y = inr (stops_behind y)
+      behind (Err errors.NoMemory) y = stops_behind y
       behind (Err (errors.NotEnoughOutputBuffers n)) y = (y.0, halts y.1 y.2)
       behind (Err errors.PictureNumbersSpent) y = record { spent = spends_by true y.0 ∙ eq-eqb _ _ y.1; halts = halts y.2 y.3 }
       behind (Err errors.PocOutOfRange) y = out_of_range y

@@ -37,3 +37,22 @@ KeepsInfo before now (Err Backend) = Unit {0}
 KeepsInfo before now (Err NoMemory) = Unit {0}
 KeepsInfo before now (Err CheckEvents) = Unit {0}
 KeepsInfo before now result = now ≡ before
+
+-- Whom an answer blames, by the backend's counts and its promise never to fail.
+pub record BlamesFairly {B T : Type 0} (counts : B → Counts) (is_faultless : B → Type 0)
+    (before now : B) (result : Result T DecodeError) : Type 0 where
+  -- it only where a count rose, and then always
+  pub cause : CountsErrors (counts before) (counts now) result
+  -- and never where it never fails
+  pub faultless : KeepsFaultless (is_faultless before) (is_faultless now) result
+
+-- What an answer says of the backend, of which the format that it tells is told too.
+pub record IsFair {B I T : Type 0} (counts : B → Counts) (is_faultless : B → Type 0) (tells : B → I)
+    (before now : B) (result : Result T DecodeError) : Type 0 where
+  pub blames : BlamesFairly counts is_faultless before now result
+  pub info : KeepsInfo (tells before) (tells now) result
+
+-- the answer to a unit whose format was told, and is awaited
+abbrev pub awaited : {T : Type 0} → Result T DecodeError → Result T DecodeError
+awaited (Ok value) = Err CheckEvents
+awaited (Err error) = Err error

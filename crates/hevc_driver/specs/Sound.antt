@@ -1,8 +1,11 @@
 -- What holds between two calls, so that a backend is handed no reference that isn't stored, and no
 -- handle that it didn't give.
-use Rattle.std.specs.Prelude.{◌≡◌, ℕ, ◌+◌, ◌-◌, ◌^◌, ◌<◌, ◌≤◌, true, List, option_map, Option, Some, None, Contains}
+use Rattle.std.specs.Prelude.{◌≡◌, ℕ, ◌+◌, ◌-◌, ◌^◌, ◌<◌, ◌≤◌, Bool, true, IsTrue, List, option_map, Option, Some, None, Contains}
 use Rattle.std.specs.VecDeque.{deque_len, deque_capacity}
-use Rattle.hevc_walk.specs.Walk.{accepted_size}
+use Rattle.hevc_walk.specs.Walk.{accepted_size, is_accepted, is_decoded}
+use Rattle.hevc_walk_inputs.specs.Sequences.{format_of_set}
+use Rattle.hevc_walk_units.specs.Units as units
+use Rattle.hevc_types_c.specs.Sps.{plain_sps}
 use Rattle.hevc_types_c.specs.declared.sps.Sps.{Sps}
 use Rattle.hevc_types_d.specs.declared.pps.Pps.{Pps}
 use Rattle.hevc_types_d.specs.declared.slice.Slice.{Slice}
@@ -13,7 +16,7 @@ use Rattle.hevc_dpb.specs.Views.{stored_entries, max_num_pics_of, room_of, buffe
 use Rattle.hevc_bumping.specs.Bumps.{num_waiting}
 use Rattle.hevc_backend.specs.declared.call.Call.{Call}
 use Rattle.hevc_backend.specs.declared.negotiation.NegotiationInfo.{NegotiationInfo}
-use Rattle.hevc_backend.specs.Negotiation.{format_of}
+use Rattle.hevc_backend.specs.Negotiation.{format_of, info_of}
 use Rattle.hevc_backend.specs.Named.{SetNamesAmong}
 use Rattle.hevc_backend.specs.Told.{Told, WhereTold, AreSubmitted, BegunPicture, begun_picture}
 use Rattle.hevc_walk.specs.Meanings.{Format}
@@ -21,6 +24,8 @@ use Rattle.hevc_driver.specs.declared.current.Current.{Current}
 use Rattle.hevc_driver.specs.declared.current.Current.TheVariants.{NoPicture, SkippedPicture, OpenPicture}
 use Rattle.hevc_driver.specs.declared.head.Head.{Head}
 use Rattle.hevc_driver.specs.declared.standing.Standing as driver
+use Rattle.hevc_driver.specs.Heads.{head_of}
+use Rattle.hevc_driver.specs.Standings.{current_of}
 
 -- each of these numbers is below n
 abbrev pub AreBelow : {H : Type 0} → ℕ → List (ℕ × H) → Type 0
@@ -80,6 +85,12 @@ pub record Grows {H P : Type 0} (more : ℕ) (old new : driver.Standing H P) : T
   pub capacity : deque_capacity new.queue ≡ deque_capacity old.queue
   pub stored : room_of new.dpb ≡ room_of old.dpb
 
+-- It is sound again, with at most so many pictures more that came out or wait.
+pub record StaysSound {H P : Type 0} (more : ℕ) (log : Option (List (Call H)))
+    (old new : driver.Standing H P) : Type 0 where
+  pub sound : IsSound log new
+  pub grows : Grows more old new
+
 -- Pictures are output, and some leave; none comes in.
 pub record Leaves {H P : Type 0} (old new : driver.Standing H P) : Type 0 where
   pub handles : IsPartOf (tickets (stored_entries new.dpb)) (tickets (stored_entries old.dpb))
@@ -89,13 +100,26 @@ pub record Leaves {H P : Type 0} (old new : driver.Standing H P) : Type 0 where
   pub accepted : new.accepted ≡ old.accepted
   pub current : new.current ≡ old.current
 
--- the number of a picture that begins
-pub record IsNext {H P : Type 0} (head : Head) (w : driver.Standing H P) : Type 0 where
-  pub number : head.number ≡ w.next.number
-  pub counted : head.number < 2 ^ 64 - 1
-
 -- the sets are the ones that the slice names (7.4.7.1, 7.4.3.3.1)
 abbrev pub AreNamed : Slice → Sps → Pps → Type 0
 AreNamed slice sps pps =
     (pps.pic_parameter_set_id ≡ slice.header.pic_parameter_set_id)
     × (sps.seq_parameter_set_id ≡ pps.seq_parameter_set_id)
+
+-- A picture may begin with this slice: none is current, its format is the accepted one, and the
+-- backend has a free frame.
+pub record MayBegin {H P : Type 0} (has_frame : Bool) (log : Option (List (Call H)))
+    (slice : Slice) (sps : Sps) (pps : Pps) (w : driver.Standing H P) : Type 0 where
+  pub none : current_of w.current ≡ units.NoPicture
+  pub accepted :
+      is_accepted (format_of_set (plain_sps sps)) (option_map format_of w.accepted) ≡ true
+  pub named : AreNamed slice sps pps
+  pub frame : IsTrue has_frame
+  pub sound : IsSound log w
+
+-- The head of the next picture, which is decoded.
+pub record IsNext {H P : Type 0} (head : Head) (sps : Sps) (w : driver.Standing H P) : Type 0 where
+  pub number : head.number ≡ w.next.number
+  pub counted : head.number < 2 ^ 64 - 1
+  pub format : head.format ≡ info_of (format_of_set (plain_sps sps))
+  pub decoded : is_decoded (head_of head) ≡ true

@@ -87,8 +87,7 @@ Takes (Err errors.CheckEvents) timestamp old new u before standing =
 Takes (Err errors.Backend) timestamp old new u before standing =
     Stops timestamp old new (step_part u before).events (λ call. LeftAt call u before standing)
 Takes (Err errors.NoMemory) timestamp old new u before standing =
-    Stays old new before standing
-    ⊎ Stops timestamp old new (step_part u before).events (λ call. LeftAt call u before standing)
+    Stops timestamp old new (step_part u before).events (λ call. LeftAt call u before standing)
 Takes (Err errors.DpbFull) timestamp old new u before standing =
     (is_full_at u before ≡ true)
     × Fills timestamp old new (step_part u before).events (kept_behind u before) standing

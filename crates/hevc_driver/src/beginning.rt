@@ -6,7 +6,7 @@ ghost use Rattle.hevc_types_c.specs.Sps.{plain_sps};
 ghost use Rattle.hevc_walk_inputs.specs.Sequences.{format_of_set};
 ghost use Rattle.hevc_backend.specs.Negotiation.{info_of};
 ghost use Rattle.hevc_types_d.specs.declared.pps.Pps.{Pps};
-ghost use Rattle.hevc_walk.specs.Pictures.{head, order_count_in_range, is_tid0};
+ghost use Rattle.hevc_walk.specs.Pictures.{head, order_count_in_range};
 ghost use Rattle.hevc_walk_units.specs.Units.{context_behind, tid0_behind};
 ghost use Rattle.hevc_pictures.specs.OrderCounts.{IsMaxPicOrderCntLsb};
 ghost use Rattle.hevc_driver.specs.Heads.{head_of, context_of};

@@ -1,9 +1,9 @@
 //! The driver, and what ends a stream.
 ghost use Rattle.std.specs.Prelude.{◌≡◌, [], ℕ, None, OnOk};
 ghost use Rattle.hevc_walk_units.specs.Units.{at_first};
-ghost use Rattle.hevc_driver.specs.Answers.{CountsErrors, KeepsFaultless, KeepsInfo};
+ghost use Rattle.hevc_driver.specs.Answers.{IsFair};
 ghost use Rattle.hevc_driver.specs.Standings.{standing, traces};
-ghost use Rattle.hevc_driver.specs.Sound.{IsSound, HasRoom, Grows, total};
+ghost use Rattle.hevc_driver.specs.Sound.{IsSound, HasRoom, total, StaysSound};
 ghost use Rattle.hevc_driver.specs.Takes.{Closes};
 
 use crate::current::Current;
@@ -16,9 +16,13 @@ use hevc_refs::ReferencePicLists;
 use std::alloc::{AllocError, Global};
 use std::collections::VecDeque;
 
+/// The most pictures that one unit outputs: the 16 that may be stored (A.4.2), and the one that is over.
+pub const MAX_OUTPUTS_OF_UNIT: usize = 17;
+
 /// A backend, and what stands between two calls of it.
 #[derive(Drop)]
 pub struct Driver<B: StatelessH265DecoderBackend> {
+    pub alloc: Global,
     pub backend: B,
     pub standing: Standing<B::Handle, B::Picture>,
     /// The reference picture lists of the latest slice: their room is used again.
@@ -35,6 +39,7 @@ impl<B: StatelessH265DecoderBackend> Driver<B> {
         ensures sound { IsSound (B.log backend) result.standing }
     {
         Driver {
+            alloc,
             backend,
             standing: Standing {
                 accepted: None,
@@ -54,7 +59,7 @@ impl<B: StatelessH265DecoderBackend> Driver<B> {
         }
     }
 
-    /// Makes room for 17 more pictures in the queue, and for 16 in the buffer.
+    /// Makes room in the queue for the pictures of one unit, and in the buffer for those that may be stored.
     ///
     /// Errors: no memory; nothing has changed then but how much room there is.
     pub fn reserve(&mut self) -> Result<(), AllocError>
@@ -67,7 +72,7 @@ impl<B: StatelessH265DecoderBackend> Driver<B> {
         ensures total { total self.new.standing ≡ total self.old.standing }
         ensures backend { self.new.backend ≡ self.old.backend }
     {
-        self.standing.queue.reserve(17)?;
+        self.standing.queue.reserve(MAX_OUTPUTS_OF_UNIT)?;
         self.standing.dpb.reserve()?;
         Ok(())
     }
@@ -78,13 +83,10 @@ impl<B: StatelessH265DecoderBackend> Driver<B> {
     pub fn close(&mut self) -> Result<(), DecodeError>
         requires sound { IsSound (B.log self.old.backend) self.old.standing }
         requires room { HasRoom 1 self.old.standing }
-        ensures sound { IsSound (B.log self.new.backend) self.new.standing }
-        ensures grows { Grows 1 self.old.standing self.new.standing }
-        ensures cause { CountsErrors (B.counts self.old.backend)
-            (B.counts self.new.backend) result }
-        ensures faultless { KeepsFaultless (B.is_faultless self.old.backend)
-            (B.is_faultless self.new.backend) result }
-        ensures info { KeepsInfo (B.info self.old.backend) (B.info self.new.backend) result }
+        ensures stays { StaysSound 1 (B.log self.new.backend) self.old.standing
+            self.new.standing }
+        ensures fair { IsFair B.counts B.is_faultless B.info self.old.backend self.new.backend
+            result }
         ensures part { (timestamp : ℕ) → Closes result timestamp
             (traces (B.log self.old.backend) self.old.standing)
             (traces (B.log self.new.backend) self.new.standing)

@@ -1,11 +1,9 @@
 //! A picture is over: it is submitted and stored (C.5.2.3).
-ghost use Rattle.std.specs.Prelude.{◌≡◌, ℕ, true};
-ghost use Rattle.hevc_walk.specs.Walk.{is_decoded};
+ghost use Rattle.std.specs.Prelude.{◌≡◌, ℕ};
 ghost use Rattle.hevc_walk_units.specs.Units.{NoPicture};
-ghost use Rattle.hevc_driver.specs.Heads.{head_of};
-ghost use Rattle.hevc_driver.specs.Answers.{CountsErrors, KeepsFaultless, KeepsInfo};
+ghost use Rattle.hevc_driver.specs.Answers.{IsFair};
 ghost use Rattle.hevc_driver.specs.Standings.{standing, traces, current_of, with_open};
-ghost use Rattle.hevc_driver.specs.Sound.{IsSound, IsNewest, HasRoom, Grows};
+ghost use Rattle.hevc_driver.specs.Sound.{IsSound, IsNewest, HasRoom, StaysSound};
 ghost use Rattle.hevc_driver.specs.Takes.{Finishes};
 
 use crate::beginning::tid0_behind;
@@ -21,13 +19,10 @@ impl<B: StatelessH265DecoderBackend> Driver<B> {
     pub(crate) fn finish(&mut self) -> Result<(), DecodeError>
         requires sound { IsSound (B.log self.old.backend) self.old.standing }
         requires room { HasRoom 1 self.old.standing }
-        ensures sound { IsSound (B.log self.new.backend) self.new.standing }
-        ensures grows { Grows 1 self.old.standing self.new.standing }
-        ensures cause { CountsErrors (B.counts self.old.backend)
-            (B.counts self.new.backend) result }
-        ensures faultless { KeepsFaultless (B.is_faultless self.old.backend)
-            (B.is_faultless self.new.backend) result }
-        ensures info { KeepsInfo (B.info self.old.backend) (B.info self.new.backend) result }
+        ensures stays { StaysSound 1 (B.log self.new.backend) self.old.standing
+            self.new.standing }
+        ensures fair { IsFair B.counts B.is_faultless B.info self.old.backend self.new.backend
+            result }
         ensures part { (timestamp : ℕ) → Finishes result timestamp
             (traces (B.log self.old.backend) self.old.standing)
             (traces (B.log self.new.backend) self.new.standing)
@@ -46,13 +41,10 @@ impl<B: StatelessH265DecoderBackend> Driver<B> {
         requires newest { IsNewest opened.head opened.set self.old.standing }
         requires sound { IsSound (B.log self.old.backend) self.old.standing }
         requires room { HasRoom 1 self.old.standing }
-        ensures sound { IsSound (B.log self.new.backend) self.new.standing }
-        ensures grows { Grows 1 self.old.standing self.new.standing }
-        ensures cause { CountsErrors (B.counts self.old.backend)
-            (B.counts self.new.backend) result }
-        ensures faultless { KeepsFaultless (B.is_faultless self.old.backend)
-            (B.is_faultless self.new.backend) result }
-        ensures info { KeepsInfo (B.info self.old.backend) (B.info self.new.backend) result }
+        ensures stays { StaysSound 1 (B.log self.new.backend) self.old.standing
+            self.new.standing }
+        ensures fair { IsFair B.counts B.is_faultless B.info self.old.backend self.new.backend
+            result }
         ensures part { (timestamp : ℕ) → Finishes result timestamp
             (traces (B.log self.old.backend) self.old.standing)
             (traces (B.log self.new.backend) self.new.standing)

@@ -1,5 +1,5 @@
 //! The headers of dependent slice segments (7.4.7.1).
-ghost use Rattle.std.specs.Prelude.{◌≡◌, ◌==◌, ◌&&◌, nat_le, Option, Some, None, OnOk, OnErr, option_map, if◌then◌else◌};
+ghost use Rattle.std.specs.Prelude.{◌≡◌, ◌==◌, ◌&&◌, nat_le, Option, Some, None, option_map, if◌then◌else◌};
 ghost use Rattle.hevc_types_c.specs.declared.sps.Sps.{Sps};
 ghost use Rattle.hevc_types_d.specs.declared.pps.Pps.{Pps};
 ghost use Rattle.hevc_walk.specs.DependentSlices.{KeptHeader, whole_slice, kept_header};
@@ -8,7 +8,7 @@ ghost use Rattle.hevc_driver.specs.Slices.{slice_of, kept_of, StaysUnlessWhole};
 
 use hevc_types_c::Sps;
 use hevc_types_d::{Slice, SliceHeader};
-use std::alloc::AllocError;
+use std::alloc::Global;
 
 /// Whether a dependent slice segment belongs to an independent one of this header: they name one picture set, and CurrRpsIdx is at most
 /// the number of the sequence set's short-term sets.
@@ -48,22 +48,23 @@ pub(crate) fn complete(kept: &Option<SliceHeader>, slice: &mut Slice<'_>, sps: &
     true
 }
 
-/// Keeps the header of an independent slice segment for the dependent ones behind it. Only the first one takes memory.
+/// Keeps the header of an independent slice segment for the dependent ones after it.
 #[tactic(auto, unfolding(crate::specs::Slices::slice_of, crate::specs::Slices::kept_of))]
-pub(crate) fn keep(kept: &mut Option<SliceHeader>, slice: &Slice<'_>) -> Result<(), AllocError>
-    ensures kept { (o : Options) (sps : Sps) (pps : Pps) → OnOk result
-        (option_map kept_of kept.new
-        ≡ kept_header (option_map kept_of kept.old) (slice_of o slice.now sps pps)) }
-    ensures stays { OnErr result (kept.new ≡ kept.old) }
+pub(crate) fn keep(alloc: Global, kept: &mut Option<SliceHeader>, slice: &Slice<'_>)
+    ensures { (o : Options) (sps : Sps) (pps : Pps) → option_map kept_of kept.new
+        ≡ kept_header (option_map kept_of kept.old) (slice_of o slice.now sps pps) }
 {
     if slice.header().dependent_slice_segment_flag {
-        return Ok(());
+        return;
     }
     match kept {
         Some(header) => put(header, slice.header()),
-        None => *kept = Some(slice.header().try_clone()?),
+        None => {
+            let mut header = SliceHeader::new(alloc);
+            put(&mut header, slice.header());
+            *kept = Some(header);
+        }
     }
-    Ok(())
 }
 
 /// Puts a header in the place of a kept one, but for what dependent segments have of their own.

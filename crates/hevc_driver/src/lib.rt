@@ -19,7 +19,7 @@ mod standing;
 
 pub use current::{Current, Open};
 pub use decode_error::DecodeError;
-pub use driver::Driver;
+pub use driver::{Driver, MAX_OUTPUTS_OF_UNIT};
 pub use head::{Context, Head};
 pub use hevc_backend::{BackendError, NegotiationInfo, StatelessH265DecoderBackend, StreamInfo};
 pub use hevc_bumping::Frame;

@@ -6,10 +6,10 @@ ghost use Rattle.hevc_walk.specs.Walk.{is_accepted, open_sequence};
 ghost use Rattle.hevc_walk_units.specs.Units.{NoPicture, on_store};
 ghost use Rattle.hevc_backend.specs.Negotiation.{format_of};
 ghost use Rattle.hevc_driver.specs.Slices.{slice_of};
-ghost use Rattle.hevc_driver.specs.Answers.{CountsErrors, KeepsFaultless, KeepsInfo};
+ghost use Rattle.hevc_driver.specs.Answers.{IsFair, awaited};
 ghost use Rattle.hevc_driver.specs.Does.{Runs};
 ghost use Rattle.hevc_driver.specs.Standings.{standing, traces, current_of};
-ghost use Rattle.hevc_driver.specs.Sound.{IsSound, HasRoom, Grows, AreNamed};
+ghost use Rattle.hevc_driver.specs.Sound.{IsSound, HasRoom, AreNamed, StaysSound};
 ghost use Rattle.hevc_driver.specs.Takes.{Begins, Negotiates, IsNewSequence};
 
 use crate::decode_error::DecodeError;
@@ -40,13 +40,10 @@ impl<B: StatelessH265DecoderBackend> Driver<B> {
         requires named { AreNamed slice.now sps.now pps.now }
         requires sound { IsSound (B.log self.old.backend) self.old.standing }
         requires room { HasRoom 0 self.old.standing }
-        ensures sound { IsSound (B.log self.new.backend) self.new.standing }
-        ensures grows { Grows 0 self.old.standing self.new.standing }
-        ensures cause { CountsErrors (B.counts self.old.backend)
-            (B.counts self.new.backend) result }
-        ensures faultless { KeepsFaultless (B.is_faultless self.old.backend)
-            (B.is_faultless self.new.backend) result }
-        ensures info { KeepsInfo (B.info self.old.backend) (B.info self.new.backend) result }
+        ensures stays { StaysSound 0 (B.log self.new.backend) self.old.standing
+            self.new.standing }
+        ensures fair { IsFair B.counts B.is_faultless B.info self.old.backend self.new.backend
+            result }
         ensures part { Begins result timestamp
             (traces (B.log self.old.backend) self.old.standing)
             (traces (B.log self.new.backend) self.new.standing)
@@ -69,12 +66,10 @@ impl<B: StatelessH265DecoderBackend> Driver<B> {
         requires none { current_of self.old.standing.current ≡ NoPicture }
         requires sound { IsSound (B.log self.old.backend) self.old.standing }
         requires room { HasRoom 0 self.old.standing }
-        ensures sound { IsSound (B.log self.new.backend) self.new.standing }
-        ensures grows { Grows 0 self.old.standing self.new.standing }
-        ensures cause { CountsErrors (B.counts self.old.backend)
-            (B.counts self.new.backend) result }
-        ensures faultless { KeepsFaultless (B.is_faultless self.old.backend)
-            (B.is_faultless self.new.backend) result }
+        ensures stays { StaysSound 0 (B.log self.new.backend) self.old.standing
+            self.new.standing }
+        ensures fair { IsFair B.counts B.is_faultless B.info self.old.backend self.new.backend
+            (awaited result) }
         ensures part { (timestamp : ℕ) → Negotiates result timestamp
             (traces (B.log self.old.backend) self.old.standing)
             (traces (B.log self.new.backend) self.new.standing)
@@ -91,12 +86,10 @@ impl<B: StatelessH265DecoderBackend> Driver<B> {
     pub fn open_sequence(&mut self, sps: &Sps) -> Result<(), DecodeError>
         requires none { current_of self.old.standing.current ≡ NoPicture }
         requires sound { IsSound (B.log self.old.backend) self.old.standing }
-        ensures sound { IsSound (B.log self.new.backend) self.new.standing }
-        ensures grows { Grows 0 self.old.standing self.new.standing }
-        ensures cause { CountsErrors (B.counts self.old.backend)
-            (B.counts self.new.backend) result }
-        ensures faultless { KeepsFaultless (B.is_faultless self.old.backend)
-            (B.is_faultless self.new.backend) result }
+        ensures stays { StaysSound 0 (B.log self.new.backend) self.old.standing
+            self.new.standing }
+        ensures fair { IsFair B.counts B.is_faultless B.info self.old.backend self.new.backend
+            (awaited result) }
         ensures part { (timestamp : ℕ) → Runs result timestamp
             (traces (B.log self.old.backend) self.old.standing)
             (traces (B.log self.new.backend) self.new.standing)

@@ -1,21 +1,14 @@
 //! A picture of the accepted format begins.
-ghost use Rattle.std.specs.Prelude.{◌≡◌, ◌<◌, ◌+◌, ◌-◌, ◌^◌, ℕ, true, IsTrue, option_map};
-ghost use Rattle.hevc_types_c.specs.Sps.{plain_sps};
-ghost use Rattle.hevc_walk_inputs.specs.Sequences.{format_of_set};
-ghost use Rattle.hevc_walk.specs.Walk.{is_decoded, is_accepted};
-ghost use Rattle.hevc_walk_units.specs.Units.{NoPicture};
-ghost use Rattle.hevc_dpb.specs.Entries.{numbers};
-ghost use Rattle.hevc_dpb.specs.Views.{stored_entries};
+ghost use Rattle.std.specs.Prelude.{◌≡◌, ◌<◌, ◌-◌, true};
+ghost use Rattle.hevc_walk.specs.Walk.{is_decoded};
 ghost use Rattle.hevc_refs.specs.Sets.{plain_set};
-ghost use Rattle.hevc_backend.specs.Named.{SetNamesAmong};
 ghost use Rattle.hevc_driver.specs.Heads.{head_of};
 ghost use Rattle.hevc_driver.specs.Slices.{slice_of};
-ghost use Rattle.hevc_driver.specs.Answers.{CountsErrors, KeepsFaultless, KeepsInfo};
+ghost use Rattle.hevc_driver.specs.Answers.{IsFair};
 ghost use Rattle.hevc_driver.specs.Does.{Runs};
 ghost use Rattle.hevc_driver.specs.Moments.{starts, hands_over, given_up};
-ghost use Rattle.hevc_driver.specs.Standings.{standing, traces, current_of};
-ghost use Rattle.hevc_driver.specs.Sound.{IsSound, IsNewest, HasRoom, Grows, AreNamed, IsNext};
-ghost use Rattle.hevc_backend.specs.Negotiation.{format_of, info_of};
+ghost use Rattle.hevc_driver.specs.Standings.{standing, traces};
+ghost use Rattle.hevc_driver.specs.Sound.{IsNewest, HasRoom, IsNext, StaysSound, MayBegin};
 ghost use Rattle.hevc_options.specs.declared.Options as code_options;
 ghost use Rattle.hevc_driver.specs.Takes.{Starts, LeftStarted};
 
@@ -41,20 +34,13 @@ impl<B: StatelessH265DecoderBackend> Driver<B> {
         sps: &Sps,
         pps: &Pps,
     ) -> Result<(), DecodeError>
-        requires none { current_of self.old.standing.current ≡ NoPicture }
-        requires accepted { is_accepted (format_of_set (plain_sps sps.now))
-            (option_map format_of self.old.standing.accepted) ≡ true }
-        requires named { AreNamed slice.now sps.now pps.now }
-        requires frame { IsTrue (B.room self.old.backend) }
-        requires sound { IsSound (B.log self.old.backend) self.old.standing }
+        requires ready { MayBegin (B.room self.old.backend) (B.log self.old.backend) slice.now
+            sps.now pps.now self.old.standing }
         requires room { HasRoom 0 self.old.standing }
-        ensures sound { IsSound (B.log self.new.backend) self.new.standing }
-        ensures grows { Grows 0 self.old.standing self.new.standing }
-        ensures cause { CountsErrors (B.counts self.old.backend)
-            (B.counts self.new.backend) result }
-        ensures faultless { KeepsFaultless (B.is_faultless self.old.backend)
-            (B.is_faultless self.new.backend) result }
-        ensures info { KeepsInfo (B.info self.old.backend) (B.info self.new.backend) result }
+        ensures stays { StaysSound 0 (B.log self.new.backend) self.old.standing
+            self.new.standing }
+        ensures fair { IsFair B.counts B.is_faultless B.info self.old.backend self.new.backend
+            result }
         ensures part { Starts result timestamp
             (traces (B.log self.old.backend) self.old.standing)
             (traces (B.log self.new.backend) self.new.standing)
@@ -82,23 +68,14 @@ impl<B: StatelessH265DecoderBackend> Driver<B> {
         sps: &Sps,
         pps: &Pps,
     ) -> Result<(), DecodeError>
-        requires none { current_of self.old.standing.current ≡ NoPicture }
-        requires number { IsNext head.now self.old.standing }
-        requires format { head.now.format ≡ info_of (format_of_set (plain_sps sps.now)) }
-        requires decoded { is_decoded (head_of head.now) ≡ true }
-        requires accepted { is_accepted (format_of_set (plain_sps sps.now))
-            (option_map format_of self.old.standing.accepted) ≡ true }
-        requires named { AreNamed slice.now sps.now pps.now }
-        requires frame { IsTrue (B.room self.old.backend) }
-        requires sound { IsSound (B.log self.old.backend) self.old.standing }
+        requires ready { MayBegin (B.room self.old.backend) (B.log self.old.backend) slice.now
+            sps.now pps.now self.old.standing }
+        requires next { IsNext head.now sps.now self.old.standing }
         requires room { HasRoom 0 self.old.standing }
-        ensures sound { IsSound (B.log self.new.backend) self.new.standing }
-        ensures grows { Grows 0 self.old.standing self.new.standing }
-        ensures cause { CountsErrors (B.counts self.old.backend)
-            (B.counts self.new.backend) result }
-        ensures faultless { KeepsFaultless (B.is_faultless self.old.backend)
-            (B.is_faultless self.new.backend) result }
-        ensures info { KeepsInfo (B.info self.old.backend) (B.info self.new.backend) result }
+        ensures stays { StaysSound 0 (B.log self.new.backend) self.old.standing
+            self.new.standing }
+        ensures fair { IsFair B.counts B.is_faultless B.info self.old.backend self.new.backend
+            result }
         ensures part { (o : code_options.Options) → Runs result timestamp
             (traces (B.log self.old.backend) self.old.standing)
             (traces (B.log self.new.backend) self.new.standing)
@@ -123,21 +100,14 @@ impl<B: StatelessH265DecoderBackend> Driver<B> {
         sps: &Sps,
         pps: &Pps,
     ) -> Result<(), DecodeError>
-        requires none { current_of self.old.standing.current ≡ NoPicture }
+        requires ready { MayBegin (B.room self.old.backend) (B.log self.old.backend) slice.now
+            sps.now pps.now self.old.standing }
         requires newest { IsNewest head.now set self.old.standing }
         requires decoded { is_decoded (head_of head.now) ≡ true }
-        requires accepted { is_accepted (format_of_set (plain_sps sps.now))
-            (option_map format_of self.old.standing.accepted) ≡ true }
-        requires named { AreNamed slice.now sps.now pps.now }
-        requires frame { IsTrue (B.room self.old.backend) }
-        requires sound { IsSound (B.log self.old.backend) self.old.standing }
-        ensures sound { IsSound (B.log self.new.backend) self.new.standing }
-        ensures grows { Grows 0 self.old.standing self.new.standing }
-        ensures cause { CountsErrors (B.counts self.old.backend)
-            (B.counts self.new.backend) result }
-        ensures faultless { KeepsFaultless (B.is_faultless self.old.backend)
-            (B.is_faultless self.new.backend) result }
-        ensures info { KeepsInfo (B.info self.old.backend) (B.info self.new.backend) result }
+        ensures stays { StaysSound 0 (B.log self.new.backend) self.old.standing
+            self.new.standing }
+        ensures fair { IsFair B.counts B.is_faultless B.info self.old.backend self.new.backend
+            result }
         ensures part { (o : code_options.Options) → Runs result timestamp
             (traces (B.log self.old.backend) self.old.standing)
             (traces (B.log self.new.backend) self.new.standing)

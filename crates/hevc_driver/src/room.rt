@@ -23,7 +23,7 @@ use hevc_types_d::Slice;
 
 impl<H: Copy, P> Standing<H, P> {
     ghost use Rattle.hevc_options.specs.declared.Options.{Options};
-    ghost use Rattle.hevc_driver.specs.Heads.{head_of, context_of};
+    ghost use Rattle.hevc_driver.specs.Heads.{head_of};
     ghost use Rattle.hevc_driver.specs.Slices.{slice_of};
     ghost use Rattle.hevc_driver.specs.Does.{Completes};
     ghost use Rattle.hevc_driver.specs.Moments.{enters};

@@ -1,17 +1,14 @@
 //! A slice segment is taken: it begins a picture, or is a later one of the current picture (7.4.2.4.5).
 ghost use Rattle.std.specs.Prelude.{◌≡◌, ℕ, Some, option_map};
-ghost use Rattle.hevc_types_c.specs.Sps.{plain_sps};
-ghost use Rattle.hevc_walk_inputs.specs.Sequences.{format_of_set};
 ghost use Rattle.hevc_walk.specs.Meanings.{CodedSlice, same_format};
 ghost use Rattle.hevc_walk.specs.DependentSlices.{whole_slice};
 ghost use Rattle.hevc_walk_units.specs.Units.{NoPicture, begins_picture, changed_by};
 ghost use Rattle.hevc_backend.specs.Negotiation.{format_of};
 ghost use Rattle.hevc_driver.specs.Slices.{slice_of, kept_of, LeavesSlice};
-ghost use Rattle.hevc_driver.specs.Answers.{CountsErrors, KeepsFaultless, KeepsInfo};
-ghost use Rattle.hevc_driver.specs.Standings.{standing, traces, current_of, with_open};
-ghost use Rattle.hevc_backend.specs.Told.{WhereTold};
+ghost use Rattle.hevc_driver.specs.Answers.{IsFair};
+ghost use Rattle.hevc_driver.specs.Standings.{standing, traces, current_of};
 ghost use Rattle.hevc_driver.specs.declared.current.Current.TheVariants.{OpenPicture};
-ghost use Rattle.hevc_driver.specs.Sound.{IsSound, IsNewest, IsLatest, HasRoom, Grows, AreNamed};
+ghost use Rattle.hevc_driver.specs.Sound.{IsSound, HasRoom, AreNamed, StaysSound};
 ghost use Rattle.hevc_driver.specs.Takes.{Takes, Changes, Follows, given_up_by, ChecksFormat};
 ghost use Rattle.hevc_types_c.specs.declared.sps.Sps as code_sps;
 ghost use Rattle.hevc_types_d.specs.declared.pps.Pps as code_pps;
@@ -63,9 +60,10 @@ impl<B: StatelessH265DecoderBackend> Driver<B> {
     /// negotiation the answer is `CheckEvents`, and the unit is to be given once more when its format is accepted. `timestamp` is in the
     /// caller's unit, and is handed to the backend with a picture that begins. The segment is left completed.
     ///
-    /// Errors: `NoIndependentSlice`, nothing was done, and the segment is as it was; `ChangedMidPicture`, the picture is given up; `DpbFull`, the picture before isn't
-    /// stored (C.5.2.3); `NotEnoughOutputBuffers`, of 1 frame, `PictureNumbersSpent` and `PocOutOfRange`, the picture before is over
-    /// and none begins; `Backend` and `NoMemory`, the picture of the refused call is given up, or nothing was done.
+    /// Errors: `NoIndependentSlice`, nothing was done, and the segment is as it was; `ChangedMidPicture`, the picture is given up;
+    /// `DpbFull`, the picture before isn't stored (C.5.2.3); `NotEnoughOutputBuffers`, of 1 frame, `PictureNumbersSpent` and
+    /// `PocOutOfRange`, the picture before is over and none begins; `Backend` and `NoMemory`, the picture of the call that the backend
+    /// refused is given up.
     pub fn take_slice(
         &mut self,
         timestamp: u64,
@@ -77,13 +75,10 @@ impl<B: StatelessH265DecoderBackend> Driver<B> {
         requires named { AreNamed slice.old sps.now pps.now }
         requires sound { IsSound (B.log self.old.backend) self.old.standing }
         requires room { HasRoom 1 self.old.standing }
-        ensures sound { IsSound (B.log self.new.backend) self.new.standing }
-        ensures grows { Grows 1 self.old.standing self.new.standing }
-        ensures cause { CountsErrors (B.counts self.old.backend)
-            (B.counts self.new.backend) result }
-        ensures faultless { KeepsFaultless (B.is_faultless self.old.backend)
-            (B.is_faultless self.new.backend) result }
-        ensures info { KeepsInfo (B.info self.old.backend) (B.info self.new.backend) result }
+        ensures stays { StaysSound 1 (B.log self.new.backend) self.old.standing
+            self.new.standing }
+        ensures fair { IsFair B.counts B.is_faultless B.info self.old.backend self.new.backend
+            result }
         ensures part { Takes result timestamp
             (traces (B.log self.old.backend) self.old.standing)
             (traces (B.log self.new.backend) self.new.standing)
@@ -98,7 +93,7 @@ impl<B: StatelessH265DecoderBackend> Driver<B> {
         if !complete(&self.standing.kept, slice, sps) {
             return Err(DecodeError::NoIndependentSlice);
         }
-        keep(&mut self.standing.kept, slice)?;
+        keep(self.alloc, &mut self.standing.kept, slice);
         if begins(&self.standing.current, slice) {
             self.change_picture(timestamp, options, slice, sps, pps)
         } else {
@@ -118,13 +113,10 @@ impl<B: StatelessH265DecoderBackend> Driver<B> {
         requires named { AreNamed slice.now sps.now pps.now }
         requires sound { IsSound (B.log self.old.backend) self.old.standing }
         requires room { HasRoom 1 self.old.standing }
-        ensures sound { IsSound (B.log self.new.backend) self.new.standing }
-        ensures grows { Grows 1 self.old.standing self.new.standing }
-        ensures cause { CountsErrors (B.counts self.old.backend)
-            (B.counts self.new.backend) result }
-        ensures faultless { KeepsFaultless (B.is_faultless self.old.backend)
-            (B.is_faultless self.new.backend) result }
-        ensures info { KeepsInfo (B.info self.old.backend) (B.info self.new.backend) result }
+        ensures stays { StaysSound 1 (B.log self.new.backend) self.old.standing
+            self.new.standing }
+        ensures fair { IsFair B.counts B.is_faultless B.info self.old.backend self.new.backend
+            result }
         ensures part { Changes result timestamp
             (traces (B.log self.old.backend) self.old.standing)
             (traces (B.log self.new.backend) self.new.standing)
@@ -139,13 +131,10 @@ impl<B: StatelessH265DecoderBackend> Driver<B> {
     fn follow(&mut self, slice: &Slice<'_>, sps: &Sps, pps: &Pps) -> Result<(), DecodeError>
         requires named { AreNamed slice.now sps.now pps.now }
         requires sound { IsSound (B.log self.old.backend) self.old.standing }
-        ensures sound { IsSound (B.log self.new.backend) self.new.standing }
-        ensures grows { Grows 0 self.old.standing self.new.standing }
-        ensures cause { CountsErrors (B.counts self.old.backend)
-            (B.counts self.new.backend) result }
-        ensures faultless { KeepsFaultless (B.is_faultless self.old.backend)
-            (B.is_faultless self.new.backend) result }
-        ensures info { KeepsInfo (B.info self.old.backend) (B.info self.new.backend) result }
+        ensures stays { StaysSound 0 (B.log self.new.backend) self.old.standing
+            self.new.standing }
+        ensures fair { IsFair B.counts B.is_faultless B.info self.old.backend self.new.backend
+            result }
         ensures part { (timestamp : ℕ) (o : code_options.Options)
             → Follows result timestamp
             (traces (B.log self.old.backend) self.old.standing)
@@ -164,13 +153,10 @@ impl<B: StatelessH265DecoderBackend> Driver<B> {
     fn hand_slice(&mut self, slice: &Slice<'_>, sps: &Sps, pps: &Pps) -> Result<(), DecodeError>
         requires named { AreNamed slice.now sps.now pps.now }
         requires sound { IsSound (B.log self.old.backend) self.old.standing }
-        ensures sound { IsSound (B.log self.new.backend) self.new.standing }
-        ensures grows { Grows 0 self.old.standing self.new.standing }
-        ensures cause { CountsErrors (B.counts self.old.backend)
-            (B.counts self.new.backend) result }
-        ensures faultless { KeepsFaultless (B.is_faultless self.old.backend)
-            (B.is_faultless self.new.backend) result }
-        ensures info { KeepsInfo (B.info self.old.backend) (B.info self.new.backend) result }
+        ensures stays { StaysSound 0 (B.log self.new.backend) self.old.standing
+            self.new.standing }
+        ensures fair { IsFair B.counts B.is_faultless B.info self.old.backend self.new.backend
+            result }
         ensures part { (timestamp : ℕ) (o : code_options.Options)
             → Follows result timestamp
             (traces (B.log self.old.backend) self.old.standing)

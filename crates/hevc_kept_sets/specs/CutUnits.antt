@@ -1,8 +1,9 @@
 -- The bytes that give a unit again.
-use Rattle.std.specs.Prelude.{◌≡◌, ℕ, ◌<◌, ◌^◌, Bool, false, List, [], ◌∷◌, length, drop, nat_le, Result, Ok, Err}
+use Rattle.std.specs.Prelude.{◌≡◌, ℕ, ◌<◌, Bool, false, List, [], ◌∷◌, length, drop, nat_le, Result, Ok, Err}
 use Rattle.hevc_spec.specs.UnitHeader.{UnitHeader, HeaderFault, unit_header}
 use Rattle.hevc_spec.specs.Units.{units}
 use Rattle.hevc_stream.specs.Slices.{temporal_id}
+use Rattle.hevc_bits.specs.declared.stream_limit.TheConstants.{STREAM_LIMIT}
 
 -- a stream that has one unit, of a picture set, directly behind its first three bytes
 pub record IsPictureSetStream (stream : List ℕ) : Type 0 where
@@ -10,7 +11,7 @@ pub record IsPictureSetStream (stream : List ℕ) : Type 0 where
   pub header : UnitHeader
   pub parsed : unit_header (drop 3 stream) ≡ Ok header
   pub typed : header.nal_unit_type ≡ 34
-  pub short : length stream < 2 ^ 60
+  pub short : length stream < STREAM_LIMIT
 
 -- the sub-layer of a header is wanted, where those up to this one are
 abbrev pub is_wanted_header : ℕ → Result UnitHeader HeaderFault → Bool

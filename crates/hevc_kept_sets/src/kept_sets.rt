@@ -10,6 +10,7 @@ ghost use Rattle.hevc_slice.specs.Kept.{kept_by};
 ghost use Rattle.hevc_kept_sets.specs.CutUnits.{is_wanted};
 ghost use Rattle.hevc_kept_sets.specs.Settled.{names_no_other, is_settled};
 ghost use Rattle.hevc_kept_sets.specs.Takes.{ReadsPictureSet};
+ghost use Rattle.hevc_bits.specs.declared.stream_limit.TheConstants.{STREAM_LIMIT};
 
 use crate::set_ids::{is_among, with_id, with_named};
 use crate::waiting_unit::{WaitingUnit, named_by};
@@ -85,7 +86,7 @@ impl KeptSets {
     /// Errors: `OutOfBits` where the payload ends within an element; `OutOfRange` with table and row of the first element that isn't
     /// allowed; `NoMemory`. What is kept then stays.
     pub fn take_video_set(&mut self, nalu: &Nalu<'_, NaluHeader>) -> Result<(), ParseError>
-        requires short { length nalu.now.stream < 2 ^ 60 }
+        requires short { length nalu.now.stream < STREAM_LIMIT }
         requires typed { nalu.now.header.nal_unit_type ≡ 32 }
         requires wanted { temporal_id nalu.now.header ≤ (options_in self.old).highest_tid }
         ensures takes { TakesVideoSet (options_in self.old) (bytes_of nalu.now) result
@@ -103,7 +104,7 @@ impl KeptSets {
     ///
     /// Errors: those of `take_video_set`. What is kept then stays.
     pub fn keep_sequence_set(&mut self, nalu: &Nalu<'_, NaluHeader>) -> Result<u8, ParseError>
-        requires short { length nalu.now.stream < 2 ^ 60 }
+        requires short { length nalu.now.stream < STREAM_LIMIT }
         requires typed { nalu.now.header.nal_unit_type ≡ 33 }
         requires wanted { temporal_id nalu.now.header ≤ (options_in self.old).highest_tid }
         ensures keeps { KeepsSequenceSet (options_in self.old) (bytes_of nalu.now) result
@@ -144,7 +145,7 @@ impl KeptSets {
     ///
     /// Errors: want of memory. What is kept then stays.
     pub fn take_picture_set(&mut self, nalu: &Nalu<'_, NaluHeader>) -> Result<(), AllocError>
-        requires short { length nalu.now.stream < 2 ^ 60 }
+        requires short { length nalu.now.stream < STREAM_LIMIT }
         requires typed { nalu.now.header.nal_unit_type ≡ 34 }
         requires wanted { temporal_id nalu.now.header ≤ (options_in self.old).highest_tid }
         ensures behind { OnOk result (kept_of self.new
@@ -212,7 +213,7 @@ impl KeptSets {
 
 /// Reads the picture set of a unit and keeps it; `false` where it can't be read.
 fn read_picture_set(parser: &mut Parser, nalu: &Nalu<'_, NaluHeader>) -> Result<bool, AllocError>
-    requires short { length nalu.now.stream < 2 ^ 60 }
+    requires short { length nalu.now.stream < STREAM_LIMIT }
     requires typed { nalu.now.header.nal_unit_type ≡ 34 }
     ensures { ReadsPictureSet nalu.now.header (bytes_of nalu.now) result
         (kept_by parser.old) (kept_by parser.new) }

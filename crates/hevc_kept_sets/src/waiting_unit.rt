@@ -1,5 +1,5 @@
 //! The unit of a picture set that waits for its sequence set.
-ghost use Rattle.std.specs.Prelude.{◌≡◌, ◌<◌, ◌^◌, ◌∷◌, ℕ, length, Ok, IfOk, IfSome};
+ghost use Rattle.std.specs.Prelude.{◌≡◌, ◌<◌, ◌∷◌, ℕ, length, Ok, IfOk, IfSome};
 ghost use Rattle.std.specs.Result.{result_ok};
 ghost use Rattle.hevc_spec.specs.UnitHeader.{unit_header};
 ghost use Rattle.hevc_spec.specs.Payload.{bits, payload_bits};
@@ -9,6 +9,7 @@ ghost use Rattle.hevc_records.specs.Pps.{PlainPps};
 ghost use Rattle.hevc_tables.specs.PpsTable.{ids};
 ghost use Rattle.hevc_stream_laws.specs.KeptWell.{sequence_set_named_in};
 ghost use Rattle.hevc_kept_sets.specs.Settled.{named_set, has_id, is_named_by};
+ghost use Rattle.hevc_bits.specs.declared.stream_limit.TheConstants.{STREAM_LIMIT};
 
 use crate::set_ids::with_named;
 use hevc_bits::{Nalu, NaluHeader, NaluReader};
@@ -46,7 +47,7 @@ impl WaitingUnit {
         alloc: Global,
         nalu: &Nalu<'_, NaluHeader>,
     ) -> Result<WaitingUnit, AllocError>
-        requires short { length nalu.now.stream < 2 ^ 60 }
+        requires short { length nalu.now.stream < STREAM_LIMIT }
         requires typed { nalu.now.header.nal_unit_type ≡ 34 }
         ensures same { IfOk result (λ unit. unit ≡ bytes_of nalu.now) }
     {
@@ -65,7 +66,7 @@ impl WaitingUnit {
         ensures bytes { bytes_of result ≡ self.now }
         ensures parsed { unit_header self.now ≡ Ok result.header }
         ensures typed { result.header.nal_unit_type ≡ 34 }
-        ensures short { length result.stream < 2 ^ 60 }
+        ensures short { length result.stream < STREAM_LIMIT }
     {
         let mut position = 0;
         Nalu::next(&self.stream, &mut position).unwrap()
@@ -93,7 +94,7 @@ pub(crate) fn named_by(units: &VecDeque<WaitingUnit>) -> u16
 
 /// The id of the sequence set that the payload of a picture set names, if it tells one that is allowed.
 fn read_named(payload: &[u8]) -> Option<u8>
-    requires { length payload.now < 2 ^ 60 }
+    requires { length payload.now < STREAM_LIMIT }
     ensures { (pps : PlainPps)
         → result ≡ sequence_set_named_in (read (ids pps) (payload_bits 0 payload.now)) }
 {

@@ -11,6 +11,7 @@ ghost use Rattle.hevc_types_c.specs.Sps.{plain_sps};
 ghost use Rattle.hevc_types_d.specs.Pps.{plain_pps};
 ghost use Rattle.hevc_pps.specs.Answers.{NamesNoOtherSet};
 ghost use Rattle.hevc_pps.specs.Tiling.{TilesCover, CoverKept};
+ghost use Rattle.hevc_bits.specs.declared.stream_limit.TheConstants.{STREAM_LIMIT};
 
 use crate::extensions::read_extensions;
 use crate::filters::{read_filters, read_merging, read_scaling};
@@ -40,7 +41,7 @@ pub fn read_pps(
     nalu: &Nalu<'_, NaluHeader>,
     spses: &BTreeMap<u8, Sps>,
 ) -> Result<Pps, ParseError>
-    requires { length nalu.now.stream < 2 ^ 60 }
+    requires { length nalu.now.stream < STREAM_LIMIT }
     ensures wrong_type { IsErrOf result ParseError.WrongNaluType
         ↔ ¬ (nalu.now.header.nal_unit_type ≡ 34) }
     ensures read { nalu.now.header.nal_unit_type ≡ 34
@@ -76,7 +77,7 @@ fn read_payload(
     payload: &[u8],
     spses: &BTreeMap<u8, Sps>,
 ) -> Result<Pps, ParseError>
-    requires { length payload.now < 2 ^ 60 }
+    requires { length payload.now < STREAM_LIMIT }
     ensures read { ReadsSet plain_pps result
         (read (table.picture_parameter_set temporal_id (sets_by_id plain_sps spses.now))
         (payload_bits 0 payload.now)) }

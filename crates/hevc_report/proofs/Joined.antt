@@ -154,6 +154,10 @@ pub told_by : (left : Option (List ℕ)) (P Q : List ℕ → Type 0) → ((s : L
 told_by None P Q follows p = tt
 told_by (Some s) P Q follows p = follows s p
 
+pub told_both : (left : Option (List ℕ)) (P Q R : List ℕ → Type 0) → ((s : List ℕ) → P s → Q s → R s) → IfSome left P → IfSome left Q → IfSome left R
+told_both None P Q R follows p q = tt
+told_both (Some s) P Q R follows p q = follows s p q
+
 -- ---- a summary
 
 -- the outputs of a whole stream in one line

@@ -4,3 +4,4 @@ pub mod Report
 pub mod Reported
 pub mod Status
 pub mod Summary
+pub mod Tells

@@ -1,12 +1,10 @@
 //! The top call: from the words of the command line to the status.
-ghost use Rattle.std.specs.Prelude.{◌≡◌, ◌≤◌, ◌<◌, ◌⊎◌, ◌↔◌, ℕ, List, length, IfOk, IfSome, IsErrOf, IsTrue, OnErr, OnOk, is_ok, true};
+ghost use Rattle.std.specs.Prelude.{◌≡◌, ◌==◌, ◌≤◌, ◌<◌, ◌⊎◌, ◌↔◌, ℕ, List, length, IfOk, IfSome, IsErrOf, IsTrue, OnErr, OnOk};
 ghost use Rattle.std.specs.declared.option.Option.TheVariants.{None, Some};
 ghost use Rattle.std.specs.String.{string_bytes};
 ghost use Rattle.std.specs.Io.KnownBytes.{Appends, IsAtEnd};
 ghost use Rattle.hevc_faults.specs.Faults.{Rose};
 ghost use Rattle.hevc_walk.specs.Clean.{IsClean};
-ghost use Rattle.hevc_walk.specs.Results.{outputs};
-ghost use Rattle.hevc_walk_order.specs.DisplayOrder.{ComeInOrder, ComeInTurn};
 ghost use Rattle.hevc_stream.specs.Stream.{meanings};
 ghost use Rattle.hevc_options.specs.Options.{options_of};
 ghost use Rattle.hevc_decoder.specs.Sources.{OfSource};
@@ -17,6 +15,7 @@ ghost use Rattle.hevc_io.specs.Prefix.{AppendsPrefix, AppendsLess};
 ghost use Rattle.hevc_report.specs.Report.{ending_of, report_of};
 ghost use Rattle.hevc_report.specs.Status.{status_of, IsDone, IsMade, WantsMemory};
 ghost use Rattle.hevc_report.specs.Summary.{summary_of};
+ghost use Rattle.hevc_report.specs.Tells.{Tells};
 
 use crate::command::{read_command, read_make};
 use crate::made::run_made;
@@ -56,17 +55,8 @@ pub fn run<S: Source, K: Sink>(alloc: Global, words: &[Word], source: &mut S, si
     ensures whole { IfSome (command words.now) (λ options. result ≤ 1
         → IsAtEnd (S.left source.new) × IfSome (S.left source.old) (λ s.
         Appends (K.written sink.old) (K.written sink.new) (report_of options s)
-        × (result ≡ status_of (ending_of options s)))) }
-    // On 0 sequence by sequence came out, and each that keeps the order that it declares in display order.
-    ensures in_turn { IfSome (command words.now) (λ options. result ≡ 0
-        → IfSome (S.left source.old) (λ s.
-        ComeInTurn (meanings options s) (outputs (meanings options s)))) }
-    ensures display_order { IfSome (command words.now) (λ options. result ≡ 0
-        → IfSome (S.left source.old) (λ s.
-        ComeInOrder (meanings options s) (outputs (meanings options s)))) }
-    // That is so for no longer input than may be.
-    ensures limit { IfSome (command words.now) (λ options. result ≤ 1
-        → IfSome (S.left source.old) (λ s. length s ≤ INPUT_LIMIT)) }
+        × (result ≡ status_of (ending_of options s))
+        × Tells INPUT_LIMIT options s (result == 0))) }
     // Whatever the status, what was written is a front of that report; on any but 0 and 1 not the whole.
     ensures part { IfSome (command words.now) (λ options. IfSome (S.left source.old) (λ s.
         AppendsPrefix (K.written sink.old) (K.written sink.new) (report_of options s))) }
@@ -137,22 +127,13 @@ fn write_report<S: Source, K: Sink>(
     ensures whole { IfOk result
         (λ is_decoded. IsAtEnd (S.left source.new) × IfSome (S.left source.old) (λ s.
         Appends (K.written sink.old) (K.written sink.new) (report_of (options_of options) s)
-        × (is_decoded ≡ is_ok (ending_of (options_of options) s)))) }
-    ensures limit { IfOk result (λ _. IfSome (S.left source.old) (λ s. length s ≤ INPUT_LIMIT)) }
+        × Tells INPUT_LIMIT (options_of options) s is_decoded)) }
     ensures part { IfSome (S.left source.old) (λ s.
         AppendsPrefix (K.written sink.old) (K.written sink.new)
         (report_of (options_of options) s)) }
     ensures less { OnErr result (IfSome (S.left source.old) (λ s.
         AppendsLess (K.written sink.old) (K.written sink.new)
         (report_of (options_of options) s))) }
-    ensures clean { IfOk result (λ is_decoded. IfSome (S.left source.old) (λ s.
-        IsClean (meanings (options_of options) s) → is_decoded ≡ true)) }
-    ensures in_turn { IfOk result (λ is_decoded. IfSome (S.left source.old) (λ s.
-        is_decoded ≡ true → ComeInTurn (meanings (options_of options) s)
-        (outputs (meanings (options_of options) s)))) }
-    ensures display_order { IfOk result (λ is_decoded. IfSome (S.left source.old) (λ s.
-        is_decoded ≡ true → ComeInOrder (meanings (options_of options) s)
-        (outputs (meanings (options_of options) s)))) }
     ensures read { IsErrOf result Stop.Read
         → Rose (S.faults source.old) (S.faults source.new) × (sink.new ≡ sink.old) }
     ensures write { IsErrOf result Stop.Write → Rose (K.faults sink.old) (K.faults sink.new) }
@@ -169,17 +150,8 @@ fn report_on<S: Source>(alloc: Global, options: Options, source: &mut S) -> Resu
     ensures end { OnOk result (IsAtEnd (S.left source.new)) }
     ensures text { OfSource result (S.left source.old) (λ report s.
         string_bytes report.text ≡ report_of (options_of options) s) }
-    ensures decoded { OfSource result (S.left source.old) (λ report s.
-        report.is_decoded ≡ is_ok (ending_of (options_of options) s)) }
-    ensures limit { OfSource result (S.left source.old) (λ _ s. length s ≤ INPUT_LIMIT) }
-    ensures clean { OfSource result (S.left source.old) (λ report s.
-        IsClean (meanings (options_of options) s) → report.is_decoded ≡ true) }
-    ensures in_turn { OfSource result (S.left source.old) (λ report s.
-        report.is_decoded ≡ true → ComeInTurn (meanings (options_of options) s)
-        (outputs (meanings (options_of options) s))) }
-    ensures display_order { OfSource result (S.left source.old) (λ report s.
-        report.is_decoded ≡ true → ComeInOrder (meanings (options_of options) s)
-        (outputs (meanings (options_of options) s))) }
+    ensures tells { OfSource result (S.left source.old) (λ report s.
+        Tells INPUT_LIMIT (options_of options) s report.is_decoded) }
     ensures read { IsErrOf result Stop.Read → Rose (S.faults source.old) (S.faults source.new) }
     ensures long { IsErrOf result Stop.TooLong
         → IfSome (S.left source.old) (λ s. INPUT_LIMIT < length s) }

@@ -1,3 +1,4 @@
 pub mod Keeping
 pub mod Named
 pub mod Lent
+mod Active

@@ -1,17 +1,19 @@
--- The table of a slice's unit, with the sets that are kept.
-use Rattle.std.specs.Prelude.{ℕ, Option, drop}
-use Rattle.hevc_spec.specs.Table.{Table}
-use Rattle.hevc_spec.specs.UnitHeader.{UnitHeader}
-use Rattle.hevc_bits.specs.FoundUnit.{FoundUnit, bytes_of}
-use Rattle.hevc_records.specs.SliceHeader.{PlainSliceSegmentHeader}
-use Rattle.hevc_tables.specs.SliceHeaderTable.{ActiveSets, active_sets, slice_segment_header}
+-- The sets that a slice makes active, of those that are kept (7.4.2.4.2).
+use Rattle.std.specs.Prelude.{◌≡◌, ℕ, Option, Some}
+use Rattle.hevc_tables.specs.SliceHeaderTable as table
+use Rattle.hevc_tables.specs.SliceHeaderTable.{active_sets}
+use Rattle.hevc_types_c.specs.Sps.{plain_sps}
+use Rattle.hevc_types_d.specs.Pps.{plain_pps}
+use Rattle.hevc_slice_header.specs.declared.active_sets.ActiveSets.{ActiveSets}
 use Rattle.hevc_stream.specs.Kept.{Kept}
 
--- the sets that the id of a picture set makes active, of those that are kept (7.4.2.4.2)
-abbrev pub active_of : Kept → ℕ → Option ActiveSets
+-- the sets that the id of a picture set makes active
+abbrev pub active_of : Kept → ℕ → Option table.ActiveSets
 active_of kept = active_sets kept.sequence_sets kept.picture_sets
 
--- table 14 over the payload of a slice's unit (7.3.6.1)
-abbrev pub slice_table : Kept → FoundUnit UnitHeader → Table PlainSliceSegmentHeader
-slice_table kept unit =
-    slice_segment_header unit.header.nal_unit_type (drop 2 (bytes_of unit)) (active_of kept)
+-- These are the sets that the id makes active, each under its own id.
+pub record AreActive (kept : Kept) (id : ℕ) (sets : ActiveSets) : Type 0 where
+  pub active : active_of kept id
+      ≡ Some (record { sps = plain_sps sets.sps.now; pps = plain_pps sets.pps.now })
+  pub picture : sets.pps.now.pic_parameter_set_id ≡ id
+  pub sequence : sets.sps.now.seq_parameter_set_id ≡ sets.pps.now.seq_parameter_set_id

@@ -3,29 +3,27 @@ ghost use Rattle.std.specs.Prelude.{◌≡◌, ◌-◌, ◌<◌, ◌^◌, ◌↔
 ghost use Rattle.std.specs.Ordering.{nat_cmp};
 ghost use Rattle.std.specs.BTreeMap.{get};
 ghost use Rattle.hevc_spec.specs.Payload.{payload};
-ghost use Rattle.hevc_spec.specs.UnitTypes.{is_slice};
 ghost use Rattle.hevc_records.specs.SliceHeader.{default_slice_header};
 ghost use Rattle.hevc_bits.specs.FoundUnit.{bytes_of};
 ghost use Rattle.hevc_elements.specs.Words.{read, ReadsSet, MeansSet, NamesNoSet};
 ghost use Rattle.hevc_tables.specs.VpsTable.{video_parameter_set};
 ghost use Rattle.hevc_tables.specs.SpsTable.{sequence_parameter_set};
 ghost use Rattle.hevc_tables.specs.PpsTable.{picture_parameter_set};
-ghost use Rattle.hevc_short_term.specs.Predictions.{IsInOrder};
 ghost use Rattle.hevc_stream.specs.Kept.{none_kept, with_video_set, with_sequence_set, with_picture_set};
 ghost use Rattle.hevc_types_b.specs.Vps.{plain_vps};
 ghost use Rattle.hevc_types_c.specs.Sps.{plain_sps};
 ghost use Rattle.hevc_types_d.specs.Pps.{plain_pps};
+ghost use Rattle.hevc_types_d.specs.declared.slice_header.SliceHeader as code_header;
 ghost use Rattle.hevc_types_d.specs.SliceHeader.{plain_slice_header};
-ghost use Rattle.hevc_slice_header.specs.Answers.{NamesNoSequenceSet};
-ghost use Rattle.hevc_slice_header.specs.CurrentSet.{HasCurrentSet};
-ghost use Rattle.hevc_slice_header.specs.Lists.{HasLists};
-ghost use Rattle.hevc_slice.specs.Slices.{active_of, slice_table};
+ghost use Rattle.hevc_slice_header.specs.Answers.{ReadsSlice};
+ghost use Rattle.hevc_slice.specs.Slices.{active_of, AreActive};
 ghost use Rattle.hevc_slice.specs.Answers.{NamesNoPictureSet};
 ghost use Rattle.hevc_slice.specs.OwnIds.{HasOwnIds, HasOwnIds-prop, HasNamedSets, HasNamedSets-prop};
+ghost use Rattle.hevc_bits.specs.declared.stream_limit.TheConstants.{STREAM_LIMIT};
 
 use hevc_bits::{Nalu, NaluHeader};
 use hevc_sets::{ParseError, read_pps, read_sps, read_vps};
-use hevc_slice_header::read_slice_header;
+use hevc_slice_header::{ActiveSets, read_slice_header};
 use hevc_types_b::Vps;
 use hevc_types_c::Sps;
 use hevc_types_c::comparisons::sps_eq;
@@ -71,7 +69,7 @@ impl Parser {
     /// Errors: those of `read_vps`; what is kept then stays.
     #[tactic(auto, using(hevc_elements::proofs::SetMeaning::set_meanings))]
     pub fn parse_vps(&mut self, nalu: &Nalu<'_, NaluHeader>) -> Result<&Vps, ParseError>
-        requires { length nalu.now.stream < 2 ^ 60 }
+        requires { length nalu.now.stream < STREAM_LIMIT }
         ensures* keeps { sem 𝓛 (LeavesParser self.entry
             (Keeps (λ set. with_video_set (plain_vps set.now)) result self.old)) }
         ensures wrong_type { IsErrOf result ParseError.WrongNaluType
@@ -116,7 +114,7 @@ impl Parser {
     /// Errors: those of `read_sps`; what is kept then stays.
     #[tactic(auto, using(hevc_elements::proofs::SetMeaning::set_meanings))]
     pub fn parse_sps(&mut self, nalu: &Nalu<'_, NaluHeader>) -> Result<&Sps, ParseError>
-        requires { length nalu.now.stream < 2 ^ 60 }
+        requires { length nalu.now.stream < STREAM_LIMIT }
         ensures* keeps { sem 𝓛 (LeavesParser self.entry
             (Keeps (λ set. with_sequence_set (plain_sps set.now)) result self.old)) }
         ensures wrong_type { IsErrOf result ParseError.WrongNaluType
@@ -189,7 +187,7 @@ impl Parser {
     /// Errors: those of `read_pps`, and `NoMemory`; what is kept then stays.
     #[tactic(auto, using(hevc_elements::proofs::SetMeaning::set_meanings))]
     pub fn parse_pps(&mut self, nalu: &Nalu<'_, NaluHeader>) -> Result<&Pps, ParseError>
-        requires { length nalu.now.stream < 2 ^ 60 }
+        requires { length nalu.now.stream < STREAM_LIMIT }
         ensures* keeps { sem 𝓛 (LeavesParser self.entry
             (Keeps (λ set. with_picture_set (plain_pps set.now)) result self.old)) }
         ensures wrong_type { IsErrOf result ParseError.WrongNaluType
@@ -245,38 +243,19 @@ impl Parser {
     }
 
     /// Reads the header of a slice segment, a new one over a unit of a stream of less than 2^60 bytes, by table 14 (7.3.6.1), with the
-    /// sets that are kept. What is kept stays. Its entry points take memory.
+    /// sets that are kept. What is kept stays. Its entry points take memory. The answer is the sets that the header makes active.
     ///
     /// Errors: `WrongNaluType` first, where the unit is no slice (types 0 to 9 and 16 to 21); `OutOfBits` where the payload ends
-    /// within an element; `OutOfRange` with table and row of the first element that isn't allowed; behind row 3, `MissingPps` where no
+    /// within an element; `OutOfRange` with table and row of the first element that isn't allowed; after row 3, `MissingPps` where no
     /// picture parameter set of the id that it names is kept; `NoMemory`. The header is again that of `SliceHeader::new` then.
-    #[tactic(auto, using(hevc_elements::proofs::SetMeaning::set_meanings))]
-    pub fn read_slice(&self, slice: &mut Slice<'_>) -> Result<(), ParseError>
-        requires short { length slice.old.nalu.stream < 2 ^ 60 }
+    pub fn read_slice<'a>(&'a self, slice: &mut Slice<'_>) -> Result<ActiveSets<'a>, ParseError>
+        requires short { length slice.old.nalu.stream < STREAM_LIMIT }
         requires new { plain_slice_header slice.old.header ≡ default_slice_header }
-        ensures wrong_type { IsErrOf result ParseError.WrongNaluType
-            ↔ IsFalse (is_slice slice.old.nalu.header.nal_unit_type) }
-        ensures read { IsTrue (is_slice slice.old.nalu.header.nal_unit_type)
-            → ReadsSet (λ _. plain_slice_header slice.new.header) result
-            (read (slice_table (kept_by self.now) slice.old.nalu)
-            (payload (bytes_of slice.old.nalu))) }
-        ensures means { IsTrue (is_slice slice.old.nalu.header.nal_unit_type)
-            → MeansSet (λ _. plain_slice_header slice.new.header)
-            (slice_table (kept_by self.now) slice.old.nalu) result
-            (payload (bytes_of slice.old.nalu)) }
-        ensures names { IfErr result NamesNoSequenceSet }
+        ensures reads { ReadsSlice (active_of (kept_by self.now)) slice.old.nalu result
+            slice.new.header }
+        ensures sets { IfOk result (λ sets.
+            AreActive (kept_by self.now) slice.new.header.pic_parameter_set_id sets) }
         ensures unit { slice.new.nalu ≡ slice.old.nalu }
-        ensures refused { OnErr result
-            (plain_slice_header slice.new.header ≡ default_slice_header) }
-        // Of the header's own short-term set negatives fall, positives rise, and none is 0 (7.4.8).
-        ensures predictions { IsInOrder slice.new.header.short_term_ref_pic_set }
-        // CurrRpsIdx is at most the number of the sequence set's short-term sets, and that number
-        // exactly where the header names none of them.
-        ensures current { OnOk result (HasCurrentSet (active_of (kept_by self.now))
-            (plain_slice_header slice.new.header)) }
-        // Each list whose order is told has an entry for each active place, each below
-        // NumPicTotalCurr.
-        ensures lists { OnOk result (HasLists (plain_slice_header slice.new.header)) }
     {
         let Slice { header, nalu } = slice;
         read_slice_header(
@@ -291,33 +270,15 @@ impl Parser {
     /// Reads the slice segment header of a unit, of a stream of less than 2^60 bytes, as `read_slice` does, and gives the slice segment.
     ///
     /// Errors: those of `read_slice`.
-    #[tactic(auto, using(hevc_elements::proofs::SetMeaning::set_meanings))]
     pub fn parse_slice_header<'a>(
         &self,
         nalu: Nalu<'a, NaluHeader>,
     ) -> Result<Slice<'a>, ParseError>
-        requires { length nalu.stream < 2 ^ 60 }
-        ensures wrong_type { IsErrOf result ParseError.WrongNaluType
-            ↔ IsFalse (is_slice nalu.entry.header.nal_unit_type) }
-        ensures read { IsTrue (is_slice nalu.entry.header.nal_unit_type)
-            → ReadsSet (λ slice. plain_slice_header slice.header) result
-            (read (slice_table (kept_by self.now) nalu.entry) (payload (bytes_of nalu.entry))) }
-        ensures means { IsTrue (is_slice nalu.entry.header.nal_unit_type)
-            → MeansSet (λ slice. plain_slice_header slice.header)
-            (slice_table (kept_by self.now) nalu.entry) result (payload (bytes_of nalu.entry)) }
-        ensures names { IfErr result NamesNoSequenceSet }
+        requires { length nalu.stream < STREAM_LIMIT }
+        ensures reads { (header : code_header.SliceHeader)
+            × IfOk result (λ slice. slice.header ≡ header)
+            × ReadsSlice (active_of (kept_by self.now)) nalu.entry result header }
         ensures unit { IfOk result (λ slice. slice.nalu ≡ nalu.entry) }
-        // Of the header's own short-term set negatives fall, positives rise, and none is 0 (7.4.8).
-        ensures predictions { IfOk result
-            (λ slice. IsInOrder slice.header.short_term_ref_pic_set) }
-        // CurrRpsIdx is at most the number of the sequence set's short-term sets, and that number
-        // exactly where the header names none of them.
-        ensures current { IfOk result
-            (λ slice. HasCurrentSet (active_of (kept_by self.now))
-            (plain_slice_header slice.header)) }
-        // Each list whose order is told has an entry for each active place, each below
-        // NumPicTotalCurr.
-        ensures lists { IfOk result (λ slice. HasLists (plain_slice_header slice.header)) }
     {
         let mut slice = self.new_slice(nalu);
         self.read_slice(&mut slice)?;

@@ -1,3 +1,4 @@
+pub mod ActiveSets
 pub mod Answers
 pub mod CurrentSet
 pub mod Kept

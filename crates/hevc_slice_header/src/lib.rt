@@ -1,6 +1,7 @@
 //! Slice segment headers, and their reader.
 #![tactic(auto)]
 
+mod active_sets;
 mod beginning;
 mod entry_points;
 mod filters;
@@ -10,6 +11,7 @@ mod quantiser;
 mod segment;
 mod slice_header;
 
+pub use active_sets::ActiveSets;
 pub use prediction::parse_pred_weight_table;
 pub use segment::slice_header_set_defaults;
 pub use slice_header::read_slice_header;

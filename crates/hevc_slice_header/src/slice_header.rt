@@ -1,5 +1,5 @@
 //! Slice segment headers (7.3.6.1, table 14).
-ghost use Rattle.std.specs.Prelude.{◌≡◌, ◌==◌, ◌+◌, ◌-◌, ◌<◌, ◌%◌, ◌^◌, ◌↔◌, IfErr, OnOk, OnErr, IsErrOf, IsFalse, IsTrue, ◌≤◌, drop, length};
+ghost use Rattle.std.specs.Prelude.{◌≡◌, ◌==◌, ◌+◌, ◌-◌, ◌<◌, ◌%◌, ◌^◌, ◌↔◌, IfErr, IfOk, OnOk, OnErr, IsErrOf, IsFalse, IsTrue, ◌≤◌, drop, length};
 ghost use Rattle.hevc_spec.specs.Payload.{payload, payload_bits, bits_left};
 ghost use Rattle.hevc_spec.specs.UnitTypes.{is_slice as is_slice_number};
 ghost use Rattle.hevc_bits.specs.FoundUnit.{bytes_of};
@@ -11,11 +11,14 @@ ghost use Rattle.hevc_short_term.specs.Predictions.{IsInOrder};
 ghost use Rattle.hevc_types_c.specs.Sps.{plain_sps};
 ghost use Rattle.hevc_types_d.specs.Pps.{plain_pps};
 ghost use Rattle.hevc_types_d.specs.SliceHeader.{plain_slice_header};
-ghost use Rattle.hevc_slice_header.specs.Answers.{ReadsHeader, NamesNoSequenceSet};
+ghost use Rattle.hevc_slice_header.specs.ActiveSets.{AreFound};
+ghost use Rattle.hevc_slice_header.specs.Answers.{ReadsHeader, ReadsSlice, NamesNoSequenceSet};
 ghost use Rattle.hevc_slice_header.specs.CurrentSet.{HasCurrentSet};
 ghost use Rattle.hevc_slice_header.specs.Kept.{kept_active_sets};
 ghost use Rattle.hevc_slice_header.specs.Lists.{HasLists};
+ghost use Rattle.hevc_bits.specs.declared.stream_limit.TheConstants.{STREAM_LIMIT};
 
+use crate::active_sets::ActiveSets;
 use crate::beginning::read_beginning;
 use crate::segment::read_behind_sets;
 use hevc_bits::{Nalu, NaluHeader, NaluReader, NaluType};
@@ -29,7 +32,8 @@ use std::alloc::Global;
 use std::collections::BTreeMap;
 
 /// Reads a slice segment header out of its unit, of a stream of less than 2^60 bytes, by table 14 (7.3.6.1), with the parameter sets
-/// that are kept, by their ids, into a header of `SliceHeader::new`. It takes memory from `alloc` for its entry points.
+/// that are kept, by their ids, into a header of `SliceHeader::new`. It takes memory from `alloc` for its entry points. The answer is
+/// the sets that the header makes active.
 ///
 /// An element that is absent has its value of `SliceHeader::new`, but for what its sets infer (`SliceHeader::set_defaults`).
 ///
@@ -38,42 +42,25 @@ use std::collections::BTreeMap;
 /// the picture sets has the id that it names, with a sequence set that is kept; `NoMemory`. The header is again that of
 /// `SliceHeader::new` then.
 #[tactic(auto, using(hevc_elements::proofs::SetMeaning::set_meanings, crate::proofs::CurrentSets::in_order))]
-pub fn read_slice_header(
+pub fn read_slice_header<'a>(
     alloc: Global,
     nalu: &Nalu<'_, NaluHeader>,
-    spses: &BTreeMap<u8, Sps>,
-    ppses: &BTreeMap<u8, Pps>,
+    spses: &'a BTreeMap<u8, Sps>,
+    ppses: &'a BTreeMap<u8, Pps>,
     h: &mut SliceHeader,
-) -> Result<(), ParseError>
-    requires short { length nalu.now.stream < 2 ^ 60 }
+) -> Result<ActiveSets<'a>, ParseError>
+    requires short { length nalu.now.stream < STREAM_LIMIT }
     requires new { plain_slice_header h.old ≡ default_slice_header }
-    ensures wrong_type { IsErrOf result ParseError.WrongNaluType
-        ↔ IsFalse (is_slice_number nalu.now.header.nal_unit_type) }
-    ensures read { IsTrue (is_slice_number nalu.now.header.nal_unit_type)
-        → ReadsSet (λ _. plain_slice_header h.new) result
-        (read (table.slice_segment_header nalu.now.header.nal_unit_type (drop 2 (bytes_of nalu.now))
-        (kept_active_sets ppses.now spses.now)) (payload (bytes_of nalu.now))) }
-    ensures means { IsTrue (is_slice_number nalu.now.header.nal_unit_type)
-        → MeansSet (λ _. plain_slice_header h.new)
-        (table.slice_segment_header nalu.now.header.nal_unit_type (drop 2 (bytes_of nalu.now))
-        (kept_active_sets ppses.now spses.now)) result (payload (bytes_of nalu.now)) }
-    ensures names { IfErr result NamesNoSequenceSet }
-    ensures refused { OnErr result (plain_slice_header h.new ≡ default_slice_header) }
-    // Of the header's own short-term set negatives fall, positives rise, and none is 0 (7.4.8).
-    ensures predictions { IsInOrder h.new.short_term_ref_pic_set }
-    // CurrRpsIdx is at most the number of the sequence set's short-term sets, and that number
-    // exactly where the header names none of them.
-    ensures current { OnOk result (HasCurrentSet
-        (kept_active_sets ppses.now spses.now) (plain_slice_header h.new)) }
-    // Each list whose order is told has an entry for each active place, each below NumPicTotalCurr.
-    ensures lists { OnOk result (HasLists (plain_slice_header h.new)) }
+    ensures reads { ReadsSlice (kept_active_sets ppses.now spses.now) nalu.now result h.new }
+    ensures sets { IfOk result
+        (λ sets. AreFound ppses.now spses.now h.new.pic_parameter_set_id sets) }
 {
     let header = nalu.header();
     if !header.nalu_type().is_slice() {
         return Err(ParseError::WrongNaluType);
     }
     match read_payload(alloc, header.nalu_type(), nalu.payload(), spses, ppses, h) {
-        Ok(()) => Ok(()),
+        Ok(sets) => Ok(sets),
         Err(error) => {
             *h = SliceHeader::new(alloc);
             Err(error)
@@ -83,15 +70,15 @@ pub fn read_slice_header(
 
 /// Reads the payload of a unit of this type.
 #[tactic(auto, unfolding(hevc_spec::specs::Payload::bits_left))]
-fn read_payload(
+fn read_payload<'a>(
     alloc: Global,
     nalu_type: NaluType,
     payload: &[u8],
-    spses: &BTreeMap<u8, Sps>,
-    ppses: &BTreeMap<u8, Pps>,
+    spses: &'a BTreeMap<u8, Sps>,
+    ppses: &'a BTreeMap<u8, Pps>,
     h: &mut SliceHeader,
-) -> Result<(), ParseError>
-    requires short { length payload.now < 2 ^ 60 }
+) -> Result<ActiveSets<'a>, ParseError>
+    requires short { length payload.now < STREAM_LIMIT }
     requires new { plain_slice_header h.old ≡ default_slice_header }
     ensures read { ReadsSet (λ _. plain_slice_header h.new) result
         (read (table.slice_segment_header (nalu_type_number nalu_type) payload.now
@@ -100,13 +87,15 @@ fn read_payload(
     ensures current { OnOk result (HasCurrentSet
         (kept_active_sets ppses.now spses.now) (plain_slice_header h.new)) }
     ensures lists { OnOk result (HasLists (plain_slice_header h.new)) }
+    ensures sets { IfOk result
+        (λ sets. AreFound ppses.now spses.now h.new.pic_parameter_set_id sets) }
 {
     let start = NaluReader::new(payload);
     let mut r = start.fork();
     match read_aligned(alloc, &mut r, nalu_type, spses, ppses, h) {
-        Ok(()) => {
+        Ok(sets) => {
             set_sizes(bits_between(&start, &r), &r, h);
-            Ok(())
+            Ok(sets)
         }
         Err(error) => Err(error),
     }
@@ -128,14 +117,14 @@ fn set_sizes(size: u32, r: &NaluReader<'_>, h: &mut SliceHeader)
 
 /// Rows 1 to 53 of table 14, from a whole byte on.
 #[tactic(auto, unfolding(hevc_tables::specs::SliceHeaderTable::aligned))]
-fn read_aligned(
+fn read_aligned<'a>(
     alloc: Global,
     r: &mut NaluReader<'_>,
     nalu_type: NaluType,
-    spses: &BTreeMap<u8, Sps>,
-    ppses: &BTreeMap<u8, Pps>,
+    spses: &'a BTreeMap<u8, Sps>,
+    ppses: &'a BTreeMap<u8, Pps>,
     h: &mut SliceHeader,
-) -> Result<(), ParseError>
+) -> Result<ActiveSets<'a>, ParseError>
     requires whole { bits_left r.old % 8 ≡ 0 }
     requires new { plain_slice_header h.old ≡ default_slice_header }
     ensures read { ReadsHeader (λ _. plain_slice_header h.new) result r.new
@@ -148,24 +137,26 @@ fn read_aligned(
     ensures current { OnOk result (HasCurrentSet
         (kept_active_sets ppses.now spses.now) (plain_slice_header h.new)) }
     ensures lists { OnOk result (HasLists (plain_slice_header h.new)) }
+    ensures sets { IfOk result
+        (λ sets. AreFound ppses.now spses.now h.new.pic_parameter_set_id sets) }
 {
-    read_elements(alloc, r, nalu_type, spses, ppses, h)?;
+    let sets = read_elements(alloc, r, nalu_type, spses, ppses, h)?;
     skip(r, Row(14, 53), 1)?;
     let left_in_byte = r.num_bits_left() % 8;
     skip(r, Row(14, 53), left_in_byte)?;
-    Ok(())
+    Ok(sets)
 }
 
 /// Rows 1 to 52 of table 14.
 #[tactic(auto, using(crate::proofs::Answered::answered), unfolding(hevc_tables::specs::SliceHeaderTable::elements, hevc_tables::specs::PpsTable::named))]
-fn read_elements(
+fn read_elements<'a>(
     alloc: Global,
     r: &mut NaluReader<'_>,
     nalu_type: NaluType,
-    spses: &BTreeMap<u8, Sps>,
-    ppses: &BTreeMap<u8, Pps>,
+    spses: &'a BTreeMap<u8, Sps>,
+    ppses: &'a BTreeMap<u8, Pps>,
     h: &mut SliceHeader,
-) -> Result<(), ParseError>
+) -> Result<ActiveSets<'a>, ParseError>
     requires { plain_slice_header h.old ≡ default_slice_header }
     ensures read { ReadsHeader (λ _. plain_slice_header h.new) result r.new
         (read (table.elements (nalu_type_number nalu_type) (kept_active_sets ppses.now spses.now))
@@ -176,6 +167,8 @@ fn read_elements(
     ensures current { OnOk result (HasCurrentSet
         (kept_active_sets ppses.now spses.now) (plain_slice_header h.new)) }
     ensures lists { OnOk result (HasLists (plain_slice_header h.new)) }
+    ensures sets { IfOk result
+        (λ sets. AreFound ppses.now spses.now h.new.pic_parameter_set_id sets) }
 {
     read_beginning(r, nalu_type, h)?;
     let missing = ParseError::MissingPps(h.pic_parameter_set_id);
@@ -187,7 +180,7 @@ fn read_elements(
     };
     has_few_extra_bits(pps);
     read_behind_sets(alloc, r, nalu_type, sps, pps, h)?;
-    Ok(())
+    Ok(ActiveSets { sps, pps })
 }
 
 /// Says that row 6 is short, on which the size of a header rests.

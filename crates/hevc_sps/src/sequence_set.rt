@@ -7,6 +7,7 @@ ghost use Rattle.hevc_elements.specs.Words.{bits, IsAhead, read, Fills, FillsGro
 ghost use Rattle.hevc_tables.specs.SpsTable as table;
 ghost use Rattle.hevc_types_c.specs.Sps.{plain_sps};
 ghost use Rattle.hevc_sps.specs.Predictions.{AreInOrder};
+ghost use Rattle.hevc_bits.specs.declared.stream_limit.TheConstants.{STREAM_LIMIT};
 
 use crate::blocks::read_blocks;
 use crate::extensions::read_extensions;
@@ -31,7 +32,7 @@ use std::alloc::Global;
 /// `OutOfRange` with table and row of the first element that isn't allowed; `NoMemory`.
 #[tactic(auto, using(hevc_elements::proofs::SetMeaning::set_meanings, crate::proofs::Orders::are_in_order))]
 pub fn read_sps(alloc: Global, nalu: &Nalu<'_, NaluHeader>) -> Result<Sps, ParseError>
-    requires { length nalu.now.stream < 2 ^ 60 }
+    requires { length nalu.now.stream < STREAM_LIMIT }
     ensures wrong_type { IsErrOf result ParseError.WrongNaluType
         ↔ ¬ (nalu.now.header.nal_unit_type ≡ 33) }
     ensures read { nalu.now.header.nal_unit_type ≡ 33
@@ -59,7 +60,7 @@ fn is_sequence_set(nalu_type: NaluType) -> bool
 /// Reads the payload of a unit.
 #[tactic(auto, using(hevc_elements::proofs::SetMeaning::sets_from_growing))]
 fn read_payload(alloc: Global, payload: &[u8]) -> Result<Sps, ParseError>
-    requires { length payload.now < 2 ^ 60 }
+    requires { length payload.now < STREAM_LIMIT }
     ensures read { ReadsSet plain_sps result
         (read table.sequence_parameter_set (payload_bits 0 payload.now)) }
     ensures names_no_set { IfErr result NamesNoSet }

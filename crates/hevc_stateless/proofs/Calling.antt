@@ -1,5 +1,5 @@
 -- The first unit of the input is taken.
-use Rattle.std.proofs.Common.{◌≡◌, ℕ, ◌+◌, List, ◌∷◌, length, Result, Ok, Err, Bool, false, true, refl, sym, ap, ◌∙◌, subst}
+use Rattle.std.proofs.Common.{◌≡◌, inl, inr, ⊎_elim, ℕ, ◌+◌, List, ◌∷◌, length, Result, Ok, Err, Bool, false, true, refl, sym, ap, ◌∙◌, subst}
 use Rattle.std.specs.Result.{IsErrAnd}
 use Rattle.std.proofs.lemmas.Result.{err_from_is_err_and}
 use Rattle.hevc_spec.specs.Units.{NalUnit}
@@ -7,6 +7,7 @@ use Rattle.hevc_spec.specs.UnitHeader.{UnitHeader, unit_header}
 use Rattle.hevc_bits.specs.FoundUnit.{FoundUnit, bytes_of, unit_of}
 use Rattle.hevc_stream.specs.Options.{Options}
 use Rattle.hevc_driver.specs.declared.decode_error.DecodeError.{DecodeError}
+use Rattle.hevc_driver.specs.declared.decode_error.DecodeError.TheVariants as errors
 use Rattle.hevc_driver.specs.declared.decode_error.DecodeError.TheVariants.{CheckEvents}
 use Rattle.hevc_stateless.specs.States.{is_awaited}
 use Rattle.hevc_stateless.specs.Steps.{Seen, Step, StepsIn, TakesFirst}
@@ -23,7 +24,8 @@ module _ {B H : Type 0} (t : ℕ) (o : Options) (old new : Seen B H) where
   error_in e (Err x) = x
 
   same_refusal : (e : DecodeError) (h : UnitHeader) (bytes : List ℕ) → Step {T = Unit {0}} (Err e) t o h bytes old new → Step {T = ℕ} (Err e) t o h bytes old new
-  same_refusal e h bytes step = record { part = step.part; state = step.state; kept = step.kept }
+  same_refusal errors.NoMemory h bytes step = record { takes = ⊎_elim inl (λ a. inr (record { part = a.part; state = a.state })) step.takes; kept = step.kept }
+  same_refusal e h bytes step = record { takes = record { part = step.takes.part; state = step.takes.state }; kept = step.kept }
 
   refused_in : (e : DecodeError) (h : UnitHeader) (bytes : List ℕ) → StepsIn {T = Unit {0}} (Err e) t o h bytes old new → StepsIn {T = ℕ} (Err e) t o h bytes old new
   refused_in e h bytes x = record {
@@ -32,7 +34,7 @@ module _ {B H : Type 0} (t : ℕ) (o : Options) (old new : Seen B H) where
   }
 
   same_step : {T : Type 0} (v : T) (place : ℕ) (h : UnitHeader) (bytes : List ℕ) → Step (Ok v) t o h bytes old new → Step (Ok place) t o h bytes old new
-  same_step v place h bytes step = record { part = step.part; state = step.state; kept = step.kept }
+  same_step v place h bytes step = record { takes = record { part = step.takes.part; state = step.takes.state }; kept = step.kept }
 
   taken_in : {T : Type 0} (v : T) (place : ℕ) (h : UnitHeader) (bytes : List ℕ) → StepsIn (Ok v) t o h bytes old new → StepsIn (Ok place) t o h bytes old new
   taken_in v place h bytes x = record {

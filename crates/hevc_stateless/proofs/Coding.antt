@@ -25,10 +25,10 @@ use Rattle.hevc_driver.specs.Takes.{Goes, Takes}
 use Rattle.hevc_driver.proofs.Doing.{does_nothing, keeps_all}
 use Rattle.hevc_stateless.specs.declared.state.State.{State}
 use Rattle.hevc_stateless.specs.declared.state.State.TheVariants.{AwaitingStreamInfo, AwaitingFormat, Decoding, Reset}
-use Rattle.hevc_stateless.specs.States.{Unit, unit_at, is_sequence_set, is_parameter_set, later_meaning, state_behind, meaning_when, meaning_in, AwaitsOrStays, is_decoding, state_at}
-use Rattle.hevc_stateless.specs.Views.{View, traces_of}
-use Rattle.hevc_stateless.specs.Steps.{Step, KeepsBehind, with_read_set}
-use Rattle.hevc_stateless.proofs.Passing.{idle_unit, moves_by}
+use Rattle.hevc_stateless.specs.States.{Unit, unit_at, is_sequence_set, is_parameter_set, later_meaning, state_behind, meaning_when, meaning_in, is_decoding, state_at}
+use Rattle.hevc_stateless.specs.Views.{View, traces_of, moment_of}
+use Rattle.hevc_stateless.specs.Steps.{Step, TakesIn, KeepsBehind, with_read_set}
+use Rattle.hevc_stateless.proofs.Passing.{idle_unit}
 use Rattle.hevc_stateless.proofs.Setting.{means}
 
 -- ---- the content
@@ -130,6 +130,32 @@ coded_behind Decoding u w s = by (is_idr u.nal_unit_type)
     by false = refl
 coded_behind Reset u w s = reset_behind u.is_wanted (is_idr u.nal_unit_type) (is_sequence_set u.meaning) w s
 
+-- an IDR picture has slices
+no_idr : (t : ℕ) → is_slice t ≡ false → is_idr t ≡ false
+no_idr t no_slice = by (t == 19) (t == 20) refl refl
+  where
+    by : (a b : Bool) → (t == 19) ≡ a → (t == 20) ≡ b → (a || b) ≡ false
+    by true b e f = let same : t ≡ 19 = grind (arith, nat_tests, e) in absurd (cc (sym no_slice ∙ ap is_slice same))
+    by false true e f = let same : t ≡ 20 = grind (arith, nat_tests, f) in absurd (cc (sym no_slice ∙ ap is_slice same))
+    by false false e f = refl
+
+-- a unit that isn't decoded ends no wait
+still : (b : Bool) (st : State) → is_decoding (state_at b st) ≡ false → state_at b st ≡ st
+still true AwaitingStreamInfo h = refl
+still true AwaitingFormat h = refl
+still true Decoding h = refl
+still true Reset h = absurd (cc h)
+still false AwaitingStreamInfo h = refl
+still false AwaitingFormat h = refl
+still false Decoding h = refl
+still false Reset h = refl
+
+still_false : (st : State) → state_at false st ≡ st
+still_false AwaitingStreamInfo = refl
+still_false AwaitingFormat = refl
+still_false Decoding = refl
+still_false Reset = refl
+
 same_later : (m : Meaning) → is_sequence_set m ≡ false → later_meaning m ≡ m
 same_later (SequenceSet format) is = absurd (cc is)
 same_later (CodedSlice s) is = refl
@@ -197,8 +223,10 @@ module _ (o : Options) (k : Kept) (bytes : List ℕ) (h : UnitHeader) (parsed : 
 
   pub unwanted_step : {B H T : Type 0} (value : T) (t : ℕ) (log : Option (List (Call H))) (view : View B H) → nat_le (temporal_id h) o.highest_tid ≡ false → Step (Ok value) t o h bytes (record { log = log; view = view; kept = k }) (record { log = log; view = view; kept = k })
   unwanted_step value t log view above = record {
-    part = subst (λ (m : Meaning). Takes (Ok value) t (traces_of log view) (traces_of log view) m view.standing view.standing) (sym (ap (λ (x : State). meaning_when x u) (unwanted_behind view.state above) ∙ unwanted_when view.state (unwanted_means above))) (idle_unit t (traces_of log view) view.standing);
-    state = sym (unwanted_behind view.state above);
+    takes = record {
+      part = subst (λ (m : Meaning). Takes (Ok value) t (traces_of log view) (traces_of log view) m view.standing view.standing) (sym (ap (λ (x : State). meaning_when x u) (unwanted_behind view.state above) ∙ unwanted_when view.state (unwanted_means above))) (idle_unit t (traces_of log view) view.standing);
+      state = sym (unwanted_behind view.state above);
+    };
     kept = unwanted_kept above;
   }
 
@@ -208,25 +236,36 @@ module _ (o : Options) (k : Kept) (bytes : List ℕ) (h : UnitHeader) (parsed : 
     behind : (st : State) → state_behind st u ≡ state_at (is_idr h.nal_unit_type) st
     behind st = let w : nat_le (temporal_id h) o.highest_tid ≡ true = grind (arith, nat_tests, wanted) in coded_behind st u w (coded_isnt o k bytes h parsed wanted other)
 
-    pub passed_step : {B H T : Type 0} (logs : B → Option (List (Call H))) (value : T) (t : ℕ) (view now : View B H) (at : Bool) → at ≡ is_idr h.nal_unit_type → now ≡ record view { state = state_at at view.state } → is_decoding now.state ≡ false
-        → Step (Ok value) t o h bytes (record { log = logs view.backend; view = view; kept = k }) (record { log = logs now.backend; view = now; kept = k })
-    passed_step {B} {H} {T} logs value t view now at is same waits =
-        let st : now.state ≡ state_behind view.state u = ap (λ (v : View B H). v.state) same ∙ ap (λ (b : Bool). state_at b view.state) is ∙ sym (behind view.state) in
-        let m : meaning_in view.state u ≡ Other = ap (λ (x : State). meaning_when x u) (sym st) ∙ coded_waits now.state u waits other in
+    pub passed_step : {B H T : Type 0} (value : T) (t : ℕ) (log : Option (List (Call H))) (view : View B H) (at : Bool) → at ≡ is_idr h.nal_unit_type → is_decoding (state_at at view.state) ≡ false
+        → Step (Ok value) t o h bytes (record { log = log; view = view; kept = k }) (record { log = log; view = view; kept = k })
+    passed_step {B} {H} {T} value t log view at is waits =
+        let st : view.state ≡ state_behind view.state u = sym (still at view.state waits) ∙ ap (λ (b : Bool). state_at b view.state) is ∙ sym (behind view.state) in
+        let m : meaning_in view.state u ≡ Other = ap (λ (x : State). meaning_when x u) (sym st) ∙ coded_waits view.state u (ap is_decoding (sym (still at view.state waits)) ∙ waits) other in
         record {
-          part = rw same (subst (λ (x : Meaning). Takes (Ok value) t (traces_of (logs view.backend) view) (traces_of (logs view.backend) view) x view.standing view.standing) (sym m) (idle_unit t (traces_of (logs view.backend) view) view.standing));
-          state = st;
+          takes = record {
+            part = subst (λ (x : Meaning). Takes (Ok value) t (traces_of log view) (traces_of log view) x view.standing view.standing) (sym m) (idle_unit t (traces_of log view) view.standing);
+            state = st;
+          };
           kept = coded_keeps o k bytes h parsed wanted other (Ok value);
         }
 
-    pub taken_step : {B H T : Type 0} (logs : B → Option (List (Call H))) (r : Result T DecodeError) (t : ℕ) (view mid now : View B H) (at : Bool) (new : Kept) → at ≡ is_idr h.nal_unit_type → mid ≡ record view { state = state_at at view.state } → is_decoding mid.state ≡ true → new ≡ k
-        → Takes r t (traces_of (logs mid.backend) mid) (traces_of (logs now.backend) now) u.meaning mid.standing now.standing → AwaitsOrStays r mid.state now.state
-        → Step r t o h bytes (record { log = logs view.backend; view = view; kept = k }) (record { log = logs now.backend; view = now; kept = new })
-    taken_step {B} {H} {T} logs r t view mid now at new is same goes kept takes state =
-        let st : mid.state ≡ state_behind view.state u = ap (λ (v : View B H). v.state) same ∙ ap (λ (b : Bool). state_at b view.state) is ∙ sym (behind view.state) in
-        let m : meaning_in view.state u ≡ u.meaning = ap (λ (x : State). meaning_when x u) (sym st) ∙ coded_means mid.state u goes (coded_isnt o k bytes h parsed wanted other) in
+    pub taken_step : {B H T : Type 0} (r : Result T DecodeError) (t : ℕ) (log newlog : Option (List (Call H))) (view now : View B H) (at : Bool) (new : Kept) → at ≡ is_idr h.nal_unit_type → is_decoding (state_at at view.state) ≡ true → new ≡ k
+        → TakesIn r t u.meaning (state_at (is_idr h.nal_unit_type) view.state) (moment_of log view) (moment_of newlog now)
+        → Step r t o h bytes (record { log = log; view = view; kept = k }) (record { log = newlog; view = now; kept = new })
+    taken_step {B} {H} {T} r t log newlog view now at new is goes kept takes =
+        let st : state_at (is_idr h.nal_unit_type) view.state ≡ state_behind view.state u = sym (behind view.state) in
+        let m : meaning_in view.state u ≡ u.meaning = ap (λ (x : State). meaning_when x u) (sym st) ∙ coded_means (state_at (is_idr h.nal_unit_type) view.state) u (ap (λ (b : Bool). is_decoding (state_at b view.state)) (sym is) ∙ goes) (coded_isnt o k bytes h parsed wanted other) in
         record {
-          part = subst (λ (x : Meaning). Takes r t (traces_of (logs view.backend) view) (traces_of (logs now.backend) now) x view.standing now.standing) (sym m) (subst (λ (v : View B H). Takes r t (traces_of (logs v.backend) (record v { state = view.state })) (traces_of (logs now.backend) now) u.meaning v.standing now.standing) same takes);
-          state = moves_by r view.state (state_behind view.state u) now.state (subst (λ (x : State). AwaitsOrStays r x now.state) st state);
+          takes = subst (λ (x : Meaning). TakesIn r t x (state_behind view.state u) (moment_of log view) (moment_of newlog now)) (sym m) (subst (λ (x : State). TakesIn r t u.meaning x (moment_of log view) (moment_of newlog now)) st takes);
           kept = subst (λ (x : Kept). KeepsBehind r o bytes k x) (sym kept) (coded_keeps o k bytes h parsed wanted other r);
         }
+
+    -- a unit that asks for no call
+    pub ended_step : {B H T : Type 0} (logs : B → Option (List (Call H))) (value : T) (t : ℕ) (view now : View B H) (at : Bool) (new : Kept) → at ≡ is_idr h.nal_unit_type → is_decoding (state_at at view.state) ≡ true → is_slice h.nal_unit_type ≡ false → new ≡ k → now ≡ record view { standing = now.standing }
+        → Goes t (traces_of (logs view.backend) view) (traces_of (logs now.backend) now) u.meaning view.standing now.standing
+        → Step (Ok value) t o h bytes (record { log = logs view.backend; view = view; kept = k }) (record { log = logs now.backend; view = now; kept = new })
+    ended_step logs value t view now at new is goes no_slice kept same part =
+        taken_step (Ok value) t (logs view.backend) (logs now.backend) view now at new is goes kept (record {
+          part = part;
+          state = ap (λ (v : View _ _). v.state) same ∙ sym (ap (λ (b : Bool). state_at b view.state) (no_idr h.nal_unit_type no_slice) ∙ still_false view.state);
+        })

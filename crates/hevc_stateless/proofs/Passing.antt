@@ -11,9 +11,11 @@ use Rattle.hevc_driver.specs.Errors.{cause_error}
 use Rattle.hevc_driver.specs.Does.{Traces}
 use Rattle.hevc_driver.specs.Takes.{Goes, Refuses, Takes}
 use Rattle.hevc_driver.proofs.Doing.{does_nothing, keeps_all}
+use Rattle.hevc_stateless.specs.Steps.{Acts, TakesIn}
+use Rattle.hevc_stateless.specs.Views.{Moment}
 use Rattle.hevc_stateless.specs.declared.state.State.{State}
 use Rattle.hevc_stateless.specs.declared.state.State.TheVariants.{AwaitingStreamInfo, AwaitingFormat, Decoding, Reset}
-use Rattle.hevc_stateless.specs.States.{Unit, is_sequence_set, is_parameter_set, later_meaning, state_behind, meaning_when, meaning_in, MovesBy, AwaitsOrStays, is_awaited, awaits_stream_info, resumes}
+use Rattle.hevc_stateless.specs.States.{Unit, is_sequence_set, is_parameter_set, later_meaning, state_behind, meaning_when, meaning_in, MovesBy, is_awaited, awaits_stream_info, resumes}
 
 -- ---- what a unit asks
 
@@ -38,12 +40,18 @@ refused_unit T (meaning.OutOfRange x y) t a s = refuses (meaning.OutOfRange x y)
 refused_unit T (meaning.MissingPps n) t a s = refuses (meaning.MissingPps n) t a s
 
 -- such a unit opens no negotiation
-pub refused_moves : (T : Type 0) (c : UnitCause) (before behind now : State) → now ≡ behind → MovesBy {T = T} (Err (cause_error c)) before behind now
-refused_moves T meaning.TruncatedNalu before behind now is = is
-refused_moves T (meaning.InvalidNaluType n) before behind now is = is
-refused_moves T meaning.OutOfBits before behind now is = is
-refused_moves T (meaning.OutOfRange x y) before behind now is = is
-refused_moves T (meaning.MissingPps n) before behind now is = is
+pub refused_moves : (T : Type 0) (c : UnitCause) (behind now : State) → now ≡ behind → MovesBy {T = T} (Err (cause_error c)) behind now
+refused_moves T meaning.TruncatedNalu behind now is = is
+refused_moves T (meaning.InvalidNaluType n) behind now is = is
+refused_moves T meaning.OutOfBits behind now is = is
+refused_moves T (meaning.OutOfRange x y) behind now is = is
+refused_moves T (meaning.MissingPps n) behind now is = is
+
+-- a unit that was taken
+pub acts_in : {H T : Type 0} (r : Result T DecodeError) (t : ℕ) (u : Meaning) (behind : State) (old new : Moment H) → Acts r t u behind old new → TakesIn r t u behind old new
+acts_in (Ok v) t u behind old new a = a
+acts_in (Err errors.NoMemory) t u behind old new a = inr a
+acts_in (Err e) t u behind old new a = a
 
 -- a unit that means nothing
 pub idle_unit : {H : Type 0} (t : ℕ) (a : Traces H) (s : Standing) → Goes t a a Other s s
@@ -77,13 +85,6 @@ set_means Reset u m p is l = ap (λ (b : Bool). if b then later_meaning u.meanin
 -- the unit of a parameter set that isn't a sequence set means the same in each state
 pub set_means_in : (st : State) (u : Unit) (m : Meaning) → is_parameter_set u.nal_unit_type ≡ true → is_idr u.nal_unit_type ≡ false → u.meaning ≡ m → later_meaning m ≡ m → is_sequence_set m ≡ false → meaning_in st u ≡ m
 set_means_in st u m p i is l s = ap (λ (x : State). meaning_when x u) (stays_behind st u i (ap is_sequence_set is ∙ s)) ∙ set_means st u m p is l
-
--- a call that was taken in the state behind a unit
-pub moves_by : {T : Type 0} (r : Result T DecodeError) (before behind now : State) → AwaitsOrStays r behind now → MovesBy r before behind now
-moves_by (Ok v) before behind now h = h
-moves_by (Err errors.CheckEvents) before behind now h = h
-moves_by (Err errors.NoMemory) before behind now h = inr h
-moves_by (Err e) before behind now h = h
 
 -- the first sequence set
 pub first_behind : (st : State) (u : Unit) → awaits_stream_info st ≡ true → state_behind st u ≡ st

@@ -35,11 +35,11 @@ use Rattle.hevc_driver.specs.Errors.{cause_error}
 use Rattle.hevc_driver.specs.Does.{Traces}
 use Rattle.hevc_driver.specs.Takes.{Takes}
 use Rattle.hevc_stateless.specs.declared.state.State.{State}
-use Rattle.hevc_stateless.specs.States.{Unit, unit_at, resumes, meaning_when, AwaitsOrStays, is_awaited, awaits_stream_info, is_sequence_set, is_parameter_set, later_meaning, state_behind, meaning_in}
-use Rattle.hevc_stateless.specs.Views.{View, traces_of}
+use Rattle.hevc_stateless.specs.States.{Unit, unit_at, resumes, meaning_when, MovesBy, is_awaited, awaits_stream_info, is_sequence_set, is_parameter_set, later_meaning, state_behind, meaning_in}
+use Rattle.hevc_stateless.specs.Views.{View, traces_of, moment_of}
 use Rattle.hevc_stateless.specs.Refusals.{refusal_of}
-use Rattle.hevc_stateless.specs.Steps.{Step, KeepsBehind, IsOfSet, with_read_set}
-use Rattle.hevc_stateless.proofs.Passing.{refused_unit, refused_moves, idle_unit, stays_behind, set_means_in, moves_by, first_behind, first_means, later_behind}
+use Rattle.hevc_stateless.specs.Steps.{Acts, Step, KeepsBehind, IsOfSet, with_read_set}
+use Rattle.hevc_stateless.proofs.Passing.{refused_unit, refused_moves, idle_unit, stays_behind, set_means_in, acts_in, first_behind, first_means, later_behind}
 
 -- ---- sets that are found
 
@@ -108,15 +108,19 @@ module _ (o : Options) (k : Kept) (bytes : List ℕ) (h : UnitHeader) (parsed : 
     -- a set that asks for nothing
     pub set_goes : {T : Type 0} (value : T) (t : ℕ) (new : Kept) → u.meaning ≡ Other → new ≡ kept_behind o k bytes → Step (Ok value) t o h bytes (record { log = log; view = view; kept = k }) (record { log = log; view = view; kept = new })
     set_goes value t new is kept = record {
-      part = subst (λ (m : Meaning). Takes (Ok value) t (traces_of log view) (traces_of log view) m view.standing view.standing) (sym (set_means_in view.state u Other set other is refl refl)) (idle_unit t (traces_of log view) view.standing);
-      state = sym (stays_behind view.state u other (ap is_sequence_set is));
+      takes = record {
+        part = subst (λ (m : Meaning). Takes (Ok value) t (traces_of log view) (traces_of log view) m view.standing view.standing) (sym (set_means_in view.state u Other set other is refl refl)) (idle_unit t (traces_of log view) view.standing);
+        state = sym (stays_behind view.state u other (ap is_sequence_set is));
+      };
       kept = kept;
     }
 
     refused_by : (T : Type 0) (c : UnitCause) (t : ℕ) (new : Kept) → content o k bytes ≡ refused c → new ≡ k → Step {T = T} (Err (cause_error c)) t o h bytes (record { log = log; view = view; kept = k }) (record { log = log; view = view; kept = new })
     refused_by T c t new is kept = let m = means (refused c) (same ∙ is) in record {
-      part = subst (λ (m : Meaning). Takes {T = T} (Err (cause_error c)) t (traces_of log view) (traces_of log view) m view.standing view.standing) (sym (set_means_in view.state u (Refused c) set other m refl refl)) (refused_unit T c t (traces_of log view) view.standing);
-      state = refused_moves T c view.state (state_behind view.state u) view.state (sym (stays_behind view.state u other (ap is_sequence_set m)));
+      takes = acts_in {T = T} (Err (cause_error c)) t (meaning_in view.state u) (state_behind view.state u) (moment_of log view) (moment_of log view) (record {
+        part = subst (λ (m : Meaning). Takes {T = T} (Err (cause_error c)) t (traces_of log view) (traces_of log view) m view.standing view.standing) (sym (set_means_in view.state u (Refused c) set other m refl refl)) (refused_unit T c t (traces_of log view) view.standing);
+        state = refused_moves T c (state_behind view.state u) view.state (sym (stays_behind view.state u other (ap is_sequence_set m)));
+      });
       kept = keeps_refused T c o bytes k new kept;
     }
 
@@ -125,7 +129,7 @@ module _ (o : Options) (k : Kept) (bytes : List ℕ) (h : UnitHeader) (parsed : 
 
     -- a set that is refused
     pub set_refused : (T : Type 0) (e : ParseError) (t : ℕ) (new : Kept) → sets.Refuses o bytes e k new → Step {T = T} (Err (refusal_of e)) t o h bytes (record { log = log; view = view; kept = k }) (record { log = log; view = view; kept = new })
-    set_refused T parse.NoMemory t new x = record { part = inl (record { traces = refl; left = refl }); state = inl refl; kept = inl x }
+    set_refused T parse.NoMemory t new x = record { takes = inl refl; kept = inl x }
     set_refused T parse.WrongNaluType t new x = named_by T parse.WrongNaluType t new x
     set_refused T parse.OutOfBits t new x = named_by T parse.OutOfBits t new x
     set_refused T (parse.OutOfRange table row) t new x = named_by T (parse.OutOfRange table row) t new x
@@ -168,12 +172,14 @@ module _ (o : Options) (k : Kept) (bytes : List ℕ) (h : UnitHeader) (parsed : 
 
     -- the first one
     pub first_step : {B H T : Type 0} (r : Result T DecodeError) (t : ℕ) (log newlog : Option (List (Call H))) (view now : View B H) (new : Kept) → awaits_stream_info view.state ≡ true → new ≡ with_sequence_set set k
-        → Takes r t (traces_of log view) (traces_of newlog now) (SequenceSet (format_of_set set)) view.standing now.standing → AwaitsOrStays r view.state now.state
+        → Acts r t (SequenceSet (format_of_set set)) view.state (moment_of log view) (moment_of newlog now)
         → Step r t o h bytes (record { log = log; view = view; kept = k }) (record { log = newlog; view = now; kept = new })
-    first_step {T = T} r t log newlog view now new first kept takes state = record {
-      part = subst (λ (m : Meaning). Takes r t (traces_of log view) (traces_of newlog now) m view.standing now.standing) (sym (first_means view.state (unit_at o k h bytes) (SequenceSet (format_of_set set)) first (ap is_parameter_set typed) sequence_means)) takes;
-      state = moves_by r view.state (state_behind view.state (unit_at o k h bytes)) now.state (subst (λ (x : State). AwaitsOrStays r x now.state) (sym (first_behind view.state (unit_at o k h bytes) first)) state);
-      kept = keeps_first r t (traces_of log view) (traces_of newlog now) (format_of_set set) view.standing now.standing new takes kept;
+    first_step {T = T} r t log newlog view now new first kept acts = record {
+      takes = acts_in r t _ _ (moment_of log view) (moment_of newlog now) (record {
+        part = subst (λ (m : Meaning). Takes r t (traces_of log view) (traces_of newlog now) m view.standing now.standing) (sym (first_means view.state (unit_at o k h bytes) (SequenceSet (format_of_set set)) first (ap is_parameter_set typed) sequence_means)) acts.part;
+        state = subst (λ (x : State). MovesBy r x now.state) (sym (first_behind view.state (unit_at o k h bytes) first)) acts.state;
+      });
+      kept = keeps_first r t (traces_of log view) (traces_of newlog now) (format_of_set set) view.standing now.standing new acts.part kept;
     }
 
     later_means : {B H : Type 0} (view : View B H) → awaits_stream_info view.state ≡ false → is_awaited view.state ≡ false → meaning_in view.state (unit_at o k h bytes) ≡ Other
@@ -183,18 +189,19 @@ module _ (o : Options) (k : Kept) (bytes : List ℕ) (h : UnitHeader) (parsed : 
     pub later_step : {B H T : Type 0} (value : T) (t : ℕ) (log : Option (List (Call H))) (view now : View B H) (mid new : Kept) → awaits_stream_info view.state ≡ false → is_awaited view.state ≡ false → now ≡ record view { state = Decoding } → mid ≡ with_sequence_set set k → new ≡ with_all_waited o mid
         → Step (Ok value) t o h bytes (record { log = log; view = view; kept = k }) (record { log = log; view = now; kept = new })
     later_step value t log view now mid new first awaited same kept behind = rw same (record {
-      part = subst (λ (m : Meaning). Takes (Ok value) t (traces_of log view) (traces_of log view) m view.standing view.standing) (sym (later_means view first awaited)) (idle_unit t (traces_of log view) view.standing);
-      state = sym (later_behind view.state (unit_at o k h bytes) first awaited resumed);
+      takes = record {
+        part = subst (λ (m : Meaning). Takes (Ok value) t (traces_of log view) (traces_of log view) m view.standing view.standing) (sym (later_means view first awaited)) (idle_unit t (traces_of log view) view.standing);
+        state = sym (later_behind view.state (unit_at o k h bytes) first awaited resumed);
+      };
       kept = behind ∙ ap (with_all_waited o) kept ∙ sym (behind_sequence_set o bytes h parsed wanted k set is);
     })
 
-    pub later_stopped : {B H T : Type 0} (r : Result T DecodeError) (t : ℕ) (log : Option (List (Call H))) (view now : View B H) (mid new : Kept) → awaits_stream_info view.state ≡ false → is_awaited view.state ≡ false → now ≡ record view { state = Decoding } → mid ≡ with_sequence_set set k → sets.StopsReading o mid new
-        → IsErrAnd r (λ e. e ≡ errors.NoMemory) → Step r t o h bytes (record { log = log; view = view; kept = k }) (record { log = log; view = now; kept = new })
-    later_stopped {T = T} r t log view now mid new first awaited same kept stops is = let q = err_from_is_err_and r is in rw same (rw q.1 (rw q.2 (record {
-      part = inl (record { traces = refl; left = refl });
-      state = inr (sym (later_behind view.state (unit_at o k h bytes) first awaited resumed));
+    pub later_stopped : {B H T : Type 0} (r : Result T DecodeError) (t : ℕ) (log : Option (List (Call H))) (view : View B H) (mid new : Kept) → mid ≡ with_sequence_set set k → sets.StopsReading o mid new
+        → IsErrAnd r (λ e. e ≡ errors.NoMemory) → Step r t o h bytes (record { log = log; view = view; kept = k }) (record { log = log; view = view; kept = new })
+    later_stopped r t log view mid new kept stops is = let q = err_from_is_err_and r is in rw q.1 (rw q.2 (record {
+      takes = inl refl;
       kept = inr (inr (subst (λ (x : Kept). sets.StopsReading o x new) (kept_as_read mid kept) stops));
-    })))
+    }))
 
     -- it is found by its id
     pub found_by_id : (id : ℕ) (new : Kept) → set.seq_parameter_set_id ≡ id → new ≡ with_sequence_set set k → new.sequence_sets id ≡ Some set

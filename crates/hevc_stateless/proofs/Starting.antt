@@ -1,5 +1,5 @@
 -- The first sequence set opens a negotiation.
-use Rattle.std.proofs.Common.{◌≡◌, inr, ℕ, refl, sym, Result, Err}
+use Rattle.std.proofs.Common.{◌≡◌, ℕ, refl, sym, Result, Err}
 use Rattle.std.specs.Result.{IsErrAnd}
 use Rattle.std.proofs.lemmas.Result.{err_from_is_err_and}
 use Rattle.hevc_walk.specs.Meanings.{Format, SequenceSet}
@@ -12,7 +12,7 @@ use Rattle.hevc_driver.specs.Does.{Traces, Stops, StopsBy, Completes}
 use Rattle.hevc_driver.specs.Takes.{Takes, Opens, LeftAt, IsNewSequence}
 use Rattle.hevc_driver.proofs.Doing.{stops_as}
 use Rattle.hevc_stateless.specs.declared.state.State.{State}
-use Rattle.hevc_stateless.specs.States.{AwaitsOrStays}
+use Rattle.hevc_stateless.specs.States.{MovesBy}
 
 left : (f : Format) (s st : Standing) (c : walk.Call) → IsNewSequence c × (st ≡ s) → LeftAt c (SequenceSet f) s st
 left f s st (walk.NewSequence info) h = (refl, h.1)
@@ -32,14 +32,14 @@ first_refused {H} {T} r e t a m b f s ms st was traces standing x = let q = err_
 
     by : (e : DecodeError) → StopsBy e t m b (on_store (open_sequence f) ms).events (λ c. IsNewSequence c × (st ≡ ms)) → Takes {H = H} {T = T} (Err e) t m b (SequenceSet f) ms st
     by errors.Backend y = stops y
-    by errors.NoMemory y = inr (stops y)
+    by errors.NoMemory y = stops y
     by other y = absurd y
 
 -- an error of the backend changes no state
-pub refused_stays : {H T : Type 0} (r : Result T DecodeError) (e : DecodeError) (t : ℕ) (m b : Traces H) (f : Format) (ms st : Standing) (x y : State) → IsErrAnd r (λ y. y ≡ e) → StopsBy e t m b (on_store (open_sequence f) ms).events (λ c. IsNewSequence c × (st ≡ ms)) → y ≡ x → AwaitsOrStays r x y
+pub refused_stays : {H T : Type 0} (r : Result T DecodeError) (e : DecodeError) (t : ℕ) (m b : Traces H) (f : Format) (ms st : Standing) (x y : State) → IsErrAnd r (λ y. y ≡ e) → StopsBy e t m b (on_store (open_sequence f) ms).events (λ c. IsNewSequence c × (st ≡ ms)) → y ≡ x → MovesBy r x y
 refused_stays {H} {T} r e t m b f ms st x y was h same = let q = err_from_is_err_and r was in rw q.1 (rw q.2 (by e h))
   where
-    by : (e : DecodeError) → StopsBy e t m b (on_store (open_sequence f) ms).events (λ c. IsNewSequence c × (st ≡ ms)) → AwaitsOrStays {T = T} (Err e) x y
+    by : (e : DecodeError) → StopsBy e t m b (on_store (open_sequence f) ms).events (λ c. IsNewSequence c × (st ≡ ms)) → MovesBy {T = T} (Err e) x y
     by errors.Backend h = same
     by errors.NoMemory h = same
     by other h = absurd h

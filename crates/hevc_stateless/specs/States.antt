@@ -1,5 +1,5 @@
 -- The four states of the decoder, and what a unit means in each.
-use Rattle.std.specs.Prelude.{◌≡◌, ◌⊎◌, ℕ, ◌&&◌, ◌||◌, nat_le, Bool, true, false, if◌then◌else◌, List, Result, Err}
+use Rattle.std.specs.Prelude.{◌≡◌, ℕ, ◌&&◌, ◌||◌, nat_le, Bool, true, false, if◌then◌else◌, List, Result, Err}
 use Rattle.hevc_spec.specs.UnitTypes.{is_idr}
 use Rattle.hevc_spec.specs.UnitHeader.{UnitHeader}
 use Rattle.hevc_walk.specs.Meanings.{Meaning, SequenceSet, Other}
@@ -10,8 +10,6 @@ use Rattle.hevc_stream.specs.Stream.{meaning}
 use Rattle.hevc_walk_units.specs.Units.{Standing}
 use Rattle.hevc_driver.specs.declared.decode_error.DecodeError.{DecodeError}
 use Rattle.hevc_driver.specs.declared.decode_error.DecodeError.TheVariants as errors
-use Rattle.hevc_driver.specs.Does.{Traces}
-use Rattle.hevc_driver.specs.Takes.{Takes, Stays}
 use Rattle.hevc_stateless.specs.declared.state.State.{State}
 use Rattle.hevc_stateless.specs.declared.state.State.TheVariants.{AwaitingStreamInfo, AwaitingFormat, Decoding, Reset}
 
@@ -62,20 +60,10 @@ meaning_when state u = if is_parameter_set u.nal_unit_type then later_meaning u.
 abbrev pub meaning_in : State → Unit → Meaning
 meaning_in state u = meaning_when (state_behind state u) u
 
--- the state that a call leaves
-abbrev pub MovesBy : {T : Type 0} → Result T DecodeError → State → State → State → Type 0
-MovesBy (Err errors.CheckEvents) before behind now = now ≡ AwaitingFormat
-MovesBy (Err errors.NoMemory) before behind now = (now ≡ before) ⊎ (now ≡ behind)
-MovesBy result before behind now = now ≡ behind
-
--- which state follows a unit
-abbrev pub Moves : {T : Type 0} → State → Unit → Result T DecodeError → State → Type 0
-Moves state u result now = MovesBy result state (state_behind state u) now
-
--- a negotiation is awaited where one was opened, and else the state stays
-abbrev pub AwaitsOrStays : {T : Type 0} → Result T DecodeError → State → State → Type 0
-AwaitsOrStays (Err errors.CheckEvents) before now = now ≡ AwaitingFormat
-AwaitsOrStays result before now = now ≡ before
+-- the state that a call leaves, where this one follows the unit
+abbrev pub MovesBy : {T : Type 0} → Result T DecodeError → State → State → Type 0
+MovesBy (Err errors.CheckEvents) behind now = now ≡ AwaitingFormat
+MovesBy result behind now = now ≡ behind
 
 abbrev pub is_awaited : State → Bool
 is_awaited AwaitingFormat = true

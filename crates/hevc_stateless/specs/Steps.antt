@@ -2,6 +2,7 @@
 use Rattle.std.specs.Prelude.{◌≡◌, ◌⊎◌, ℕ, ◌+◌, List, [], ◌∷◌, length, Option, Result, Ok, Err, IfOk, true, false}
 use Rattle.hevc_spec.specs.Units.{NalUnit}
 use Rattle.hevc_spec.specs.UnitHeader.{UnitHeader, HeaderFault, unit_header}
+use Rattle.hevc_walk.specs.Meanings.{Meaning}
 use Rattle.hevc_stream.specs.Options.{Options}
 use Rattle.hevc_stream.specs.Kept.{Kept, with_sequence_set}
 use Rattle.hevc_stream.specs.Contents.{Content, sequence_set, header_cause, content}
@@ -15,9 +16,8 @@ use Rattle.hevc_driver.specs.declared.decode_error.DecodeError.TheVariants as er
 use Rattle.hevc_driver.specs.Errors.{cause_error}
 use Rattle.hevc_driver.specs.Takes.{Takes}
 use Rattle.hevc_stateless.specs.declared.state.State.{State}
-use Rattle.hevc_stateless.specs.declared.state.State.TheVariants.{AwaitingFormat}
-use Rattle.hevc_stateless.specs.States.{unit_at, meaning_in, Moves, is_awaited}
-use Rattle.hevc_stateless.specs.Views.{View, traces_of}
+use Rattle.hevc_stateless.specs.States.{unit_at, meaning_in, state_behind, MovesBy, is_awaited}
+use Rattle.hevc_stateless.specs.Views.{View, Moment, moment_of}
 
 -- a sequence set that was read is kept
 abbrev pub with_read_set : Content → Kept → Kept
@@ -55,13 +55,26 @@ IsOfSet (errors.OutOfRange table row) = Unit {0}
 IsOfSet errors.NoMemory = Unit {0}
 IsOfSet error = ⊥
 
+-- A unit of this meaning was taken, which this state follows.
+pub record Acts {H T : Type 0} (result : Result T DecodeError) (timestamp : ℕ) (u : Meaning)
+    (behind : State) (old new : Moment H) : Type 0 where
+  pub part : Takes result timestamp old.traces new.traces u old.standing new.standing
+  pub state : MovesBy result behind new.state
+
+-- it was, or nothing has changed, since memory was wanted before a call of the backend
+abbrev pub TakesIn : {H T : Type 0} → Result T DecodeError → ℕ → Meaning → State → Moment H
+    → Moment H → Type 0
+TakesIn {H} {T} (Err errors.NoMemory) timestamp u behind old new =
+    (new ≡ old) ⊎ Acts {T = T} (Err errors.NoMemory) timestamp u behind old new
+TakesIn result timestamp u behind old new = Acts result timestamp u behind old new
+
 -- A unit of this header and these bytes was taken, while no format is awaited.
 pub record Step {B H T : Type 0} (result : Result T DecodeError) (timestamp : ℕ) (options : Options)
     (header : UnitHeader) (bytes : List ℕ) (old new : Seen B H) : Type 0 where
-  pub part : Takes result timestamp (traces_of old.log old.view) (traces_of new.log new.view)
+  pub takes : TakesIn result timestamp
       (meaning_in old.view.state (unit_at options old.kept header bytes))
-      old.view.standing new.view.standing
-  pub state : Moves old.view.state (unit_at options old.kept header bytes) result new.view.state
+      (state_behind old.view.state (unit_at options old.kept header bytes))
+      (moment_of old.log old.view) (moment_of new.log new.view)
   pub kept : KeepsBehind result options bytes old.kept new.kept
 
 -- A unit of this header and these bytes was given: a format that is awaited comes before it.

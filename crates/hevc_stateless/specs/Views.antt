@@ -33,6 +33,15 @@ at_beginning backend = record {
 abbrev pub traces_of : {B H : Type 0} → Option (List (Call H)) → View B H → Traces H
 traces_of log v = record { log = log; queue = v.queue; tickets = v.tickets }
 
+-- What taking a unit may change: the traces, what the pictures so far mean, and the state.
+pub record Moment (H : Type 0) : Type 0 where
+  pub traces : Traces H
+  pub standing : Standing
+  pub state : State
+
+abbrev pub moment_of : {B H : Type 0} → Option (List (Call H)) → View B H → Moment H
+moment_of log v = record { traces = traces_of log v; standing = v.standing; state = v.state }
+
 -- At most 17 pictures came out: the 16 that may be stored, and one more.
 abbrev pub OutputsFew : {B H : Type 0} → View B H → View B H → Type 0
 OutputsFew old new = length new.queue ≤ length old.queue + 17

@@ -4,7 +4,7 @@ ghost use Rattle.hevc_spec.specs.Units.{units};
 ghost use Rattle.hevc_stream.specs.Kept.{none_kept};
 ghost use Rattle.hevc_stream.specs.Options.{default_options};
 ghost use Rattle.hevc_options.specs.Options.{options_of};
-ghost use Rattle.hevc_driver.specs.Answers.{CountsErrors, KeepsFaultless, KeepsInfo};
+ghost use Rattle.hevc_driver.specs.Answers.{IsFair};
 ghost use Rattle.hevc_stateless.specs.declared.state.State.TheVariants.{AwaitingFormat, Decoding, Reset};
 ghost use Rattle.hevc_stateless.specs.States.{is_awaited};
 ghost use Rattle.hevc_stateless.specs.Events.{TellsNext};
@@ -13,6 +13,7 @@ ghost use Rattle.hevc_bits.specs.FoundUnit.{bytes_of};
 ghost use Rattle.hevc_stateless.specs.Steps.{StepsIn, TakesFirst};
 ghost use Rattle.hevc_stateless.specs.Views.{at_beginning, traces_of, OutputsFew};
 ghost use Rattle.hevc_stateless.specs.Decoders.{view_of, kept_in, set_for, seen_by};
+ghost use Rattle.hevc_bits.specs.declared.stream_limit.TheConstants.{STREAM_LIMIT};
 
 use crate::event::DecoderEvent;
 use crate::session::Session;
@@ -60,14 +61,10 @@ impl<B: StatelessH265DecoderBackend> StatelessDecoder<B> {
     /// Errors: `NoNal`, there is none; those of the unit's header; `CheckEvents`, a format is awaited, from here on where the unit opened
     /// its negotiation, and the unit is to be given once more when it is accepted; else those of the unit. `DecodeError` names each.
     pub fn decode(&mut self, timestamp: u64, bitstream: &[u8]) -> Result<usize, DecodeError>
-        requires short { length bitstream.now < 2 ^ 60 }
+        requires short { length bitstream.now < STREAM_LIMIT }
         ensures few { OutputsFew (view_of self.old) (view_of self.new) }
-        ensures cause { CountsErrors (B.counts (view_of self.old).backend)
-            (B.counts (view_of self.new).backend) result }
-        ensures faultless { KeepsFaultless (B.is_faultless (view_of self.old).backend)
-            (B.is_faultless (view_of self.new).backend) result }
-        ensures info { KeepsInfo (B.info (view_of self.old).backend)
-            (B.info (view_of self.new).backend) result }
+        ensures fair { IsFair B.counts B.is_faultless B.info (view_of self.old).backend
+            (view_of self.new).backend result }
         ensures takes { TakesFirst (units bitstream.now) result timestamp (set_for self.old)
             (seen_by B.log self.old) (seen_by B.log self.new) }
         ensures inside { IfOk result (λ place. (3 ≤ place) × (place ≤ length bitstream.now)) }
@@ -89,14 +86,10 @@ impl<B: StatelessH265DecoderBackend> StatelessDecoder<B> {
         timestamp: u64,
         nalu: &Nalu<'_, NaluHeader>,
     ) -> Result<(), DecodeError>
-        requires short { length nalu.now.stream < 2 ^ 60 }
+        requires short { length nalu.now.stream < STREAM_LIMIT }
         ensures few { OutputsFew (view_of self.old) (view_of self.new) }
-        ensures cause { CountsErrors (B.counts (view_of self.old).backend)
-            (B.counts (view_of self.new).backend) result }
-        ensures faultless { KeepsFaultless (B.is_faultless (view_of self.old).backend)
-            (B.is_faultless (view_of self.new).backend) result }
-        ensures info { KeepsInfo (B.info (view_of self.old).backend)
-            (B.info (view_of self.new).backend) result }
+        ensures fair { IsFair B.counts B.is_faultless B.info (view_of self.old).backend
+            (view_of self.new).backend result }
         ensures takes { StepsIn result timestamp (set_for self.old)
             nalu.now.header (bytes_of nalu.now)
             (seen_by B.log self.old) (seen_by B.log self.new) }
@@ -117,12 +110,8 @@ impl<B: StatelessH265DecoderBackend> StatelessDecoder<B> {
     /// open picture is given up, and a second call goes on.
     pub fn flush(&mut self) -> Result<(), DecodeError>
         ensures few { OutputsFew (view_of self.old) (view_of self.new) }
-        ensures cause { CountsErrors (B.counts (view_of self.old).backend)
-            (B.counts (view_of self.new).backend) result }
-        ensures faultless { KeepsFaultless (B.is_faultless (view_of self.old).backend)
-            (B.is_faultless (view_of self.new).backend) result }
-        ensures info { KeepsInfo (B.info (view_of self.old).backend)
-            (B.info (view_of self.new).backend) result }
+        ensures fair { IsFair B.counts B.is_faultless B.info (view_of self.old).backend
+            (view_of self.new).backend result }
         ensures flushes { (timestamp : ℕ) → Flushes result timestamp
             (traces_of (B.log (view_of self.old).backend) (view_of self.old))
             (traces_of (B.log (view_of self.new).backend) (view_of self.new))

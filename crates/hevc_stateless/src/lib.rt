@@ -10,5 +10,7 @@ mod units;
 
 pub use decoder::StatelessDecoder;
 pub use event::DecoderEvent;
-pub use hevc_driver::{DecodeError, Frame, Options, StatelessH265DecoderBackend};
+pub use hevc_driver::{
+    DecodeError, Frame, MAX_OUTPUTS_OF_UNIT, Options, StatelessH265DecoderBackend,
+};
 pub use state::State;

@@ -1,19 +1,19 @@
 //! A stream that is being decoded.
-ghost use Rattle.std.specs.Prelude.{◌≡◌, ◌∷◌, [], ℕ, None, OnOk, OnErr};
+ghost use Rattle.std.specs.Prelude.{◌≡◌, true, ℕ, OnOk, OnErr};
 ghost use Rattle.hevc_spec.specs.UnitTypes.{is_idr};
 ghost use Rattle.hevc_bits.specs.NaluType.{nalu_type_number};
 ghost use Rattle.hevc_types_c.specs.Sps.{plain_sps};
 ghost use Rattle.hevc_walk_inputs.specs.Sequences.{format_of_set};
 ghost use Rattle.hevc_walk.specs.Meanings.{SequenceSet, CodedSlice, EndOfSequence, EndOfBitstream};
-ghost use Rattle.hevc_driver.specs.Answers.{CountsErrors, KeepsFaultless, KeepsInfo};
+ghost use Rattle.hevc_driver.specs.Answers.{IsFair};
 ghost use Rattle.hevc_driver.specs.Moments.{step_part};
 ghost use Rattle.hevc_driver.specs.Slices.{slice_of};
 ghost use Rattle.hevc_driver.specs.Sound.{AreNamed};
-ghost use Rattle.hevc_driver.specs.Takes.{Takes};
 ghost use Rattle.hevc_stateless.specs.declared.state.State.TheVariants.{AwaitingStreamInfo, AwaitingFormat, Decoding, Reset};
-ghost use Rattle.hevc_stateless.specs.States.{AwaitsOrStays, is_awaited, awaits_stream_info, is_decoding, state_at};
+ghost use Rattle.hevc_stateless.specs.States.{is_awaited, awaits_stream_info, is_decoding, state_at};
 ghost use Rattle.hevc_stateless.specs.Flushes.{Flushes};
-ghost use Rattle.hevc_stateless.specs.Views.{at_beginning, traces_of, PopsFrame, OutputsFew};
+ghost use Rattle.hevc_stateless.specs.Steps.{Acts, TakesIn};
+ghost use Rattle.hevc_stateless.specs.Views.{at_beginning, traces_of, moment_of, PopsFrame, OutputsFew};
 
 use crate::state::State;
 use hevc_bits::NaluType;
@@ -45,6 +45,16 @@ impl<B: StatelessH265DecoderBackend> Model for Session<B> {
     ghost invariant = { λ s. IsSound (B.log s.driver.backend) s.driver.standing × IsIdleBefore s.state (current_of s.driver.standing.current) };
 }
 
+/// The state that follows a unit of this type, no parameter set: a slice of an IDR picture ends the wait after `flush`.
+fn behind_unit(state: State, nalu_type: NaluType) -> State
+    ensures { result ≡ state_at (is_idr (nalu_type_number nalu_type)) state }
+{
+    match state {
+        State::Reset if nalu_type.is_idr() => State::Decoding,
+        state => state,
+    }
+}
+
 impl<B: StatelessH265DecoderBackend> Session<B> {
     /// At the beginning of a stream.
     pub(crate) fn new(alloc: Global, backend: B) -> Session<B>
@@ -69,6 +79,7 @@ impl<B: StatelessH265DecoderBackend> Session<B> {
     {
         let Session {
             driver: Driver {
+                alloc: _,
                 backend,
                 standing: _,
                 lists: _,
@@ -85,22 +96,21 @@ impl<B: StatelessH265DecoderBackend> Session<B> {
         matches!(self.state, State::AwaitingStreamInfo)
     }
 
-    /// Whether nothing is waited for.
-    pub(crate) fn decoding(&self) -> bool
-        ensures { result ≡ is_decoding self.now.state }
+    /// Whether a unit of this type, no parameter set, is decoded rather than passed over.
+    pub(crate) fn decodes(&self, nalu_type: NaluType) -> bool
+        ensures { result
+            ≡ is_decoding (state_at (is_idr (nalu_type_number nalu_type)) self.now.state) }
     {
-        matches!(self.state, State::Decoding)
+        matches!(behind_unit(self.state, nalu_type), State::Decoding)
     }
 
-    /// A slice of an IDR picture ends the wait behind `flush`.
+    /// A slice of an IDR picture ends the wait after `flush`.
     pub(crate) fn leave_reset(&mut self, nalu_type: NaluType)
         ensures { self.new ≡ record self.old {
           state = state_at (is_idr (nalu_type_number nalu_type)) self.old.state;
         } }
     {
-        if nalu_type.is_idr() && matches!(self.state, State::Reset) {
-            self.state = State::Decoding;
-        }
+        self.state = behind_unit(self.state, nalu_type);
     }
 
     /// Whether a format was negotiated that isn't accepted yet.
@@ -138,26 +148,22 @@ impl<B: StatelessH265DecoderBackend> Session<B> {
     pub(crate) fn open_sequence(&mut self, sps: &Sps) -> Result<(), DecodeError>
         requires first { self.old.state ≡ AwaitingStreamInfo }
         ensures few { OutputsFew self.old self.new }
-        ensures cause { CountsErrors (B.counts self.old.backend)
-            (B.counts self.new.backend) result }
-        ensures faultless { KeepsFaultless (B.is_faultless self.old.backend)
-            (B.is_faultless self.new.backend) result }
-        ensures info { KeepsInfo (B.info self.old.backend) (B.info self.new.backend) result }
-        ensures part { (timestamp : ℕ) → Takes result timestamp
-            (traces_of (B.log self.old.backend) self.old)
-            (traces_of (B.log self.new.backend) self.new)
-            (SequenceSet (format_of_set (plain_sps sps.now)))
-            self.old.standing self.new.standing }
-        ensures state { AwaitsOrStays result self.old.state self.new.state }
+        ensures fair { IsFair B.counts B.is_faultless B.info self.old.backend self.new.backend
+            result }
+        ensures acts { (timestamp : ℕ) → Acts result timestamp
+            (SequenceSet (format_of_set (plain_sps sps.now))) self.old.state
+            (moment_of (B.log self.old.backend) self.old)
+            (moment_of (B.log self.new.backend) self.new) }
     {
         self.driver.open_sequence(sps)?;
         self.state = State::AwaitingFormat;
         Err(DecodeError::CheckEvents)
     }
 
-    /// A slice segment with the sets that it makes active.
+    /// A slice segment that is decoded, with the sets that it makes active. Room is made before the wait after `flush` ends.
     ///
-    /// Errors: those of the driver; behind `CheckEvents` a format is awaited.
+    /// Errors: `NoMemory` before a call of the backend, nothing has changed then; else those of the driver; after `CheckEvents` a
+    /// format is awaited.
     pub(crate) fn take_slice(
         &mut self,
         timestamp: u64,
@@ -167,21 +173,19 @@ impl<B: StatelessH265DecoderBackend> Session<B> {
         pps: &Pps,
     ) -> Result<(), DecodeError>
         requires named { AreNamed slice.old sps.now pps.now }
-        requires decoding { self.old.state ≡ Decoding }
+        requires decoding { is_decoding (state_at (is_idr slice.old.nalu.header.nal_unit_type)
+            self.old.state) ≡ true }
         ensures few { OutputsFew self.old self.new }
-        ensures cause { CountsErrors (B.counts self.old.backend)
-            (B.counts self.new.backend) result }
-        ensures faultless { KeepsFaultless (B.is_faultless self.old.backend)
-            (B.is_faultless self.new.backend) result }
-        ensures info { KeepsInfo (B.info self.old.backend) (B.info self.new.backend) result }
-        ensures part { Takes result timestamp
-            (traces_of (B.log self.old.backend) self.old)
-            (traces_of (B.log self.new.backend) self.new)
+        ensures fair { IsFair B.counts B.is_faultless B.info self.old.backend self.new.backend
+            result }
+        ensures takes { TakesIn result timestamp
             (CodedSlice (slice_of options slice.old sps.now pps.now))
-            self.old.standing self.new.standing }
-        ensures state { AwaitsOrStays result self.old.state self.new.state }
+            (state_at (is_idr slice.old.nalu.header.nal_unit_type) self.old.state)
+            (moment_of (B.log self.old.backend) self.old)
+            (moment_of (B.log self.new.backend) self.new) }
     {
         self.driver.reserve()?;
+        self.state = behind_unit(self.state, slice.nalu().header().nalu_type());
         let result = self.driver.take_slice(timestamp, options, slice, sps, pps);
         if matches!(result, Err(DecodeError::CheckEvents)) {
             self.state = State::AwaitingFormat;
@@ -210,11 +214,8 @@ impl<B: StatelessH265DecoderBackend> Session<B> {
     /// Errors: `NoMemory`, `Backend`, `DpbFull`; where a call of the backend was refused the open picture is given up.
     pub(crate) fn flush(&mut self) -> Result<(), DecodeError>
         ensures few { OutputsFew self.old self.new }
-        ensures cause { CountsErrors (B.counts self.old.backend)
-            (B.counts self.new.backend) result }
-        ensures faultless { KeepsFaultless (B.is_faultless self.old.backend)
-            (B.is_faultless self.new.backend) result }
-        ensures info { KeepsInfo (B.info self.old.backend) (B.info self.new.backend) result }
+        ensures fair { IsFair B.counts B.is_faultless B.info self.old.backend self.new.backend
+            result }
         ensures flushes { (timestamp : ℕ) → Flushes result timestamp
             (traces_of (B.log self.old.backend) self.old)
             (traces_of (B.log self.new.backend) self.new)

@@ -1,30 +1,32 @@
 //! Units are taken.
-ghost use Rattle.std.specs.Prelude.{◌≡◌, ◌<◌, ◌≤◌, ◌^◌, ℕ, length, true, false, Ok, Some, IsSome, IfErr};
+ghost use Rattle.std.specs.Prelude.{◌≡◌, ◌<◌, ◌≤◌, ℕ, length, true, false, Ok, Some, IsSome, IfErr};
 ghost use Rattle.hevc_spec.specs.UnitHeader.{unit_header};
-ghost use Rattle.hevc_spec.specs.UnitTypes.{is_slice};
+ghost use Rattle.hevc_spec.specs.UnitTypes.{is_idr, is_slice};
 ghost use Rattle.hevc_bits.specs.FoundUnit.{bytes_of};
 ghost use Rattle.hevc_stream.specs.Slices.{temporal_id};
 ghost use Rattle.hevc_kept_sets.specs.Kept.{kept_of, options_in};
-ghost use Rattle.hevc_driver.specs.Answers.{CountsErrors, KeepsFaultless, KeepsInfo};
-ghost use Rattle.hevc_stateless.specs.States.{is_awaited, is_parameter_set, AwaitsOrStays, unit_at};
-ghost use Rattle.hevc_stateless.specs.Steps.{Step, seen, IsOfSet};
+ghost use Rattle.hevc_driver.specs.Answers.{IsFair};
+ghost use Rattle.hevc_stateless.specs.States.{is_awaited, is_decoding, is_parameter_set, state_at, unit_at};
+ghost use Rattle.hevc_stateless.specs.Steps.{Acts, Step, TakesIn, seen, IsOfSet};
 ghost use Rattle.hevc_records.specs.Sps.{PlainSps};
 ghost use Rattle.hevc_walk_inputs.specs.Sequences.{format_of_set};
 ghost use Rattle.hevc_walk.specs.Meanings.{SequenceSet};
 ghost use Rattle.hevc_driver.specs.declared.decode_error.DecodeError.TheVariants.{NoMemory};
-ghost use Rattle.hevc_driver.specs.Takes.{Takes};
-ghost use Rattle.hevc_stateless.specs.declared.state.State.TheVariants.{AwaitingStreamInfo, Decoding};
-ghost use Rattle.hevc_stateless.specs.Views.{traces_of, OutputsFew};
+ghost use Rattle.hevc_driver.specs.Takes.{Goes};
+ghost use Rattle.hevc_stateless.specs.declared.state.State.TheVariants.{AwaitingStreamInfo};
+ghost use Rattle.hevc_stateless.specs.Views.{traces_of, moment_of, OutputsFew};
+ghost use Rattle.hevc_bits.specs.declared.stream_limit.TheConstants.{STREAM_LIMIT};
 
 use crate::decoder::StatelessDecoder;
 use crate::refusal::refusal;
 use hevc_bits::{Nalu, NaluHeader, NaluType};
 use hevc_driver::{DecodeError, StatelessH265DecoderBackend};
+use hevc_kept_sets::ParseError;
 
 impl<B: StatelessH265DecoderBackend> StatelessDecoder<B> {
     /// Takes the unit of a video set.
     pub(crate) fn take_video_set(&mut self, nalu: &Nalu<'_, NaluHeader>) -> Result<(), DecodeError>
-        requires short { length nalu.now.stream < 2 ^ 60 }
+        requires short { length nalu.now.stream < STREAM_LIMIT }
         requires parsed { unit_header (bytes_of nalu.now) ≡ Ok nalu.now.header }
         requires typed { nalu.now.header.nal_unit_type ≡ 32 }
         requires wanted { temporal_id nalu.now.header ≤ (options_in self.old.kept).highest_tid }
@@ -47,18 +49,14 @@ impl<B: StatelessH265DecoderBackend> StatelessDecoder<B> {
         &mut self,
         nalu: &Nalu<'_, NaluHeader>,
     ) -> Result<(), DecodeError>
-        requires short { length nalu.now.stream < 2 ^ 60 }
+        requires short { length nalu.now.stream < STREAM_LIMIT }
         requires parsed { unit_header (bytes_of nalu.now) ≡ Ok nalu.now.header }
         requires typed { nalu.now.header.nal_unit_type ≡ 33 }
         requires wanted { temporal_id nalu.now.header ≤ (options_in self.old.kept).highest_tid }
         requires going { is_awaited self.old.session.state ≡ false }
         ensures few { OutputsFew self.old.session self.new.session }
-        ensures cause { CountsErrors (B.counts self.old.session.backend)
-            (B.counts self.new.session.backend) result }
-        ensures faultless { KeepsFaultless (B.is_faultless self.old.session.backend)
-            (B.is_faultless self.new.session.backend) result }
-        ensures info { KeepsInfo (B.info self.old.session.backend)
-            (B.info self.new.session.backend) result }
+        ensures fair { IsFair B.counts B.is_faultless B.info self.old.session.backend
+            self.new.session.backend result }
         ensures options { options_in self.new.kept ≡ options_in self.old.kept }
         ensures step { (timestamp : ℕ) → Step result timestamp (options_in self.old.kept)
             nalu.now.header (bytes_of nalu.now)
@@ -72,8 +70,8 @@ impl<B: StatelessH265DecoderBackend> StatelessDecoder<B> {
         if self.session.awaiting_stream_info() {
             return self.open_sequence(id);
         }
-        self.session.resume();
         self.kept.read_waiting()?;
+        self.session.resume();
         Ok(())
     }
 
@@ -82,20 +80,13 @@ impl<B: StatelessH265DecoderBackend> StatelessDecoder<B> {
         requires kept { IsSome ((kept_of self.old.kept).sequence_sets id) }
         requires first { self.old.session.state ≡ AwaitingStreamInfo }
         ensures few { OutputsFew self.old.session self.new.session }
-        ensures cause { CountsErrors (B.counts self.old.session.backend)
-            (B.counts self.new.session.backend) result }
-        ensures faultless { KeepsFaultless (B.is_faultless self.old.session.backend)
-            (B.is_faultless self.new.session.backend) result }
-        ensures info { KeepsInfo (B.info self.old.session.backend)
-            (B.info self.new.session.backend) result }
-        ensures part { (timestamp : ℕ) (set : PlainSps)
+        ensures fair { IsFair B.counts B.is_faultless B.info self.old.session.backend
+            self.new.session.backend result }
+        ensures acts { (timestamp : ℕ) (set : PlainSps)
             → (kept_of self.old.kept).sequence_sets id ≡ Some set
-            → Takes result timestamp
-            (traces_of (B.log self.old.session.backend) self.old.session)
-            (traces_of (B.log self.new.session.backend) self.new.session)
-            (SequenceSet (format_of_set set))
-            self.old.session.standing self.new.session.standing }
-        ensures state { AwaitsOrStays result self.old.session.state self.new.session.state }
+            → Acts result timestamp (SequenceSet (format_of_set set)) self.old.session.state
+            (moment_of (B.log self.old.session.backend) self.old.session)
+            (moment_of (B.log self.new.session.backend) self.new.session) }
         ensures kept { kept_of self.new.kept ≡ kept_of self.old.kept }
         ensures options { options_in self.new.kept ≡ options_in self.old.kept }
     {
@@ -108,7 +99,7 @@ impl<B: StatelessH265DecoderBackend> StatelessDecoder<B> {
         &mut self,
         nalu: &Nalu<'_, NaluHeader>,
     ) -> Result<(), DecodeError>
-        requires short { length nalu.now.stream < 2 ^ 60 }
+        requires short { length nalu.now.stream < STREAM_LIMIT }
         requires parsed { unit_header (bytes_of nalu.now) ≡ Ok nalu.now.header }
         requires typed { nalu.now.header.nal_unit_type ≡ 34 }
         requires wanted { temporal_id nalu.now.header ≤ (options_in self.old.kept).highest_tid }
@@ -124,107 +115,91 @@ impl<B: StatelessH265DecoderBackend> StatelessDecoder<B> {
         Ok(())
     }
 
-    /// Takes the unit of a slice segment, while nothing is waited for.
+    /// Takes the unit of a slice segment that is decoded.
     fn take_slice(&mut self, timestamp: u64, nalu: Nalu<'_, NaluHeader>) -> Result<(), DecodeError>
-        requires short { length nalu.stream < 2 ^ 60 }
+        requires short { length nalu.stream < STREAM_LIMIT }
         requires parsed { unit_header (bytes_of nalu) ≡ Ok nalu.header }
         requires typed { is_slice nalu.header.nal_unit_type ≡ true }
         requires wanted { temporal_id nalu.header ≤ (options_in self.old.kept).highest_tid }
-        requires decoding { self.old.session.state ≡ Decoding }
+        requires decoding { is_decoding (state_at (is_idr nalu.header.nal_unit_type)
+            self.old.session.state) ≡ true }
         ensures few { OutputsFew self.old.session self.new.session }
-        ensures cause { CountsErrors (B.counts self.old.session.backend)
-            (B.counts self.new.session.backend) result }
-        ensures faultless { KeepsFaultless (B.is_faultless self.old.session.backend)
-            (B.is_faultless self.new.session.backend) result }
-        ensures info { KeepsInfo (B.info self.old.session.backend)
-            (B.info self.new.session.backend) result }
+        ensures fair { IsFair B.counts B.is_faultless B.info self.old.session.backend
+            self.new.session.backend result }
         ensures kept { self.new.kept ≡ self.old.kept }
-        ensures part { Takes result timestamp
-            (traces_of (B.log self.old.session.backend) self.old.session)
-            (traces_of (B.log self.new.session.backend) self.new.session)
+        ensures takes { TakesIn result timestamp
             (unit_at (options_in self.old.kept) (kept_of self.old.kept) nalu.entry.header
             (bytes_of nalu.entry)).meaning
-            self.old.session.standing self.new.session.standing }
-        ensures state { AwaitsOrStays result self.old.session.state self.new.session.state }
+            (state_at (is_idr nalu.entry.header.nal_unit_type) self.old.session.state)
+            (moment_of (B.log self.old.session.backend) self.old.session)
+            (moment_of (B.log self.new.session.backend) self.new.session) }
     {
+        let nalu_type = nalu.header().nalu_type();
         let parser = self.kept.parser();
         let mut slice = parser.new_slice(nalu);
-        match parser.read_slice(&mut slice) {
-            Ok(()) => {}
-            Err(error) => return Err(refusal(error)),
-        }
-        let id = slice.header.pic_parameter_set_id;
-        let Some(pps) = parser.get_pps(id) else {
-            return Err(DecodeError::MissingPps(id));
-        };
-        let Some(sps) = parser.get_sps(pps.seq_parameter_set_id) else {
-            return Err(DecodeError::MissingPps(id));
+        let sets = match parser.read_slice(&mut slice) {
+            Ok(sets) => sets,
+            Err(error) => match error {
+                ParseError::NoMemory => return Err(DecodeError::NoMemory),
+                _ => {
+                    self.session.leave_reset(nalu_type);
+                    return Err(refusal(error));
+                }
+            },
         };
         let options = self.kept.options();
         self.session
-            .take_slice(timestamp, options, &mut slice, sps, pps)
+            .take_slice(timestamp, options, &mut slice, sets.sps, sets.pps)
     }
 
-    /// Takes a unit that is no parameter set, while nothing is waited for.
-    fn take_now(&mut self, timestamp: u64, nalu: Nalu<'_, NaluHeader>) -> Result<(), DecodeError>
-        requires short { length nalu.stream < 2 ^ 60 }
-        requires parsed { unit_header (bytes_of nalu) ≡ Ok nalu.header }
-        requires other { is_parameter_set nalu.header.nal_unit_type ≡ false }
-        requires wanted { temporal_id nalu.header ≤ (options_in self.old.kept).highest_tid }
-        requires decoding { self.old.session.state ≡ Decoding }
-        ensures few { OutputsFew self.old.session self.new.session }
-        ensures cause { CountsErrors (B.counts self.old.session.backend)
-            (B.counts self.new.session.backend) result }
-        ensures faultless { KeepsFaultless (B.is_faultless self.old.session.backend)
-            (B.is_faultless self.new.session.backend) result }
-        ensures info { KeepsInfo (B.info self.old.session.backend)
-            (B.info self.new.session.backend) result }
+    /// Takes a unit that is neither a parameter set nor a slice segment, while nothing is waited for.
+    fn take_end(&mut self, nalu: &Nalu<'_, NaluHeader>)
+        requires parsed { unit_header (bytes_of nalu.now) ≡ Ok nalu.now.header }
+        requires other { is_parameter_set nalu.now.header.nal_unit_type ≡ false }
+        requires no_slice { is_slice nalu.now.header.nal_unit_type ≡ false }
+        requires wanted { temporal_id nalu.now.header ≤ (options_in self.old.kept).highest_tid }
         ensures kept { self.new.kept ≡ self.old.kept }
-        ensures part { Takes result timestamp
+        ensures others { self.new.session
+            ≡ record self.old.session { standing = self.new.session.standing } }
+        ensures goes { (timestamp : ℕ) → Goes timestamp
             (traces_of (B.log self.old.session.backend) self.old.session)
             (traces_of (B.log self.new.session.backend) self.new.session)
-            (unit_at (options_in self.old.kept) (kept_of self.old.kept) nalu.entry.header
-            (bytes_of nalu.entry)).meaning
+            (unit_at (options_in self.old.kept) (kept_of self.old.kept) nalu.now.header
+            (bytes_of nalu.now)).meaning
             self.old.session.standing self.new.session.standing }
-        ensures state { AwaitsOrStays result self.old.session.state self.new.session.state }
     {
-        let nalu_type = nalu.header().nalu_type();
-        if nalu_type.is_slice() {
-            return self.take_slice(timestamp, nalu);
-        }
-        match nalu_type {
+        match nalu.header().nalu_type() {
             NaluType::EosNut => self.session.end_sequence(),
             NaluType::EobNut => self.session.end_bitstream(),
             _ => {}
         }
-        Ok(())
     }
 
     /// Takes a unit that is no parameter set.
     fn take_coded(&mut self, timestamp: u64, nalu: Nalu<'_, NaluHeader>) -> Result<(), DecodeError>
-        requires short { length nalu.stream < 2 ^ 60 }
+        requires short { length nalu.stream < STREAM_LIMIT }
         requires parsed { unit_header (bytes_of nalu) ≡ Ok nalu.header }
         requires other { is_parameter_set nalu.header.nal_unit_type ≡ false }
         requires wanted { temporal_id nalu.header ≤ (options_in self.old.kept).highest_tid }
         requires going { is_awaited self.old.session.state ≡ false }
         ensures few { OutputsFew self.old.session self.new.session }
-        ensures cause { CountsErrors (B.counts self.old.session.backend)
-            (B.counts self.new.session.backend) result }
-        ensures faultless { KeepsFaultless (B.is_faultless self.old.session.backend)
-            (B.is_faultless self.new.session.backend) result }
-        ensures info { KeepsInfo (B.info self.old.session.backend)
-            (B.info self.new.session.backend) result }
+        ensures fair { IsFair B.counts B.is_faultless B.info self.old.session.backend
+            self.new.session.backend result }
         ensures options { options_in self.new.kept ≡ options_in self.old.kept }
         ensures step { Step result timestamp (options_in self.old.kept)
             nalu.entry.header (bytes_of nalu.entry)
             (seen (B.log self.old.session.backend) self.old.session self.old.kept)
             (seen (B.log self.new.session.backend) self.new.session self.new.kept) }
     {
-        self.session.leave_reset(nalu.header().nalu_type());
-        if !self.session.decoding() {
+        let nalu_type = nalu.header().nalu_type();
+        if !self.session.decodes(nalu_type) {
             return Ok(());
         }
-        self.take_now(timestamp, nalu)
+        if nalu_type.is_slice() {
+            return self.take_slice(timestamp, nalu);
+        }
+        self.take_end(&nalu);
+        Ok(())
     }
 
     /// Takes a unit, while no format is awaited. One of a sub-layer that isn't wanted is passed over.
@@ -233,16 +208,12 @@ impl<B: StatelessH265DecoderBackend> StatelessDecoder<B> {
         timestamp: u64,
         nalu: Nalu<'_, NaluHeader>,
     ) -> Result<(), DecodeError>
-        requires short { length nalu.stream < 2 ^ 60 }
+        requires short { length nalu.stream < STREAM_LIMIT }
         requires parsed { unit_header (bytes_of nalu) ≡ Ok nalu.header }
         requires going { is_awaited self.old.session.state ≡ false }
         ensures few { OutputsFew self.old.session self.new.session }
-        ensures cause { CountsErrors (B.counts self.old.session.backend)
-            (B.counts self.new.session.backend) result }
-        ensures faultless { KeepsFaultless (B.is_faultless self.old.session.backend)
-            (B.is_faultless self.new.session.backend) result }
-        ensures info { KeepsInfo (B.info self.old.session.backend)
-            (B.info self.new.session.backend) result }
+        ensures fair { IsFair B.counts B.is_faultless B.info self.old.session.backend
+            self.new.session.backend result }
         ensures options { options_in self.new.kept ≡ options_in self.old.kept }
         ensures step { Step result timestamp (options_in self.old.kept)
             nalu.entry.header (bytes_of nalu.entry)

@@ -104,7 +104,7 @@ module _ {B H : Type 0} (o : Options) (us : List NalUnit) (u : NalUnit) (h : Uni
     goes : Goes t (traces_of old.log old.view) (traces_of new.log new.view) (later_meaning y) n new.view.standing
     goes = subst (λ (m : Meaning). Goes t (traces_of old.log old.view) (traces_of new.log new.view) (later_meaning m) n new.view.standing) meant_is
         (subst (λ (s : Standing). Goes t (traces_of old.log old.view) (traces_of new.log new.view) (meaning_in Decoding (unit_at o old.kept h u.bytes)) s new.view.standing) between.stands
-        (subst (λ (x : State). Goes t (traces_of old.log old.view) (traces_of new.log new.view) (meaning_in x (unit_at o old.kept h u.bytes)) old.view.standing new.view.standing) decoding step.part))
+        (subst (λ (x : State). Goes t (traces_of old.log old.view) (traces_of new.log new.view) (meaning_in x (unit_at o old.kept h u.bytes)) old.view.standing new.view.standing) decoding step.takes.part))
 
     fine : refusal (stream ms) y ≡ None
     fine = sym (refusal-same (stream ms) y) ∙ tw.refusal ∙ goes.goes_on
@@ -138,7 +138,7 @@ module _ {B H : Type 0} (o : Options) (us : List NalUnit) (u : NalUnit) (h : Uni
       stands = record {
         goes_on = ap stop (meant_last o none_kept us u) ∙ stop-last ms y between.goes_on ∙ ap (λ (c : Option Cause). first_refusal (length ms) c None) fine;
         stands = next_list;
-        state_is = step.state ∙ ap (λ (x : State). state_behind x (unit_at o old.kept h u.bytes)) decoding ∙ sym (is_decoding new.view.standing.store.accepted some) ∙ ap (λ (s : Standing). state_by s.store.accepted) next_list;
+        state_is = step.takes.state ∙ ap (λ (x : State). state_behind x (unit_at o old.kept h u.bytes)) decoding ∙ sym (is_decoding new.view.standing.store.accepted some) ∙ ap (λ (s : Standing). state_by s.store.accepted) next_list;
         room = room_now;
         kept = step.kept ∙ ap (λ (kk : Kept). kept_behind o kk u.bytes) between.kept ∙ again.kept ∙ sym (kept_last o none_kept us u);
         started = ap (λ (s : Standing). is_some s.store.accepted) (sym next_list) ∙ some ∙ sym has_now;

@@ -48,7 +48,7 @@ module _ {B H : Type 0} (t : ℕ) (o : Options) (us : List NalUnit) (u : NalUnit
   pub opens : Opens t (traces_of old.log old.view) (traces_of new.log new.view) (meant_next o us u) S new.view.standing
   opens = subst (λ (m : Meaning). Opens t (traces_of old.log old.view) (traces_of new.log new.view) m S new.view.standing) meant_is
       (subst (λ (s : Standing). Opens t (traces_of old.log old.view) (traces_of new.log new.view) (meaning_in (state_by a) (unit_at o old.kept h u.bytes)) s new.view.standing) after.stands
-      (subst (λ (x : State). Opens t (traces_of old.log old.view) (traces_of new.log new.view) (meaning_in x (unit_at o old.kept h u.bytes)) old.view.standing new.view.standing) after.state_is step.part))
+      (subst (λ (x : State). Opens t (traces_of old.log old.view) (traces_of new.log new.view) (meaning_in x (unit_at o old.kept h u.bytes)) old.view.standing new.view.standing) after.state_is step.takes.part))
 
   tw : TwiceBy (opening (meant_next o us u) S) (later_meaning y) y S
   tw = twice a y S refl opens.negotiates
@@ -73,7 +73,7 @@ module _ {B H : Type 0} (t : ℕ) (o : Options) (us : List NalUnit) (u : NalUnit
       kept = step.kept ∙ ap (λ (k : Kept). with_read_set (content o k u.bytes) k) after.kept;
       started = after.started ∙ ap (λ (k : Kept). k.has_sequence_set) after.kept;
     };
-    state_is = step.state;
+    state_is = step.takes.state;
     calls = record { made = opens.completes.does.calls; log = opens.completes.does.log; calls_are = opens.completes.does.made; timed = opens.completes.does.timed };
     outputs = record {
       out = opens.completes.does.out;

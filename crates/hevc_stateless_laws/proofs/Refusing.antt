@@ -20,12 +20,11 @@ use Rattle.hevc_driver.specs.declared.decode_error.DecodeError.TheVariants as er
 use Rattle.hevc_driver.specs.Errors.{cause_error, error_of}
 use Rattle.hevc_driver.specs.Does.{Does}
 use Rattle.hevc_driver.specs.Takes as takes
-use Rattle.hevc_driver.specs.Takes.{Takes}
 use Rattle.hevc_driver.proofs.Doing.{does_nothing, keeps_all}
 use Rattle.hevc_stateless.specs.declared.state.State.{State}
-use Rattle.hevc_stateless.specs.States.{unit_at, meaning_in, is_awaited}
-use Rattle.hevc_stateless.specs.Steps.{Seen, Step, StepsIn, StepsBehind, TakesFirst}
-use Rattle.hevc_stateless.specs.Views.{traces_of}
+use Rattle.hevc_stateless.specs.States.{unit_at, meaning_in, state_behind, is_awaited}
+use Rattle.hevc_stateless.specs.Steps.{Seen, Step, TakesIn, StepsIn, StepsBehind, TakesFirst}
+use Rattle.hevc_stateless.specs.Views.{Moment, moment_of, traces_of}
 use Rattle.hevc_stateless_laws.specs.Stands.{state_by, meant, standing_after, StandsAfter, asked, frame_at, kept_after, IsRefusal, RefusedUnit}
 use Rattle.hevc_stateless_laws.proofs.Keeping.{meant_last, meant_behind, length_meant}
 use Rattle.hevc_stateless_laws.proofs.Standing.{Means, means, calls_are, outputs_are, going_by}
@@ -104,22 +103,22 @@ module _ {B H : Type 0} (e : DecodeError) (t : ℕ) (o : Options) (us : List Nal
 
 -- ---- by the error
 
-refuses_of : {H : Type 0} (e : DecodeError) (t : ℕ) (a b : _) (u : Meaning) (s st : Standing) → IsRefusal e → Takes {H = H} {T = ℕ} (Err e) t a b u s st → takes.Refuses e t a b u s st
-refuses_of errors.TruncatedNalu t a b u s st is y = y
-refuses_of (errors.InvalidNaluType n) t a b u s st is y = y
-refuses_of errors.OutOfBits t a b u s st is y = y
-refuses_of (errors.OutOfRange table row) t a b u s st is y = y
-refuses_of (errors.MissingPps id) t a b u s st is y = y
-refuses_of errors.NoIndependentSlice t a b u s st is y = y
-refuses_of (errors.ChangedMidPicture accepted named) t a b u s st is y = y
-refuses_of errors.PocOutOfRange t a b u s st is y = y
-refuses_of errors.NoNal t a b u s st is y = absurd is
-refuses_of errors.DpbFull t a b u s st is y = absurd is
-refuses_of (errors.NotEnoughOutputBuffers n) t a b u s st is y = absurd is
-refuses_of errors.CheckEvents t a b u s st is y = absurd is
-refuses_of errors.PictureNumbersSpent t a b u s st is y = absurd is
-refuses_of errors.Backend t a b u s st is y = absurd is
-refuses_of errors.NoMemory t a b u s st is y = absurd is
+refuses_of : {H : Type 0} (e : DecodeError) (t : ℕ) (u : Meaning) (behind : State) (old new : Moment H) → IsRefusal e → TakesIn {H = H} {T = ℕ} (Err e) t u behind old new → takes.Refuses e t old.traces new.traces u old.standing new.standing
+refuses_of errors.TruncatedNalu t u behind old new is y = y.part
+refuses_of (errors.InvalidNaluType n) t u behind old new is y = y.part
+refuses_of errors.OutOfBits t u behind old new is y = y.part
+refuses_of (errors.OutOfRange table row) t u behind old new is y = y.part
+refuses_of (errors.MissingPps id) t u behind old new is y = y.part
+refuses_of errors.NoIndependentSlice t u behind old new is y = y.part
+refuses_of (errors.ChangedMidPicture accepted named) t u behind old new is y = y.part
+refuses_of errors.PocOutOfRange t u behind old new is y = y.part
+refuses_of errors.NoNal t u behind old new is y = absurd is
+refuses_of errors.DpbFull t u behind old new is y = absurd is
+refuses_of (errors.NotEnoughOutputBuffers n) t u behind old new is y = absurd is
+refuses_of errors.CheckEvents t u behind old new is y = absurd is
+refuses_of errors.PictureNumbersSpent t u behind old new is y = absurd is
+refuses_of errors.Backend t u behind old new is y = absurd is
+refuses_of errors.NoMemory t u behind old new is y = absurd is
 
 step_of : {B H : Type 0} (a : Option Format) (e : DecodeError) (t : ℕ) (o : Options) (h : UnitHeader) (bytes : List ℕ) (old new : Seen B H) → old.view.state ≡ state_by a → StepsIn {T = ℕ} (Err e) t o h bytes old new → Step {T = ℕ} (Err e) t o h bytes old new
 step_of a e t o h bytes old new is y = y.taken (ap is_awaited is ∙ going_by a)
@@ -130,7 +129,7 @@ refused_first {B} {H} e t o us others u old new is after first = by (unit_header
     by : (r : Result UnitHeader HeaderFault) → unit_header u.bytes ≡ r → StepsBehind {T = ℕ} r (Err e) t o u.bytes old new → RefusedUnit e t o us u old new
     by (Ok h) parsed step =
         let s = step_of (standing_after (meant o us)).store.accepted e t o h u.bytes old new after.state_is step in
-        read_refused e t o us u old new after h parsed (subst (λ (x : State). takes.Refuses e t (traces_of old.log old.view) (traces_of new.log new.view) (meaning_in x (unit_at o old.kept h u.bytes)) old.view.standing new.view.standing) after.state_is (refuses_of e t _ _ _ _ _ is s.part))
+        read_refused e t o us u old new after h parsed (subst (λ (x : State). takes.Refuses e t (traces_of old.log old.view) (traces_of new.log new.view) (meaning_in x (unit_at o old.kept h u.bytes)) old.view.standing new.view.standing) after.state_is (refuses_of e t (meaning_in old.view.state (unit_at o old.kept h u.bytes)) (state_behind old.view.state (unit_at o old.kept h u.bytes)) (moment_of old.log old.view) (moment_of new.log new.view) is s.takes))
     by (Err fault) parsed step = header_refused e t o us u old new after fault parsed (cc step.0) step.1
 
 -- ---- a full store
@@ -150,6 +149,6 @@ full_first {B} {H} t o us others back u old new after first = by (unit_header u.
         let m = same errors.DpbFull t o us u old new after h parsed in
         let y = meaning o (kept_after o us) u.bytes in
         let S = standing_after (meant o us) in
-        let full : is_full_at y S ≡ true = ap (is_full_at y) (sym after.stands) ∙ sym m.full ∙ ap (λ (x : State). is_full_at (meaning_in x (unit_at o old.kept h u.bytes)) old.view.standing) (sym after.state_is) ∙ s.part.0 in
+        let full : is_full_at y S ≡ true = ap (is_full_at y) (sym after.stands) ∙ sym m.full ∙ ap (λ (x : State). is_full_at (meaning_in x (unit_at o old.kept h u.bytes)) old.view.standing) (sym after.state_is) ∙ s.takes.part.0 in
         answers_at o us u back after (full_or_cause (is_full_at y S) (refusal_at y S)) DpbFull (ap (λ (b : Bool). full_or_cause b (refusal_at y S)) full) refl
     by (Err fault) parsed step = absurd (no_header fault (sym (cc step.0)))

@@ -164,7 +164,7 @@ module _ {B H : Type 0} (t : ℕ) (o : Options) (us : List NalUnit) (u : NalUnit
   same = means o old.kept u.bytes h parsed a old.view.standing accepted after.started
 
   goes : Goes t (traces_of old.log old.view) (traces_of new.log new.view) (meaning_in (state_by a) taken) old.view.standing new.view.standing
-  goes = subst (λ (x : State). Goes t (traces_of old.log old.view) (traces_of new.log new.view) (meaning_in x taken) old.view.standing new.view.standing) after.state_is step.part
+  goes = subst (λ (x : State). Goes t (traces_of old.log old.view) (traces_of new.log new.view) (meaning_in x taken) old.view.standing new.view.standing) after.state_is step.takes.part
 
   part_is : step_part (meaning_in (state_by a) taken) old.view.standing ≡ unit_part y (standing_after ms)
   part_is = same.part ∙ ap (unit_part y) after.stands
@@ -176,7 +176,7 @@ module _ {B H : Type 0} (t : ℕ) (o : Options) (us : List NalUnit) (u : NalUnit
   next = goes.completes.next ∙ ap (λ (q : Part Standing). q.next) part_is ∙ (moment ms y fine).next
 
   stays : new.view.state ≡ state_by a
-  stays = step.state ∙ ap (λ (x : State). state_behind x taken) after.state_is ∙ state_stays a taken
+  stays = step.takes.state ∙ ap (λ (x : State). state_behind x taken) after.state_is ∙ state_stays a taken
 
   left : new.view.standing ≡ (unit_part y old.view.standing).next
   left = goes.completes.next ∙ ap (λ (q : Part Standing). q.next) same.part

@@ -6,6 +6,7 @@ ghost use Rattle.hevc_bits.specs.NaluType.{nalu_type_number};
 ghost use Rattle.hevc_elements.specs.Words.{bits, IsAhead, read, ReadsGrowing, ReadsSet, MeansSet, NamesNoSet};
 ghost use Rattle.hevc_tables.specs.VpsTable.{video_parameter_set};
 ghost use Rattle.hevc_types_b.specs.Vps.{plain_vps};
+ghost use Rattle.hevc_bits.specs.declared.stream_limit.TheConstants.{STREAM_LIMIT};
 
 use crate::identity::{read_extension_flag, read_identity, read_layer_sets};
 use crate::orderings::read_orderings;
@@ -24,7 +25,7 @@ use std::alloc::Global;
 /// `OutOfRange` with table and row of the first element that isn't allowed; `NoMemory`.
 #[tactic(auto, using(hevc_elements::proofs::SetMeaning::set_meanings))]
 pub fn read_vps(alloc: Global, nalu: &Nalu<'_, NaluHeader>) -> Result<Vps, ParseError>
-    requires { length nalu.now.stream < 2 ^ 60 }
+    requires { length nalu.now.stream < STREAM_LIMIT }
     ensures wrong_type { IsErrOf result ParseError.WrongNaluType
         ↔ ¬ (nalu.now.header.nal_unit_type ≡ 32) }
     ensures read { nalu.now.header.nal_unit_type ≡ 32
@@ -49,7 +50,7 @@ fn is_video_set(nalu_type: NaluType) -> bool
 /// Reads the payload of a unit.
 #[tactic(auto, using(hevc_elements::proofs::SetMeaning::sets_from_growing))]
 fn read_payload(alloc: Global, payload: &[u8]) -> Result<Vps, ParseError>
-    requires { length payload.now < 2 ^ 60 }
+    requires { length payload.now < STREAM_LIMIT }
     ensures read { ReadsSet plain_vps result
         (read video_parameter_set (payload_bits 0 payload.now)) }
     ensures names_no_set { IfErr result NamesNoSet }

@@ -1,5 +1,6 @@
 //! Callers of the decoder: one that gives units and takes events, one that gives a whole stream, and one that gives a source.
 ghost use Rattle.std.specs.Prelude.{◌<◌, ◌≤◌, ◌^◌, IfOk, length};
+ghost use Rattle.hevc_bits.specs.declared.stream_limit.TheConstants.{STREAM_LIMIT};
 
 use hevc_backend::SilentBackend;
 use hevc_decoder::{
@@ -11,7 +12,7 @@ use std::alloc::{AllocError, Global};
 
 /// The numbers of a stream's pictures in output order, told by events.
 pub(crate) fn numbers_by_events(alloc: Global, mut rest: &[u8]) -> Result<Vec<u64>, DecodeError>
-    requires { length rest.now < 2 ^ 60 }
+    requires { length rest.now < STREAM_LIMIT }
 {
     let mut decoder = StatelessDecoder::new(alloc, SilentBackend::new());
     let mut numbers = Vec::new(alloc);
@@ -33,7 +34,7 @@ fn give_first<B: StatelessH265DecoderBackend>(
     decoder: &mut StatelessDecoder<B>,
     rest: &[u8],
 ) -> Result<usize, DecodeError>
-    requires { length rest.now < 2 ^ 60 }
+    requires { length rest.now < STREAM_LIMIT }
     ensures { IfOk result (λ taken. (3 ≤ taken) × (taken ≤ length rest.now)) }
 {
     let answer = decoder.decode(0, rest);
@@ -61,7 +62,7 @@ pub(crate) fn numbers_of_stream(
     alloc: Global,
     stream: &[u8],
 ) -> Result<Result<Vec<u64>, Refused>, AllocError>
-    requires { length stream.now < 2 ^ 60 }
+    requires { length stream.now < STREAM_LIMIT }
 {
     let mut shown = Vec::new(alloc);
     let decoded = decode_stream(alloc, SilentBackend::new(), stream, &mut shown);

@@ -65,8 +65,8 @@ loop-count-preserved g c =
       one = c.in-Ok.ensures.left;
       few = omega (arith, c.loop-count.invariant.few, c.in-Ok.ensures.few, c.in_ok-count.ensures.bound, c.if-count-left.false);
       empty = c.in-Ok.ensures.empty;
-      counts = c.in-Ok.ensures.cause ∙ c.loop-count.invariant.counts;
-      faultless = λ h. (c.in-Ok.ensures.faultless (c.loop-count.invariant.faultless h)).0;
+      counts = c.in-Ok.ensures.blames.cause ∙ c.loop-count.invariant.counts;
+      faultless = λ h. (c.in-Ok.ensures.blames.faultless (c.loop-count.invariant.faultless h)).0;
       options = c.in-Ok.ensures.options ∙ c.loop-count.invariant.options;
       later = search rules;
     }

@@ -42,10 +42,10 @@ returns-clause-outputs g c = from_run g c (λ s. Appended c.args.shown.now.items
 
 -- the counts of the backend, and whether it fails
 abbrev blamed : (g : given.Over) (c : goal.After-into_backend g) → CountsErrors (g.B.StatelessH265DecoderBackend.counts c.args.backend) (g.B.StatelessH265DecoderBackend.counts c.into_backend.result) (without_unit c.in_ok-result.result)
-blamed g c = let from = ap (λ (v : View g.row.B.Denot g.row.B-Handle.Denot). v.backend) c.new_with-decoder.ensures.view in rw (from, ← c.into_backend.ensures) at c.in_ok-result.ensures.cause
+blamed g c = let from = ap (λ (v : View g.row.B.Denot g.row.B-Handle.Denot). v.backend) c.new_with-decoder.ensures.view in rw (from, ← c.into_backend.ensures) at c.in_ok-result.ensures.blames.cause
 
 abbrev kept_faultless : (g : given.Over) (c : goal.After-into_backend g) → KeepsFaultless (g.B.StatelessH265DecoderBackend.is_faultless c.args.backend) (g.B.StatelessH265DecoderBackend.is_faultless c.into_backend.result) (without_unit c.in_ok-result.result)
-kept_faultless g c = let from = ap (λ (v : View g.row.B.Denot g.row.B-Handle.Denot). v.backend) c.new_with-decoder.ensures.view in rw (from, ← c.into_backend.ensures) at c.in_ok-result.ensures.faultless
+kept_faultless g c = let from = ap (λ (v : View g.row.B.Denot g.row.B-Handle.Denot). v.backend) c.new_with-decoder.ensures.view in rw (from, ← c.into_backend.ensures) at c.in_ok-result.ensures.blames.faultless
 
 -- what is told before it and now
 abbrev told_before : (g : given.Over) (c : goal.After-into_backend g) → Told g.row.B-Handle.Denot

@@ -81,8 +81,8 @@ loop-nalu-preserved g c =
       within = search rules;
       few = omega (arith, c.loop-nalu.invariant.few, c.in-Ok.ensures.ahead, c.offset.ensures.value, c.size.ensures.value);
       empty = c.in_default.ensures.empty;
-      counts = c.in_default.ensures.cause ∙ c.loop-nalu.invariant.counts;
-      faultless = λ h. (c.in_default.ensures.faultless (c.loop-nalu.invariant.faultless h)).0;
+      counts = c.in_default.ensures.blames.cause ∙ c.loop-nalu.invariant.counts;
+      faultless = λ h. (c.in_default.ensures.blames.faultless (c.loop-nalu.invariant.faultless h)).0;
       options = c.in_default.ensures.options ∙ c.loop-nalu.invariant.options;
       reached = rw (c.offset.ensures.value, c.size.ensures.value) more;
     }

@@ -1,4 +1,4 @@
-use Rattle.std.proofs.Common.{rules, arith}
+use Rattle.std.proofs.Common.{rules}
 use Rattle.hevc_spec.proofs.PlaceLaws.{ahead_then}
 use Rattle.hevc_tables.specs.SliceHeaderTable.{chroma_offsets}
 use Rattle.hevc_slice_header.proofs.quantiser.read_chroma_offsets.Goals as goal

@@ -1,4 +1,4 @@
-use Rattle.std.proofs.Common.{◌≡◌, ap, sym, ◌∙◌, subst}
+use Rattle.std.proofs.Common.{◌≡◌, ap, sym, ◌∙◌, subst, rules}
 use Rattle.std.specs.Prelude.{option_map, Option, List}
 use Rattle.hevc_backend.specs.declared.call.Call.{Call}
 use Rattle.hevc_backend.specs.Trait.{Counts}
@@ -11,7 +11,7 @@ use Rattle.hevc_walk.specs.Walk.{is_accepted}
 use Rattle.hevc_backend.specs.Negotiation.{format_of}
 use Rattle.hevc_driver.specs.Slices.{slice_of}
 use Rattle.hevc_driver.specs.Standings.{standing, traces}
-use Rattle.hevc_driver.proofs.PictureBegins.{begins_accepted, begins_negotiated, begins_refused, refused_info}
+use Rattle.hevc_driver.proofs.PictureBegins.{begins_accepted, begins_negotiated, begins_refused}
 use Rattle.hevc_driver.proofs.SliceViews.{slice_format}
 use Rattle.hevc_driver.proofs.Soundness.{has_frames}
 use Rattle.hevc_driver.proofs.driver.Driver.begin.Goals as goal
@@ -24,9 +24,16 @@ returns-then-is_accepted-clause-part g c =
     subst (λ (log : Option (List (Call g.row.B-Handle.Denot))). Begins c.start.result c.args.timestamp (traces log c.args.self.now.standing) (traces (g.B.StatelessH265DecoderBackend.log c.start.new.self.backend) c.start.new.self.standing) w (standing c.args.self.now.standing) (standing c.start.new.self.standing)) c.num_free_frames.ensures.log
     (begins_accepted _ _ _ _ w (standing c.args.self.now.standing) _ accepted c.start.ensures.part)
 
-pub returns-then-is_accepted-clause-cause : goal.returns-then-is_accepted-clause-cause
-returns-then-is_accepted-clause-cause g c =
-    subst (λ (k : Counts). CountsErrors k (g.B.StatelessH265DecoderBackend.counts c.start.new.self.backend) c.start.result) (has_frames _ _ _ c.if-num_free_frames-eq0.false c.num_free_frames.ensures.cause) c.start.ensures.cause
+pub returns-then-is_accepted-clause-fair : goal.returns-then-is_accepted-clause-fair
+returns-then-is_accepted-clause-fair g c =
+    let f = c.start.ensures.fair in
+    record {
+      blames = record {
+        cause = subst (λ (k : Counts). CountsErrors k (g.B.StatelessH265DecoderBackend.counts c.start.new.self.backend) c.start.result) (has_frames _ _ _ c.if-num_free_frames-eq0.false c.num_free_frames.ensures.cause) f.blames.cause;
+        faultless = search rules;
+      };
+      info = search rules;
+    }
 
 pub returns-in_ok-negotiate-clause-part : goal.returns-in_ok-negotiate-clause-part
 returns-in_ok-negotiate-clause-part g c =
@@ -49,6 +56,3 @@ returns-in_err-negotiate-clause-part g c =
     (subst (λ (log : Option (List (Call g.row.B-Handle.Denot))). StopsBy c.in_err-negotiate.field-0.0 c.args.timestamp (traces log c.args.self.now.standing) (traces (g.B.StatelessH265DecoderBackend.log c.negotiate.new.self.backend) c.negotiate.new.self.standing) (renegotiates w.format s).events (λ call. IsNewSequence call × (st ≡ drained s))) c.num_free_frames.ensures.log
     (subst (λ (f : Format). StopsBy c.in_err-negotiate.field-0.0 c.args.timestamp (traces (g.B.StatelessH265DecoderBackend.log c.num_free_frames.new.self) c.args.self.now.standing) (traces (g.B.StatelessH265DecoderBackend.log c.negotiate.new.self.backend) c.negotiate.new.self.standing) (renegotiates f s).events (λ call. IsNewSequence call × (st ≡ drained s))) (sym is)
     (c.in_err-negotiate.ensures.part c.args.timestamp)))
-
-pub returns-in_err-negotiate-clause-info : goal.returns-in_err-negotiate-clause-info
-returns-in_err-negotiate-clause-info g c = refused_info _ c.in_err-negotiate.field-0.0 c.args.timestamp _ _ _ _ _ _ c.from_residual.ensures.1 (c.in_err-negotiate.ensures.part c.args.timestamp)

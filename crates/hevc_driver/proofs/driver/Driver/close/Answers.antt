@@ -1,4 +1,4 @@
-use Rattle.std.proofs.Common.{ap, arith}
+use Rattle.std.proofs.Common.{ap, arith, rules}
 use Rattle.hevc_walk_units.specs.Units.{Standing}
 use Rattle.hevc_driver.specs.declared.head.Context.{Context}
 use Rattle.hevc_driver.proofs.Closing.{close_refused, close_done}
@@ -11,7 +11,10 @@ returns-in_err-finish-clause-part g c t = close_refused _ _ t _ _ _ _ c.from_res
 pub returns-clause-part : goal.returns-clause-part
 returns-clause-part g c t = close_done t _ _ _ _ _ _ (c.in_ok-finish.ensures.part t) (c.output_all.ensures.part _ t)
 
-pub returns-clause-sound : goal.returns-clause-sound
-returns-clause-sound g c =
+pub returns-clause-stays : goal.returns-clause-stays
+returns-clause-stays g c =
     let number = ap (λ (n : Context). n.number) c.output_all.ensures.next in
-    left_sound _ _ _ c.in_ok-finish.ensures.sound (ap (λ (s : Standing). s.current) (c.in_ok-finish.ensures.part 0).1.next) c.output_all.ensures.leaves (omega (arith, number))
+    record {
+      sound = left_sound _ _ _ c.in_ok-finish.ensures.stays.sound (ap (λ (s : Standing). s.current) (c.in_ok-finish.ensures.part 0).1.next) c.output_all.ensures.leaves (omega (arith, number));
+      grows = search rules;
+    }

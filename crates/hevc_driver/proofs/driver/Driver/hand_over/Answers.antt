@@ -11,7 +11,7 @@ use Rattle.hevc_driver.specs.Standings.{traces}
 use Rattle.hevc_driver.specs.Moments.{new_call, begin_call}
 use Rattle.hevc_driver.proofs.Doing.{runs_stop, does_call, does_then, stops_at, stops_then, keeps_all, keeps_more}
 use Rattle.hevc_driver.proofs.SliceViews.{slice_made}
-use Rattle.hevc_driver.proofs.Soundness.{accepted_sequence, fits_none, sound_told}
+use Rattle.hevc_driver.proofs.Soundness.{accepted_sequence, fits_none, sound_told, same_grows}
 use Rattle.hevc_driver.proofs.driver.Driver.hand_over.Goals as goal
 
 pub returns-in_err-picture-clause-part : goal.returns-in_err-picture-clause-part
@@ -20,14 +20,17 @@ returns-in_err-picture-clause-part g c o =
 
 pub begin_picture-requires-clause-told : goal.begin_picture-requires-clause-told
 begin_picture-requires-clause-told g c =
-    told_call (new_picture_call c.args.head.now.number c.args.head.now.picture c.args.timestamp) c.in_ok-picture.ensures.log c.requires.sound.told (λ t h. record { handles = h.handles; sequence = accepted_sequence _ _ _ c.requires.accepted h.sequence; picture = refl })
+    told_call (new_picture_call c.args.head.now.number c.args.head.now.picture c.args.timestamp) c.in_ok-picture.ensures.log c.requires.ready.sound.told (λ t h. record { handles = h.handles; sequence = accepted_sequence _ _ _ c.requires.ready.accepted h.sequence; picture = refl })
 
 pub begin_picture-requires-clause-begun : goal.begin_picture-requires-clause-begun
-begin_picture-requires-clause-begun g c = told_call (new_picture_call c.args.head.now.number c.args.head.now.picture c.args.timestamp) c.in_ok-picture.ensures.log c.requires.sound.told (λ t h. refl)
+begin_picture-requires-clause-begun g c = told_call (new_picture_call c.args.head.now.number c.args.head.now.picture c.args.timestamp) c.in_ok-picture.ensures.log c.requires.ready.sound.told (λ t h. refl)
 
-pub returns-in_err-begin_picture-clause-sound : goal.returns-in_err-begin_picture-clause-sound
-returns-in_err-begin_picture-clause-sound g c =
-    sound_told _ _ _ c.requires.sound (told_same c.in_err-begin_picture.ensures.log (told_call (new_picture_call c.args.head.now.number c.args.head.now.picture c.args.timestamp) c.in_ok-picture.ensures.log c.requires.sound.told (λ t h. fits_none _ t _ c.requires.none refl refl h)) (λ t h. h))
+pub returns-in_err-begin_picture-clause-stays : goal.returns-in_err-begin_picture-clause-stays
+returns-in_err-begin_picture-clause-stays g c =
+    record {
+      sound = sound_told _ _ _ c.requires.ready.sound (told_same c.in_err-begin_picture.ensures.log (told_call (new_picture_call c.args.head.now.number c.args.head.now.picture c.args.timestamp) c.in_ok-picture.ensures.log c.requires.ready.sound.told (λ t h. fits_none _ t _ c.requires.ready.none refl refl h)) (λ t h. h));
+      grows = same_grows 0 _ _ refl refl;
+    }
 
 pub returns-in_err-begin_picture-clause-part : goal.returns-in_err-begin_picture-clause-part
 returns-in_err-begin_picture-clause-part g c o =
@@ -46,12 +49,15 @@ decode_slice-requires-clause-list1 g c = list1_among _ c.args.set (slice_of (rec
 pub decode_slice-requires-clause-told : goal.decode_slice-requires-clause-told
 decode_slice-requires-clause-told g c =
     told_call (begin_picture_call c.args.head.now.number c.args.set) c.in_ok-begin_picture.ensures.log
-    (told_call (new_picture_call c.args.head.now.number c.args.head.now.picture c.args.timestamp) c.in_ok-picture.ensures.log c.requires.sound.told (λ t h. record { handles = h.handles; sequence = accepted_sequence _ _ _ c.requires.accepted h.sequence; picture = refl })) (λ t h. h)
+    (told_call (new_picture_call c.args.head.now.number c.args.head.now.picture c.args.timestamp) c.in_ok-picture.ensures.log c.requires.ready.sound.told (λ t h. record { handles = h.handles; sequence = accepted_sequence _ _ _ c.requires.ready.accepted h.sequence; picture = refl })) (λ t h. h)
 
-pub returns-in_err-decode_slice-clause-sound : goal.returns-in_err-decode_slice-clause-sound
-returns-in_err-decode_slice-clause-sound g c =
-    sound_told _ _ _ c.requires.sound (told_same c.in_err-decode_slice.ensures.log (told_call (begin_picture_call c.args.head.now.number c.args.set) c.in_ok-begin_picture.ensures.log
-    (told_call (new_picture_call c.args.head.now.number c.args.head.now.picture c.args.timestamp) c.in_ok-picture.ensures.log c.requires.sound.told (λ t h. fits_none _ t _ c.requires.none refl refl h)) (λ t h. h)) (λ t h. h))
+pub returns-in_err-decode_slice-clause-stays : goal.returns-in_err-decode_slice-clause-stays
+returns-in_err-decode_slice-clause-stays g c =
+    record {
+      sound = sound_told _ _ _ c.requires.ready.sound (told_same c.in_err-decode_slice.ensures.log (told_call (begin_picture_call c.args.head.now.number c.args.set) c.in_ok-begin_picture.ensures.log
+      (told_call (new_picture_call c.args.head.now.number c.args.head.now.picture c.args.timestamp) c.in_ok-picture.ensures.log c.requires.ready.sound.told (λ t h. fits_none _ t _ c.requires.ready.none refl refl h)) (λ t h. h)) (λ t h. h));
+      grows = same_grows 0 _ _ refl refl;
+    }
 
 pub returns-in_err-decode_slice-clause-part : goal.returns-in_err-decode_slice-clause-part
 returns-in_err-decode_slice-clause-part g c o =
@@ -77,16 +83,19 @@ returns-clause-part g c o =
       next = refl;
     }
 
-pub returns-clause-sound : goal.returns-clause-sound
-returns-clause-sound g c =
-    let s = c.requires.sound in
+pub returns-clause-stays : goal.returns-clause-stays
+returns-clause-stays g c =
+    let s = c.requires.ready.sound in
     let n = c.requires.newest in
     record {
-      sized = s.sized;
-      latency = s.latency;
-      below = s.below;
-      newest = record { newer = n.newer; counted = n.counted; references = n.references; accepted = n.accepted };
-      told = told_call (decode_slice_call c.args.head.now.number c.args.slice.now c.build_lists.new.lists.ref_pic_list0 c.build_lists.new.lists.ref_pic_list1) c.in_ok-decode_slice.ensures.log
-          (told_call (begin_picture_call c.args.head.now.number c.args.set) c.in_ok-begin_picture.ensures.log
-          (told_call (new_picture_call c.args.head.now.number c.args.head.now.picture c.args.timestamp) c.in_ok-picture.ensures.log s.told (λ t h. record { handles = h.handles; sequence = h.sequence; picture = refl })) (λ t h. h)) (λ t h. h);
+      sound = record {
+        sized = s.sized;
+        latency = s.latency;
+        below = s.below;
+        newest = record { newer = n.newer; counted = n.counted; references = n.references; accepted = n.accepted };
+        told = told_call (decode_slice_call c.args.head.now.number c.args.slice.now c.build_lists.new.lists.ref_pic_list0 c.build_lists.new.lists.ref_pic_list1) c.in_ok-decode_slice.ensures.log
+            (told_call (begin_picture_call c.args.head.now.number c.args.set) c.in_ok-begin_picture.ensures.log
+            (told_call (new_picture_call c.args.head.now.number c.args.head.now.picture c.args.timestamp) c.in_ok-picture.ensures.log s.told (λ t h. record { handles = h.handles; sequence = h.sequence; picture = refl })) (λ t h. h)) (λ t h. h);
+      };
+      grows = same_grows 0 _ _ refl refl;
     }

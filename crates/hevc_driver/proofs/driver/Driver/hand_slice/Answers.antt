@@ -18,7 +18,7 @@ use Rattle.hevc_driver.specs.Takes.{Changed, Follows, given_up_by}
 use Rattle.hevc_driver.specs.Standings.{standing, traces, current_of}
 use Rattle.hevc_driver.proofs.Following.{followed, not_followed, hand_stops, hand_changed, open_newest, open_latest}
 use Rattle.hevc_driver.proofs.SliceViews.{slice_format, slice_made}
-use Rattle.hevc_driver.proofs.Soundness.{accepted_sequence, unchanged_accepted}
+use Rattle.hevc_driver.proofs.Soundness.{accepted_sequence, unchanged_accepted, same_grows}
 use Rattle.hevc_driver.proofs.driver.Driver.hand_slice.Goals as goal
 
 pub returns-in-SkippedPicture-clause-part : goal.returns-in-SkippedPicture-clause-part
@@ -84,15 +84,18 @@ returns-clause-part g c t o =
     (slice_made g.row.B-Handle.Denot o c.args.slice.now c.args.sps.now c.args.pps.now (head_of open_.head) (plain_set open_.set) _ _ (c.build_lists.ensures.list0 o c.args.sps.now) (c.build_lists.ensures.list1 o c.args.sps.now)) tt
     c.in_ok-decode_slice.ensures.log refl refl refl)
 
-pub returns-clause-sound : goal.returns-clause-sound
-returns-clause-sound g c =
+pub returns-clause-stays : goal.returns-clause-stays
+returns-clause-stays g c =
     let w = c.args.self.now.standing in
     let s = c.requires.sound in
     let n = open_newest w c.in-OpenPicture.opened c.in-OpenPicture.is s.newest in
     record {
-      sized = s.sized;
-      latency = s.latency;
-      below = s.below;
-      newest = record { newer = n.newer; counted = n.counted; references = n.references; accepted = n.accepted };
-      told = told_call (decode_slice_call c.in-OpenPicture.opened.head.number c.args.slice.now c.build_lists.new.lists.ref_pic_list0 c.build_lists.new.lists.ref_pic_list1) c.in_ok-decode_slice.ensures.log s.told (λ t h. record { handles = h.handles; sequence = h.sequence; picture = open_latest w.current c.in-OpenPicture.opened t.picture c.in-OpenPicture.is h.picture });
+      sound = record {
+        sized = s.sized;
+        latency = s.latency;
+        below = s.below;
+        newest = record { newer = n.newer; counted = n.counted; references = n.references; accepted = n.accepted };
+        told = told_call (decode_slice_call c.in-OpenPicture.opened.head.number c.args.slice.now c.build_lists.new.lists.ref_pic_list0 c.build_lists.new.lists.ref_pic_list1) c.in_ok-decode_slice.ensures.log s.told (λ t h. record { handles = h.handles; sequence = h.sequence; picture = open_latest w.current c.in-OpenPicture.opened t.picture c.in-OpenPicture.is h.picture });
+      };
+      grows = same_grows 0 _ _ refl refl;
     }

@@ -1,4 +1,4 @@
-use Rattle.std.proofs.Common.{refl, sym, ap, ◌∙◌, subst, arith, [], Some}
+use Rattle.std.proofs.Common.{refl, sym, ap, ◌∙◌, subst, arith, [], Some, rules}
 use Rattle.hevc_types_c.specs.Sps.{plain_sps}
 use Rattle.hevc_walk_inputs.specs.Sequences.{format_of_set}
 use Rattle.hevc_walk.specs.Buffer.{Buffer}
@@ -25,18 +25,21 @@ returns-clause-part g c t = record {
       ∙ ap (λ (f : Format). record (standing c.args.self.now.standing) { store = record { accepted = Some f; buffer = (standing c.args.self.now.standing).store.buffer } }) (ap format_of c.from-format.ensures);
 }
 
-pub returns-clause-sound : goal.returns-clause-sound
-returns-clause-sound g c =
+pub returns-clause-stays : goal.returns-clause-stays
+returns-clause-stays g c =
     let s = c.requires.sound in
     let entries = c.set_max_num_pics.ensures.entries in
     record {
-      sized = c.set_max_num_pics.ensures.size;
-      latency = subst HaveLatency (sym entries) s.latency;
-      below = below_part _ _ _ _ s.below (omega arith) (part_same _ _ entries);
-      newest = none_newest _ _ c.requires.none;
-      told = told_call (new_sequence_call c.args.sps.now) c.in_ok-new_sequence.ensures.log s.told (λ t h. record {
-        handles = λ x k. h.handles x (part_same _ _ entries x k);
-        sequence = ap (λ i. Some (format_of i)) (sym c.from-format.ensures);
-        picture = none_latest _ _ c.requires.none;
-      });
+      sound = record {
+        sized = c.set_max_num_pics.ensures.size;
+        latency = subst HaveLatency (sym entries) s.latency;
+        below = below_part _ _ _ _ s.below (omega arith) (part_same _ _ entries);
+        newest = none_newest _ _ c.requires.none;
+        told = told_call (new_sequence_call c.args.sps.now) c.in_ok-new_sequence.ensures.log s.told (λ t h. record {
+          handles = λ x k. h.handles x (part_same _ _ entries x k);
+          sequence = ap (λ i. Some (format_of i)) (sym c.from-format.ensures);
+          picture = none_latest _ _ c.requires.none;
+        });
+      };
+      grows = search rules;
     }

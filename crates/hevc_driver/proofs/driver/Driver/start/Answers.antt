@@ -1,4 +1,4 @@
-use Rattle.std.proofs.Common.{refl, ap, arith}
+use Rattle.std.proofs.Common.{refl, ap, arith, rules}
 use Rattle.hevc_walk.specs.Pictures.{Context}
 use Rattle.hevc_walk_units.specs.Units.{SkippedPicture}
 use Rattle.hevc_backend.proofs.ToldLaws.{told_same}
@@ -7,34 +7,41 @@ use Rattle.hevc_driver.specs.Slices.{slice_of}
 use Rattle.hevc_driver.specs.Standings.{standing}
 use Rattle.hevc_driver.proofs.HeadViews.{decoded_is}
 use Rattle.hevc_driver.proofs.PictureBegins.{skips_at, starts_at, head_number}
-use Rattle.hevc_driver.proofs.Soundness.{below_part}
+use Rattle.hevc_driver.proofs.Soundness.{below_part, same_grows}
 use Rattle.hevc_driver.proofs.driver.Driver.start.Goals as goal
 
 pub behind-self-requires : goal.behind-self-requires
 behind-self-requires g c = let h = head_number _ _ _ (c.in_ok-head.ensures.head c.args.pps.now) in omega arith
 
-pub open-requires-clause-number : goal.open-requires-clause-number
-open-requires-clause-number g c = let h = head_number _ _ _ (c.in_ok-head.ensures.head c.args.pps.now) in record { number = h; counted = omega arith }
-
-pub open-requires-clause-decoded : goal.open-requires-clause-decoded
-open-requires-clause-decoded g c = decoded_is _ _ (c.in_ok-head.ensures.head c.args.pps.now) (c.in_ok-head.ensures.within c.args.pps.now) c.if-head.false
+pub open-requires-clause-next : goal.open-requires-clause-next
+open-requires-clause-next g c =
+    let h = head_number _ _ _ (c.in_ok-head.ensures.head c.args.pps.now) in
+    record {
+      number = h;
+      counted = omega arith;
+      format = search rules;
+      decoded = decoded_is _ _ (c.in_ok-head.ensures.head c.args.pps.now) (c.in_ok-head.ensures.within c.args.pps.now) c.if-head.false;
+    }
 
 pub returns-then-head-clause-part : goal.returns-then-head-clause-part
 returns-then-head-clause-part g c =
     skips_at _ _ _ (slice_of c.args.options c.args.slice.now c.args.sps.now c.args.pps.now) (standing c.args.self.now.standing) _ (head_of c.in_ok-head.head) (λ e. omega (arith, e)) (c.in_ok-head.ensures.head c.args.pps.now) (c.in_ok-head.ensures.within c.args.pps.now) c.if-head.true refl refl refl
     (ap (λ (v : Context). record (standing c.args.self.now.standing) { current = SkippedPicture; next = v }) c.behind-self.ensures)
 
-pub returns-then-head-clause-sound : goal.returns-then-head-clause-sound
-returns-then-head-clause-sound g c =
-    let s = c.requires.sound in
+pub returns-then-head-clause-stays : goal.returns-then-head-clause-stays
+returns-then-head-clause-stays g c =
+    let s = c.requires.ready.sound in
     let h = head_number _ _ _ (c.in_ok-head.ensures.head c.args.pps.now) in
     let n = ap (λ (v : Context). v.number) c.behind-self.ensures in
     record {
-      sized = s.sized;
-      latency = s.latency;
-      below = below_part _ _ _ _ s.below (omega (arith, h, n)) (λ x k. k);
-      newest = tt;
-      told = told_same refl s.told (λ t f. record { handles = f.handles; sequence = f.sequence; picture = tt });
+      sound = record {
+        sized = s.sized;
+        latency = s.latency;
+        below = below_part _ _ _ _ s.below (omega (arith, h, n)) (λ x k. k);
+        newest = tt;
+        told = told_same refl s.told (λ t f. record { handles = f.handles; sequence = f.sequence; picture = tt });
+      };
+      grows = same_grows 0 _ _ refl refl;
     }
 
 pub returns-clause-part : goal.returns-clause-part

@@ -1,4 +1,4 @@
-use Rattle.std.proofs.Common.{refl, sym, ap, ◌∙◌, arith}
+use Rattle.std.proofs.Common.{refl, sym, ap, ◌∙◌, arith, rules}
 use Rattle.std.proofs.lemmas.List.{length-map}
 use Rattle.hevc_dpb.specs.Entries.{tickets}
 use Rattle.hevc_dpb.specs.Plain.{plain_entry}
@@ -41,33 +41,34 @@ bump_additionally-requires-clause-room g c =
     let same = ap num_waiting (c.in_ok-store_picture.ensures.buffer (head_of c.args.opened.head) (record { same_number = refl; order_count = refl; pic_output_flag = refl }) c.requires.sound.latency) in
     omega (arith, more, same, c.requires.room.queue)
 
-pub returns-clause-grows : goal.returns-clause-grows
-returns-clause-grows g c =
-    let more = stored_waiting (head_of c.args.opened.head) (buffer_of c.args.self.now.standing.dpb) in
-    let same = ap num_waiting (c.in_ok-store_picture.ensures.buffer (head_of c.args.opened.head) (record { same_number = refl; order_count = refl; pic_output_flag = refl }) c.requires.sound.latency) in
-    let b = c.bump_additionally.ensures in
-    let t = bumped_total _ _ _ _ _ b in
-    record { few = omega (arith, more, same, t); capacity = b.capacity; stored = b.room ∙ c.in_ok-store_picture.ensures.room }
-
-pub returns-in_err-store_picture-clause-sound : goal.returns-in_err-store_picture-clause-sound
-returns-in_err-store_picture-clause-sound g c =
+pub returns-in_err-store_picture-clause-stays : goal.returns-in_err-store_picture-clause-stays
+returns-in_err-store_picture-clause-stays g c =
     let same = c.in_err-store_picture.ensures.stays in
     let s = kept_sound _ _ _ c.requires.sound (ap stored_entries same) (ap max_num_pics_of same) refl refl refl in
-    sound_told _ _ _ s (told_call (SubmitPicture c.args.opened.head.number c.in_ok-handle.handle) c.in_ok-handle.ensures.log s.told (λ t h. record { handles = λ x k. contains_later _ x _ (h.handles x k); sequence = h.sequence; picture = none_latest _ _ c.requires.none }))
+    record {
+      sound = sound_told _ _ _ s (told_call (SubmitPicture c.args.opened.head.number c.in_ok-handle.handle) c.in_ok-handle.ensures.log s.told (λ t h. record { handles = λ x k. contains_later _ x _ (h.handles x k); sequence = h.sequence; picture = none_latest _ _ c.requires.none }));
+      grows = search rules;
+    }
 
-pub returns-clause-sound : goal.returns-clause-sound
-returns-clause-sound g c =
+pub returns-clause-stays : goal.returns-clause-stays
+returns-clause-stays g c =
+    let more = stored_waiting (head_of c.args.opened.head) (buffer_of c.args.self.now.standing.dpb) in
+    let same = ap num_waiting (c.in_ok-store_picture.ensures.buffer (head_of c.args.opened.head) (record { same_number = refl; order_count = refl; pic_output_flag = refl }) c.requires.sound.latency) in
     let s = c.requires.sound in
     let b = c.bump_additionally.ensures in
     let e = c.in_ok-store_picture.ensures in
+    let t = bumped_total _ _ _ _ _ b in
     record {
-      sized = b.size ∙ e.size ∙ s.sized;
-      latency = b.latency;
-      below = below_part _ _ _ _ (stored_below _ _ _ _ s.below c.requires.newest.counted e.handles) (omega arith) b.handles;
-      newest = none_newest _ _ c.requires.none;
-      told = told_call (SubmitPicture c.args.opened.head.number c.in_ok-handle.handle) c.in_ok-handle.ensures.log s.told (λ t h. record {
-        handles = λ x k. submitted_more _ _ _ _ e.handles h.handles x (b.handles x k);
-        sequence = h.sequence;
-        picture = none_latest _ _ c.requires.none;
-      });
+      sound = record {
+        sized = b.size ∙ e.size ∙ s.sized;
+        latency = b.latency;
+        below = below_part _ _ _ _ (stored_below _ _ _ _ s.below c.requires.newest.counted e.handles) (omega arith) b.handles;
+        newest = none_newest _ _ c.requires.none;
+        told = told_call (SubmitPicture c.args.opened.head.number c.in_ok-handle.handle) c.in_ok-handle.ensures.log s.told (λ t h. record {
+          handles = λ x k. submitted_more _ _ _ _ e.handles h.handles x (b.handles x k);
+          sequence = h.sequence;
+          picture = none_latest _ _ c.requires.none;
+        });
+      };
+      grows = record { few = omega (arith, more, same, t); capacity = b.capacity; stored = b.room ∙ c.in_ok-store_picture.ensures.room };
     }

@@ -20,7 +20,7 @@ returns-then-begins-clause-part g c =
     (c.complete.ensures.whole c.args.options c.args.pps.now ∙ ap (λ (b : Bool). if b then Some w else None) c.if-not-complete.false) (sym (c.begins.ensures c.args.options c.args.sps.now c.args.pps.now) ∙ c.if-begins.true) c.change_picture.result
     (subst (λ (k : Option KeptHeader). Changes c.change_picture.result c.args.timestamp (traces (g.B.StatelessH265DecoderBackend.log c.args.self.now.backend) c.args.self.now.standing) (traces (g.B.StatelessH265DecoderBackend.log c.change_picture.new.self.backend) c.change_picture.new.self.standing)
     w (record (standing c.args.self.now.standing) { kept = k }) (standing c.change_picture.new.self.standing))
-    (c.in_ok-keep.ensures.kept c.args.options c.args.sps.now c.args.pps.now ∙ c.complete.ensures.kept c.args.options c.args.pps.now _) c.change_picture.ensures.part)
+    (c.keep.ensures c.args.options c.args.sps.now c.args.pps.now ∙ c.complete.ensures.kept c.args.options c.args.pps.now _) c.change_picture.ensures.part)
 
 pub returns-else-begins-clause-part : goal.returns-else-begins-clause-part
 returns-else-begins-clause-part g c =
@@ -30,4 +30,4 @@ returns-else-begins-clause-part g c =
     (c.complete.ensures.whole c.args.options c.args.pps.now ∙ ap (λ (b : Bool). if b then Some w else None) c.if-not-complete.false) (sym (c.begins.ensures c.args.options c.args.sps.now c.args.pps.now) ∙ c.if-begins.false) c.follow.result
     (subst (λ (k : Option KeptHeader). Follows c.follow.result c.args.timestamp (traces (g.B.StatelessH265DecoderBackend.log c.args.self.now.backend) c.args.self.now.standing) (traces (g.B.StatelessH265DecoderBackend.log c.follow.new.self.backend) c.follow.new.self.standing)
     w (record (standing c.args.self.now.standing) { kept = k }) (standing c.follow.new.self.standing))
-    (c.in_ok-keep.ensures.kept c.args.options c.args.sps.now c.args.pps.now ∙ c.complete.ensures.kept c.args.options c.args.pps.now _) (c.follow.ensures.part c.args.timestamp c.args.options))
+    (c.keep.ensures c.args.options c.args.sps.now c.args.pps.now ∙ c.complete.ensures.kept c.args.options c.args.pps.now _) (c.follow.ensures.part c.args.timestamp c.args.options))

@@ -1,4 +1,4 @@
-use Rattle.std.proofs.Common.{◌≡◌, refl, ap, ◌∙◌, ℕ, Bool, Option, List, length, not, ◌==◌}
+use Rattle.std.proofs.Common.{refl, ap, ◌∙◌, ℕ, Bool, Option, List, length, not, ◌==◌}
 use Rattle.hevc_types_c.specs.declared.sps.Sps.{Sps}
 use Rattle.std.specs.BTreeMap.{btree_map_len}
 use Rattle.hevc_records.specs.Sps.{PlainSps}

@@ -1,4 +1,4 @@
-use Rattle.std.proofs.Common.{◌≡◌, ap, ℕ, Option}
+use Rattle.std.proofs.Common.{ap, ℕ, Option}
 use Rattle.hevc_records.specs.Vps.{PlainVps}
 use Rattle.hevc_types_b.specs.Vps.{plain_vps}
 use Rattle.hevc_slice.specs.Kept.{kept_by}

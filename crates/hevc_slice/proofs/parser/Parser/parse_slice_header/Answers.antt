@@ -1,23 +1,20 @@
-use Rattle.std.proofs.Common.{subst, Ok}
-use Rattle.std.specs.Prelude.{IsTrue}
-use Rattle.hevc_spec.specs.Payload.{payload}
-use Rattle.hevc_spec.specs.Table.{read}
+use Rattle.std.proofs.Common.{refl, subst, Ok, Err}
+use Rattle.std.proofs.lemmas.Result.{err_from_is_err_and}
 use Rattle.hevc_spec.specs.UnitHeader.{UnitHeader}
-use Rattle.hevc_spec.specs.UnitTypes.{is_slice}
-use Rattle.hevc_bits.specs.FoundUnit.{FoundUnit, bytes_of}
-use Rattle.hevc_elements.specs.Words.{ReadsSet}
-use Rattle.hevc_types_d.specs.declared.slice.Slice.{Slice}
-use Rattle.hevc_types_d.specs.SliceHeader.{plain_slice_header}
+use Rattle.hevc_bits.specs.FoundUnit.{FoundUnit}
+use Rattle.hevc_slice_header.specs.Answers.{ReadsSlice}
 use Rattle.hevc_slice.specs.Kept.{kept_by}
-use Rattle.hevc_slice.specs.Slices.{slice_table}
-use Rattle.hevc_slice.proofs.Lent.{means_by}
+use Rattle.hevc_slice.specs.Slices.{active_of}
+use Rattle.hevc_slice.proofs.Active.{read_whole, refused_whole}
 use Rattle.hevc_slice.proofs.parser.Parser.parse_slice_header.Goals as goal
 
-pub returns-clause-read : goal.returns-clause-read
-returns-clause-read c =
-    let h = plain_slice_header c.read_slice.new.slice.header in
-    subst (λ (u : FoundUnit UnitHeader). IsTrue (is_slice u.header.nal_unit_type) → ReadsSet (λ (_ : Unit {0}). h) (Ok tt) (read (slice_table (kept_by c.args.self.now) u) (payload (bytes_of u)))) c.new_slice-slice.ensures.unit c.in_ok-read_slice.ensures.read
+pub returns-clause-reads : goal.returns-clause-reads
+returns-clause-reads c =
+    let h = c.read_slice.new.slice.header in
+    (h, refl, read_whole _ _ h _ _ (subst (λ (u : FoundUnit UnitHeader). ReadsSlice (active_of (kept_by c.args.self.now)) u (Ok c.in_ok-read_slice.field-0) h) c.new_slice-slice.ensures.unit c.in_ok-read_slice.ensures.reads))
 
-pub returns-clause-means : goal.returns-clause-means
-returns-clause-means c is =
-    means_by (λ (slice : Slice). plain_slice_header slice.header) (slice_table (kept_by c.args.self.now) c.args.nalu) (payload (bytes_of c.args.nalu)) (Ok c.read_slice.new.slice) (returns-clause-read c is)
+pub returns-in_err-read_slice-clause-reads : goal.returns-in_err-read_slice-clause-reads
+returns-in_err-read_slice-clause-reads c =
+    let h = c.read_slice.new.slice.header in
+    let e = err_from_is_err_and c.from_residual.result c.from_residual.ensures.1 in
+    rw e.1 (rw e.2 (h, tt, refused_whole _ _ h _ (subst (λ (u : FoundUnit UnitHeader). ReadsSlice (active_of (kept_by c.args.self.now)) u (Err c.in_err-read_slice.field-0.0) h) c.new_slice-slice.ensures.unit c.in_err-read_slice.ensures.reads)))

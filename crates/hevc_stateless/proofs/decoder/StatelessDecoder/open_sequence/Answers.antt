@@ -4,15 +4,15 @@ use Rattle.hevc_types_c.specs.Sps.{plain_sps}
 use Rattle.hevc_walk_inputs.specs.Sequences.{format_of_set}
 use Rattle.hevc_stream.specs.Kept.{Kept}
 use Rattle.hevc_walk.specs.Meanings.{SequenceSet}
-use Rattle.hevc_driver.specs.Takes.{Takes}
-use Rattle.hevc_stateless.specs.Views.{traces_of}
+use Rattle.hevc_stateless.specs.Steps.{Acts}
+use Rattle.hevc_stateless.specs.Views.{moment_of}
 use Rattle.hevc_stateless.proofs.Setting.{some_of, named_of}
 use Rattle.hevc_stateless.proofs.decoder.StatelessDecoder.open_sequence.Goals as goal
 
 pub unwrap-set-requires : goal.unwrap-set-requires
 unwrap-set-requires g c = some_of (λ set. plain_sps set.now) c.get_sps.result _ (c.get_sps.ensures.found ∙ ap (λ (k : Kept). k.sequence_sets c.args.id) c.parser.ensures) c.requires.kept
 
-pub returns-clause-part : goal.returns-clause-part
-returns-clause-part g c t set is =
+pub returns-clause-acts : goal.returns-clause-acts
+returns-clause-acts g c t set is =
     let same = named_of (λ set. plain_sps set.now) c.get_sps.result c.unwrap-set.result set c.unwrap-set.ensures (c.get_sps.ensures.found ∙ ap (λ (k : Kept). k.sequence_sets c.args.id) c.parser.ensures ∙ is) in
-    subst (λ (s : PlainSps). Takes c.open_sequence.result t (traces_of (g.B.StatelessH265DecoderBackend.log c.args.self.now.session.backend) c.args.self.now.session) (traces_of (g.B.StatelessH265DecoderBackend.log c.open_sequence.new.self.backend) c.open_sequence.new.self) (SequenceSet (format_of_set s)) c.args.self.now.session.standing c.open_sequence.new.self.standing) same (c.open_sequence.ensures.part t)
+    subst (λ (s : PlainSps). Acts c.open_sequence.result t (SequenceSet (format_of_set s)) c.args.self.now.session.state (moment_of (g.B.StatelessH265DecoderBackend.log c.args.self.now.session.backend) c.args.self.now.session) (moment_of (g.B.StatelessH265DecoderBackend.log c.open_sequence.new.self.backend) c.open_sequence.new.self)) same (c.open_sequence.ensures.acts t)

@@ -41,7 +41,7 @@ returns-then-awaiting_stream_info-clause-step g c t =
     let r = c.requires in
     let kept = c.in-Ok.ensures.keeps in
     first_step o k bytes h r.parsed r.wanted kept.0 kept.1 r.typed c.open_sequence.result t _ _ c.args.self.now.session c.open_sequence.new.self.session (kept_of c.open_sequence.new.self.kept) (sym c.awaiting_stream_info.ensures ∙ c.if-awaiting_stream_info.true) (c.open_sequence.ensures.kept ∙ kept.3)
-    (c.open_sequence.ensures.part t kept.0 (found_by_id o k bytes h r.parsed r.wanted kept.0 kept.1 r.typed c.in-Ok.id (kept_of c.keep_sequence_set.new.self) kept.2 kept.3)) c.open_sequence.ensures.state
+    (c.open_sequence.ensures.acts t kept.0 (found_by_id o k bytes h r.parsed r.wanted kept.0 kept.1 r.typed c.in-Ok.id (kept_of c.keep_sequence_set.new.self) kept.2 kept.3))
 
 pub returns-in_err-read_waiting-clause-step : goal.returns-in_err-read_waiting-clause-step
 returns-in_err-read_waiting-clause-step g c t =
@@ -51,10 +51,8 @@ returns-in_err-read_waiting-clause-step g c t =
     let h = c.args.nalu.now.header in
     let r = c.requires in
     let kept = c.in-Ok.ensures.keeps in
-    subst (λ log. Step c.from_residual.result t o h bytes (seen (g.B.StatelessH265DecoderBackend.log c.args.self.now.session.backend) c.args.self.now.session c.args.self.now.kept) (record { log = log; view = c.resume.new.self; kept = kept_of c.read_waiting.new.self }))
-    (sym (ap (λ (v : View g.row.B.Denot g.row.B-Handle.Denot). g.B.StatelessH265DecoderBackend.log v.backend) c.resume.ensures))
-    (later_stopped o k bytes h r.parsed r.wanted kept.0 kept.1 r.typed c.from_residual.result t (g.B.StatelessH265DecoderBackend.log c.args.self.now.session.backend) c.args.self.now.session c.resume.new.self (kept_of c.keep_sequence_set.new.self) (kept_of c.read_waiting.new.self)
-    (sym c.awaiting_stream_info.ensures ∙ c.if-awaiting_stream_info.false) r.going c.resume.ensures kept.3 (subst (λ (x : Options). StopsReading x (kept_of c.keep_sequence_set.new.self) (kept_of c.read_waiting.new.self)) c.keep_sequence_set.ensures.options c.in_err-read_waiting.ensures.stopped) c.from_residual.ensures.1)
+    later_stopped o k bytes h r.parsed r.wanted kept.0 kept.1 r.typed c.from_residual.result t _ c.args.self.now.session (kept_of c.keep_sequence_set.new.self) (kept_of c.read_waiting.new.self)
+    kept.3 (subst (λ (x : Options). StopsReading x (kept_of c.keep_sequence_set.new.self) (kept_of c.read_waiting.new.self)) c.keep_sequence_set.ensures.options c.in_err-read_waiting.ensures.stopped) c.from_residual.ensures.1
 
 pub returns-clause-step : goal.returns-clause-step
 returns-clause-step g c t =
@@ -69,13 +67,7 @@ returns-clause-step g c t =
     (later_step o k bytes h r.parsed r.wanted kept.0 kept.1 r.typed tt t (g.B.StatelessH265DecoderBackend.log c.args.self.now.session.backend) c.args.self.now.session c.resume.new.self (kept_of c.keep_sequence_set.new.self) (kept_of c.read_waiting.new.self)
     (sym c.awaiting_stream_info.ensures ∙ c.if-awaiting_stream_info.false) r.going c.resume.ensures kept.3 (c.in_ok-read_waiting.ensures.read ∙ ap (λ (x : Options). with_all_waited x (kept_of c.keep_sequence_set.new.self)) c.keep_sequence_set.ensures.options))
 
-pub returns-in_err-read_waiting-clause-faultless : goal.returns-in_err-read_waiting-clause-faultless
-returns-in_err-read_waiting-clause-faultless g c faultless = (
-  subst (λ (v : View g.row.B.Denot g.row.B-Handle.Denot). g.B.StatelessH265DecoderBackend.is_faultless v.backend) (sym c.resume.ensures) faultless,
-  (let error = err_from_is_err_and c.from_residual.result c.from_residual.ensures.1 in rw error.1 (rw error.2 (λ none. none))),
-)
-
-pub returns-in_err-read_waiting-clause-info : goal.returns-in_err-read_waiting-clause-info
-returns-in_err-read_waiting-clause-info g c =
-    let error = err_from_is_err_and c.from_residual.result c.from_residual.ensures.1 in
-    rw error.1 (rw error.2 tt)
+pub returns-in_err-read_waiting-clause-fair : goal.returns-in_err-read_waiting-clause-fair
+returns-in_err-read_waiting-clause-fair g c =
+    let e = err_from_is_err_and c.from_residual.result c.from_residual.ensures.1 in
+    rw e.1 (rw e.2 (record { blames = record { cause = refl; faultless = λ h. (h, λ none. none) }; info = tt }))

@@ -10,7 +10,7 @@ use Rattle.hevc_stateless.proofs.session.Session.flush.Goals as goal
 use Rattle.hevc_stateless.proofs.session.Session.flush.Goals.{then-awaited, else-awaited}
 
 pub invariant_of-self-in_err-close : goal.invariant_of-self-in_err-close
-invariant_of-self-in_err-close g c = (c.close.ensures.sound, idle _ _ (closed_none (Unit {0}) _ 0 _ _ _ _ (c.in_err-close.ensures.part 0)))
+invariant_of-self-in_err-close g c = (c.close.ensures.stays.sound, idle _ _ (closed_none (Unit {0}) _ 0 _ _ _ _ (c.in_err-close.ensures.part 0)))
 
 pub returns-in_err-close-clause-flushes : goal.returns-in_err-close-clause-flushes
 returns-in_err-close-clause-flushes g c t =
@@ -38,11 +38,11 @@ returns-clause-flushes g c t =
     ])
 
 pub returns-in_err-close-clause-few : goal.returns-in_err-close-clause-few
-returns-in_err-close-clause-few g c = few_came 1 c.args.self.now c.self.inside.driver.standing c.reserve.new.self.standing c.close.new.self.standing (ap (λ (v : View g.row.B.Denot g.row.B-Handle.Denot). v.queue) c.self.view_is) c.in_ok-reserve.ensures.total c.in_err-close.ensures.grows (omega arith)
+returns-in_err-close-clause-few g c = few_came 1 c.args.self.now c.self.inside.driver.standing c.reserve.new.self.standing c.close.new.self.standing (ap (λ (v : View g.row.B.Denot g.row.B-Handle.Denot). v.queue) c.self.view_is) c.in_ok-reserve.ensures.total c.in_err-close.ensures.stays.grows (omega arith)
 
 pub returns-clause-few : goal.returns-clause-few
 returns-clause-few g c =
-    let came = few_came 1 c.args.self.now c.self.inside.driver.standing c.reserve.new.self.standing c.close.new.self.standing (ap (λ (v : View g.row.B.Denot g.row.B-Handle.Denot). v.queue) c.self.view_is) c.in_ok-reserve.ensures.total c.in_ok-close.ensures.grows (omega arith) in
+    let came = few_came 1 c.args.self.now c.self.inside.driver.standing c.reserve.new.self.standing c.close.new.self.standing (ap (λ (v : View g.row.B.Denot g.row.B-Handle.Denot). v.queue) c.self.view_is) c.in_ok-reserve.ensures.total c.in_ok-close.ensures.stays.grows (omega arith) in
     elim c.if-awaited.branch [
       | then-awaited w ↦ subst (λ (t : Traces g.row.B-Handle.Denot). length t.queue ≤ length c.args.self.now.queue + 17) (sym (ap (λ d. traces (g.B.StatelessH265DecoderBackend.log d.driver.backend) d.driver.standing) w.self-inside-is ∙ w.forget_format.ensures.traces)) came
       | else-awaited w ↦ subst (λ (t : Traces g.row.B-Handle.Denot). length t.queue ≤ length c.args.self.now.queue + 17) (sym (ap (λ d. traces (g.B.StatelessH265DecoderBackend.log d.driver.backend) d.driver.standing) w.self-inside-is)) came

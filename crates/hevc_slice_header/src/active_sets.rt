@@ -1,0 +1,11 @@
+//! The sets that a slice makes active.
+use hevc_types_c::Sps;
+use hevc_types_d::Pps;
+
+/// The parameter sets that a slice makes active: the picture set that its header names, and the sequence set that this one names
+/// (7.4.2.4.2).
+#[derive(Clone, Copy)]
+pub struct ActiveSets<'a> {
+    pub sps: &'a Sps,
+    pub pps: &'a Pps,
+}
