@@ -6,8 +6,8 @@ ghost use Rattle.hevc_walk.specs.Meanings.{Meaning};
 ghost use Rattle.hevc_walk.specs.Results.{calls, outputs, verdict};
 ghost use Rattle.hevc_walk_drop.specs.Dropping.{with_flags, DropsOther, renumbered_call, renumbered_output, renumbered_verdict};
 
-/// Without some units that mean nothing a stream asks for the same, each unit number replaced by how many units are kept before
-/// it.
+/// Without some units that mean nothing a stream asks for the same, each unit number replaced by
+/// how many units are kept before it.
 pub fn dropped_units()
     ensures calls { (flags : List Bool) (us : List Meaning) → DropsOther flags us
         → calls (with_flags flags us) ≡ map (renumbered_call flags) (calls us) }
