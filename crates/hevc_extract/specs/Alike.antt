@@ -9,8 +9,8 @@ use Rattle.hevc_stream.specs.Options.{Options}
 use Rattle.hevc_stream.specs.Stream.{meanings, meanings_behind}
 use Rattle.hevc_extract.specs.Extracting.{bytes_of_all, is_kept, kept_units}
 
--- Exactly the kept units are found in the bytes, byte for byte and in order, and the bytes mean what
--- these units mean one after another.
+-- Exactly the kept units are found in the bytes, byte for byte and in order, and the bytes mean
+-- what these units mean one after another.
 pub record HoldsKept (highest_tid highest_layer : ℕ) (stream bytes : List ℕ) : Type 0 where
   pub found : units bytes
       ≡ placed 0 (bytes_of_all (kept_units highest_tid highest_layer (units stream)))

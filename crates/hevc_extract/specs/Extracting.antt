@@ -42,8 +42,8 @@ abbrev pub refused_or : ℕ → Option (ℕ × UnitError) → Result UnitHeader 
 refused_or number later (Ok header) = later
 refused_or number later (Err error) = Some (number, error)
 
--- the first unit whose header is refused (7.3.1.2), by its number, and why, where so many units come
--- before the list
+-- the first unit whose header is refused (7.3.1.2), by its number, and why, where so many units
+-- come before the list
 abbrev pub first_refused : ℕ → List NalUnit → Option (ℕ × UnitError)
 first_refused number [] = None
 first_refused number (u ∷ us) =

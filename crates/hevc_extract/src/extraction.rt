@@ -17,8 +17,8 @@ pub struct Kept {
     pub dropped: u64,
 }
 
-/// Why nothing is extracted: the header of the unit with this number, from 0, is refused (7.3.1.2), or
-/// there was no memory.
+/// Why nothing is extracted: the header of the unit with this number, from 0, is refused (7.3.1.2),
+/// or there was no memory.
 #[derive(Clone, Copy, Debug, PartialEq, Eq, Drop, Error)]
 pub enum ExtractError {
     #[error("unit {unit} is refused: {error}")]
@@ -37,10 +37,10 @@ impl From<AllocError> for ExtractError {
     }
 }
 
-/// Adds the units of `stream` whose temporal id is at most `highest_tid`, 0 to 6, to `out`, each after
-/// 00 00 01, byte for byte and in order: the sub-bitstream of clause 10 of H.265 with all layers.
-/// What is decoded from them with `highest_tid` as the highest sub-layer that is wanted is what is
-/// decoded so from `stream` (`DecodesAlike`).
+/// Adds the units of `stream` whose temporal id is at most `highest_tid`, 0 to 6, to `out`, each
+/// after 00 00 01, byte for byte and in order: the sub-bitstream of clause 10 of H.265 with all
+/// layers. What is decoded from them with `highest_tid` as the highest sub-layer that is wanted is
+/// what is decoded so from `stream` (`DecodesAlike`).
 ///
 /// `Refused` tells of the first unit whose header is refused. After a refusal `out` is as before.
 pub fn extract(stream: &[u8], highest_tid: u8, out: &mut Vec<u8>) -> Result<Kept, ExtractError>

@@ -23,8 +23,8 @@ pub const INPUT_LIMIT: usize = 268_435_456;
 /// each after 00 00 01. `words` are those of the command line after the program's name: `T`, one
 /// digit from 0 to 6, keeps the units whose temporal id is at most T; `T L`, L from 0 to 62, of
 /// these the ones whose layer id is at most L. Where the header of a unit is refused, one line is
-/// written in place of the units, `refused unit U CAUSE`, for the first such unit U, from 0. Answers
-/// the status of the program:
+/// written in place of the units, `refused unit U CAUSE`, for the first such unit U, from 0.
+/// Answers the status of the program:
 ///
 /// | status | where |
 /// |---|---|

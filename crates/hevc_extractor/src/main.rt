@@ -1,5 +1,5 @@
-//! The program: takes the lower temporal sub-layers and layers of an H.265 byte stream from standard
-//! input, without decoding it, and writes them.
+//! The program: takes the lower temporal sub-layers and layers of an H.265 byte stream from
+//! standard input, without decoding it, and writes them.
 #![tactic(auto)]
 
 use hevc_extract::run_extract;
