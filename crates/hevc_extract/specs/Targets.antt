@@ -18,12 +18,12 @@ layer (tens ∷ ones ∷ []) =
     else None
 layer word = None
 
-abbrev pub up_to : ℕ → ℕ → Targets
-up_to tid top = record { highest_tid = tid; highest_layer = top }
+abbrev pub targets_of : ℕ → ℕ → Targets
+targets_of tid top = record { highest_tid = tid; highest_layer = top }
 
 -- `T`: sub-layers up to T, and all layers; `T L`: layers up to L
 abbrev pub asked_targets : List (List ℕ) → Option Targets
-asked_targets (tid ∷ []) = option_map (λ t. up_to t 63) (sub_layer tid)
+asked_targets (tid ∷ []) = option_map (λ t. targets_of t 63) (sub_layer tid)
 asked_targets (tid ∷ top ∷ []) =
-    option_and_then (λ t. option_map (up_to t) (layer top)) (sub_layer tid)
+    option_and_then (λ t. option_map (targets_of t) (layer top)) (sub_layer tid)
 asked_targets words = None
