@@ -24,7 +24,8 @@ use Rattle.hevc_decoder.specs.Runs.{Reached, TakesPiece, EndsRun, Ended}
 use Rattle.hevc_decoder.specs.Sources.{ComeOutFirst, Drained, Fed, Stopped, FedTo}
 use Rattle.hevc_decoder.specs.Windows.{IsLastStart}
 use Rattle.hevc_decoder.proofs.Windows.{EndsBehind}
-use Rattle.hevc_decoder.proofs.Cutting.{units_joined, units_moved}
+use Rattle.hevc_joined_units.proofs.Joined.{units_joined}
+use Rattle.hevc_decoder.proofs.Cutting.{units_moved}
 use Rattle.hevc_decoder.proofs.Running.{events_are}
 use Rattle.hevc_decoder.proofs.Promises.{outputs_of}
 use Rattle.hevc_decoder.proofs.Walking.{begins}

@@ -1,0 +1,5 @@
+pub mod Held
+pub mod Alike
+mod Answers
+mod Taking
+mod Writing

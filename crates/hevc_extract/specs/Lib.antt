@@ -1,0 +1,4 @@
+pub mod Extracting
+pub mod Alike
+pub mod Targets
+pub mod Written

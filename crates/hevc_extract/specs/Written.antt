@@ -1,0 +1,38 @@
+-- What is written of a stream, and the status.
+use Rattle.std.specs.Prelude.{◌≡◌, ℕ, ◌⊎◌, List, ◌++◌, codes, decimal, Option, Some, None}
+use Rattle.hevc_spec.specs.Units.{units}
+use Rattle.hevc_bits.specs.declared.header.UnitError.{UnitError}
+use Rattle.hevc_bits.specs.declared.header.UnitError.TheVariants.{NoNal, TruncatedNalu, InvalidNaluType, TemporalIdZero}
+use Rattle.hevc_extract.specs.Extracting.{extracted, first_refused}
+use Rattle.hevc_extract.specs.declared.words.Targets.{Targets}
+
+-- why the header of a unit is refused, as the report on a stream has it
+abbrev pub cause_text : UnitError → List ℕ
+cause_text NoNal = codes "NoNal"
+cause_text TruncatedNalu = codes "TruncatedNalu"
+cause_text (InvalidNaluType nal_unit_type) = codes "InvalidNaluType " ++ decimal nal_unit_type
+cause_text TemporalIdZero = codes "OutOfRange 0 1"
+
+-- the line of a refusal
+abbrev pub refusal_line : ℕ → UnitError → List ℕ
+refusal_line unit error =
+    codes "refused unit " ++ decimal unit ++ codes " " ++ cause_text error ++ codes "\n"
+
+-- the bytes that are extracted, or the line of the unit that is refused
+abbrev pub bytes_or_line : List ℕ → Option (ℕ × UnitError) → List ℕ
+bytes_or_line bytes None = bytes
+bytes_or_line bytes (Some refused) = refusal_line refused.0 refused.1
+
+abbrev pub written_of : Targets → List ℕ → List ℕ
+written_of targets stream =
+    bytes_or_line (extracted targets.highest_tid targets.highest_layer stream)
+    (first_refused 0 (units stream))
+
+-- 0, or 1 where a unit is refused
+abbrev pub status_of : Option (ℕ × UnitError) → ℕ
+status_of None = 0
+status_of (Some refused) = 1
+
+-- 0, 1 or 5
+abbrev pub IsDone : ℕ → Type 0
+IsDone status = (status ≡ 0) ⊎ (status ≡ 1) ⊎ (status ≡ 5)

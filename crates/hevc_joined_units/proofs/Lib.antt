@@ -1,0 +1,4 @@
+mod Whole
+pub mod Joined
+pub mod Found
+pub mod Cut
