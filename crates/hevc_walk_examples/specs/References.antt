@@ -1,8 +1,8 @@
 -- Streams that each turn on what a picture may refer to.
-use Rattle.std.specs.Prelude.{ℕ, ℤ, pos, negsuc, true, false, List, [], ◌∷◌, Some, None}
+use Rattle.std.specs.Prelude.{ℕ, ℤ, pos, negsuc, ◌-◌, ◌^◌, true, false, List, [], ◌∷◌, Some, None}
 use Rattle.hevc_walk.specs.Meanings.{ShortTermMember, LongTermMember, SliceType, B, I, P, Slice, Meaning, SequenceSet, CodedSlice, EndOfSequence, Other}
 use Rattle.hevc_walk_examples.specs.Streams.{plain_format, plain_header, first_slice, later_slice, idr, p4, cra, used_member}
-use Rattle.hevc_walk_examples.specs.Corners.{sets, limited, intra, trailing, places, long_member, short_member}
+use Rattle.hevc_walk_examples.specs.Corners.{sets, limited, screen_sets, intra, trailing, places, long_member, short_member, dependent_of}
 
 abbrev pub unused_member : ℤ → ShortTermMember
 unused_member delta = short_member delta false
@@ -56,6 +56,23 @@ broken_link_set =
     (long_member 0 None true ∷ []) 1) { nal_unit_type = 17 })
     ∷ []
 
+-- an IDR picture under a sequence set that has a short-term set, which its header doesn't name
+abbrev pub idr_under_set : List Meaning
+idr_under_set =
+    SequenceSet plain_format ∷ Other
+    ∷ idr (record sets {
+      short_term_ref_pic_sets =
+          record { negative_pics = used_member (negsuc 3) ∷ []; positive_pics = [] } ∷ [];
+    })
+    ∷ []
+
+-- the current picture takes the second of two places, where three pictures may be referred to
+abbrev pub screen_pair : List Meaning
+screen_pair = SequenceSet plain_format ∷ Other ∷ idr sets ∷ p4
+    ∷ CodedSlice (first_slice 1 [] screen_sets (record (plain_header P 5 (negsuc 0 ∷ negsuc 4 ∷ [])
+    [] 3) { list0 = places 2 }))
+    ∷ []
+
 -- order counts 0, 8, 1 and 16: the RASL_R picture of 1 isn't prevTid0Pic
 abbrev pub rasl_tid0 : List Meaning
 rasl_tid0 =
@@ -72,6 +89,27 @@ counted_anew =
 abbrev pub ended_within : List Meaning
 ended_within =
     SequenceSet plain_format ∷ Other ∷ idr sets ∷ p4 ∷ EndOfSequence ∷ trailing sets 14 ∷ []
+
+-- order counts 0, 2 ^ 31 - 2 and 2 ^ 31 + 2: the last one is far from the second alone
+abbrev pub far_step : List Meaning
+far_step =
+    SequenceSet plain_format ∷ Other ∷ idr sets
+    ∷ trailing (record sets { max_pic_order_cnt_lsb = 2 ^ 33 }) (2 ^ 31 - 2) ∷ trailing sets 2 ∷ []
+
+-- an order count of -5, whose most significant bits are -(2 ^ 32)
+abbrev pub far_msb : List Meaning
+far_msb =
+    SequenceSet plain_format ∷ Other ∷ idr sets
+    ∷ trailing (record sets { max_pic_order_cnt_lsb = 2 ^ 32 }) (2 ^ 32 - 5) ∷ []
+
+-- the slices of a picture that names picture set 1: an independent one and a dependent one
+abbrev pub dependent_of_1 : List Meaning
+dependent_of_1 =
+    SequenceSet plain_format ∷ Other
+    ∷ CodedSlice (record (first_slice 19 [] sets (plain_header I 0 [] [] 0)) {
+      pic_parameter_set_id = 1;
+    })
+    ∷ dependent_of sets 1 ∷ []
 
 -- a dependent slice of a P picture, whose own header says nothing
 abbrev pub dependent_at : ℕ → Meaning

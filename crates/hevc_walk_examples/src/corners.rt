@@ -97,6 +97,8 @@ pub fn random_access()
     ensures skipped { fates broken_link ≡ Skipped ∷ ForOutput ∷ ForOutput ∷ ForOutput ∷ [] }
     ensures open_gop { new_pictures open_gop
         ≡ (0, 19, pos 0, true) ∷ (1, 21, pos 8, true) ∷ (2, 9, pos 6, true) ∷ [] }
+    ensures within { told_outputs open_gop
+        ≡ (0, pos 0, 4) ∷ (2, pos 6, 5) ∷ (1, pos 8, 5) ∷ [] }
 {}
 
 /// A CRA picture within a sequence that is handled as a BLA picture discards what waits, and its RASL pictures are skipped;

@@ -18,3 +18,11 @@ returns-clause-waiting c = refl
 pub returns-clause-stopped : goal.returns-clause-stopped
 unfolding head order_count_in_range nearest due_outputs needs_additional_bumping needs_bumping with_stored reference_set with_marks ref_pic_list0 ref_pic_list1 finish store_picture change_format begin_picture make_room start_decoding
 returns-clause-stopped c = refl
+
+pub returns-clause-format : goal.returns-clause-format
+unfolding head order_count_in_range nearest due_outputs needs_additional_bumping needs_bumping with_stored reference_set with_marks ref_pic_list0 ref_pic_list1 finish store_picture change_format begin_picture make_room start_decoding
+returns-clause-format c = refl
+
+pub returns-clause-discarded : goal.returns-clause-discarded
+unfolding head order_count_in_range nearest due_outputs needs_additional_bumping needs_bumping with_stored reference_set with_marks ref_pic_list0 ref_pic_list1 finish store_picture change_format begin_picture make_room start_decoding
+returns-clause-discarded c = refl

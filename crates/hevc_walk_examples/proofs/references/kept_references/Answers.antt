@@ -18,3 +18,7 @@ returns-clause-unmarked c = refl
 pub returns-clause-begun : goal.returns-clause-begun
 unfolding head order_count_in_range nearest due_outputs needs_additional_bumping needs_bumping with_stored reference_set with_marks ref_pic_list0 ref_pic_list1 finish store_picture change_format begin_picture make_room start_decoding
 returns-clause-begun c = refl
+
+pub returns-clause-idr : goal.returns-clause-idr
+unfolding head order_count_in_range nearest due_outputs needs_additional_bumping needs_bumping with_stored reference_set with_marks ref_pic_list0 ref_pic_list1 finish store_picture change_format begin_picture make_room start_decoding
+returns-clause-idr c = refl
