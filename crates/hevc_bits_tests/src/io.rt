@@ -122,19 +122,25 @@ fn a_text_is_written_whole(rt: HostRuntime) -> Result<(), Fail> {
     Ok(())
 }
 
-/// A system whose program has a word of 100 bytes, or of more than may be.
-struct OneWord {
+/// A system whose program has two words, of 2 and of 100 bytes, or whose second one has more than may be.
+struct TwoWords {
     is_short: bool,
 }
 
-impl Env for OneWord {
+impl Env for TwoWords {
     fn arg(&self, i: usize, buf: &mut [u8]) -> Result<usize, FillError> {
         match i {
-            1 if buf.len() >= 100 && self.is_short => {
+            1 if buf.len() >= 2 => {
+                buf[0] = 5;
+                buf[1] = 6;
+                Ok(2)
+            }
+            2 if buf.len() >= 100 && self.is_short => {
                 buf[0] = 7;
+                buf[99] = 8;
                 Ok(100)
             }
-            1 => Err(FillError::TooLong),
+            1 | 2 => Err(FillError::TooLong),
             _ => Err(FillError::NotPresent),
         }
     }
@@ -151,11 +157,13 @@ impl Env for OneWord {
 #[test]
 fn a_command_line_has_its_words(rt: HostRuntime) -> Result<(), Fail> {
     let alloc = rt.alloc();
-    let words = command_line(&OneWord { is_short: true }, alloc)?;
-    assert_eq!(rt; words.len(), 1);
-    assert_eq!(rt; words[0].as_bytes().len(), 100);
-    assert_eq!(rt; words[0].as_bytes()[0], 7);
-    let refused = command_line(&OneWord { is_short: false }, alloc).err();
+    let words = command_line(&TwoWords { is_short: true }, alloc)?;
+    assert_eq!(rt; words.len(), 2);
+    assert_eq!(rt; words[0].as_bytes(), [5, 6].as_slice());
+    let long = words[1].as_bytes();
+    assert_eq!(rt; long.len(), 100);
+    assert_eq!(rt; (long[0], long[99]), (7, 8));
+    let refused = command_line(&TwoWords { is_short: false }, alloc).err();
     assert_eq!(rt; refused, Some(WordsError::Refused));
     Ok(())
 }

@@ -1,11 +1,12 @@
 -- Worked streams: the bytes of their units, and what these mean.
-use Rattle.std.specs.Prelude.{ℕ, negsuc, pos, true, List, [], ◌∷◌, ◌++◌, replicate, take}
-use Rattle.hevc_walk.specs.Meanings.{Format, Slice, I, P, Meaning, SequenceSet, CodedSlice, Other}
+use Rattle.std.specs.Prelude.{ℕ, negsuc, pos, true, false, Some, None, List, [], ◌∷◌, ◌++◌, replicate, take}
+use Rattle.hevc_walk.specs.Meanings.{Format, ShortTermRefPicSet, SliceHeader, Slice, B, I, P, Meaning, SequenceSet, CodedSlice, Other}
 use Rattle.hevc_spec.specs.Units.{units}
 use Rattle.hevc_stream.specs.Options.{Options, default_options}
 use Rattle.hevc_stream.specs.Kept.{none_kept}
 use Rattle.hevc_stream.specs.Stream.{kept_behind_all}
 use Rattle.hevc_walk_examples.specs.Streams.{plain_format, plain_sets, plain_header, first_slice, later_slice, idr, idr_bytes, p4_bytes, p2_bytes, b2_bytes, dependent_bytes}
+use Rattle.hevc_walk_examples.specs.Corners.{limited, long_member, short_member}
 
 -- ---- units
 
@@ -38,6 +39,34 @@ abbrev pub tight_sps_bytes : List ℕ
 tight_sps_bytes =
     66 ∷ 1 ∷ 1 ∷ 1 ∷ 96 ∷ 0 ∷ 0 ∷ 3 ∷ 0 ∷ 144 ∷ 0 ∷ 0 ∷ 3 ∷ 0 ∷ 0 ∷ 3 ∷ 0 ∷ 30 ∷ 160 ∷ 24 ∷ 32 ∷ 48
     ∷ 94 ∷ 17 ∷ 8 ∷ 234 ∷ 240 ∷ 130 ∷ []
+
+-- two sub-layers, which declare 1, 0 and 0, and 4, 2 and 3: how many pictures beside the current
+-- one, reordering and latency plus 1; MaxPicOrderCntLsb 32
+abbrev pub two_layers_sps_bytes : List ℕ
+two_layers_sps_bytes =
+    66 ∷ 1 ∷ 3 ∷ 1 ∷ 96 ∷ 0 ∷ 0 ∷ 3 ∷ 0 ∷ 144 ∷ 0 ∷ 0 ∷ 3 ∷ 0 ∷ 0 ∷ 3 ∷ 0 ∷ 60 ∷ 0 ∷ 0 ∷ 160 ∷ 136 ∷ 69
+    ∷ 170 ∷ 202 ∷ 201 ∷ 87 ∷ 132 ∷ 16 ∷ []
+
+-- 352 by 240 samples at level 2
+abbrev pub large_sps_bytes : List ℕ
+large_sps_bytes =
+    66 ∷ 1 ∷ 1 ∷ 1 ∷ 96 ∷ 0 ∷ 0 ∷ 3 ∷ 0 ∷ 144 ∷ 0 ∷ 0 ∷ 3 ∷ 0 ∷ 0 ∷ 3 ∷ 0 ∷ 60 ∷ 160 ∷ 11 ∷ 8 ∷ 15 ∷ 23
+    ∷ 149 ∷ 106 ∷ 240 ∷ 130 ∷ []
+
+-- id 2, 32 by 16 samples, a short-term set and a long-term picture
+abbrev pub referring_sps_bytes : List ℕ
+referring_sps_bytes =
+    66 ∷ 1 ∷ 1 ∷ 1 ∷ 96 ∷ 0 ∷ 0 ∷ 3 ∷ 0 ∷ 144 ∷ 0 ∷ 0 ∷ 3 ∷ 0 ∷ 0 ∷ 3 ∷ 0 ∷ 60 ∷ 104 ∷ 16 ∷ 132 ∷ 94
+    ∷ 85 ∷ 171 ∷ 193 ∷ 36 ∷ 173 ∷ 83 ∷ 8 ∷ []
+
+-- id 3, with ordered lists, in which the current picture may stand
+abbrev pub referring_pps_bytes : List ℕ
+referring_pps_bytes = 68 ∷ 1 ∷ 35 ∷ 1 ∷ 198 ∷ 0 ∷ 209 ∷ 9 ∷ []
+
+-- a B slice at block 1 by them: the short-term set and the long-term picture
+-- of the sequence set, two long-term pictures of its own, and an ordered list 0
+abbrev pub referring_bytes : List ℕ
+referring_bytes = 2 ∷ 1 ∷ 19 ∷ 106 ∷ 118 ∷ 98 ∷ 234 ∷ 188 ∷ 56 ∷ []
 
 abbrev pub vps_bytes : List ℕ
 vps_bytes =
@@ -205,6 +234,20 @@ no_level_stream = stream_of ((take 17 sps_bytes ++ 61 ∷ []) ∷ [])
 abbrev pub long_latency_stream : List ℕ
 long_latency_stream = stream_of ((take 22 sps_bytes ++ 64 ∷ 16 ∷ 24 ∷ []) ∷ [])
 
+-- a video set without its last bytes
+abbrev pub cut_video_set_stream : List ℕ
+cut_video_set_stream = stream_of (take 20 vps_bytes ∷ [])
+
+abbrev pub two_layers_stream : List ℕ
+two_layers_stream = stream_of (two_layers_sps_bytes ∷ pps_bytes ∷ idr_bytes ∷ [])
+
+abbrev pub large_stream : List ℕ
+large_stream = stream_of (large_sps_bytes ∷ [])
+
+abbrev pub referring_stream : List ℕ
+referring_stream =
+    stream_of (referring_sps_bytes ∷ referring_pps_bytes ∷ referring_bytes ∷ [])
+
 -- a CRA picture with leading pictures
 abbrev pub leading_stream : List ℕ
 leading_stream = behind_sets (cra_bytes ∷ rasl6_bytes ∷ later_rasl6_bytes ∷ rasl4_bytes ∷ [])
@@ -260,6 +303,38 @@ sets_then format us = SequenceSet format ∷ Other ∷ us
 
 abbrev pub wide_format : Format
 wide_format = record plain_format { coded_width = 32 }
+
+-- an IDR picture under sets that declare these numbers, with MaxPicOrderCntLsb 32
+abbrev pub idr_under : (reorder latency_plus1 buffering : ℕ) → Meaning
+idr_under reorder latency_plus1 buffering =
+    idr (record (limited reorder latency_plus1 buffering) { max_pic_order_cnt_lsb = 32 })
+
+-- the buffer has room for 8: the picture has more than half as many samples as the largest of
+-- level 2, and at most three quarters
+abbrev pub large_format : Format
+large_format = record plain_format { coded_width = 352; coded_height = 240; max_num_pics = 8 }
+
+-- order counts 2 before and 3 after the picture, the latter for later ones alone
+abbrev pub two_sided_set : ShortTermRefPicSet
+two_sided_set = record {
+  negative_pics = short_member (negsuc 1) true ∷ [];
+  positive_pics = short_member (pos 3) false ∷ [];
+}
+
+-- four pictures may be referred to: one of the short-term set, two long-term ones and itself
+abbrev pub referring_header : SliceHeader
+referring_header = record (plain_header B 6 [] [] 4) {
+  long_term_pics =
+      long_member 9 (Some 2) true ∷ long_member 3 None false ∷ long_member 5 (Some 1) true ∷ [];
+  list0 = record { num_ref_idx_active = 2; list_entry = Some (3 ∷ 0 ∷ []) };
+}
+
+abbrev pub referring_slice : Slice
+referring_slice =
+    record (later_slice 1 referring_bytes (record (plain_sets wide_format) {
+      short_term_ref_pic_sets = two_sided_set ∷ [];
+      pps_curr_pic_ref_enabled_flag = true;
+    }) referring_header) { pic_parameter_set_id = 3; segment_address = 1 }
 
 -- a slice that begins behind the first block of a picture
 abbrev pub later_idr_at_1 : Format → Meaning

@@ -2,6 +2,9 @@
 #![tactic(auto)]
 
 ghost use Rattle.std.specs.Prelude.{◌≡◌, pos, true, List, [], ◌∷◌, map, Some, Ok, Err};
+ghost use Rattle.hevc_spec.specs.Payload.{payload_after};
+ghost use Rattle.hevc_spec.specs.Units.{units};
+ghost use Rattle.hevc_records.specs.SpsSizes.{max_dpb_size};
 ghost use Rattle.hevc_walk.specs.Meanings.{TruncatedNalu, InvalidNaluType, OutOfBits, OutOfRange, MissingPps, SequenceSet, CodedSlice, EndOfSequence, EndOfBitstream, Other, Refused};
 ghost use Rattle.hevc_walk.specs.ReferenceSets.{no_references};
 ghost use Rattle.hevc_walk.specs.ReferenceLists.{DpbEntry};
@@ -11,7 +14,7 @@ ghost use Rattle.hevc_walk.specs.Results.{calls, verdict};
 ghost use Rattle.hevc_stream.specs.Options.{default_options};
 ghost use Rattle.hevc_stream.specs.Stream.{meanings};
 ghost use Rattle.hevc_walk_examples.specs.Streams.{plain_format, deep_format, p4, cra, dependent, plain, encoded, crowded, leading, ended_by, equal_counts, without_reference, dependent_alone, dependent_behind, told_outputs, new_pictures, idr_bytes, p4_bytes, p2_bytes};
-ghost use Rattle.hevc_stream_examples.specs.Worked.{plain_stream, encoded_stream, waiting_stream, still_waiting_stream, read_later_stream, in_order_stream, cut_sets_stream, cut_set_stream, not_read_again_stream, read_again_stream, resized_stream, mid_picture_stream, crowded_stream, ends_early_stream, missing_set_stream, no_sets_yet_stream, truncated_stream, unspecified_stream, no_temporal_id_stream, end_cut_stream, many_sub_layers_stream, no_level_stream, long_latency_stream, leading_stream, sequence_ends_stream, bitstream_ends_stream, equal_counts_stream, without_reference_stream, dependent_alone_stream, dependent_behind_stream, before_sets_stream, cra_within_stream, sub_layers_stream, cut_pps_bytes, other_pps_bytes, idr_of, sets_then, waiting_behind, wide_format, later_idr_at_1, sub_layer_p2, handled, cra_as_bla, up_to};
+ghost use Rattle.hevc_stream_examples.specs.Worked.{plain_stream, encoded_stream, waiting_stream, still_waiting_stream, read_later_stream, in_order_stream, cut_sets_stream, cut_set_stream, not_read_again_stream, read_again_stream, resized_stream, mid_picture_stream, crowded_stream, ends_early_stream, missing_set_stream, no_sets_yet_stream, truncated_stream, unspecified_stream, no_temporal_id_stream, end_cut_stream, many_sub_layers_stream, no_level_stream, long_latency_stream, leading_stream, sequence_ends_stream, bitstream_ends_stream, equal_counts_stream, without_reference_stream, dependent_alone_stream, dependent_behind_stream, before_sets_stream, cut_video_set_stream, two_layers_stream, large_stream, referring_stream, referring_slice, cra_within_stream, sub_layers_stream, cut_pps_bytes, other_pps_bytes, idr_of, sets_then, waiting_behind, wide_format, large_format, idr_under, later_idr_at_1, sub_layer_p2, handled, cra_as_bla, up_to};
 
 /// An IDR picture and two P pictures: what the units mean, and what the walk makes of it.
 pub fn plain_pictures()
@@ -90,6 +93,35 @@ pub fn changed_sizes()
         ≡ Err (record { unit = 5; cause = ChangedMidPicture plain_format wide_format }) }
 {}
 
+/// A sequence set declares its numbers for each sub-layer: those of the highest that is wanted are meant.
+pub fn sub_layers()
+    ensures lowest { meanings (up_to 0) two_layers_stream
+        ≡ sets_then plain_format (idr_under 0 0 1 ∷ []) }
+    ensures highest { meanings default_options two_layers_stream
+        ≡ sets_then plain_format (idr_under 2 3 4 ∷ []) }
+{}
+
+/// MaxDpbSize falls from four times what the profile has to once as the picture has more than a quarter, half and three
+/// quarters of the samples of the level's largest, and is at most 16.
+pub fn buffer_sizes()
+    ensures large { meanings default_options large_stream ≡ SequenceSet large_format ∷ [] }
+    ensures at { map (max_dpb_size 122880 6) (30720 ∷ 61440 ∷ 92160 ∷ 122880 ∷ [])
+        ≡ 16 ∷ 12 ∷ 8 ∷ 6 ∷ [] }
+    ensures above { map (max_dpb_size 122880 6) (30721 ∷ 61441 ∷ 92161 ∷ []) ≡ 12 ∷ 8 ∷ 6 ∷ [] }
+    ensures screen { map (max_dpb_size 122880 7) (30720 ∷ 61440 ∷ 92160 ∷ 122880 ∷ [])
+        ≡ 16 ∷ 14 ∷ 9 ∷ 7 ∷ [] }
+{}
+
+/// An end of sequence has its header alone, a start code has two zeros, and zeros at the end are no part of a unit; a 03
+/// after two zeros is dropped, and the zeros are counted anew after it.
+pub fn bytes_of_units()
+    ensures units { units (0 ∷ 0 ∷ 1 ∷ 72 ∷ 1 ∷ 128 ∷ 0 ∷ 0 ∷ 1 ∷ 2 ∷ 1 ∷ 7 ∷ 0 ∷ 1 ∷ 0 ∷ 0 ∷ [])
+        ≡ record { offset = 3; bytes = 72 ∷ 1 ∷ [] }
+        ∷ record { offset = 9; bytes = 2 ∷ 1 ∷ 7 ∷ 0 ∷ 1 ∷ [] } ∷ [] }
+    ensures payload { payload_after 0 (0 ∷ 0 ∷ 3 ∷ 0 ∷ 3 ∷ 0 ∷ 0 ∷ 3 ∷ [])
+        ≡ 0 ∷ 0 ∷ 0 ∷ 3 ∷ 0 ∷ 0 ∷ [] }
+{}
+
 /// Seven pictures that wait in a buffer of six.
 pub fn full_buffer()
     ensures crowded { meanings default_options crowded_stream ≡ crowded }
@@ -118,8 +150,10 @@ pub fn refused_headers()
     ensures end_cut { meanings default_options end_cut_stream ≡ Refused (OutOfRange 0 1) ∷ [] }
 {}
 
-/// Sequence sets of eight sub-layers, of a level that there is none of, and of a latency above 255.
+/// Sequence sets of eight sub-layers, of a level that there is none of, and of a latency above 255; a video set that ends
+/// too early.
 pub fn refused_sets()
+    ensures cut_video_set { meanings default_options cut_video_set_stream ≡ Refused OutOfBits ∷ [] }
     ensures many_sub_layers { meanings default_options many_sub_layers_stream
         ≡ Refused (OutOfRange 5 2) ∷ [] }
     ensures no_level { meanings default_options no_level_stream ≡ Refused (OutOfRange 2 27) ∷ [] }
@@ -141,6 +175,12 @@ pub fn references()
     ensures equal_counts { meanings default_options equal_counts_stream ≡ equal_counts }
     ensures without_reference { meanings default_options without_reference_stream
         ≡ without_reference }
+{}
+
+/// A slice with all that a header says of references, by sets of other ids.
+pub fn long_term_references()
+    ensures { meanings default_options referring_stream
+        ≡ sets_then wide_format (CodedSlice referring_slice ∷ []) }
 {}
 
 /// A dependent slice alone, and behind an independent one.

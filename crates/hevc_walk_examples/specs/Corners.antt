@@ -67,7 +67,8 @@ long_terms = SequenceSet plain_format ∷ Other ∷ idr sets
     ∷ inter 2 (short_member (negsuc 1) true ∷ short_member (negsuc 9) false ∷ [])
     (long_member 0 None true ∷ long_member 0 (Some 0) false ∷ [])
     (record { num_ref_idx_active = 3; list_entry = Some (1 ∷ 1 ∷ 0 ∷ []) })
-    ∷ inter 3 (short_member (negsuc 1) true ∷ short_member (negsuc 10) true ∷ []) [] (places 2)
+    ∷ inter 3 (short_member (negsuc 1) true ∷ short_member (negsuc 10) true ∷ [])
+    (long_member 0 (Some 0) true ∷ []) (places 5)
     ∷ []
 
 abbrev pub screen_sets : NamedSets

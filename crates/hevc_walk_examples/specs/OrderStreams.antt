@@ -1,7 +1,7 @@
 -- Small streams, as lists of what their units mean.
-use Rattle.std.specs.Prelude.{ℕ, ℤ, List, [], ◌∷◌, map}
+use Rattle.std.specs.Prelude.{ℕ, ℤ, List, [], ◌∷◌, map, reverse}
 use Rattle.hevc_walk.specs.Meanings.{I, NamedSets, Meaning, SequenceSet, CodedSlice, Other}
-use Rattle.hevc_walk.specs.Results.{outputs}
+use Rattle.hevc_walk.specs.Results.{OutputPicture, outputs}
 use Rattle.hevc_walk_examples.specs.Streams.{plain_format, plain_sets, plain_header, first_slice, idr, p4, p2}
 use Rattle.hevc_walk_order.specs.Sequences.{Sequence, sequences, pictures_of, outputs_of}
 
@@ -68,3 +68,7 @@ sequence_numbers us = map (λ (q : Sequence). map (λ p. p.number) (pictures_of 
 abbrev pub output_counts : List Meaning → List (List ℤ)
 output_counts us =
     map (λ (q : Sequence). map (λ o. o.order_count) (outputs_of q (outputs us))) (sequences us)
+
+-- the outputs of some units, the last one first
+abbrev pub last_first : List Meaning → List OutputPicture
+last_first us = reverse (outputs us)

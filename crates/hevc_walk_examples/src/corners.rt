@@ -33,13 +33,21 @@ pub fn long_term_pictures()
             lt_foll = Some 2 ∷ [];
           },
         )
-        ∷ (5, record no_references { st_curr_before = None ∷ Some 1 ∷ [] }) ∷ [] }
+        ∷ (
+          5,
+          record no_references {
+            st_curr_before = None ∷ Some 1 ∷ [];
+            lt_curr = Some 2 ∷ [];
+          },
+        )
+        ∷ [] }
     ensures lists { slice_lists long_terms
         ≡ (0, [], []) ∷ (1, Some (DpbEntry 0) ∷ [], []) ∷
         (2, Some (DpbEntry 1) ∷ Some (DpbEntry 0) ∷ [], [])
         ∷ (3, None ∷ Some (DpbEntry 1) ∷ Some (DpbEntry 0) ∷ Some (DpbEntry 2) ∷ None ∷ [], [])
         ∷ (4, Some (DpbEntry 0) ∷ Some (DpbEntry 0) ∷ None ∷ [], [])
-        ∷ (5, None ∷ Some (DpbEntry 1) ∷ [], []) ∷ [] }
+        ∷ (5, None ∷ Some (DpbEntry 1) ∷ Some (DpbEntry 2) ∷ None ∷ Some (DpbEntry 1) ∷ [], [])
+        ∷ [] }
 {}
 
 /// The current picture stands last in the bases, and takes the last place of a list 0 that has no place for it.
@@ -89,6 +97,8 @@ pub fn random_access()
     ensures skipped { fates broken_link ≡ Skipped ∷ ForOutput ∷ ForOutput ∷ ForOutput ∷ [] }
     ensures open_gop { new_pictures open_gop
         ≡ (0, 19, pos 0, true) ∷ (1, 21, pos 8, true) ∷ (2, 9, pos 6, true) ∷ [] }
+    ensures within { told_outputs open_gop
+        ≡ (0, pos 0, 4) ∷ (2, pos 6, 5) ∷ (1, pos 8, 5) ∷ [] }
 {}
 
 /// A CRA picture within a sequence that is handled as a BLA picture discards what waits, and its RASL pictures are skipped;

@@ -1,10 +1,13 @@
 //! Small streams, computed: what the definitions of `hevc_walk` say of them.
 #![tactic(auto)]
 
+pub mod changes;
+pub mod clean;
 pub mod corners;
 pub mod order;
+pub mod references;
 
-ghost use Rattle.std.specs.Prelude.{◌≡◌, ℤ, pos, ◌-◌, true, false, ◌^◌, List, [], ◌∷◌, Some, None, Ok, Err};
+ghost use Rattle.std.specs.Prelude.{◌≡◌, ℤ, pos, negsuc, ◌-◌, true, false, ◌^◌, List, [], ◌∷◌, Some, None, Ok, Err};
 ghost use Rattle.hevc_walk.specs.OrderCounts.{nearest, is_i32};
 ghost use Rattle.hevc_walk.specs.Buffer.{draining};
 ghost use Rattle.hevc_walk.specs.ReferenceSets.{no_references};
@@ -81,6 +84,8 @@ pub fn order_counts()
     ensures down { nearest 16 (pos 18) 14 ≡ pos 14 }
     ensures half { nearest 16 (pos 0) 8 ≡ pos 8 }
     ensures outside { is_i32 (nearest 16 (pos (2 ^ 31 - 2)) 2) ≡ false }
+    ensures below { is_i32 (nearest 16 (negsuc (2 ^ 31 - 1)) 15) ≡ false }
+    ensures lowest { is_i32 (nearest 16 (negsuc (2 ^ 31 - 1)) 0) ≡ true }
 {}
 
 /// As an encoder writes it, with a B slice.

@@ -1,13 +1,14 @@
 //! Small streams, computed: each keeps the order that it declares, or doesn't.
 
 ghost use Rattle.std.specs.Prelude.{◌≡◌, pos, List, [], ◌∷◌, All, Ok, map, true, false};
+ghost use Rattle.hevc_walk.specs.Pictures.{pictures};
 ghost use Rattle.hevc_walk.specs.Results.{verdict};
-ghost use Rattle.hevc_walk_examples.specs.Streams.{told_outputs};
+ghost use Rattle.hevc_walk_examples.specs.Streams.{plain, told_outputs};
 ghost use Rattle.hevc_walk_order.specs.Sequences.{Sequence, sequences, pictures_for_output};
-ghost use Rattle.hevc_walk_order.specs.DisplayOrder.{KeepsOrder, FewPrecede};
+ghost use Rattle.hevc_walk_order.specs.DisplayOrder.{KeepsOrder, FewPrecede, AreInOrder, ComeInOrder, ComeInTurn};
 ghost use Rattle.hevc_walk_order.specs.Bounds.{KeepsBounds};
 ghost use Rattle.hevc_walk_order.specs.Tests.{keeps_order, keeps_bounds};
-ghost use Rattle.hevc_walk_examples.specs.OrderStreams.{two_sequences, reordered_too_far, late_stream, full_stream, overfull_stream, sequence_numbers, output_counts};
+ghost use Rattle.hevc_walk_examples.specs.OrderStreams.{two_sequences, reordered_too_far, late_stream, full_stream, overfull_stream, sequence_numbers, output_counts, last_first};
 
 /// Two sequences, the first of which begins without an IRAP picture: both keep the order that they declare, and the
 /// plainer bounds.
@@ -76,4 +77,12 @@ pub fn broken_room()
     ensures outputs { told_outputs overfull_stream
         ≡ (0, pos 0, 4) ∷ (2, pos 3, 5) ∷ (3, pos 1, 6) ∷ (1, pos 4, 6) ∷ [] }
     ensures verdict { verdict overfull_stream ≡ Ok 4 }
+{}
+
+/// Pictures that come in no rising order count, or not at all, and a sequence that comes before the one before it.
+pub fn wrong_orders()
+    ensures falling { AreInOrder (pictures plain) (last_first plain) → ⊥ }
+    ensures lacking { AreInOrder (pictures plain) [] → ⊥ }
+    ensures nothing { ComeInOrder two_sequences [] → ⊥ }
+    ensures turns { ComeInTurn two_sequences (last_first two_sequences) → ⊥ }
 {}

@@ -9,3 +9,6 @@ returns-clause-no_level c = computed.no_level
 
 pub returns-clause-long_latency : goal.returns-clause-long_latency
 returns-clause-long_latency c = computed.long_latency
+
+pub returns-clause-cut_video_set : goal.returns-clause-cut_video_set
+returns-clause-cut_video_set c = computed.cut_video_set

@@ -18,3 +18,7 @@ returns-clause-skipped c = refl
 pub returns-clause-open_gop : goal.returns-clause-open_gop
 unfolding head order_count_in_range nearest due_outputs needs_additional_bumping needs_bumping with_stored reference_set with_marks ref_pic_list0 ref_pic_list1 finish store_picture change_format begin_picture make_room start_decoding
 returns-clause-open_gop c = refl
+
+pub returns-clause-within : goal.returns-clause-within
+unfolding head order_count_in_range nearest due_outputs needs_additional_bumping needs_bumping with_stored reference_set with_marks ref_pic_list0 ref_pic_list1 finish store_picture change_format begin_picture make_room start_decoding
+returns-clause-within c = refl

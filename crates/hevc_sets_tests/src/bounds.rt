@@ -1,0 +1,321 @@
+//! Each bound of a row of docs/TABLES.md: a value at it is let through, and the one beyond it is refused with the row.
+ghost use Rattle.std.specs.Prelude.{◌<◌, length};
+
+mod fields;
+mod parts;
+mod picture_set;
+mod sequence_set;
+mod slice;
+mod video_set;
+
+use hevc_bit_writer::{BitWriter, append_unit};
+use hevc_bits::{Nalu, NaluHeader};
+use hevc_sets::{ParseError, read_pps, read_sps, read_vps};
+use hevc_slice_header::read_slice_header;
+use hevc_types_c::Sps;
+use hevc_types_d::{Pps, SliceHeader};
+use std::alloc::Global;
+use std::collections::BTreeMap;
+use std::process::Abort;
+use std::test::Fail;
+
+/// How an element is written: u(n), ue(v) or se(v).
+#[derive(Clone, Copy)]
+enum Form {
+    U(u32),
+    Ue,
+    Se,
+}
+
+/// A table and a row.
+#[derive(Clone, Copy)]
+struct Row(u8, u8);
+
+/// The greatest number that is read as ue(v).
+const ANY: i64 = 2_147_483_647;
+
+/// A line of a unit.
+#[derive(Clone, Copy)]
+enum Line {
+    /// So many bits of this value, which may be another.
+    Bits(u32, u32),
+    /// An element of this value, a row, and the least and the greatest value that it allows.
+    Bounded(Form, i64, Row, i64, i64),
+    /// A row that looks at the element so many lines before it: the least and the greatest value that it allows, where it
+    /// refuses one that the element's own row lets through.
+    Checked(usize, Row, Option<i64>, Option<i64>),
+}
+
+/// A unit: the bytes of its header, and its lines in parts.
+#[derive(Clone, Copy)]
+struct Unit {
+    header: [u8; 2],
+    parts: &'static [&'static [Line]],
+}
+
+/// The sets that a unit is read with.
+#[derive(Drop)]
+struct Kept {
+    spses: BTreeMap<u8, Sps>,
+    ppses: BTreeMap<u8, Pps>,
+}
+
+/// All lines of a unit.
+fn lines_of(alloc: Global, unit: &Unit) -> Result<Vec<Line>, Fail> {
+    let mut lines = Vec::new(alloc);
+    for part in unit.parts {
+        for line in *part {
+            lines.push(*line)?;
+        }
+    }
+    Ok(lines)
+}
+
+/// Whether a value can be written so at all.
+fn is_written(form: Form, value: i64) -> bool {
+    match form {
+        Form::U(num_bits) => num_bits < 32 && value >= 0 && value < 1 << num_bits,
+        Form::Ue => value >= 0 && value < 4_294_967_295,
+        Form::Se => value > -2_147_483_648 && value < 2_147_483_648,
+    }
+}
+
+/// Writes an element.
+fn write(writer: &mut BitWriter, form: Form, value: i64) -> Result<(), Fail> {
+    match form {
+        Form::U(num_bits) => {
+            if num_bits <= 32 {
+                writer.write_bits(num_bits, u32::try_from(value)?)?;
+            }
+        }
+        Form::Ue => {
+            let value = u32::try_from(value)?;
+            if value < u32::MAX {
+                writer.write_ue(value)?;
+            }
+        }
+        Form::Se => {
+            let value = i32::try_from(value)?;
+            if value > i32::MIN {
+                writer.write_se(value)?;
+            }
+        }
+    }
+    Ok(())
+}
+
+/// Writes lines as they are.
+fn write_lines(writer: &mut BitWriter, lines: &[Line]) -> Result<(), Fail> {
+    for line in lines {
+        match *line {
+            Line::Bits(num_bits, value) => {
+                if num_bits <= 32 {
+                    writer.write_bits(num_bits, value)?;
+                }
+            }
+            Line::Bounded(form, value, _, _, _) => write(writer, form, value)?,
+            Line::Checked(_, _, _, _) => {}
+        }
+    }
+    Ok(())
+}
+
+/// A unit of this header and these bits.
+fn unit_of(
+    rt: &impl Abort,
+    alloc: Global,
+    header: [u8; 2],
+    writer: &mut BitWriter,
+) -> Result<Vec<u8>, Fail> {
+    writer.write_trailing_bits()?;
+    assert!(rt; writer.is_whole());
+    let mut stream = Vec::new(alloc);
+    append_unit(alloc, &mut stream, header, writer.as_bytes())?;
+    Ok(stream)
+}
+
+/// Why a unit isn't read.
+fn refusal(alloc: Global, kept: &Kept, stream: &[u8]) -> Option<ParseError>
+    requires { length stream.now < 10000 }
+{
+    let mut position = 0;
+    match Nalu::<NaluHeader>::next(stream, &mut position) {
+        Ok(unit) => match stream[3] {
+            0x40 => read_vps(alloc, &unit).err(),
+            0x42 => read_sps(alloc, &unit).err(),
+            0x44 => read_pps(alloc, &unit, &kept.spses).err(),
+            _ => {
+                let mut header = SliceHeader::new(alloc);
+                read_slice_header(alloc, &unit, &kept.spses, &kept.ppses, &mut header).err()
+            }
+        },
+        Err(_) => Some(ParseError::WrongNaluType),
+    }
+}
+
+/// A unit that is tried with other elements.
+#[derive(Clone, Copy)]
+struct Trial<'a> {
+    kept: &'a Kept,
+    header: [u8; 2],
+    lines: &'a [Line],
+}
+
+impl Trial<'_> {
+    /// What the lines before `end` are refused for, where the one at `at` has another value.
+    fn refusal_at(
+        &self,
+        rt: &impl Abort,
+        alloc: Global,
+        (at, end): (usize, usize),
+        form: Form,
+        value: i64,
+    ) -> Result<Option<ParseError>, Fail> {
+        assert!(rt; at < end && end <= self.lines.len());
+        let mut writer = BitWriter::new(alloc);
+        write_lines(&mut writer, &self.lines[..at])?;
+        write(&mut writer, form, value)?;
+        write_lines(&mut writer, &self.lines[at + 1..end])?;
+        let stream = unit_of(rt, alloc, self.header, &mut writer)?;
+        assert!(rt; stream.len() < 10000);
+        Ok(refusal(alloc, self.kept, &stream))
+    }
+
+    /// A value that can be written is refused with this row, or isn't.
+    fn is_refused(
+        &self,
+        rt: &impl Abort,
+        alloc: Global,
+        place: (usize, usize),
+        form: Form,
+        row: Row,
+        value: i64,
+        refused: bool,
+    ) -> Result<(), Fail> {
+        if is_written(form, value) {
+            let answer = self.refusal_at(rt, alloc, place, form, value)?;
+            let Row(table, row) = row;
+            let is = answer == Some(ParseError::OutOfRange { table, row });
+            assert_eq!(rt; is, refused, "row {row} of table {table} at {value}");
+        }
+        Ok(())
+    }
+
+    /// Values at the bounds are let through, and those beyond are refused.
+    fn has_bounds(
+        &self,
+        rt: &impl Abort,
+        alloc: Global,
+        place: (usize, usize),
+        form: Form,
+        row: Row,
+        low: Option<i64>,
+        high: Option<i64>,
+    ) -> Result<(), Fail> {
+        if let Some(low) = low {
+            self.is_refused(rt, alloc, place, form, row, low, false)?;
+            self.is_refused(rt, alloc, place, form, row, low.saturating_sub(1), true)?;
+        }
+        if let Some(high) = high {
+            self.is_refused(rt, alloc, place, form, row, high, false)?;
+            self.is_refused(rt, alloc, place, form, row, high.saturating_add(1), true)?;
+        }
+        Ok(())
+    }
+
+    /// The bounds of the line at a place.
+    fn try_line(&self, rt: &impl Abort, alloc: Global, at: usize) -> Result<(), Fail> {
+        match self.lines.get(at).copied() {
+            Some(Line::Bounded(form, _, row, low, high)) => {
+                self.has_bounds(rt, alloc, (at, at + 1), form, row, Some(low), Some(high))
+            }
+            Some(Line::Checked(back, row, low, high)) => {
+                assert!(rt; back <= at);
+                let looked_at = at - back;
+                match self.lines.get(looked_at).copied() {
+                    Some(Line::Bounded(form, _, _, _, _)) => {
+                        self.has_bounds(rt, alloc, (looked_at, at), form, row, low, high)
+                    }
+                    _ => Ok(()),
+                }
+            }
+            _ => Ok(()),
+        }
+    }
+}
+
+/// Each bound of a unit, and the unit as it stands.
+fn try_unit(rt: &impl Abort, alloc: Global, kept: &Kept, unit: &Unit) -> Result<(), Fail> {
+    let lines = lines_of(alloc, unit)?;
+    let trial = Trial {
+        kept,
+        header: unit.header,
+        lines: &lines,
+    };
+    for at in 0..lines.len() {
+        trial.try_line(rt, alloc, at)?;
+    }
+    let stream = whole(rt, alloc, unit)?;
+    assert!(rt; stream.len() < 10000);
+    assert_eq!(rt; refusal(alloc, kept, &stream), None);
+    Ok(())
+}
+
+/// A unit as it stands.
+fn whole(rt: &impl Abort, alloc: Global, unit: &Unit) -> Result<Vec<u8>, Fail> {
+    let lines = lines_of(alloc, unit)?;
+    let mut writer = BitWriter::new(alloc);
+    write_lines(&mut writer, &lines)?;
+    unit_of(rt, alloc, unit.header, &mut writer)
+}
+
+/// Sets that are kept: none, and the two of these files.
+fn no_sets(alloc: Global) -> Kept {
+    Kept {
+        spses: BTreeMap::new(alloc),
+        ppses: BTreeMap::new(alloc),
+    }
+}
+
+fn both_sets(rt: &impl Abort, alloc: Global) -> Result<Kept, Fail> {
+    let mut kept = no_sets(alloc);
+    let mut position = 0;
+    let stream = whole(rt, alloc, &sequence_set::SEQUENCE_SET)?;
+    assert!(rt; stream.len() < 10000);
+    let sps = read_sps(alloc, &Nalu::<NaluHeader>::next(&stream, &mut position)?)?;
+    kept.spses.insert(0, sps)?;
+    let stream = whole(rt, alloc, &picture_set::PICTURE_SET)?;
+    assert!(rt; stream.len() < 10000);
+    let mut position = 0;
+    let unit = Nalu::<NaluHeader>::next(&stream, &mut position)?;
+    let pps = read_pps(alloc, &unit, &kept.spses)?;
+    kept.ppses.insert(0, pps)?;
+    Ok(kept)
+}
+
+#[test]
+fn a_video_set_has_bounds(rt: HostRuntime) -> Result<(), Fail> {
+    let alloc = rt.alloc();
+    try_unit(&rt, alloc, &no_sets(alloc), &video_set::VIDEO_SET)
+}
+
+#[test]
+fn a_sequence_set_has_bounds(rt: HostRuntime) -> Result<(), Fail> {
+    let alloc = rt.alloc();
+    try_unit(&rt, alloc, &no_sets(alloc), &sequence_set::SEQUENCE_SET)
+}
+
+#[test]
+fn a_picture_set_has_bounds(rt: HostRuntime) -> Result<(), Fail> {
+    let alloc = rt.alloc();
+    let kept = both_sets(&rt, alloc)?;
+    try_unit(&rt, alloc, &kept, &picture_set::PICTURE_SET)
+}
+
+#[test]
+fn a_slice_header_has_bounds(rt: HostRuntime) -> Result<(), Fail> {
+    let alloc = rt.alloc();
+    let kept = both_sets(&rt, alloc)?;
+    try_unit(&rt, alloc, &kept, &slice::SLICE)?;
+    try_unit(&rt, alloc, &kept, &slice::NAMING_SLICE)
+}
