@@ -1,7 +1,7 @@
 //! Sources and sinks, each once.
 use hevc_io::{
-    Failed, InputError, MemorySink, MemorySource, Sink, SinkError, Source, StdSink, StdSource,
-    Word, WordsError, command_line, read_all, write_all,
+    Failed, InputError, LONGEST_WORD, MemorySink, MemorySource, MemoryWords, Sink, SinkError,
+    Source, StdSink, StdSource, StdWords, Word, WordsError, command_line, read_all, write_all,
 };
 use std::alloc::Global;
 use std::env::{Env, FillError};
@@ -157,13 +157,41 @@ impl Env for TwoWords {
 #[test]
 fn a_command_line_has_its_words(rt: HostRuntime) -> Result<(), Fail> {
     let alloc = rt.alloc();
-    let words = command_line(&TwoWords { is_short: true }, alloc)?;
+    let words = command_line(
+        &StdWords {
+            system: &TwoWords { is_short: true },
+        },
+        alloc,
+    )?;
     assert_eq!(rt; words.len(), 2);
     assert_eq!(rt; words[0].as_bytes(), [5, 6].as_slice());
     let long = words[1].as_bytes();
     assert_eq!(rt; long.len(), 100);
     assert_eq!(rt; (long[0], long[99]), (7, 8));
-    let refused = command_line(&TwoWords { is_short: false }, alloc).err();
+    let refused = command_line(
+        &StdWords {
+            system: &TwoWords { is_short: false },
+        },
+        alloc,
+    )
+    .err();
     assert_eq!(rt; refused, Some(WordsError::Refused));
+    Ok(())
+}
+
+#[test]
+fn known_words_are_taken_in_order(rt: HostRuntime) -> Result<(), Fail> {
+    let alloc = rt.alloc();
+    let mut known = Vec::new(alloc);
+    known.push(Word::new(vec![in alloc; 7u8; 65]?))?;
+    known.push(Word::new(Vec::new(alloc)))?;
+    known.push(Word::new(vec![in alloc; 9u8; 1]?))?;
+    let words = command_line(&MemoryWords::new(known), alloc)?;
+    assert_eq!(rt; words.len(), 3);
+    assert_eq!(rt; words[0].as_bytes(), [7; 65].as_slice());
+    assert_eq!(rt; words[1].as_bytes(), [].as_slice());
+    assert_eq!(rt; words[2].as_bytes(), [9].as_slice());
+    let long = MemoryWords::new(vec![in alloc; Word::new(vec![in alloc; 0u8; LONGEST_WORD + 1]?)]?);
+    assert_eq!(rt; command_line(&long, alloc).err(), Some(WordsError::Refused));
     Ok(())
 }

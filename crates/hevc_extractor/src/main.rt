@@ -3,12 +3,12 @@
 #![tactic(auto)]
 
 use hevc_extract::run_extract;
-use hevc_io::{StdSink, StdSource, command_line};
+use hevc_io::{StdSink, StdSource, StdWords, command_line};
 use std::io;
 use std::process::ExitCode;
 
 fn main(rt: HostRuntime) -> ExitCode {
-    let words = match command_line(&rt, rt.alloc()) {
+    let words = match command_line(&StdWords { system: &rt }, rt.alloc()) {
         Ok(words) => words,
         Err(error) => return ExitCode::from(error.status()),
     };

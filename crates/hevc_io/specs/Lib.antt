@@ -3,3 +3,4 @@ pub mod Prefix
 pub mod Standard
 pub mod Stops
 pub mod Writes
+pub mod Words

@@ -22,4 +22,4 @@ pub use source::{Failed, Source};
 pub use standard::{StdSink, StdSource};
 pub use stop::Stop;
 pub use word::Word;
-pub use words::{LONGEST_WORD, WordsError, command_line};
+pub use words::{LONGEST_WORD, MemoryWords, StdWords, Words, WordsError, command_line};

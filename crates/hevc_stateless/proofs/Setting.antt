@@ -22,7 +22,7 @@ use Rattle.hevc_walk.specs.Meanings.{Format}
 use Rattle.hevc_stream.specs.Kept.{Kept, with_sequence_set}
 use Rattle.hevc_stream.specs.Slices.{temporal_id}
 use Rattle.hevc_stream.specs.Contents.{Content, refused, sequence_set, picture_set_read, content}
-use Rattle.hevc_stream.specs.Stream.{meaning_of, meaning, kept_behind, with_content, with_all_waited}
+use Rattle.hevc_stream.specs.Stream.{meaning_of, meaning, kept_behind, with_all_waited}
 use Rattle.hevc_stream_laws.proofs.ByType.{of_video_set, of_sequence_set, of_picture_set}
 use Rattle.hevc_kept_sets.specs.Takes as sets
 use Rattle.hevc_kept_sets.proofs.Sets.{behind_sequence_set}

@@ -1,15 +1,13 @@
 -- The units of slice segments.
-use Rattle.std.proofs.Common.{◌≡◌, inl, ℕ, ◌≤◌, List, refl, sym, ◌∙◌, ap, subst, Option, Some, None, Result, Ok, Err, Bool, true}
-use Rattle.std.specs.Prelude.{IsTrue, drop, option_map, option_and_then}
+use Rattle.std.proofs.Common.{◌≡◌, ℕ, ◌≤◌, List, refl, sym, ◌∙◌, ap, subst, Option, Result, Ok, Err, Bool, true}
+use Rattle.std.specs.Prelude.{IsTrue, drop}
 use Rattle.hevc_spec.specs.UnitTypes.{is_slice}
 use Rattle.hevc_spec.specs.UnitHeader.{UnitHeader, unit_header}
 use Rattle.hevc_spec.specs.Payload.{payload}
 use Rattle.hevc_spec.specs.Table.{Reading, gives, refuses, out_of_bits, out_of_range, not_kept, read}
 use Rattle.hevc_spec.specs.Rows.{row}
-use Rattle.hevc_records.specs.Sps.{PlainSps}
-use Rattle.hevc_records.specs.Pps.{PlainPps}
 use Rattle.hevc_records.specs.SliceHeader.{PlainSliceSegmentHeader}
-use Rattle.hevc_tables.specs.SliceHeaderTable.{ActiveSets, with_named_sequence_set, active_sets, slice_segment_header}
+use Rattle.hevc_tables.specs.SliceHeaderTable.{ActiveSets, active_sets, slice_segment_header}
 use Rattle.hevc_walk.specs.Meanings as causes
 use Rattle.hevc_walk.specs.Meanings.{UnitCause, Meaning, CodedSlice, Refused, MissingPps}
 use Rattle.hevc_elements.specs.declared.parse_error.ParseError.{ParseError}
@@ -41,7 +39,6 @@ use Rattle.hevc_stateless.specs.declared.state.State.{State}
 use Rattle.hevc_slice.specs.Slices.{active_of}
 use Rattle.hevc_stateless.specs.States.{unit_at}
 use Rattle.hevc_stateless.specs.Steps.{Acts, TakesIn}
-use Rattle.hevc_stateless.specs.Views.{Moment}
 use Rattle.hevc_stateless.specs.Refusals.{IsOfUnit, refusal_of}
 use Rattle.hevc_stateless.proofs.Passing.{refused_unit, refused_moves}
 use Rattle.hevc_stateless.proofs.Setting.{means}

@@ -27,7 +27,7 @@ use Rattle.hevc_driver.specs.Does.{call_in, output_in}
 use Rattle.hevc_driver.specs.Moments.{begins_at, step_part, negotiates}
 use Rattle.hevc_driver.specs.Takes.{Goes}
 use Rattle.hevc_stateless.specs.declared.state.State.{State}
-use Rattle.hevc_stateless.specs.declared.state.State.TheVariants.{AwaitingStreamInfo, AwaitingFormat, Decoding, Reset}
+use Rattle.hevc_stateless.specs.declared.state.State.TheVariants.{AwaitingStreamInfo, Decoding}
 use Rattle.hevc_stateless.specs.States.{Unit, unit_at, is_sequence_set, is_parameter_set, later_meaning, state_behind, meaning_in, is_awaited}
 use Rattle.hevc_stateless.specs.Steps.{Seen, Step, StepsIn, StepsBehind, TakesFirst}
 use Rattle.hevc_stateless.specs.Views.{traces_of}

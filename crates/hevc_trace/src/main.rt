@@ -2,13 +2,13 @@
 //! the pictures that come out.
 #![tactic(auto)]
 
-use hevc_io::{StdSink, StdSource, command_line};
+use hevc_io::{StdSink, StdSource, StdWords, command_line};
 use hevc_report::run;
 use std::io;
 use std::process::ExitCode;
 
 fn main(rt: HostRuntime) -> ExitCode {
-    let words = match command_line(&rt, rt.alloc()) {
+    let words = match command_line(&StdWords { system: &rt }, rt.alloc()) {
         Ok(words) => words,
         Err(error) => return ExitCode::from(error.status()),
     };

@@ -24,5 +24,5 @@ returns g c =
     record {
       decodes =
           decodes_of before now c.take_units-result.result
-          (rw (from, ← c.into_backend.ensures) at e.cause) (rw (from, ← c.into_backend.ensures) at e.faultless) (options_of c.args.options) c.args.stream.now _ (run g c) e.unit;
+          (rw (from, ← c.into_backend.ensures) at e.blames.cause) (rw (from, ← c.into_backend.ensures) at e.blames.faultless) (options_of c.args.options) c.args.stream.now _ (run g c) e.unit;
     }

@@ -40,8 +40,10 @@ returns-in-TruncatedNalu g c =
     record {
       empty = tt;
       few = tt;
-      cause = subst (λ (x : DecodeError). CountsError (g.B.StatelessH265DecoderBackend.counts (view_of c.args.decoder.now).backend) (g.B.StatelessH265DecoderBackend.counts (view_of c.loop-nalu.decoder).backend) x) (sym c.into-error.ensures) (counts_none e _ _ c.loop-nalu.invariant.counts);
-      faultless = λ h. (c.loop-nalu.invariant.faultless h, subst (λ (x : DecodeError). ¬ IsOfBackend x) (sym c.into-error.ensures) (blames_none e));
+      blames = record {
+        cause = subst (λ (x : DecodeError). CountsError (g.B.StatelessH265DecoderBackend.counts (view_of c.args.decoder.now).backend) (g.B.StatelessH265DecoderBackend.counts (view_of c.loop-nalu.decoder).backend) x) (sym c.into-error.ensures) (counts_none e _ _ c.loop-nalu.invariant.counts);
+        faultless = λ h. (c.loop-nalu.invariant.faultless h, subst (λ (x : DecodeError). ¬ IsOfBackend x) (sym c.into-error.ensures) (blames_none e));
+      };
       takes = λ begin all later x.
           let here = c.loop-nalu.invariant.reached begin all later x in (
             subst (λ (x : DecodeError). Ended (Err (record { unit = c.loop-nalu.unit; error = x })) (meant (set_for c.args.decoder.now) all) (trail_of begin) (trail_of mid)) (sym c.into-error.ensures)

@@ -55,7 +55,7 @@ pub returns-in_err-decode_slice-clause-stays : goal.returns-in_err-decode_slice-
 returns-in_err-decode_slice-clause-stays g c =
     record {
       sound = sound_told _ _ _ c.requires.ready.sound (told_same c.in_err-decode_slice.ensures.log (told_call (begin_picture_call c.args.head.now.number c.args.set) c.in_ok-begin_picture.ensures.log
-      (told_call (new_picture_call c.args.head.now.number c.args.head.now.picture c.args.timestamp) c.in_ok-picture.ensures.log c.requires.ready.sound.told (λ t h. fits_none _ t _ c.requires.ready.none refl refl h)) (λ t h. h)) (λ t h. h));
+          (told_call (new_picture_call c.args.head.now.number c.args.head.now.picture c.args.timestamp) c.in_ok-picture.ensures.log c.requires.ready.sound.told (λ t h. fits_none _ t _ c.requires.ready.none refl refl h)) (λ t h. h)) (λ t h. h));
       grows = same_grows 0 _ _ refl refl;
     }
 

@@ -1,7 +1,7 @@
 use Rattle.std.proofs.Common.{◌∙◌, sym, subst}
 use Rattle.hevc_spec.specs.UnitHeader.{UnitHeader}
 use Rattle.hevc_bits.specs.FoundUnit.{FoundUnit, bytes_of}
-use Rattle.hevc_stateless.specs.Decoders.{view_of, set_for, seen_by}
+use Rattle.hevc_stateless.specs.Decoders.{set_for, seen_by}
 use Rattle.hevc_stateless.specs.Steps.{Step}
 use Rattle.hevc_stateless.proofs.Calling.{steps_in, told_first}
 use Rattle.hevc_stateless.proofs.decoder.StatelessDecoder.decode_unit.Goals as goal

@@ -4,7 +4,6 @@ use Rattle.hevc_bits.specs.NaluType.{nalu_type_number, nalu_type_of}
 use Rattle.hevc_bits.specs.TypeNumbers.{nalu_type_of-nalu_type_number}
 use Rattle.hevc_bits.specs.FoundUnit.{bytes_of}
 use Rattle.hevc_spec.specs.UnitHeader.{UnitHeader}
-use Rattle.hevc_spec.specs.UnitTypes.{is_slice}
 use Rattle.hevc_kept_sets.specs.Kept.{kept_of, options_in}
 use Rattle.hevc_stateless.proofs.Coding.{end_means, close_means, other_means, end_step, close_step, idle_step}
 use Rattle.hevc_stateless.proofs.decoder.StatelessDecoder.take_end.Goals as goal

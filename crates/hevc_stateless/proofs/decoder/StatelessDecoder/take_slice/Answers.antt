@@ -15,7 +15,7 @@ use Rattle.hevc_driver.specs.Slices.{slice_of}
 use Rattle.hevc_stateless.specs.Refusals.{refusal_of}
 use Rattle.hevc_stateless.specs.States.{unit_at, state_at}
 use Rattle.hevc_stateless.specs.Steps.{TakesIn}
-use Rattle.hevc_stateless.specs.Views.{View, moment_of, traces_of}
+use Rattle.hevc_stateless.specs.Views.{View, moment_of}
 use Rattle.hevc_stateless.proofs.Slicing.{of_unit, segment_means, segment_refused, coded_of}
 use Rattle.hevc_stateless.proofs.decoder.StatelessDecoder.take_slice.Goals as goal
 
