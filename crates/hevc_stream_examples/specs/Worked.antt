@@ -1,5 +1,5 @@
 -- Worked streams: the bytes of their units, and what these mean.
-use Rattle.std.specs.Prelude.{ℕ, negsuc, pos, true, false, Some, None, List, [], ◌∷◌, ◌++◌, replicate, take}
+use Rattle.std.specs.Prelude.{ℕ, negsuc, pos, true, false, Some, None, List, [], ◌∷◌, ◌++◌, replicate, take, drop, is_some, Bool}
 use Rattle.hevc_walk.specs.Meanings.{Format, ShortTermRefPicSet, SliceHeader, Slice, B, I, P, Meaning, SequenceSet, CodedSlice, Other}
 use Rattle.hevc_spec.specs.Units.{units}
 use Rattle.hevc_stream.specs.Options.{Options, default_options}
@@ -291,6 +291,10 @@ cut_sets_stream = behind_sets (cut_pps_bytes ∷ other_pps_bytes ∷ sps_bytes �
 abbrev pub cut_set_stream : List ℕ
 cut_set_stream = behind_sets (cut_pps_bytes ∷ other_pps_bytes ∷ other_sps_bytes ∷ [])
 
+-- a video set of id 5
+abbrev pub video_set_stream : List ℕ
+video_set_stream = stream_of ((64 ∷ 1 ∷ 92 ∷ drop 3 vps_bytes) ∷ [])
+
 -- ---- what they mean
 
 -- an IDR picture of a format
@@ -365,3 +369,8 @@ up_to highest_tid = record default_options { highest_tid = highest_tid }
 -- the units that wait behind the units of a stream
 abbrev pub waiting_behind : List ℕ → List (List ℕ)
 waiting_behind stream = (kept_behind_all default_options none_kept (units stream)).waiting
+
+-- whether the video set of an id is kept behind the units of a stream
+abbrev pub has_video_set : List ℕ → ℕ → Bool
+has_video_set stream id =
+    is_some ((kept_behind_all default_options none_kept (units stream)).video_sets id)
