@@ -1,13 +1,14 @@
 //! Worked streams, computed from their bytes: what the definitions of `hevc_stream` say of them.
 #![tactic(auto)]
 
-ghost use Rattle.std.specs.Prelude.{◌≡◌, pos, true, false, List, [], ◌∷◌, map, Some, Ok, Err};
+ghost use Rattle.std.specs.Prelude.{◌≡◌, pos, true, false, List, [], ◌∷◌, map, filter, Some, Ok, Err};
 ghost use Rattle.hevc_spec.specs.Payload.{payload_after};
 ghost use Rattle.hevc_spec.specs.Units.{units};
+ghost use Rattle.hevc_spec.specs.UnitTypes.{is_idr, is_bla, is_cra, is_irap, is_radl, is_rasl, is_slnr, is_slice, is_end};
 ghost use Rattle.hevc_records.specs.SpsSizes.{max_dpb_size};
 ghost use Rattle.hevc_walk.specs.Meanings.{TruncatedNalu, InvalidNaluType, OutOfBits, OutOfRange, MissingPps, SequenceSet, CodedSlice, EndOfSequence, EndOfBitstream, Other, Refused};
 ghost use Rattle.hevc_walk.specs.ReferenceSets.{no_references};
-ghost use Rattle.hevc_walk.specs.ReferenceLists.{DpbEntry};
+ghost use Rattle.hevc_walk.specs.ReferenceLists.{DpbEntry, numbers_below};
 ghost use Rattle.hevc_walk.specs.Walk.{NewSequence, NewPicture, BeginPicture, DecodeSlice, SubmitPicture};
 ghost use Rattle.hevc_walk.specs.Refusals.{ChangedMidPicture, DpbFull};
 ghost use Rattle.hevc_walk.specs.Results.{calls, verdict};
@@ -120,11 +121,25 @@ pub fn buffer_sizes()
 /// An end of sequence has its header alone, a start code has two zeros, and zeros at the end are no part of a unit; a 03
 /// after two zeros is dropped, and the zeros are counted anew after it.
 pub fn bytes_of_units()
-    ensures units { units (0 ∷ 0 ∷ 1 ∷ 72 ∷ 1 ∷ 128 ∷ 0 ∷ 0 ∷ 1 ∷ 2 ∷ 1 ∷ 7 ∷ 0 ∷ 1 ∷ 0 ∷ 0 ∷ [])
-        ≡ record { offset = 3; bytes = 72 ∷ 1 ∷ [] }
-        ∷ record { offset = 9; bytes = 2 ∷ 1 ∷ 7 ∷ 0 ∷ 1 ∷ [] } ∷ [] }
+    ensures units { units (0 ∷ 0 ∷ 0 ∷ 1 ∷ 72 ∷ 1 ∷ 128 ∷ 0 ∷ 0 ∷ 1 ∷ 2 ∷ 1 ∷ 7 ∷ 0 ∷ 1 ∷ 0 ∷ 5 ∷ 1 ∷ 0 ∷ 0 ∷ [])
+        ≡ record { offset = 4; bytes = 72 ∷ 1 ∷ [] }
+        ∷ record { offset = 10; bytes = 2 ∷ 1 ∷ 7 ∷ 0 ∷ 1 ∷ 0 ∷ 5 ∷ 1 ∷ [] } ∷ [] }
     ensures payload { payload_after 0 (0 ∷ 0 ∷ 3 ∷ 0 ∷ 3 ∷ 0 ∷ 0 ∷ 3 ∷ [])
         ≡ 0 ∷ 0 ∷ 0 ∷ 3 ∷ 0 ∷ 0 ∷ [] }
+{}
+
+/// The kinds of unit types (Table 7-1), each with the types beside it.
+pub fn kinds_of_units()
+    ensures idr { filter is_idr (18 ∷ 19 ∷ 20 ∷ 21 ∷ []) ≡ 19 ∷ 20 ∷ [] }
+    ensures bla { filter is_bla (15 ∷ 16 ∷ 17 ∷ 18 ∷ 19 ∷ []) ≡ 16 ∷ 17 ∷ 18 ∷ [] }
+    ensures cra { filter is_cra (20 ∷ 21 ∷ 22 ∷ []) ≡ 21 ∷ [] }
+    ensures irap { filter is_irap (15 ∷ 16 ∷ 22 ∷ 23 ∷ 24 ∷ []) ≡ 16 ∷ 22 ∷ 23 ∷ [] }
+    ensures leading { filter is_radl (5 ∷ 6 ∷ 7 ∷ 8 ∷ []) ≡ 6 ∷ 7 ∷ [] }
+    ensures skipped { filter is_rasl (7 ∷ 8 ∷ 9 ∷ 10 ∷ []) ≡ 8 ∷ 9 ∷ [] }
+    ensures sub_layer { filter is_slnr (numbers_below 18)
+        ≡ 0 ∷ 2 ∷ 4 ∷ 6 ∷ 8 ∷ 10 ∷ 12 ∷ 14 ∷ [] }
+    ensures slices { filter is_slice (0 ∷ 9 ∷ 10 ∷ 15 ∷ 16 ∷ 21 ∷ 22 ∷ []) ≡ 0 ∷ 9 ∷ 16 ∷ 21 ∷ [] }
+    ensures ends { filter is_end (35 ∷ 36 ∷ 37 ∷ 38 ∷ []) ≡ 36 ∷ 37 ∷ [] }
 {}
 
 /// Seven pictures that wait in a buffer of six.

@@ -91,6 +91,7 @@ pub fn wrong_orders()
 /// A latency is kept where one picture more between two would break it; skipped pictures aren't counted.
 pub fn counted_latency()
     ensures between { decoded_between 0 2 (pictures broken_link) ≡ 1 }
+    ensures both { decoded_between 0 3 (pictures broken_link) ≡ 2 }
     ensures skipped { decoded_between 1 4 (pictures broken_link) ≡ 1 }
     ensures allowed { latency_pictures (sets_of 3 4).limits ≡ 4 }
     ensures at_bound { map (keeps_order (late_stream 2)) (sequences (late_stream 2)) ≡ true ∷ [] }

@@ -30,3 +30,7 @@ returns-clause-counts c = refl
 pub returns-clause-earliest : goal.returns-clause-earliest
 unfolding head order_count_in_range nearest due_outputs needs_additional_bumping needs_bumping with_stored reference_set with_marks ref_pic_list0 ref_pic_list1 finish store_picture change_format begin_picture make_room start_decoding
 returns-clause-earliest c = refl
+
+pub returns-clause-both : goal.returns-clause-both
+unfolding head order_count_in_range nearest due_outputs needs_additional_bumping needs_bumping with_stored reference_set with_marks ref_pic_list0 ref_pic_list1 finish store_picture change_format begin_picture make_room start_decoding
+returns-clause-both c = refl
