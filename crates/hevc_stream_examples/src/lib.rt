@@ -1,11 +1,12 @@
 //! Worked streams, computed from their bytes: what the definitions of `hevc_stream` say of them.
 #![tactic(auto)]
 
-ghost use Rattle.std.specs.Prelude.{◌≡◌, pos, true, false, List, [], ◌∷◌, map, filter, Some, Ok, Err};
+ghost use Rattle.std.specs.Prelude.{◌≡◌, pos, true, false, List, [], ◌∷◌, map, filter, is_ok, Some, Ok, Err};
 ghost use Rattle.hevc_spec.specs.Payload.{payload_after};
 ghost use Rattle.hevc_spec.specs.Units.{units};
+ghost use Rattle.hevc_spec.specs.UnitHeader.{nal_unit_type, unit_header};
 ghost use Rattle.hevc_spec.specs.UnitTypes.{is_idr, is_bla, is_cra, is_irap, is_radl, is_rasl, is_slnr, is_slice, is_end};
-ghost use Rattle.hevc_records.specs.SpsSizes.{max_dpb_size};
+ghost use Rattle.hevc_records.specs.SpsSizes.{sub_width_c, sub_height_c, leaves_some, wp_offset_half_range, max_dpb_size};
 ghost use Rattle.hevc_walk.specs.Meanings.{TruncatedNalu, InvalidNaluType, OutOfBits, OutOfRange, MissingPps, SequenceSet, CodedSlice, EndOfSequence, EndOfBitstream, Other, Refused};
 ghost use Rattle.hevc_walk.specs.ReferenceSets.{no_references};
 ghost use Rattle.hevc_walk.specs.ReferenceLists.{DpbEntry, numbers_below};
@@ -126,6 +127,30 @@ pub fn bytes_of_units()
         ∷ record { offset = 10; bytes = 2 ∷ 1 ∷ 7 ∷ 0 ∷ 1 ∷ 0 ∷ 5 ∷ 1 ∷ [] } ∷ [] }
     ensures payload { payload_after 0 (0 ∷ 0 ∷ 3 ∷ 0 ∷ 3 ∷ 0 ∷ 0 ∷ 3 ∷ [])
         ≡ 0 ∷ 0 ∷ 0 ∷ 3 ∷ 0 ∷ 0 ∷ [] }
+{}
+
+/// The header of a unit has six bits of the type after one that isn't looked at, six of the layer and three of the temporal
+/// id; types from 48 on are unspecified.
+pub fn headers_of_units()
+    ensures fields { unit_header (221 ∷ 250 ∷ 7 ∷ [])
+        ≡ Ok (record { nal_unit_type = 46; nuh_layer_id = 63; nuh_temporal_id_plus1 = 2 }) }
+    ensures base_layer { unit_header (38 ∷ 1 ∷ [])
+        ≡ Ok (record { nal_unit_type = 19; nuh_layer_id = 0; nuh_temporal_id_plus1 = 1 }) }
+    ensures last { map is_ok (map (λ first. unit_header (first ∷ 1 ∷ [])) (94 ∷ 96 ∷ []))
+        ≡ true ∷ false ∷ [] }
+    ensures types { map nal_unit_type ([] ∷ (223 ∷ []) ∷ []) ≡ 0 ∷ 47 ∷ [] }
+{}
+
+/// By ChromaArrayType: the luma samples for a chroma sample across and down, and windows that just leave something or don't;
+/// and the range of offsets of weights.
+pub fn sizes_of_samples()
+    ensures across { map sub_width_c (0 ∷ 1 ∷ 2 ∷ 3 ∷ []) ≡ 1 ∷ 2 ∷ 2 ∷ 1 ∷ [] }
+    ensures down { map sub_height_c (0 ∷ 1 ∷ 2 ∷ 3 ∷ []) ≡ 1 ∷ 2 ∷ 1 ∷ 1 ∷ [] }
+    ensures width { map (λ left. leaves_some 1 16 8 left 3 1 1) (4 ∷ 5 ∷ []) ≡ true ∷ false ∷ [] }
+    ensures height { map (λ top. leaves_some 1 16 8 3 4 top 1) (2 ∷ 3 ∷ []) ≡ true ∷ false ∷ [] }
+    ensures offsets { map (λ depth. wp_offset_half_range true depth) (0 ∷ 4 ∷ [])
+        ≡ 128 ∷ 2048 ∷ [] }
+    ensures low_offsets { wp_offset_half_range false 4 ≡ 128 }
 {}
 
 /// The kinds of unit types (Table 7-1), each with the types beside it.
