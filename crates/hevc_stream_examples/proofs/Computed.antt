@@ -1,10 +1,10 @@
 -- What the units of worked streams mean, computed.
-use Rattle.std.proofs.Common.{◌≡◌, [], ◌∷◌, map, refl}
+use Rattle.std.proofs.Common.{◌≡◌, false, true, [], ◌∷◌, map, refl}
 use Rattle.hevc_walk.specs.Meanings.{TruncatedNalu, InvalidNaluType, OutOfBits, OutOfRange, MissingPps, SequenceSet, CodedSlice, EndOfSequence, EndOfBitstream, Other, Refused}
 use Rattle.hevc_stream.specs.Options.{default_options}
 use Rattle.hevc_stream.specs.Stream.{meanings}
 use Rattle.hevc_walk_examples.specs.Streams.{plain_format, deep_format, p4, cra, dependent, plain, encoded, crowded, leading, ended_by, equal_counts, without_reference, dependent_alone, dependent_behind}
-use Rattle.hevc_stream_examples.specs.Worked.{plain_stream, encoded_stream, waiting_stream, still_waiting_stream, read_later_stream, in_order_stream, cut_sets_stream, cut_set_stream, not_read_again_stream, read_again_stream, resized_stream, mid_picture_stream, crowded_stream, ends_early_stream, missing_set_stream, no_sets_yet_stream, truncated_stream, unspecified_stream, no_temporal_id_stream, end_cut_stream, many_sub_layers_stream, no_level_stream, long_latency_stream, leading_stream, sequence_ends_stream, bitstream_ends_stream, equal_counts_stream, without_reference_stream, dependent_alone_stream, dependent_behind_stream, before_sets_stream, cut_video_set_stream, two_layers_stream, large_stream, referring_stream, referring_slice, cra_within_stream, sub_layers_stream, cut_pps_bytes, other_pps_bytes, idr_of, sets_then, waiting_behind, wide_format, large_format, idr_under, later_idr_at_1, sub_layer_p2, handled, cra_as_bla, up_to}
+use Rattle.hevc_stream_examples.specs.Worked.{plain_stream, encoded_stream, waiting_stream, still_waiting_stream, read_later_stream, in_order_stream, cut_sets_stream, cut_set_stream, not_read_again_stream, read_again_stream, resized_stream, mid_picture_stream, crowded_stream, ends_early_stream, missing_set_stream, no_sets_yet_stream, truncated_stream, unspecified_stream, no_temporal_id_stream, end_cut_stream, many_sub_layers_stream, no_level_stream, long_latency_stream, leading_stream, sequence_ends_stream, bitstream_ends_stream, equal_counts_stream, without_reference_stream, dependent_alone_stream, dependent_behind_stream, before_sets_stream, cut_video_set_stream, two_layers_stream, large_stream, referring_stream, referring_slices, cra_within_stream, sub_layers_stream, cut_pps_bytes, other_pps_bytes, idr_of, sets_then, waiting_behind, video_set_stream, has_video_set, wide_format, large_format, idr_under, later_idr_at_1, sub_layer_p2, handled, cra_as_bla, up_to}
 use Rattle.hevc_spec.specs.Bits as bits
 use Rattle.hevc_spec.specs.Payload as payload
 use Rattle.hevc_spec.specs.Rows as rows
@@ -40,6 +40,7 @@ pub record Rows : Type 0 where
   pub in_order : meanings default_options in_order_stream ≡ Other ∷ Other ∷ SequenceSet plain_format ∷ idr_of plain_format ∷ dependent ∷ []
   pub waits : waiting_behind cut_sets_stream ≡ cut_pps_bytes ∷ other_pps_bytes ∷ []
   pub leaves : waiting_behind cut_set_stream ≡ cut_pps_bytes ∷ []
+  pub video_sets : map (has_video_set video_set_stream) (0 ∷ 5 ∷ []) ≡ false ∷ true ∷ []
   pub not_read_again : meanings default_options not_read_again_stream ≡ sets_then plain_format (SequenceSet deep_format ∷ Refused (OutOfRange 14 36) ∷ [])
   pub read_again : meanings default_options read_again_stream ≡ sets_then plain_format (sets_then deep_format (idr_of deep_format ∷ []))
   pub resized : meanings default_options resized_stream ≡ sets_then plain_format (idr_of plain_format ∷ sets_then wide_format (idr_of wide_format ∷ []))
@@ -59,7 +60,7 @@ pub record Rows : Type 0 where
   pub lower_layer : meanings (up_to 0) two_layers_stream ≡ sets_then plain_format (idr_under 0 0 1 ∷ [])
   pub higher_layer : meanings default_options two_layers_stream ≡ sets_then plain_format (idr_under 2 3 4 ∷ [])
   pub large : meanings default_options large_stream ≡ SequenceSet large_format ∷ []
-  pub referring : meanings default_options referring_stream ≡ sets_then wide_format (CodedSlice referring_slice ∷ [])
+  pub referring : meanings default_options referring_stream ≡ sets_then wide_format referring_slices
   pub leading : meanings default_options leading_stream ≡ leading
   pub sequence_ends : meanings default_options sequence_ends_stream ≡ ended_by EndOfSequence
   pub bitstream_ends : meanings default_options bitstream_ends_stream ≡ ended_by EndOfBitstream
@@ -175,6 +176,7 @@ computed = record {
   in_order = refl;
   waits = refl;
   leaves = refl;
+  video_sets = refl;
   not_read_again = refl;
   read_again = refl;
   resized = refl;

@@ -1,5 +1,5 @@
 -- Worked streams: the bytes of their units, and what these mean.
-use Rattle.std.specs.Prelude.{ℕ, negsuc, pos, true, false, Some, None, List, [], ◌∷◌, ◌++◌, replicate, take}
+use Rattle.std.specs.Prelude.{ℕ, negsuc, pos, true, false, Some, None, List, [], ◌∷◌, ◌++◌, replicate, take, drop, is_some, Bool}
 use Rattle.hevc_walk.specs.Meanings.{Format, ShortTermRefPicSet, SliceHeader, Slice, B, I, P, Meaning, SequenceSet, CodedSlice, Other}
 use Rattle.hevc_spec.specs.Units.{units}
 use Rattle.hevc_stream.specs.Options.{Options, default_options}
@@ -53,20 +53,22 @@ large_sps_bytes =
     66 ∷ 1 ∷ 1 ∷ 1 ∷ 96 ∷ 0 ∷ 0 ∷ 3 ∷ 0 ∷ 144 ∷ 0 ∷ 0 ∷ 3 ∷ 0 ∷ 0 ∷ 3 ∷ 0 ∷ 60 ∷ 160 ∷ 11 ∷ 8 ∷ 15 ∷ 23
     ∷ 149 ∷ 106 ∷ 240 ∷ 130 ∷ []
 
--- id 2, 32 by 16 samples, a short-term set and a long-term picture
+-- id 2, 32 by 16 samples, two short-term sets and a long-term picture
 abbrev pub referring_sps_bytes : List ℕ
-referring_sps_bytes =
-    66 ∷ 1 ∷ 1 ∷ 1 ∷ 96 ∷ 0 ∷ 0 ∷ 3 ∷ 0 ∷ 144 ∷ 0 ∷ 0 ∷ 3 ∷ 0 ∷ 0 ∷ 3 ∷ 0 ∷ 60 ∷ 104 ∷ 16 ∷ 132 ∷ 94
-    ∷ 85 ∷ 171 ∷ 193 ∷ 36 ∷ 173 ∷ 83 ∷ 8 ∷ []
+referring_sps_bytes = 66 ∷ 1 ∷ 1 ∷ 1 ∷ 96 ∷ 0 ∷ 0 ∷ 3 ∷ 0 ∷ 144 ∷ 0 ∷ 0 ∷ 3 ∷ 0 ∷ 0 ∷ 3 ∷ 0 ∷ 60 ∷ 104 ∷ 16 ∷ 132 ∷ 94 ∷ 85 ∷ 171 ∷ 193 ∷ 174 ∷ 73 ∷ 90 ∷ 166 ∷ 16 ∷ []
 
 -- id 3, with ordered lists, in which the current picture may stand
 abbrev pub referring_pps_bytes : List ℕ
 referring_pps_bytes = 68 ∷ 1 ∷ 35 ∷ 1 ∷ 198 ∷ 0 ∷ 209 ∷ 9 ∷ []
 
--- a B slice at block 1 by them: the short-term set and the long-term picture
--- of the sequence set, two long-term pictures of its own, and an ordered list 0
+-- a B slice at block 1 by them: the second short-term set and the long-term picture
+-- of the sequence set, two long-term pictures of its own, and ordered lists
 abbrev pub referring_bytes : List ℕ
-referring_bytes = 2 ∷ 1 ∷ 19 ∷ 106 ∷ 118 ∷ 98 ∷ 234 ∷ 188 ∷ 56 ∷ []
+referring_bytes = 2 ∷ 1 ∷ 19 ∷ 109 ∷ 59 ∷ 57 ∷ 85 ∷ 79 ∷ 153 ∷ 28 ∷ []
+
+-- a P slice there: the first short-term set, the long-term picture, and an ordered list 0
+abbrev pub referring_p_bytes : List ℕ
+referring_p_bytes = 2 ∷ 1 ∷ 18 ∷ 158 ∷ 83 ∷ 112 ∷ []
 
 abbrev pub vps_bytes : List ℕ
 vps_bytes =
@@ -246,7 +248,7 @@ large_stream = stream_of (large_sps_bytes ∷ [])
 
 abbrev pub referring_stream : List ℕ
 referring_stream =
-    stream_of (referring_sps_bytes ∷ referring_pps_bytes ∷ referring_bytes ∷ [])
+    stream_of (referring_sps_bytes ∷ referring_pps_bytes ∷ referring_bytes ∷ referring_p_bytes ∷ [])
 
 -- a CRA picture with leading pictures
 abbrev pub leading_stream : List ℕ
@@ -291,6 +293,10 @@ cut_sets_stream = behind_sets (cut_pps_bytes ∷ other_pps_bytes ∷ sps_bytes �
 abbrev pub cut_set_stream : List ℕ
 cut_set_stream = behind_sets (cut_pps_bytes ∷ other_pps_bytes ∷ other_sps_bytes ∷ [])
 
+-- a video set of id 5
+abbrev pub video_set_stream : List ℕ
+video_set_stream = stream_of ((64 ∷ 1 ∷ 92 ∷ drop 3 vps_bytes) ∷ [])
+
 -- ---- what they mean
 
 -- an IDR picture of a format
@@ -314,6 +320,12 @@ idr_under reorder latency_plus1 buffering =
 abbrev pub large_format : Format
 large_format = record plain_format { coded_width = 352; coded_height = 240; max_num_pics = 8 }
 
+abbrev pub one_sided_set : ShortTermRefPicSet
+one_sided_set = record {
+  negative_pics = short_member (negsuc 0) true ∷ [];
+  positive_pics = [];
+}
+
 -- order counts 2 before and 3 after the picture, the latter for later ones alone
 abbrev pub two_sided_set : ShortTermRefPicSet
 two_sided_set = record {
@@ -324,17 +336,34 @@ two_sided_set = record {
 -- four pictures may be referred to: one of the short-term set, two long-term ones and itself
 abbrev pub referring_header : SliceHeader
 referring_header = record (plain_header B 6 [] [] 4) {
+  curr_rps_idx = 1;
   long_term_pics =
-      long_member 9 (Some 2) true ∷ long_member 3 None false ∷ long_member 5 (Some 1) true ∷ [];
+      long_member 9 (Some 2) true ∷ long_member 3 None true ∷ long_member 5 (Some 1) false ∷ [];
   list0 = record { num_ref_idx_active = 2; list_entry = Some (3 ∷ 0 ∷ []) };
+  list1 = record { num_ref_idx_active = 3; list_entry = Some (2 ∷ 1 ∷ 0 ∷ []) };
 }
 
-abbrev pub referring_slice : Slice
-referring_slice =
-    record (later_slice 1 referring_bytes (record (plain_sets wide_format) {
-      short_term_ref_pic_sets = two_sided_set ∷ [];
+abbrev pub referring_p_header : SliceHeader
+referring_p_header = record (plain_header P 7 [] [] 3) {
+  long_term_pics = long_member 9 None true ∷ [];
+  list0 = record { num_ref_idx_active = 1; list_entry = Some (2 ∷ []) };
+}
+
+abbrev pub referring_slice : List ℕ → SliceHeader → Meaning
+referring_slice bytes header =
+    CodedSlice (record (later_slice 1 bytes (record (plain_sets wide_format) {
+      short_term_ref_pic_sets = one_sided_set ∷ two_sided_set ∷ [];
       pps_curr_pic_ref_enabled_flag = true;
-    }) referring_header) { pic_parameter_set_id = 3; segment_address = 1 }
+    }) header) {
+      pic_parameter_set_id = 3;
+      segment_address = 1;
+    })
+
+-- what the two slices mean
+abbrev pub referring_slices : List Meaning
+referring_slices =
+    referring_slice referring_bytes referring_header
+    ∷ referring_slice referring_p_bytes referring_p_header ∷ []
 
 -- a slice that begins behind the first block of a picture
 abbrev pub later_idr_at_1 : Format → Meaning
@@ -365,3 +394,8 @@ up_to highest_tid = record default_options { highest_tid = highest_tid }
 -- the units that wait behind the units of a stream
 abbrev pub waiting_behind : List ℕ → List (List ℕ)
 waiting_behind stream = (kept_behind_all default_options none_kept (units stream)).waiting
+
+-- whether the video set of an id is kept behind the units of a stream
+abbrev pub has_video_set : List ℕ → ℕ → Bool
+has_video_set stream id =
+    is_some ((kept_behind_all default_options none_kept (units stream)).video_sets id)

@@ -1,20 +1,22 @@
 //! Worked streams, computed from their bytes: what the definitions of `hevc_stream` say of them.
 #![tactic(auto)]
 
-ghost use Rattle.std.specs.Prelude.{◌≡◌, pos, true, List, [], ◌∷◌, map, Some, Ok, Err};
+ghost use Rattle.std.specs.Prelude.{◌≡◌, pos, true, false, List, [], ◌∷◌, map, filter, is_ok, Some, Ok, Err};
 ghost use Rattle.hevc_spec.specs.Payload.{payload_after};
 ghost use Rattle.hevc_spec.specs.Units.{units};
-ghost use Rattle.hevc_records.specs.SpsSizes.{max_dpb_size};
+ghost use Rattle.hevc_spec.specs.UnitHeader.{nal_unit_type, unit_header};
+ghost use Rattle.hevc_spec.specs.UnitTypes.{is_idr, is_bla, is_cra, is_irap, is_radl, is_rasl, is_slnr, is_slice, is_end};
+ghost use Rattle.hevc_records.specs.SpsSizes.{sub_width_c, sub_height_c, leaves_some, wp_offset_half_range, max_dpb_size};
 ghost use Rattle.hevc_walk.specs.Meanings.{TruncatedNalu, InvalidNaluType, OutOfBits, OutOfRange, MissingPps, SequenceSet, CodedSlice, EndOfSequence, EndOfBitstream, Other, Refused};
 ghost use Rattle.hevc_walk.specs.ReferenceSets.{no_references};
-ghost use Rattle.hevc_walk.specs.ReferenceLists.{DpbEntry};
+ghost use Rattle.hevc_walk.specs.ReferenceLists.{DpbEntry, numbers_below};
 ghost use Rattle.hevc_walk.specs.Walk.{NewSequence, NewPicture, BeginPicture, DecodeSlice, SubmitPicture};
 ghost use Rattle.hevc_walk.specs.Refusals.{ChangedMidPicture, DpbFull};
 ghost use Rattle.hevc_walk.specs.Results.{calls, verdict};
 ghost use Rattle.hevc_stream.specs.Options.{default_options};
 ghost use Rattle.hevc_stream.specs.Stream.{meanings};
 ghost use Rattle.hevc_walk_examples.specs.Streams.{plain_format, deep_format, p4, cra, dependent, plain, encoded, crowded, leading, ended_by, equal_counts, without_reference, dependent_alone, dependent_behind, told_outputs, new_pictures, idr_bytes, p4_bytes, p2_bytes};
-ghost use Rattle.hevc_stream_examples.specs.Worked.{plain_stream, encoded_stream, waiting_stream, still_waiting_stream, read_later_stream, in_order_stream, cut_sets_stream, cut_set_stream, not_read_again_stream, read_again_stream, resized_stream, mid_picture_stream, crowded_stream, ends_early_stream, missing_set_stream, no_sets_yet_stream, truncated_stream, unspecified_stream, no_temporal_id_stream, end_cut_stream, many_sub_layers_stream, no_level_stream, long_latency_stream, leading_stream, sequence_ends_stream, bitstream_ends_stream, equal_counts_stream, without_reference_stream, dependent_alone_stream, dependent_behind_stream, before_sets_stream, cut_video_set_stream, two_layers_stream, large_stream, referring_stream, referring_slice, cra_within_stream, sub_layers_stream, cut_pps_bytes, other_pps_bytes, idr_of, sets_then, waiting_behind, wide_format, large_format, idr_under, later_idr_at_1, sub_layer_p2, handled, cra_as_bla, up_to};
+ghost use Rattle.hevc_stream_examples.specs.Worked.{plain_stream, encoded_stream, waiting_stream, still_waiting_stream, read_later_stream, in_order_stream, cut_sets_stream, cut_set_stream, not_read_again_stream, read_again_stream, resized_stream, mid_picture_stream, crowded_stream, ends_early_stream, missing_set_stream, no_sets_yet_stream, truncated_stream, unspecified_stream, no_temporal_id_stream, end_cut_stream, many_sub_layers_stream, no_level_stream, long_latency_stream, leading_stream, sequence_ends_stream, bitstream_ends_stream, equal_counts_stream, without_reference_stream, dependent_alone_stream, dependent_behind_stream, before_sets_stream, cut_video_set_stream, two_layers_stream, large_stream, referring_stream, referring_slices, cra_within_stream, sub_layers_stream, cut_pps_bytes, other_pps_bytes, idr_of, sets_then, waiting_behind, video_set_stream, has_video_set, wide_format, large_format, idr_under, later_idr_at_1, sub_layer_p2, handled, cra_as_bla, up_to};
 
 /// An IDR picture and two P pictures: what the units mean, and what the walk makes of it.
 pub fn plain_pictures()
@@ -70,6 +72,11 @@ pub fn waiting_sets()
     ensures verdict { verdict (meanings default_options waiting_stream) ≡ Ok 1 }
 {}
 
+/// A video set is kept by its own id.
+pub fn kept_video_sets()
+    ensures { map (has_video_set video_set_stream) (0 ∷ 5 ∷ []) ≡ false ∷ true ∷ [] }
+{}
+
 /// A picture set stays as it was read where its sequence set is replaced: the bounds of quantisers are still those of 8
 /// bits, until it comes again.
 pub fn replaced_sets()
@@ -115,11 +122,49 @@ pub fn buffer_sizes()
 /// An end of sequence has its header alone, a start code has two zeros, and zeros at the end are no part of a unit; a 03
 /// after two zeros is dropped, and the zeros are counted anew after it.
 pub fn bytes_of_units()
-    ensures units { units (0 ∷ 0 ∷ 1 ∷ 72 ∷ 1 ∷ 128 ∷ 0 ∷ 0 ∷ 1 ∷ 2 ∷ 1 ∷ 7 ∷ 0 ∷ 1 ∷ 0 ∷ 0 ∷ [])
-        ≡ record { offset = 3; bytes = 72 ∷ 1 ∷ [] }
-        ∷ record { offset = 9; bytes = 2 ∷ 1 ∷ 7 ∷ 0 ∷ 1 ∷ [] } ∷ [] }
+    ensures units { units (0 ∷ 0 ∷ 0 ∷ 1 ∷ 72 ∷ 1 ∷ 128 ∷ 0 ∷ 0 ∷ 1 ∷ 2 ∷ 1 ∷ 7 ∷ 0 ∷ 1 ∷ 0 ∷ 5 ∷ 1 ∷ 0 ∷ 0 ∷ [])
+        ≡ record { offset = 4; bytes = 72 ∷ 1 ∷ [] }
+        ∷ record { offset = 10; bytes = 2 ∷ 1 ∷ 7 ∷ 0 ∷ 1 ∷ 0 ∷ 5 ∷ 1 ∷ [] } ∷ [] }
     ensures payload { payload_after 0 (0 ∷ 0 ∷ 3 ∷ 0 ∷ 3 ∷ 0 ∷ 0 ∷ 3 ∷ [])
         ≡ 0 ∷ 0 ∷ 0 ∷ 3 ∷ 0 ∷ 0 ∷ [] }
+{}
+
+/// The header of a unit has six bits of the type after one that isn't looked at, six of the layer and three of the temporal
+/// id; types from 48 on are unspecified.
+pub fn headers_of_units()
+    ensures fields { unit_header (221 ∷ 250 ∷ 7 ∷ [])
+        ≡ Ok (record { nal_unit_type = 46; nuh_layer_id = 63; nuh_temporal_id_plus1 = 2 }) }
+    ensures base_layer { unit_header (38 ∷ 1 ∷ [])
+        ≡ Ok (record { nal_unit_type = 19; nuh_layer_id = 0; nuh_temporal_id_plus1 = 1 }) }
+    ensures last { map is_ok (map (λ first. unit_header (first ∷ 1 ∷ [])) (94 ∷ 96 ∷ []))
+        ≡ true ∷ false ∷ [] }
+    ensures types { map nal_unit_type ([] ∷ (223 ∷ []) ∷ []) ≡ 0 ∷ 47 ∷ [] }
+{}
+
+/// By ChromaArrayType: the luma samples for a chroma sample across and down, and windows that just leave something or don't;
+/// and the range of offsets of weights.
+pub fn sizes_of_samples()
+    ensures across { map sub_width_c (0 ∷ 1 ∷ 2 ∷ 3 ∷ []) ≡ 1 ∷ 2 ∷ 2 ∷ 1 ∷ [] }
+    ensures down { map sub_height_c (0 ∷ 1 ∷ 2 ∷ 3 ∷ []) ≡ 1 ∷ 2 ∷ 1 ∷ 1 ∷ [] }
+    ensures width { map (λ left. leaves_some 1 16 8 left 3 1 1) (4 ∷ 5 ∷ []) ≡ true ∷ false ∷ [] }
+    ensures height { map (λ top. leaves_some 1 16 8 3 4 top 1) (2 ∷ 3 ∷ []) ≡ true ∷ false ∷ [] }
+    ensures offsets { map (λ depth. wp_offset_half_range true depth) (0 ∷ 4 ∷ [])
+        ≡ 128 ∷ 2048 ∷ [] }
+    ensures low_offsets { wp_offset_half_range false 4 ≡ 128 }
+{}
+
+/// The kinds of unit types (Table 7-1), each with the types beside it.
+pub fn kinds_of_units()
+    ensures idr { filter is_idr (18 ∷ 19 ∷ 20 ∷ 21 ∷ []) ≡ 19 ∷ 20 ∷ [] }
+    ensures bla { filter is_bla (15 ∷ 16 ∷ 17 ∷ 18 ∷ 19 ∷ []) ≡ 16 ∷ 17 ∷ 18 ∷ [] }
+    ensures cra { filter is_cra (20 ∷ 21 ∷ 22 ∷ []) ≡ 21 ∷ [] }
+    ensures irap { filter is_irap (15 ∷ 16 ∷ 22 ∷ 23 ∷ 24 ∷ []) ≡ 16 ∷ 22 ∷ 23 ∷ [] }
+    ensures leading { filter is_radl (5 ∷ 6 ∷ 7 ∷ 8 ∷ []) ≡ 6 ∷ 7 ∷ [] }
+    ensures skipped { filter is_rasl (7 ∷ 8 ∷ 9 ∷ 10 ∷ []) ≡ 8 ∷ 9 ∷ [] }
+    ensures sub_layer { filter is_slnr (numbers_below 18)
+        ≡ 0 ∷ 2 ∷ 4 ∷ 6 ∷ 8 ∷ 10 ∷ 12 ∷ 14 ∷ [] }
+    ensures slices { filter is_slice (0 ∷ 9 ∷ 10 ∷ 15 ∷ 16 ∷ 21 ∷ 22 ∷ []) ≡ 0 ∷ 9 ∷ 16 ∷ 21 ∷ [] }
+    ensures ends { filter is_end (35 ∷ 36 ∷ 37 ∷ 38 ∷ []) ≡ 36 ∷ 37 ∷ [] }
 {}
 
 /// Seven pictures that wait in a buffer of six.
@@ -177,10 +222,10 @@ pub fn references()
         ≡ without_reference }
 {}
 
-/// A slice with all that a header says of references, by sets of other ids.
+/// Slices with all that a header says of references, by sets of other ids.
 pub fn long_term_references()
     ensures { meanings default_options referring_stream
-        ≡ sets_then wide_format (CodedSlice referring_slice ∷ []) }
+        ≡ sets_then wide_format referring_slices }
 {}
 
 /// A dependent slice alone, and behind an independent one.

@@ -1,5 +1,5 @@
 -- Streams that each turn on what a picture may refer to.
-use Rattle.std.specs.Prelude.{ℕ, ℤ, pos, negsuc, ◌-◌, ◌^◌, true, false, List, [], ◌∷◌, Some, None}
+use Rattle.std.specs.Prelude.{ℕ, ℤ, pos, negsuc, ◌-◌, ◌*◌, ◌^◌, true, false, List, [], ◌∷◌, Some, None}
 use Rattle.hevc_walk.specs.Meanings.{ShortTermMember, LongTermMember, SliceType, B, I, P, Slice, Meaning, SequenceSet, CodedSlice, EndOfSequence, Other}
 use Rattle.hevc_walk_examples.specs.Streams.{plain_format, plain_header, first_slice, later_slice, idr, p4, cra, used_member}
 use Rattle.hevc_walk_examples.specs.Corners.{sets, limited, screen_sets, intra, trailing, places, long_member, short_member, dependent_of}
@@ -96,11 +96,11 @@ far_step =
     SequenceSet plain_format ∷ Other ∷ idr sets
     ∷ trailing (record sets { max_pic_order_cnt_lsb = 2 ^ 33 }) (2 ^ 31 - 2) ∷ trailing sets 2 ∷ []
 
--- an order count of -5, whose most significant bits are -(2 ^ 32)
+-- an order count of -(2 ^ 30) - 1, whose most significant bits are -(3 * 2 ^ 30)
 abbrev pub far_msb : List Meaning
 far_msb =
     SequenceSet plain_format ∷ Other ∷ idr sets
-    ∷ trailing (record sets { max_pic_order_cnt_lsb = 2 ^ 32 }) (2 ^ 32 - 5) ∷ []
+    ∷ trailing (record sets { max_pic_order_cnt_lsb = 3 * 2 ^ 30 }) (2 ^ 31 - 1) ∷ []
 
 -- the slices of a picture that names picture set 1: an independent one and a dependent one
 abbrev pub dependent_of_1 : List Meaning

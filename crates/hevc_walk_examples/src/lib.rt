@@ -86,6 +86,7 @@ pub fn order_counts()
     ensures outside { is_i32 (nearest 16 (pos (2 ^ 31 - 2)) 2) ≡ false }
     ensures below { is_i32 (nearest 16 (negsuc (2 ^ 31 - 1)) 15) ≡ false }
     ensures lowest { is_i32 (nearest 16 (negsuc (2 ^ 31 - 1)) 0) ≡ true }
+    ensures highest { is_i32 (nearest 16 (pos (2 ^ 31 - 2)) 15) ≡ true }
 {}
 
 /// As an encoder writes it, with a B slice.

@@ -1,14 +1,15 @@
 //! Small streams, computed: each keeps the order that it declares, or doesn't.
 
-ghost use Rattle.std.specs.Prelude.{◌≡◌, pos, List, [], ◌∷◌, All, Ok, map, true, false};
+ghost use Rattle.std.specs.Prelude.{◌≡◌, pos, List, [], ◌∷◌, All, Some, Ok, map, take, option_map, true, false};
 ghost use Rattle.hevc_walk.specs.Pictures.{pictures};
 ghost use Rattle.hevc_walk.specs.Results.{verdict};
 ghost use Rattle.hevc_walk_examples.specs.Streams.{plain, told_outputs};
-ghost use Rattle.hevc_walk_order.specs.Sequences.{Sequence, sequences, pictures_for_output};
-ghost use Rattle.hevc_walk_order.specs.DisplayOrder.{KeepsOrder, FewPrecede, AreInOrder, ComeInOrder, ComeInTurn};
+ghost use Rattle.hevc_walk_examples.specs.Corners.{broken_link};
+ghost use Rattle.hevc_walk_order.specs.Sequences.{Sequence, sequences, earliest, pictures_for_output};
+ghost use Rattle.hevc_walk_order.specs.DisplayOrder.{KeepsOrder, FewPrecede, latency_pictures, decoded_between, AreInOrder, ComeInOrder, ComeInTurn};
 ghost use Rattle.hevc_walk_order.specs.Bounds.{KeepsBounds};
 ghost use Rattle.hevc_walk_order.specs.Tests.{keeps_order, keeps_bounds};
-ghost use Rattle.hevc_walk_examples.specs.OrderStreams.{two_sequences, reordered_too_far, late_stream, full_stream, overfull_stream, sequence_numbers, output_counts, last_first};
+ghost use Rattle.hevc_walk_examples.specs.OrderStreams.{sets_of, two_sequences, reordered_too_far, late_stream, full_stream, overfull_stream, sequence_numbers, output_counts, last_first};
 
 /// Two sequences, the first of which begins without an IRAP picture: both keep the order that they declare, and the
 /// plainer bounds.
@@ -85,4 +86,16 @@ pub fn wrong_orders()
     ensures lacking { AreInOrder (pictures plain) [] → ⊥ }
     ensures nothing { ComeInOrder two_sequences [] → ⊥ }
     ensures turns { ComeInTurn two_sequences (last_first two_sequences) → ⊥ }
+{}
+
+/// A latency is kept where one picture more between two would break it; skipped pictures aren't counted.
+pub fn counted_latency()
+    ensures between { decoded_between 0 2 (pictures broken_link) ≡ 1 }
+    ensures both { decoded_between 0 3 (pictures broken_link) ≡ 2 }
+    ensures skipped { decoded_between 1 4 (pictures broken_link) ≡ 1 }
+    ensures allowed { latency_pictures (sets_of 3 4).limits ≡ 4 }
+    ensures at_bound { map (keeps_order (late_stream 2)) (sequences (late_stream 2)) ≡ true ∷ [] }
+    ensures counts { output_counts (late_stream 2)
+        ≡ (pos 0 ∷ pos 2 ∷ pos 3 ∷ pos 4 ∷ pos 8 ∷ []) ∷ [] }
+    ensures earliest { option_map (λ p. p.number) (earliest (take 2 (pictures plain))) ≡ Some 1 }
 {}

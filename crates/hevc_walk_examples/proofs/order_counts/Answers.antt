@@ -30,3 +30,7 @@ returns-clause-below c = refl
 pub returns-clause-lowest : goal.returns-clause-lowest
 unfolding head order_count_in_range nearest due_outputs needs_additional_bumping needs_bumping with_stored reference_set with_marks ref_pic_list0 ref_pic_list1 finish store_picture change_format begin_picture make_room start_decoding
 returns-clause-lowest c = refl
+
+pub returns-clause-highest : goal.returns-clause-highest
+unfolding head order_count_in_range nearest due_outputs needs_additional_bumping needs_bumping with_stored reference_set with_marks ref_pic_list0 ref_pic_list1 finish store_picture change_format begin_picture make_room start_decoding
+returns-clause-highest c = refl
