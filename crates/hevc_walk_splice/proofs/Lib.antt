@@ -1,0 +1,9 @@
+pub mod Raise
+pub mod Parts
+pub mod Units
+pub mod Later
+pub mod Earlier
+pub mod Point
+pub mod Splice
+pub mod Found
+pub mod Points
