@@ -1,0 +1,3 @@
+pub mod SplicedUnits
+pub mod Begun
+pub mod Points
