@@ -102,7 +102,7 @@ meant_placed : (options : Options) (kept : Kept) (place : ℕ) (us : List NalUni
 meant_placed options kept place [] = refl
 meant_placed options kept place (u ∷ us) = ap (λ (ms : List Meaning). meaning options kept u.bytes ∷ ms) (meant_placed options (kept_behind options kept u.bytes) (place + 3 + length u.bytes) us)
 
-length_meant : (options : Options) (kept : Kept) (us : List NalUnit) → length (meanings_behind options kept us) ≡ length us
+pub length_meant : (options : Options) (kept : Kept) (us : List NalUnit) → length (meanings_behind options kept us) ≡ length us
 length_meant options kept [] = refl
 length_meant options kept (u ∷ us) = ap suc (length_meant options (kept_behind options kept u.bytes) us)
 

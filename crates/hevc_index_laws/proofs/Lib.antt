@@ -2,3 +2,4 @@ pub mod Kept
 pub mod Taken
 pub mod Begun
 pub mod Points
+pub mod Slices

@@ -1,10 +1,12 @@
 -- The pictures of a stream at which decoding can start.
-use Rattle.std.specs.Prelude.{ℕ, ℤ, ◌==◌, Bool, ◌&&◌, ◌||◌, List, filter, find, map, reverse, slice_index_or, Option}
-use Rattle.hevc_spec.specs.Units.{units}
+use Rattle.std.specs.Prelude.{◌≡◌, ℕ, ℤ, ◌==◌, Bool, ◌&&◌, ◌||◌, List, filter, find, map, reverse, slice_index_or, Option, Ok}
+use Rattle.hevc_spec.specs.UnitHeader.{UnitHeader, unit_header}
+use Rattle.hevc_spec.specs.Units.{NalUnit, units}
 use Rattle.hevc_spec.specs.UnitTypes.{is_idr, is_bla}
 use Rattle.hevc_walk.specs.Meanings.{Meaning}
 use Rattle.hevc_walk.specs.Pictures.{Picture, pictures}
 use Rattle.hevc_stream.specs.Options.{Options}
+use Rattle.hevc_stream.specs.Slices.{temporal_id}
 use Rattle.hevc_stream.specs.Stream.{meanings}
 
 -- an IDR or BLA picture whose temporal id is 0 (7.4.2.2, 8.1.3)
@@ -41,3 +43,10 @@ plain_point stream p = record {
 -- the points of a stream, in decoding order
 abbrev pub points_of : Options → List ℕ → List PlainPoint
 points_of options stream = map (plain_point stream) (points (meanings options stream))
+
+-- a unit's header has the type and the temporal id of the picture that the unit begins
+pub record BeginsPicture (p : Picture) (u : NalUnit) : Type 0 where
+  pub header : UnitHeader
+  pub is_header : unit_header u.bytes ≡ Ok header
+  pub nal_unit_type : header.nal_unit_type ≡ p.nal_unit_type
+  pub temporal_id : temporal_id header ≡ p.first.temporal_id

@@ -2,7 +2,7 @@
 //! parameter sets before it, which are decoded as the stream is.
 #![tactic(auto)]
 
-ghost use Rattle.std.specs.Prelude.{◌≡◌, ℕ, ◌<◌, List, ◌++◌, length, All, AllPairs, Contains, IfSome, Some, Ok, drop, filter, map, take};
+ghost use Rattle.std.specs.Prelude.{◌≡◌, ℕ, ◌<◌, List, ◌++◌, length, pos, All, AllPairs, Contains, HoldsAt, IfSome, Some, Ok, drop, filter, map, take};
 ghost use Rattle.hevc_spec.specs.Units.{NalUnit, units};
 ghost use Rattle.hevc_bit_writer.specs.WrittenUnits.{placed};
 ghost use Rattle.hevc_walk.specs.Meanings.{Meaning};
@@ -13,7 +13,7 @@ ghost use Rattle.hevc_stream.specs.Kept.{Kept, none_kept};
 ghost use Rattle.hevc_stream.specs.Options.{Options};
 ghost use Rattle.hevc_stream.specs.Stream.{kept_behind_all, meanings, meanings_behind};
 ghost use Rattle.hevc_index_laws.specs.Begun.{BeginsAt};
-ghost use Rattle.hevc_index_laws.specs.Points.{point_numbered, points};
+ghost use Rattle.hevc_index_laws.specs.Points.{point_numbered, points, BeginsPicture};
 ghost use Rattle.hevc_index_laws.specs.SplicedUnits.{is_set_unit, sets_before, spliced_bytes, spliced_units, IsNotRefused};
 
 /// What is kept after some units is what is kept after the parameter sets among them: no other unit
@@ -36,8 +36,8 @@ pub fn spliced_meanings()
         → All IsOfSet (meanings_behind options none_kept (sets_before v us)) }
 {}
 
-/// In the spliced bytes of a stream that isn't refused exactly the spliced units are found, byte for
-/// byte and in order. Where they are cut at a point, they are decoded as the stream is from there on.
+/// In the spliced bytes of a stream that isn't refused exactly the spliced units are found, byte
+/// for byte and in order. Cut at a point, they are decoded as the stream is from there on.
 pub fn spliced_streams()
     ensures found { (options : Options) (stream : List ℕ) (v m : ℕ)
         → verdict (meanings options stream) ≡ Ok m
@@ -66,4 +66,14 @@ pub fn points_have_numbers()
         (λ p. IsPoint us p × (p.number ≡ number)) }
     ensures found { (us : List Meaning) (p : Picture) → IsPoint us p
         → point_numbered p.number us ≡ Some p }
+{}
+
+/// What a point's first slice tells of it: its order count is slice_pic_order_cnt_lsb (8.3.1), and
+/// its type and temporal id are those in the header of its unit (7.3.1.2).
+pub fn points_by_their_slices()
+    ensures order_count { (us : List Meaning) (p : Picture) → IsPoint us p
+        → p.order_count ≡ pos p.first.pic_order_cnt_lsb }
+    ensures header { (options : Options) (stream : List ℕ) (p : Picture)
+        → IsPoint (meanings options stream) p
+        → HoldsAt (BeginsPicture p) (units stream) p.unit }
 {}
