@@ -1,0 +1,5 @@
+pub mod Breaches
+pub mod Bounds
+pub mod Orders
+pub mod Checks
+pub mod Streams

@@ -1,0 +1,50 @@
+-- The breaches of display order: of two pictures that don't go together the later one breaks it.
+use Rattle.std.specs.Prelude.{ℕ, ℤ, ◌+◌, Bool, false, not, ◌&&◌, ◌||◌, nat_lt, nat_le, int_lt, List, [], ◌∷◌, length, Option}
+use Rattle.std.specs.Ordering.{int_eq}
+use Rattle.std.specs.List.{list_any}
+use Rattle.hevc_walk.specs.Meanings.{Format}
+use Rattle.hevc_walk.specs.Pictures.{Picture}
+use Rattle.hevc_walk_order.specs.Sequences.{begins, is_for_output}
+use Rattle.hevc_walk_order.specs.DisplayOrder.{latency_pictures, decoded_between, entries_before, needed_behind}
+use Rattle.hevc_check_laws.specs.Breaches.{Breach, Changed, Latency, SameCount, Full, Discards, Reorder, earlier_in, earlier_for_output, is_changed, discards, is_reordered}
+
+-- A picture comes too late after one that it is output before: SpsMaxLatencyPictures (7-9) or more
+-- are decoded between them.
+abbrev pub comes_late : List Picture → Picture → Picture → Bool
+comes_late earlier p b =
+    int_lt p.order_count b.order_count
+    && nat_le (latency_pictures p.limits) (decoded_between b.number p.number earlier)
+
+-- As a picture is to be decoded, the entries that are referred to, or are output no earlier than an
+-- order count, fill the buffer: one of these is bumped (C.5.2.2).
+abbrev pub fills : Option (ℕ × Format) → ℤ → Picture → List Picture → Bool
+fills set c p before =
+    not p.skipped
+    && nat_le (p.limits.max_dec_pic_buffering_minus1 + 1)
+    (length (needed_behind c (entries_before set p before)))
+
+-- so it is at the latest of these, or at an earlier one of its sequence but the first
+abbrev pub filled_for : Option (ℕ × Format) → ℤ → List Picture → Bool
+filled_for set c [] = false
+filled_for set c (p ∷ before) =
+    not (begins p before) && (fills set c p before || filled_for set c before)
+
+-- what a picture breaks, after those before it
+abbrev pub breaks_order : Option (ℕ × Format) → Picture → List Picture → Breach → Bool
+-- its limits or its format differ from those of its sequence's first picture
+breaks_order set p before Changed = is_changed p before
+-- a latency is declared, and it comes too late after one that it is output before
+breaks_order set p before Latency =
+    is_for_output p
+    && nat_lt 0 p.limits.max_latency_increase_plus1
+    && list_any (comes_late (earlier_in p before) p) (earlier_for_output p before)
+-- an earlier picture of its sequence that is to be output, as it is, has its order count
+breaks_order set p before SameCount =
+    is_for_output p
+    && list_any (λ b. int_eq p.order_count b.order_count) (earlier_for_output p before)
+-- for want of room there is bumped, up to it, what is output no earlier than it
+breaks_order set p before Full = is_for_output p && filled_for set p.order_count (p ∷ before)
+-- what waits for output is discarded at it (C.5.2.2)
+breaks_order set p before Discards = discards p
+-- more pictures than declared are before it and are output after it
+breaks_order set p before Reorder = is_reordered p before
