@@ -11,7 +11,7 @@ use Rattle.hevc_check_laws.specs.Breaches.{Breach, Changed, Latency, SameCount, 
 
 -- what a picture breaks, after those before it
 abbrev pub breaks_bounds : Option (ℕ × Format) → Picture → List Picture → Breach → Bool
--- its limits or its format differ from those of its sequence's first picture
+-- another format or other limits than the first picture of its sequence has
 breaks_bounds set p before Changed = is_changed p before
 -- it declares a latency, by sps_max_latency_increase_plus1
 breaks_bounds set p before Latency = not (p.limits.max_latency_increase_plus1 == 0)

@@ -25,7 +25,7 @@ earlier_in p before = if begins p before then [] else latest_sequence before
 abbrev pub earlier_for_output : Picture → List Picture → List Picture
 earlier_for_output p before = filter is_for_output (earlier_in p before)
 
--- its limits or its format differ from those of its sequence's first picture
+-- another format or other limits than the first picture of its sequence has
 abbrev pub differs_from : Picture → Option Picture → Bool
 differs_from p None = false
 differs_from p (Some first) =

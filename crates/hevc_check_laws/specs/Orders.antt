@@ -31,7 +31,7 @@ filled_for set c (p ∷ before) =
 
 -- what a picture breaks, after those before it
 abbrev pub breaks_order : Option (ℕ × Format) → Picture → List Picture → Breach → Bool
--- its limits or its format differ from those of its sequence's first picture
+-- another format or other limits than the first picture of its sequence has
 breaks_order set p before Changed = is_changed p before
 -- a latency is declared, and it comes too late after one that it is output before
 breaks_order set p before Latency =
