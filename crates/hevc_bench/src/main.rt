@@ -15,7 +15,10 @@ use std::io;
 use std::process::ExitCode;
 
 fn main(rt: HostRuntime) -> ExitCode {
-    let words = match command_line(&StdWords { system: &rt }, rt.alloc()) {
+    let given = StdWords { system: &rt };
+    let read = command_line(&given, rt.alloc());
+    let StdWords { system: _ } = given;
+    let words = match read {
         Ok(words) => words,
         Err(error) => return ExitCode::from(error.status()),
     };
