@@ -11,7 +11,7 @@ trap 'rm -rf "$folder"' EXIT
 (cd "$top/crates/hevc_trace" && rt run </dev/null >/dev/null)
 (cd "$top/crates/hevc_extractor" && rt run -- 0 </dev/null >/dev/null)
 extractor=$top/crates/hevc_extractor/out/hevc_extractor trace=$top/crates/hevc_trace/out/hevc_trace
-stream=$top/crates/hevc_trace/stdin
+stream=$top/crates/hevc_bench/stdin
 
 "$extractor" 0 <"$stream" >"$folder/lower"
 "$trace" layer 0 <"$stream" | sed 's/ unit [0-9]*$//' >"$folder/whole.txt"
