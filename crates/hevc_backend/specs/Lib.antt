@@ -2,6 +2,7 @@ pub mod Negotiation
 pub mod Named
 pub mod Trait
 pub mod Calls
+pub mod Handed
 pub mod Told
 pub mod Handles
 pub mod Recording

@@ -1,5 +1,5 @@
 //! What the decoder asks of a backend.
-ghost use Rattle.std.specs.Prelude.{◌≡◌, ◌==◌, not, IsTrue, ℕ, Bool, List, OnOk, OnErr};
+ghost use Rattle.std.specs.Prelude.{◌≡◌, ◌==◌, not, IsTrue, Bool, List, OnOk, OnErr};
 ghost use Rattle.std.specs.Option.{option_copied};
 ghost use Rattle.std.specs.declared.option.Option.{Option};
 ghost use Rattle.hevc_types_c.specs.Sps.{plain_sps};
@@ -12,6 +12,7 @@ ghost use Rattle.hevc_backend.specs.declared.stream_info.StreamInfo.{StreamInfo}
 ghost use Rattle.hevc_backend.specs.Named.{SetNamesAmong, ListNamesAmong};
 ghost use Rattle.hevc_backend.specs.Trait.{Counts, Logs, CountsFaults, CountsEmptyAnswers, StaysFaultless, StaysWithFrames};
 ghost use Rattle.hevc_backend.specs.Calls.{new_sequence_call, new_picture_call, begin_picture_call, decode_slice_call};
+ghost use Rattle.hevc_backend.specs.Handed.{Handed, Announced, Begun, Decoded, AreAnnounced, IsAnnounced, plain_picture, segment_of};
 ghost use Rattle.hevc_backend.specs.Told.{WhereTold, IsTold, IsBegun, begun_picture};
 
 use crate::error::BackendError;
@@ -36,6 +37,9 @@ pub trait StatelessH265DecoderBackend {
     /// The calls that succeeded, in order, where the backend tells them.
     ghost log: { Self → Option (List (Call Self.Handle)) };
 
+    /// What came with these calls, in order, where the backend tells it: each picture, parameter set and header, whole.
+    ghost handed: { Self → Option (List Handed) };
+
     /// How many calls failed, and how many questions for free frames were answered by 0, so far. Neither count falls, and
     /// both stand still at 2^64 - 1.
     ghost counts: { Self → Counts };
@@ -52,6 +56,7 @@ pub trait StatelessH265DecoderBackend {
     /// A sequence of the format of this set begins.
     fn new_sequence(&mut self, sps: &Sps) -> Result<(), BackendError>
         ensures log { Logs (log self.old) (log self.new) result (λ _. new_sequence_call sps.now) }
+        ensures handed { handed self.new ≡ handed self.old }
         ensures cause { CountsFaults (counts self.old) (counts self.new) result }
         ensures faultless { StaysFaultless (is_faultless self.old) (is_faultless self.new) result }
         ensures room { room self.new ≡ room self.old };
@@ -67,6 +72,8 @@ pub trait StatelessH265DecoderBackend {
         requires { IsTrue (room self.old) }
         ensures log { Logs (log self.old) (log self.new) result
             (λ _. new_picture_call number picture.now timestamp) }
+        ensures handed { Logs (handed self.old) (handed self.new) result
+            (λ _. Announced number (plain_picture picture.now)) }
         ensures cause { CountsFaults (counts self.old) (counts self.new) result }
         ensures faultless { StaysFaultless (is_faultless self.old) (is_faultless self.new) result }
         ensures taken { OnOk result (IsTrue (not (room self.new))) }
@@ -94,8 +101,14 @@ pub trait StatelessH265DecoderBackend {
         requires told { WhereTold (log self.old)
             (IsTold number (format_of_set (plain_sps sps.now)) (stored_entries dpb.now)) }
         requires begun { WhereTold (log self.old) (IsBegun (begun_picture number picture_data.now)) }
+        requires announced { IsAnnounced (handed self.old) number (plain_picture picture_data.now) }
+        // What is stored is as it was announced, but for mark, latency count and whether it waits.
+        requires stored { AreAnnounced (handed self.old) (stored_entries dpb.now) }
         ensures log { Logs (log self.old) (log self.new) result
             (λ _. begin_picture_call number rps.now) }
+        ensures handed { Logs (handed self.old) (handed self.new) result
+            (λ _. Begun number (plain_picture picture_data.now)
+            (segment_of slice.now sps.now pps.now)) }
         ensures cause { CountsFaults (counts self.old) (counts self.new) result }
         ensures faultless { StaysFaultless (is_faultless self.old) (is_faultless self.new) result }
         ensures room { room self.new ≡ room self.old }
@@ -115,12 +128,15 @@ pub trait StatelessH265DecoderBackend {
     ) -> Result<(), BackendError>
         requires list0 { ListNamesAmong (numbers (stored_entries dpb.now)) ref_pic_list0.now }
         requires list1 { ListNamesAmong (numbers (stored_entries dpb.now)) ref_pic_list1.now }
+        requires stored { AreAnnounced (handed self.old) (stored_entries dpb.now) }
         requires pps { pps.now.pic_parameter_set_id ≡ slice.now.header.pic_parameter_set_id }
         requires sps { sps.now.seq_parameter_set_id ≡ pps.now.seq_parameter_set_id }
         requires told { WhereTold (log self.old)
             (IsTold number (format_of_set (plain_sps sps.now)) (stored_entries dpb.now)) }
         ensures log { Logs (log self.old) (log self.new) result
             (λ _. decode_slice_call number slice.now ref_pic_list0.now ref_pic_list1.now) }
+        ensures handed { Logs (handed self.old) (handed self.new) result
+            (λ _. Decoded number (segment_of slice.now sps.now pps.now)) }
         ensures cause { CountsFaults (counts self.old) (counts self.new) result }
         ensures faultless { StaysFaultless (is_faultless self.old) (is_faultless self.new) result }
         ensures room { room self.new ≡ room self.old }
@@ -134,6 +150,7 @@ pub trait StatelessH265DecoderBackend {
     ) -> Result<Self::Handle, BackendError>
         ensures log { Logs (log self.old) (log self.new) result
             (λ handle. SubmitPicture number handle) }
+        ensures handed { handed self.new ≡ handed self.old }
         ensures cause { CountsFaults (counts self.old) (counts self.new) result }
         ensures faultless { StaysFaultless (is_faultless self.old) (is_faultless self.new) result }
         ensures room { room self.new ≡ room self.old }
@@ -142,6 +159,7 @@ pub trait StatelessH265DecoderBackend {
     /// How many frames are free.
     fn num_free_frames(&mut self) -> usize
         ensures log { log self.new ≡ log self.old }
+        ensures handed { handed self.new ≡ handed self.old }
         ensures cause { CountsEmptyAnswers (counts self.old) (counts self.new) result }
         ensures faultless { StaysWithFrames (is_faultless self.old) (is_faultless self.new) result }
         ensures room { room self.new ≡ not (result == 0) }

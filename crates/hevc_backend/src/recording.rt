@@ -1,5 +1,5 @@
 //! A backend that decodes nothing, and records its calls.
-ghost use Rattle.std.specs.Prelude.{◌≡◌, ◌∷◌, ◌++◌, [], Some, OnOk, OnErr, IfOk, IfErr, length};
+ghost use Rattle.std.specs.Prelude.{◌≡◌, ◌∷◌, ◌++◌, [], None, Some, OnOk, OnErr, IfOk, IfErr, length};
 ghost use Rattle.std.specs.Option.{option_copied};
 ghost use Rattle.hevc_backend.specs.declared.error.BackendError.TheVariants.{Failed, NoMemory};
 ghost use Rattle.hevc_backend.specs.declared.call.Call.TheVariants.{SubmitPicture};
@@ -140,6 +140,8 @@ impl StatelessH265DecoderBackend for Backend {
     type Picture = u64;
 
     ghost log = { λ b. Some b.log };
+
+    ghost handed = { λ _. None };
 
     ghost counts = { λ b. b.counts };
 

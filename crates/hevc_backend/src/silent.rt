@@ -32,6 +32,8 @@ impl StatelessH265DecoderBackend for SilentBackend {
 
     ghost log = { λ _. None };
 
+    ghost handed = { λ _. None };
+
     ghost counts = { λ _. record { faults = 0; empty_answers = 0 } };
 
     ghost room = { has_room };

@@ -1,6 +1,6 @@
 -- One output more, as bumping goes on.
 use Rattle.std.proofs.Common.{◌≡◌, ⊎_elim, ℕ, ℤ, suc, ◌+◌, ◌≤◌, Bool, true, false, cond, List, [], ◌∷◌, ◌++◌, length, map, take, refl, sym, ap, ◌∙◌, subst, arith}
-use Rattle.std.specs.Prelude.{Some, None, Contains}
+use Rattle.std.specs.Prelude.{Option, Some, None, Contains, ◌==◌, if◌then◌else◌}
 use Rattle.std.specs.Option.{option_map}
 use Rattle.std.proofs.lemmas.List.{append_assoc, map-append, append-nil, length-append, length-map}
 use Rattle.hevc_walk.specs.Buffer.{Entry, Buffer, in_output_order, after_output, placed, due_outputs, bumping, Bumped}
@@ -11,11 +11,11 @@ use Rattle.hevc_dpb.specs.declared.entry.DpbEntry.{DpbEntry}
 use Rattle.hevc_dpb.specs.declared.dpb.Dpb.{Dpb}
 use Rattle.hevc_dpb.specs.Numbers.{Absent, Distinct}
 use Rattle.hevc_dpb.specs.Entries.{IsPartOf, numbers, ticket, tickets}
-use Rattle.hevc_dpb.specs.Output.{first_in}
+use Rattle.hevc_dpb.specs.Output.{first_in, as_output, behind_output, left_behind, stays}
 use Rattle.hevc_dpb.specs.Plain.{plain_entry, plain_entries, plain_output, HaveLatency}
-use Rattle.hevc_dpb.specs.Sublists.{IsSublist}
+use Rattle.hevc_dpb.specs.Sublists.{IsSublist, nothing, kept, left_out}
 use Rattle.hevc_dpb.specs.Views.{stored_entries, max_num_pics_of, room_of, buffer_of}
-use Rattle.hevc_dpb.proofs.Sublists.{sublist_part}
+use Rattle.hevc_dpb.proofs.Sublists.{sublist_all, sublist_part}
 use Rattle.hevc_dpb.proofs.Members.{contains_first, contains_later, contains_cases}
 use Rattle.std.specs.declared.collections.VecDeque.{VecDeque}
 use Rattle.std.specs.VecDeque.{deque_capacity}
@@ -92,6 +92,7 @@ pub record Progress {H Z : Type 0} (rule : Buffer → Bool) (old now : Dpb H) (b
   pub left : (bumping rule (buffer_of now)).left ≡ (bumping rule (buffer_of old)).left
   pub out_handles : IsPartOf (map frame_ticket out) (tickets (stored_entries old))
   pub handles : IsPartOf (tickets (stored_entries now)) (tickets (stored_entries old))
+  pub entries : IsPartOf (map as_output (stored_entries now)) (map as_output (stored_entries old))
   pub size : max_num_pics_of now ≡ max_num_pics_of old
   pub room : room_of now ≡ room_of old
   pub latency : HaveLatency (stored_entries now)
@@ -101,9 +102,27 @@ pub record Progress {H Z : Type 0} (rule : Buffer → Bool) (old now : Dpb H) (b
 -- what one output leaves of a buffer but its entries
 pub record LeavesRest {H : Type 0} (mid now : Dpb H) : Type 0 where
   pub handles : IsSublist (tickets (stored_entries now)) (tickets (stored_entries mid))
+  pub entries : IsSublist (map as_output (stored_entries now)) (map as_output (stored_entries mid))
   pub size : max_num_pics_of now ≡ max_num_pics_of mid
   pub room : room_of now ≡ room_of mid
   pub latency : HaveLatency (stored_entries now)
+
+-- an entry that is output leaves, or waits no longer; the others stay
+left_by : {H : Type 0} (e : DpbEntry H) (es ys : List (DpbEntry H)) (is stays : Bool) → IsSublist (map as_output es) ys → IsSublist (map as_output ((if is then (if stays then as_output e ∷ [] else []) else e ∷ []) ++ es)) (as_output e ∷ ys)
+left_by e es ys true true s = kept (as_output e) (map as_output es) ys s
+left_by e es ys true false s = left_out (as_output e) (map as_output es) ys s
+left_by e es ys false stays s = kept (as_output e) (map as_output es) ys s
+
+left_entries : {H : Type 0} (flush : Bool) (n : ℕ) (es : List (DpbEntry H)) → IsSublist (map as_output (left_behind flush n es)) (map as_output es)
+left_entries flush n [] = nothing
+left_entries flush n (e ∷ es) = left_by e (left_behind flush n es) (map as_output es) (n == e.number) (stays flush e) (left_entries flush n es)
+
+pub output_entries : {H : Type 0} (flush : Bool) (o : Option (DpbEntry H)) (es new : List (DpbEntry H)) → new ≡ behind_output flush o es → IsSublist (map as_output new) (map as_output es)
+output_entries flush o es new is = subst (λ l. IsSublist (map as_output l) (map as_output es)) (sym is) (by o)
+  where
+    by : (o : Option (DpbEntry _)) → IsSublist (map as_output (behind_output flush o es)) (map as_output es)
+    by None = sublist_all (map as_output es)
+    by (Some e) = left_entries flush e.number es
 
 one_among : {H : Type 0} (out : List (Frame H)) (f : Frame H) (ts : List (ℕ × H)) → IsPartOf (map frame_ticket out) ts → Contains ts (frame_ticket f) → IsPartOf (map frame_ticket (out ++ f ∷ [])) ts
 one_among [] f ts h here = λ x k. ⊎_elim (λ is. subst (Contains ts) is here) (λ none. absurd (let l = none.1 in omega arith)) (contains_cases (frame_ticket f) x [] k)
@@ -111,7 +130,7 @@ one_among (g ∷ out) f ts h here = λ x k. ⊎_elim (λ is. h x (subst (Contain
 
 module _ {H Z : Type 0} (rule : Buffer → Bool) where
   pub begun : (dpb : Dpb H) (queue : VecDeque (Frame H) Z) → HaveLatency (stored_entries dpb) → Progress rule dpb dpb queue queue
-  begun dpb queue h = record { out = []; appended = sym (append-nil queue.items); given = refl; left = refl; out_handles = λ x k. absurd (let l = k.1 in omega arith); handles = λ x k. k; size = refl; room = refl; latency = h; capacity = refl; fewer = (let n : length {A = Frame H} [] ≡ 0 = refl in omega (arith, n)) }
+  begun dpb queue h = record { out = []; appended = sym (append-nil queue.items); given = refl; left = refl; out_handles = λ x k. absurd (let l = k.1 in omega arith); handles = λ x k. k; entries = λ x k. k; size = refl; room = refl; latency = h; capacity = refl; fewer = (let n : length {A = Frame H} [] ≡ 0 = refl in omega (arith, n)) }
 
   pub ended : (old now : Dpb H) (before queue : VecDeque (Frame H) Z) → Progress rule old now before queue → bumping rule (buffer_of now) ≡ steps.nothing_output (buffer_of now) → Bumps (bumping rule (buffer_of old)) old now before queue
   ended old now before queue p over = record {
@@ -121,6 +140,7 @@ module _ {H Z : Type 0} (rule : Buffer → Bool) where
     left = sym (ap (λ (b : Bumped). b.left) over) ∙ p.left;
     out_handles = p.out_handles;
     handles = p.handles;
+    entries = p.entries;
     size = p.size;
     room = p.room;
     latency = p.latency;
@@ -138,6 +158,7 @@ module _ {H Z : Type 0} (rule : Buffer → Bool) where
     left = sym s.left_is ∙ p.left;
     out_handles = one_among p.out (frame_of e) (tickets (stored_entries old)) p.out_handles (p.handles (ticket e) here);
     handles = λ x k. p.handles x (sublist_part rest.handles x k);
+    entries = λ x k. p.entries x (sublist_part rest.entries x k);
     size = rest.size ∙ p.size;
     room = rest.room ∙ p.room;
     latency = rest.latency;
@@ -154,6 +175,7 @@ module _ {H Z : Type 0} (rule : Buffer → Bool) where
     left = ap (λ (b : Buffer). (bumping rule b).left) same ∙ p.left;
     out_handles = p.out_handles;
     handles = λ x k. p.handles x (sublist_part rest.handles x k);
+    entries = λ x k. p.entries x (sublist_part rest.entries x k);
     size = rest.size ∙ p.size;
     room = rest.room ∙ p.room;
     latency = rest.latency;
@@ -175,6 +197,9 @@ all_output es = all_due (in_output_order es)
 none_latent : {H : Type 0} (es : List (DpbEntry H)) → es ≡ [] → HaveLatency es
 none_latent es is = subst HaveLatency (sym is) (λ k d lt. absurd (omega (arith, lt)))
 
+none_entries : {H : Type 0} (es os : List (DpbEntry H)) → es ≡ [] → IsPartOf (map as_output es) os
+none_entries es os is = subst (λ l. IsPartOf (map as_output l) os) (sym is) (λ x k. absurd (let l = k.1 in omega arith))
+
 none_part : {H : Type 0} (es : List (DpbEntry H)) (ts : List (ℕ × H)) → es ≡ [] → IsPartOf (tickets es) ts
 none_part es ts is = subst (λ l. IsPartOf (tickets l) ts) (sym is) (λ x k. absurd (let l = k.1 in omega arith))
 
@@ -190,6 +215,7 @@ drained old mid new before now p none size room =
       left = ap (map plain_entry) none;
       out_handles = p.out_handles;
       handles = none_part (stored_entries new) (tickets (stored_entries old)) none;
+      entries = none_entries (stored_entries new) (map as_output (stored_entries old)) none;
       size = size ∙ p.size;
       room = room ∙ p.room;
       latency = none_latent (stored_entries new) none;

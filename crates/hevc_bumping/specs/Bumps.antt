@@ -5,6 +5,7 @@ use Rattle.std.specs.VecDeque.{deque_capacity}
 use Rattle.hevc_walk.specs.Buffer.{Buffer, Bumped, in_output_order}
 use Rattle.hevc_dpb.specs.declared.dpb.Dpb.{Dpb}
 use Rattle.hevc_dpb.specs.Entries.{IsPartOf, tickets}
+use Rattle.hevc_dpb.specs.Output.{as_output}
 use Rattle.hevc_dpb.specs.Plain.{HaveLatency}
 use Rattle.hevc_dpb.specs.Views.{stored_entries, max_num_pics_of, room_of, buffer_of}
 use Rattle.hevc_bumping.specs.declared.frame.Frame.{Frame}
@@ -23,6 +24,8 @@ pub record Bumps {H Z : Type 0} (bumped : Bumped) (old new : Dpb H)
   pub left : buffer_of new ≡ bumped.left
   pub out_handles : IsPartOf (map frame_ticket out) (tickets (stored_entries old))
   pub handles : IsPartOf (tickets (stored_entries new)) (tickets (stored_entries old))
+  -- nothing of those that are left has changed but whether they wait
+  pub entries : IsPartOf (map as_output (stored_entries new)) (map as_output (stored_entries old))
   pub size : max_num_pics_of new ≡ max_num_pics_of old
   pub room : room_of new ≡ room_of old
   pub latency : HaveLatency (stored_entries new)

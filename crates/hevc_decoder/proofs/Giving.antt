@@ -4,7 +4,7 @@ use Rattle.std.proofs.lemmas.Bool.Decides.{nat_tests}
 use Rattle.hevc_walk.specs.Meanings.{Slice, Meaning, SequenceSet, CodedSlice, EndOfSequence, EndOfBitstream, Other, Refused}
 use Rattle.hevc_walk.specs.DependentSlices.{whole_slice}
 use Rattle.hevc_walk.specs.Walk as walk
-use Rattle.hevc_walk.specs.Walk.{Event, Called, Part, at_unit}
+use Rattle.hevc_walk.specs.Walk.{Event, Called, Part}
 use Rattle.hevc_walk.specs.Meanings as causes
 use Rattle.hevc_walk.specs.Refusals.{Cause, UnitRefused, NoIndependentSlice, ChangedMidPicture, PocOutOfRange, DpbFull}
 use Rattle.hevc_driver.specs.Errors.{error_of}
@@ -12,6 +12,7 @@ use Rattle.hevc_walk_units.specs.Units.{Standing, finish_current, begin_slice, f
 use Rattle.hevc_bumping.specs.declared.frame.Frame.{Frame}
 use Rattle.hevc_driver.specs.declared.decode_error.DecodeError.{DecodeError}
 use Rattle.hevc_driver.specs.declared.decode_error.DecodeError.TheVariants as errors
+use Rattle.hevc_driver.specs.Given.{Given}
 use Rattle.hevc_driver.specs.Does.{Traces, Does, Stops}
 use Rattle.hevc_driver.specs.Moments.{with_kept, begins_at, begins_by, negotiates, step_part, kept_behind}
 use Rattle.hevc_driver.specs.Takes.{Goes, Fills, Halts, Refuses, Stays, LeftAt, Takes}
@@ -21,21 +22,21 @@ use Rattle.hevc_stream.specs.Options.{Options}
 use Rattle.hevc_stateless.specs.States.{meaning_in, unit_at}
 use Rattle.hevc_stateless.specs.Steps.{Seen, Step}
 use Rattle.hevc_stateless.specs.Views.{Moment, traces_of}
-use Rattle.hevc_stateless_laws.proofs.Standing.{Means}
+use Rattle.hevc_stateless_laws.proofs.Means.{Means}
 use Rattle.hevc_decoder.specs.Names.{shown_at}
 use Rattle.hevc_decoder.specs.Scenes.{Scene, trail_of, with_queue}
 use Rattle.hevc_decoder.specs.Takes.{StopsPlan, TakesWhole, RefusesUnit, FillsUnit, HaltsUnit, TakesUnit}
 use Rattle.hevc_decoder.proofs.Doing.{lifts}
 
 -- what a call does, but for the state
-abbrev pub TakesOrStays : {H T : Type 0} → Result T DecodeError → Traces H → Traces H → Meaning → Standing → Standing → Type 0
-TakesOrStays {H} {T} (Err errors.NoMemory) a b x s st = Stays a b s st ⊎ Takes {T = T} (Err errors.NoMemory) 0 a b x s st
-TakesOrStays r a b x s st = Takes r 0 a b x s st
+abbrev pub TakesOrStays : {H T : Type 0} → Given → Result T DecodeError → Traces H → Traces H → Meaning → Standing → Standing → Type 0
+TakesOrStays {H} {T} g (Err errors.NoMemory) a b x s st = Stays a b s st ⊎ Takes {T = T} (Err errors.NoMemory) g a b x s st
+TakesOrStays g r a b x s st = Takes r g a b x s st
 
-pub part_of : {B H T : Type 0} (r : Result T DecodeError) (o : Options) (h : UnitHeader) (bytes : List ℕ) (old new : Seen B H) → Step r 0 o h bytes old new → TakesOrStays r (traces_of old.log old.view) (traces_of new.log new.view) (meaning_in old.view.state (unit_at o old.kept h bytes)) old.view.standing new.view.standing
-part_of (Ok v) o h bytes old new step = step.takes.part
-part_of {H = H} (Err errors.NoMemory) o h bytes old new step = ⊎_elim (λ same. inl (record { traces = ap (λ (m : Moment H). m.traces) same; left = ap (λ (m : Moment H). m.standing) same })) (λ acts. inr acts.part) step.takes
-part_of (Err e) o h bytes old new step = step.takes.part
+pub part_of : {B H T : Type 0} (g : Given) (r : Result T DecodeError) (o : Options) (h : UnitHeader) (bytes : List ℕ) (old new : Seen B H) → Step r g o h bytes old new → TakesOrStays g r (traces_of old.log old.handed old.view) (traces_of new.log new.handed new.view) (meaning_in old.view.state (unit_at o old.kept h bytes)) old.view.standing new.view.standing
+part_of g (Ok v) o h bytes old new step = step.takes.part
+part_of {H = H} g (Err errors.NoMemory) o h bytes old new step = ⊎_elim (λ same. inl (record { traces = ap (λ (m : Moment H). m.traces) same; left = ap (λ (m : Moment H). m.standing) same })) (λ acts. inr acts.part) step.takes
+part_of g (Err e) o h bytes old new step = step.takes.part
 
 -- no cause is told as the end of the stream
 pub no_nal : (c : Cause) → error_of c ≡ errors.NoNal → ⊥
@@ -79,30 +80,30 @@ last_true true true n h = h
 last_true true false n h = absurd (cc h)
 last_true false q n h = absurd (cc h)
 
-module _ {B H : Type 0} (k : ℕ) (old new : Scene B H) (out : List (Frame H)) (x y : Meaning) (s st : Standing) (m : Means x y s) (empty : old.seen.view.queue ≡ []) (shown : new.shown ≡ old.shown ++ map (shown_at k) out) where
+module _ {B H : Type 0} (at : ℕ → Given) (k : ℕ) (untimed : (at k).timestamp ≡ 0) (old new : Scene B H) (out : List (Frame H)) (x y : Meaning) (s st : Standing) (m : Means x y s) (empty : old.seen.view.queue ≡ []) (shown : new.shown ≡ old.shown ++ map (shown_at k) out) where
   abbrev a : Traces H
-  a = traces_of old.seen.log old.seen.view
+  a = traces_of old.seen.log old.seen.handed old.seen.view
 
   abbrev b : Traces H
-  b = traces_of new.seen.log (with_queue out new.seen).view
+  b = traces_of new.seen.log new.seen.handed (with_queue out new.seen).view
 
   whole_events : (step_part x s).events ≡ (unit_part y s).events
   whole_events = ap (λ (q : Part Standing). q.events) m.part
 
-  once_ok : Goes 0 a b x s st → TakesWhole k (trail_of old) (trail_of new) y s
+  once_ok : Goes (at k) a b x s st → TakesWhole at k (trail_of old) (trail_of new) y s
   once_ok g = record {
     goes_on = sym m.refusal ∙ g.goes_on;
     room = sym m.full ∙ g.room;
-    does = lifts k old new out (unit_part y s).events empty shown (subst (Does 0 a b) whole_events g.completes.does);
+    does = lifts at k untimed old new out (unit_part y s).events empty shown (subst (Does (at k) a b) whole_events g.completes.does);
   }
 
-  once_stops : (F : Type 0) (Left : walk.Call → Type 0) → Stops 0 a b (step_part x s).events Left → StopsPlan F k (trail_of old) (trail_of new) (unit_part y s).events
-  once_stops F Left z = record { done = z.done; rest = Called z.call ∷ z.rest; whole = sym whole_events ∙ z.whole; does = lifts k old new out z.done empty shown z.does; next = λ f. record { call = z.call; later = z.rest; rest_is = refl } }
+  once_stops : (F : Type 0) (Left : walk.Call → Type 0) → Stops (at k) a b (step_part x s).events Left → StopsPlan at F k (trail_of old) (trail_of new) (unit_part y s).events
+  once_stops F Left z = record { done = z.done; rest = Called z.call ∷ z.rest; whole = sym whole_events ∙ z.whole; does = lifts at k untimed old new out z.done empty shown z.does; next = λ f. record { call = z.call; later = z.rest; rest_is = refl } }
 
-  once_fills : (before : Standing) → (is_full_at x s ≡ true) × Fills 0 a b (step_part x s).events before st → FillsUnit k (trail_of old) (trail_of new) y s
-  once_fills before z = record { full = sym m.full ∙ z.0; fills = record { number = z.1.number; rest = z.1.rest; whole = sym whole_events ∙ z.1.whole; does = lifts k old new out (Called (walk.SubmitPicture z.1.number) ∷ []) empty shown z.1.does } }
+  once_fills : (before : Standing) → (is_full_at x s ≡ true) × Fills (at k) a b (step_part x s).events before st → FillsUnit at k (trail_of old) (trail_of new) y s
+  once_fills before z = record { full = sym m.full ∙ z.0; fills = record { number = z.1.number; rest = z.1.rest; whole = sym whole_events ∙ z.1.whole; does = lifts at k untimed old new out (Called (walk.SubmitPicture z.1.number) ∷ []) empty shown z.1.does } }
 
-  once_halts : (frames : ℕ) → (frames ≡ 1) × Halts 0 a b x s st → HaltsUnit frames k (trail_of old) (trail_of new) y s
+  once_halts : (frames : ℕ) → (frames ≡ 1) × Halts (at k) a b x s st → HaltsUnit at frames k (trail_of old) (trail_of new) y s
   once_halts frames (one, z) =
       let later = part_begins x s z.begins in
       record {
@@ -112,24 +113,24 @@ module _ {B H : Type 0} (k : ℕ) (old new : Scene B H) (out : List (Frame H)) (
           done = (finish_current (kept_behind x s)).events;
           rest = later.0;
           whole = sym whole_events ∙ ap (λ (q : Part Standing). q.events) (kept_same x y s z.begins) ∙ later.1;
-          does = lifts k old new out (finish_current (kept_behind x s)).events empty shown z.does;
+          does = lifts at k untimed old new out (finish_current (kept_behind x s)).events empty shown z.does;
           next = λ f. absurd f;
         };
       }
 
-  once_refuses : (e : DecodeError) → Refuses e 0 a b x s st → RefusesUnit e k (trail_of old) (trail_of new) y s
-  once_refuses e z = record { room = sym m.full ∙ z.room; cause = z.cause; refused = sym m.refusal ∙ z.refused; named = z.named; does = lifts k old new out (unit_part y s).events empty shown (subst (Does 0 a b) whole_events z.does) }
+  once_refuses : (e : DecodeError) → Refuses e (at k) a b x s st → RefusesUnit at e k (trail_of old) (trail_of new) y s
+  once_refuses e z = record { room = sym m.full ∙ z.room; cause = z.cause; refused = sym m.refusal ∙ z.refused; named = z.named; does = lifts at k untimed old new out (unit_part y s).events empty shown (subst (Does (at k) a b) whole_events z.does) }
 
-  once_stays : Stays a b s st → StopsPlan ⊥ k (trail_of old) (trail_of new) (unit_part y s).events
+  once_stays : Stays a b s st → StopsPlan at ⊥ k (trail_of old) (trail_of new) (unit_part y s).events
   once_stays z = record {
     done = [];
     rest = (unit_part y s).events;
     whole = refl;
-    does = lifts k old new out [] empty shown (does_nothing 0 a b (ap (λ (v : Traces H). v.log) z.traces) (ap (λ (v : Traces H). v.queue) z.traces) (keeps_all a.tickets b.tickets (ap (λ (v : Traces H). v.tickets) z.traces)));
+    does = lifts at k untimed old new out [] empty shown (does_nothing (at k) a b (ap (λ (v : Traces H). v.log) z.traces) (ap (λ (v : Traces H). v.handed) z.traces) (ap (λ (v : Traces H). v.queue) z.traces) (keeps_all a.tickets b.tickets (ap (λ (v : Traces H). v.tickets) z.traces)));
     next = λ f. absurd f;
   }
 
-  pub take_once : {T : Type 0} (r : Result T DecodeError) → (r ≡ Err errors.CheckEvents → ⊥) → s.next.number + 1 < 2 ^ 64 → TakesOrStays r a b x s st → TakesUnit r k (trail_of old) (trail_of new) y s
+  pub take_once : {T : Type 0} (r : Result T DecodeError) → (r ≡ Err errors.CheckEvents → ⊥) → s.next.number + 1 < 2 ^ 64 → TakesOrStays (at k) r a b x s st → TakesUnit at r k (trail_of old) (trail_of new) y s
   take_once (Ok v) isnt few z = once_ok z
   take_once (Err errors.Backend) isnt few z = once_stops (Unit {0}) (λ c. LeftAt c x s st) z
   take_once (Err errors.NoMemory) isnt few (inl z) = once_stays z

@@ -4,7 +4,8 @@ pub mod Again
 pub mod Behind
 pub mod Numbers
 pub mod Beginnings
-pub mod Running
+pub mod Comings
+mod Running
 pub mod Closing
 pub mod Promises
 pub mod Delivering

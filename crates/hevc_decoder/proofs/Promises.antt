@@ -36,6 +36,14 @@ use Rattle.hevc_decoder.specs.declared.decoded.Shown.{Shown}
 use Rattle.hevc_decoder.specs.declared.decoded.Refused.{Refused}
 use Rattle.hevc_decoder.specs.Answers.{without_unit, IsAnswer, AnswersOnly, IsNoMemory, IsOkOrNoMemory, IsNoFullStore, FindsRoom}
 use Rattle.hevc_decoder.specs.Names.{output_picture, shown_ticket, answer_of}
+use Rattle.std.specs.List.{flat_map}
+use Rattle.std.specs.Prelude.{take}
+use Rattle.std.proofs.Math.Seq.{take-append_seam}
+use Rattle.std.proofs.lemmas.List.{length-map}
+use Rattle.hevc_backend.specs.Handed.{Segment}
+use Rattle.hevc_driver.specs.Given.{handed_by}
+use Rattle.hevc_stateless_laws.specs.Segments.{given_of, handed_over, segments}
+use Rattle.hevc_decoder.specs.Takes.{handed_at}
 use Rattle.hevc_decoder.specs.Scenes.{Trail}
 use Rattle.hevc_decoder.specs.Runs.{CallFollows, UpTo, EndsAt, Ends, Ended}
 use Rattle.hevc_decoder.specs.Headline.{Grew, Appended, IsFront, all_asked, AnswersError, AnswersVerdict, CutsCalls, NextIs, EndsCallsAt, EndsCalls, CutsOutputs, EndsOutputsAt, EndsOutputs, WantsFrame, AllSubmitted, SubmittedOnce, shown_numbers, ComeOutOnce, AreForOutput}
@@ -113,7 +121,7 @@ full_refused None (Some r) n m e = absurd (cc e)
 full_refused None None n m e = refl
 
 -- the clauses of a run
-module _ {H : Type 0} (us : List Meaning) (r : Result ℕ Refused) (old new : Trail H) (x : Ended r us old new) where
+module _ {H : Type 0} (us : List Meaning) (ss : List (Option Segment)) (r : Result ℕ Refused) (old new : Trail H) (x : Ended r us ss old new) where
   calls_are : calls us ≡ calls_in x.done ++ calls_in x.rest
   calls_are = ap calls_in x.whole ∙ calls_in-append x.done x.rest
 
@@ -229,6 +237,21 @@ module _ {H : Type 0} (us : List Meaning) (r : Result ℕ Refused) (old new : Tr
 
   pub whole_outputs_of : Appended old.shown new.shown (λ o. EndsOutputs r (map output_picture o) (outputs us))
   whole_outputs_of = (x.does.out, x.does.shown, outputs_by r x.ends)
+
+  -- with these calls came what comes with their units
+  handed_done : (es : List (ℕ × Event)) → flat_map (handed_at (given_of us ss)) es ≡ handed_over us ss (calls_in es)
+  handed_done [] = refl
+  handed_done ((k, Called c) ∷ es) = ap (λ l. handed_by (given_of us ss k) c ++ l) (handed_done es)
+  handed_done ((k, Output number order_count) ∷ es) = handed_done es
+
+  many : length x.does.calls ≡ length (calls_in x.done)
+  many = sym (length-map x.does.calls call_of) ∙ ap (λ l. length l) x.does.made ∙ length-map (calls_in x.done) asked
+
+  made_first : take (length x.does.calls) (calls us) ≡ calls_in x.done
+  made_first = ap (λ (n : ℕ). take n (calls us)) many ∙ ap (take (length (calls_in x.done))) calls_are ∙ take-append_seam (calls_in x.done) (calls_in x.rest)
+
+  pub handed_of : Grew old.handed new.handed (λ hs. Grew old.log new.log (λ l. hs ≡ handed_over us ss (take (length l) (calls us))))
+  handed_of = (flat_map (handed_at (given_of us ss)) x.done, x.does.handed, (x.does.calls, x.does.log, handed_done x.done ∙ ap (handed_over us ss) (sym made_first)))
 
   pub handles_of : old.tickets ≡ [] → Grew old.log new.log (λ l. Appended old.shown new.shown (λ o. AllSubmitted l o))
   handles_of empty = (
@@ -346,43 +369,45 @@ blames_none before now (Err e) cause none = λ h. h
 module _ {H : Type 0} (before now : Told H) (r : Result ℕ Refused)
     (cause : CountsErrors before.counts now.counts (without_unit r)) (faultless : KeepsFaultless before.is_faultless now.is_faultless (without_unit r)) where
   abbrev first_trail : Trail H
-  first_trail = record { log = before.log; shown = before.shown; tickets = [] }
+  first_trail = record { log = before.log; handed = before.handed; shown = before.shown; tickets = [] }
 
   abbrev last_trail : List (ℕ × H) → Trail H
-  last_trail tickets = record { log = now.log; shown = now.shown; tickets = tickets }
+  last_trail tickets = record { log = now.log; handed = now.handed; shown = now.shown; tickets = tickets }
 
-  pub honest_of : (us : List Meaning) (tickets : List (ℕ × H)) → Ended r us first_trail (last_trail tickets) → IsHonest before now r
-  honest_of us tickets x = record {
-    answers_only = answers_only_of us r first_trail (last_trail tickets) x;
-    handles = handles_of us r first_trail (last_trail tickets) x refl;
-    submitted_once = submitted_once_of us r first_trail (last_trail tickets) x;
-    once = once_of us r first_trail (last_trail tickets) x;
-    timestamps = timestamps_of us r first_trail (last_trail tickets) x;
+  pub honest_of : (us : List Meaning) (ss : List (Option Segment)) (tickets : List (ℕ × H)) → Ended r us ss first_trail (last_trail tickets) → IsHonest before now r
+  honest_of us ss tickets x = record {
+    answers_only = answers_only_of us ss r first_trail (last_trail tickets) x;
+    handles = handles_of us ss r first_trail (last_trail tickets) x refl;
+    submitted_once = submitted_once_of us ss r first_trail (last_trail tickets) x;
+    once = once_of us ss r first_trail (last_trail tickets) x;
+    timestamps = timestamps_of us ss r first_trail (last_trail tickets) x;
     cause = cause;
     faultless = faultless;
   }
 
-  pub decodes_of : (o : Options) (s : List ℕ) (tickets : List (ℕ × H)) → Ended r (meanings o s) first_trail (last_trail tickets) → IfErr r (λ refused. refused.unit ≤ length (units s)) → Decodes o s before now r
+  pub decodes_of : (o : Options) (s : List ℕ) (tickets : List (ℕ × H)) → Ended r (meanings o s) (segments o s) first_trail (last_trail tickets) → IfErr r (λ refused. refused.unit ≤ length (units s)) → Decodes o s before now r
   decodes_of o s tickets x within =
       let us = meanings o s in
+      let ss = segments o s in
       let begin = first_trail in
       let end = last_trail tickets in
       record {
-        calls = calls_of us r begin end x;
-        outputs = outputs_of us r begin end x;
-        answer = answer_is us r begin end x;
-        whole_calls = whole_calls_of us r begin end x;
-        whole_outputs = whole_outputs_of us r begin end x;
+        calls = calls_of us ss r begin end x;
+        outputs = outputs_of us ss r begin end x;
+        answer = answer_is us ss r begin end x;
+        whole_calls = whole_calls_of us ss r begin end x;
+        whole_outputs = whole_outputs_of us ss r begin end x;
+        handed = handed_of us ss r begin end x;
         unit = within;
-        frames = frames_of us r begin end x;
-        fates = fates_of us r begin end x;
-        in_turn = in_turn_of us r begin end x;
-        display_order = display_order_of us r begin end x;
-        complete = λ n is none. completes us r begin end x n is (blames_none before.counts now.counts (without_unit r) cause none);
-        clean = λ is none. completes_clean us r begin end x is (blames_none before.counts now.counts (without_unit r) cause none);
-        complete_over_faultless = λ n is never. completes us r begin end x n is (faultless never).1;
-        clean_over_faultless = λ is never. completes_clean us r begin end x is (faultless never).1;
+        frames = frames_of us ss r begin end x;
+        fates = fates_of us ss r begin end x;
+        in_turn = in_turn_of us ss r begin end x;
+        display_order = display_order_of us ss r begin end x;
+        complete = λ n is none. completes us ss r begin end x n is (blames_none before.counts now.counts (without_unit r) cause none);
+        clean = λ is none. completes_clean us ss r begin end x is (blames_none before.counts now.counts (without_unit r) cause none);
+        complete_over_faultless = λ n is never. completes us ss r begin end x n is (faultless never).1;
+        clean_over_faultless = λ is never. completes_clean us ss r begin end x is (faultless never).1;
         stores_few = stores_few us;
-        room = room_of us r begin end x;
-        honest = honest_of us tickets x;
+        room = room_of us ss r begin end x;
+        honest = honest_of us ss tickets x;
       }

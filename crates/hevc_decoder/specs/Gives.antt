@@ -5,6 +5,7 @@ use Rattle.hevc_stream.specs.Options.{Options}
 use Rattle.hevc_bumping.specs.declared.frame.Frame.{Frame}
 use Rattle.hevc_driver.specs.declared.decode_error.DecodeError.{DecodeError}
 use Rattle.hevc_driver.specs.declared.decode_error.DecodeError.TheVariants as errors
+use Rattle.hevc_driver.specs.Given.{Given}
 use Rattle.hevc_stateless.specs.Steps.{Seen, StepsIn}
 use Rattle.hevc_stateless.specs.Flushes.{Flushes}
 use Rattle.hevc_stateless.specs.Views.{traces_of}
@@ -57,8 +58,9 @@ GivesWhole result k options header bytes old new =
 -- a call of `flush`
 abbrev pub Flushed : {B H T : Type 0} → Result T DecodeError → Seen B H → Seen B H → Type 0
 Flushed result old new =
-    Flushes result 0 (traces_of old.log old.view) (traces_of new.log new.view) old.view.state
-    old.view.standing new.view.standing
+    (given : Given)
+    → Flushes result given (traces_of old.log old.handed old.view)
+    (traces_of new.log new.handed new.view) old.view.state old.view.standing new.view.standing
 
 -- the stream ended, behind k units
 abbrev pub Closes : {B H T : Type 0} → Result T DecodeError → ℕ → Scene B H → Scene B H → Type 0

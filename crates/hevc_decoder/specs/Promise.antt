@@ -1,5 +1,5 @@
 -- What decoding a byte stream promises, over any backend and under any options.
-use Rattle.std.specs.Prelude.{◌≡◌, ℕ, ◌≤◌, ◌<◌, ◌-◌, ◌^◌, List, map, length, Option, Result, Ok, IfErr, OnOk}
+use Rattle.std.specs.Prelude.{◌≡◌, ℕ, ◌≤◌, ◌<◌, ◌-◌, ◌^◌, List, map, length, take, Option, Result, Ok, IfErr, OnOk}
 use Rattle.std.specs.List.{AllByRecursion}
 use Rattle.hevc_spec.specs.Units.{units}
 use Rattle.hevc_walk.specs.Clean.{IsClean}
@@ -8,27 +8,32 @@ use Rattle.hevc_walk_order.specs.DisplayOrder.{ComeInOrder, ComeInTurn}
 use Rattle.hevc_stream.specs.Options.{Options}
 use Rattle.hevc_stream.specs.Stream.{meanings}
 use Rattle.hevc_backend.specs.declared.call.Call.{Call}
+use Rattle.hevc_backend.specs.Handed.{Handed}
 use Rattle.hevc_backend.specs.Trait.{Counts}
 use Rattle.hevc_driver.specs.Answers.{CountsErrors, KeepsFaultless}
 use Rattle.hevc_driver.specs.Calls.{call_of, IsTimed}
+use Rattle.hevc_stateless_laws.specs.Segments.{handed_over, segments}
 use Rattle.hevc_decoder.specs.declared.decoded.Refused.{Refused}
 use Rattle.hevc_decoder.specs.declared.decoded.Shown.{Shown}
 use Rattle.hevc_decoder.specs.Answers.{AnswersOnly, FindsRoom, IsOkOrNoMemory, without_unit}
 use Rattle.hevc_decoder.specs.Headline.{Grew, Appended, IsFront, all_asked, AnswersVerdict, EndsCalls, EndsOutputs, WantsFrame, AllSubmitted, SubmittedOnce, ComeOutOnce, AreForOutput, NeverStoreMore}
 use Rattle.hevc_decoder.specs.Names.{output_picture}
 
--- What is told at a moment: of a backend its log, if it tells one, its counts, and its promise never
--- to fail; and the pictures that have come out.
+-- What is told at a moment: of a backend its log and what it was handed, if it tells them, its
+-- counts, and its promise never to fail; and the pictures that have come out.
 pub record Told (H : Type 0) : Type 1 where
   pub log : Option (List (Call H))
+  pub handed : Option (List Handed)
   pub counts : Counts
   pub is_faultless : Type 0
   pub shown : List (Shown H)
 
-abbrev pub told : {B H : Type 0} → (log : B → Option (List (Call H))) → (counts : B → Counts)
-    → (is_faultless : B → Type 0) → B → List (Shown H) → Told H
-told log counts is_faultless backend shown = record {
+abbrev pub told : {B H : Type 0} → (log : B → Option (List (Call H)))
+    → (handed : B → Option (List Handed)) → (counts : B → Counts) → (is_faultless : B → Type 0) → B
+    → List (Shown H) → Told H
+told log handed counts is_faultless backend shown = record {
   log = log backend;
+  handed = handed backend;
   counts = counts backend;
   is_faultless = is_faultless backend;
   shown = shown;
@@ -75,6 +80,11 @@ pub record Decodes {H : Type 0} (options : Options) (stream : List ℕ) (before 
       (λ l. EndsCalls result (map call_of l) (walk.calls (meanings options stream)))
   pub whole_outputs : Appended before.shown now.shown
       (λ o. EndsOutputs result (map output_picture o) (walk.outputs (meanings options stream)))
+  -- with each of these calls came exactly the picture, the parameter sets and the header of its
+  -- unit: the sets that are kept there, and the header of a dependent slice segment completed
+  pub handed : Grew before.handed now.handed (λ hs. Grew before.log now.log
+      (λ l. hs ≡ handed_over (meanings options stream) (segments options stream)
+      (take (length l) (walk.calls (meanings options stream)))))
   pub unit : IfErr result (λ refused. refused.unit ≤ length (units stream))
   -- a frame is wanted for a picture alone, and as it begins
   pub frames : IfErr result

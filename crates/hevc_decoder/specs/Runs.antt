@@ -1,5 +1,5 @@
 -- What a whole run did of the events that the units of a stream ask for.
-use Rattle.std.specs.Prelude.{◌≡◌, ℕ, ◌≤◌, List, [], ◌∷◌, ◌++◌, length, Result, Ok, Err, IfErr}
+use Rattle.std.specs.Prelude.{◌≡◌, ℕ, ◌≤◌, List, [], ◌∷◌, ◌++◌, length, Option, Result, Ok, Err, IfErr}
 use Rattle.std.specs.List.{AllByRecursion}
 use Rattle.hevc_spec.specs.Units.{NalUnit}
 use Rattle.hevc_walk.specs.Meanings.{Meaning}
@@ -10,6 +10,8 @@ use Rattle.hevc_walk.specs.Results.{walk_events, events, calls, outputs, verdict
 use Rattle.hevc_stream.specs.Options.{Options}
 use Rattle.hevc_driver.specs.declared.decode_error.DecodeError.{DecodeError}
 use Rattle.hevc_driver.specs.declared.decode_error.DecodeError.TheVariants as errors
+use Rattle.hevc_backend.specs.Handed.{Segment}
+use Rattle.hevc_stateless_laws.specs.Segments.{given_of, segments_of}
 use Rattle.hevc_stateless_laws.specs.Stands.{meant, StandsAfter}
 use Rattle.hevc_decoder.specs.declared.decoded.Refused.{Refused}
 use Rattle.hevc_decoder.specs.Names.{answer_of}
@@ -28,7 +30,8 @@ pub record Reached {B H : Type 0} (options : Options) (all : List NalUnit) (k : 
   pub empty : now.seen.view.queue ≡ []
   -- no more pictures than units
   pub few : now.seen.view.standing.next.number ≤ k
-  pub does : DoesAll (trail_of old) (trail_of now) (walk_events (stream (meant options front)))
+  pub does : DoesAll (given_of (meant options all) (segments_of options all)) (trail_of old)
+      (trail_of now) (walk_events (stream (meant options front)))
 
 -- the next event is a call of unit k
 abbrev pub CallFollows : ℕ → List (ℕ × Event) → Type 0
@@ -70,12 +73,12 @@ Ends (Ok n) us done rest = (answer_of (verdict us) ≡ Ok n) × (rest ≡ [])
 Ends (Err r) us done rest = EndsAt r.error r us done rest
 
 -- A whole run.
-pub record Ended {H : Type 0} (result : Result ℕ Refused) (us : List Meaning) (old new : Trail H)
-    : Type 0 where
+pub record Ended {H : Type 0} (result : Result ℕ Refused) (us : List Meaning)
+    (segments : List (Option Segment)) (old new : Trail H) : Type 0 where
   pub done : List (ℕ × Event)
   pub rest : List (ℕ × Event)
   pub whole : events us ≡ done ++ rest
-  pub does : DoesAll old new done
+  pub does : DoesAll (given_of us segments) old new done
   pub ends : Ends result us done rest
 
 -- Units were taken, from unit `first` on: a run that stood in front of them stands behind them, at
@@ -89,7 +92,8 @@ TakesPiece {B} {H} (Ok next) options first us old new =
 TakesPiece {B} {H} (Err refused) options first us old new =
     (begin : Scene B H) (all later : List NalUnit)
     → Reached options all first begin old (us ++ later)
-    → Ended (Err refused) (meant options all) (trail_of begin) (trail_of new)
+    → Ended (Err refused) (meant options all) (segments_of options all) (trail_of begin)
+    (trail_of new)
     × (refused.unit ≤ length all)
 
 -- These units are the last: a run that stood in front of them has ended.
@@ -98,5 +102,5 @@ abbrev pub EndsRun : {B H : Type 0} → Result ℕ Refused → Options → (firs
 EndsRun {B} {H} result options first us old new =
     (begin : Scene B H) (all : List NalUnit)
     → Reached options all first begin old us
-    → Ended result (meant options all) (trail_of begin) (trail_of new)
+    → Ended result (meant options all) (segments_of options all) (trail_of begin) (trail_of new)
     × IfErr result (λ refused. refused.unit ≤ length all)

@@ -1,6 +1,7 @@
 -- Where a run stands.
 use Rattle.std.specs.Prelude.{ℕ, List, Option}
 use Rattle.hevc_backend.specs.declared.call.Call.{Call}
+use Rattle.hevc_backend.specs.Handed.{Handed}
 use Rattle.hevc_bumping.specs.declared.frame.Frame.{Frame}
 use Rattle.hevc_stateless.specs.declared.decoder.StatelessDecoder.{StatelessDecoder}
 use Rattle.hevc_stateless.specs.declared.state.State.TheVariants.{Decoding}
@@ -13,10 +14,10 @@ pub record Scene (B H : Type 0) : Type 0 where
   pub seen : Seen B H
   pub shown : List (Shown H)
 
--- where backends tell these logs
-abbrev pub scene : {B H P : Type 0} → (B → Option (List (Call H))) → StatelessDecoder B H P
-    → List (Shown H) → Scene B H
-scene logs decoder shown = record { seen = seen_by logs decoder; shown = shown }
+-- where backends tell these logs, and this that they were handed
+abbrev pub scene : {B H P : Type 0} → (log : B → Option (List (Call H)))
+    → (handed : B → Option (List Handed)) → StatelessDecoder B H P → List (Shown H) → Scene B H
+scene log handed decoder shown = record { seen = seen_by log handed decoder; shown = shown }
 
 -- with these pictures in the queue
 abbrev pub with_queue : {B H : Type 0} → List (Frame H) → Seen B H → Seen B H
@@ -26,12 +27,18 @@ with_queue queue s = record s { view = record s.view { queue = queue } }
 abbrev pub accepting : {B H : Type 0} → Scene B H → Scene B H
 accepting s = record s { seen = record s.seen { view = record s.seen.view { state = Decoding } } }
 
--- All that is left of what a run did: the log, the outputs,
+-- All that is left of what a run did: what the backend tells, the outputs,
 -- and the numbers of the stored pictures with their handles.
 pub record Trail (H : Type 0) : Type 0 where
   pub log : Option (List (Call H))
+  pub handed : Option (List Handed)
   pub shown : List (Shown H)
   pub tickets : List (ℕ × H)
 
 abbrev pub trail_of : {B H : Type 0} → Scene B H → Trail H
-trail_of s = record { log = s.seen.log; shown = s.shown; tickets = s.seen.view.tickets }
+trail_of s = record {
+  log = s.seen.log;
+  handed = s.seen.handed;
+  shown = s.shown;
+  tickets = s.seen.view.tickets;
+}

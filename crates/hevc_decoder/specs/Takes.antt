@@ -1,6 +1,6 @@
 -- What was done of the events that a unit asks for, by its answer.
 use Rattle.std.specs.Prelude.{◌≡◌, ℕ, true, false, List, [], ◌∷◌, ◌++◌, map, Some, None, Result, Ok, Err}
-use Rattle.std.specs.List.{AllByRecursion}
+use Rattle.std.specs.List.{AllByRecursion, flat_map}
 use Rattle.hevc_walk.specs.Meanings.{Meaning}
 use Rattle.hevc_walk.specs.Walk as walk
 use Rattle.hevc_walk.specs.Walk.{Event, Called, at_unit}
@@ -10,6 +10,8 @@ use Rattle.hevc_walk_units.specs.Units.{Standing, unit_part, refusal_at, is_full
 use Rattle.hevc_dpb.specs.Entries.{IsPartOf}
 use Rattle.hevc_backend.specs.declared.call.Call.{Call}
 use Rattle.hevc_backend.specs.Trait.{logged}
+use Rattle.hevc_backend.specs.Handed.{Handed}
+use Rattle.hevc_driver.specs.Given.{Given, handed_in}
 use Rattle.hevc_driver.specs.declared.decode_error.DecodeError.{DecodeError}
 use Rattle.hevc_driver.specs.declared.decode_error.DecodeError.TheVariants as errors
 use Rattle.hevc_driver.specs.Errors.{error_of}
@@ -20,13 +22,19 @@ use Rattle.hevc_decoder.specs.declared.decoded.Shown.{Shown}
 use Rattle.hevc_decoder.specs.Names.{output_picture, shown_ticket}
 use Rattle.hevc_decoder.specs.Scenes.{Trail}
 
--- These events were done: their calls were made, at no time, and their outputs given, each with a
--- handle that was stored or was submitted for its number.
-pub record DoesAll {H : Type 0} (old new : Trail H) (done : List (ℕ × Event)) : Type 0 where
+-- what comes with an event of a unit, where this comes with each unit
+abbrev pub handed_at : (ℕ → Given) → ℕ × Event → List Handed
+handed_at at e = handed_in (at e.0) e.1
+
+-- These events were done: their calls were made, at no time, with what comes with each unit, and
+-- their outputs given, each with a handle that was stored or was submitted for its number.
+pub record DoesAll {H : Type 0} (at : ℕ → Given) (old new : Trail H) (done : List (ℕ × Event))
+    : Type 0 where
   pub calls : List (Call H)
   pub log : new.log ≡ logged old.log calls
   pub made : map call_of calls ≡ map asked (calls_in done)
   pub timed : AllByRecursion (IsTimed 0) calls
+  pub handed : new.handed ≡ logged old.handed (flat_map (handed_at at) done)
   pub out : List (Shown H)
   pub shown : new.shown ≡ old.shown ++ out
   pub given : map output_picture out ≡ outputs_in done
@@ -39,83 +47,92 @@ pub record CallsNext (rest : List Event) : Type 0 where
   pub rest_is : rest ≡ Called call ∷ later
 
 -- A plan of unit k was done up to some event; up to a call, if the backend failed.
-pub record StopsPlan {H : Type 0} (failed : Type 0) (k : ℕ) (old new : Trail H) (plan : List Event)
+pub record StopsPlan {H : Type 0} (at : ℕ → Given) (failed : Type 0) (k : ℕ) (old new : Trail H)
+    (plan : List Event)
     : Type 0 where
   pub done : List Event
   pub rest : List Event
   pub whole : plan ≡ done ++ rest
-  pub does : DoesAll old new (at_unit k done)
+  pub does : DoesAll at old new (at_unit k done)
   pub next : failed → CallsNext rest
 
 -- Of a plan of unit k the picture before was submitted, and no more.
-pub record FillsPlan {H : Type 0} (k : ℕ) (old new : Trail H) (plan : List Event) : Type 0 where
+pub record FillsPlan {H : Type 0} (at : ℕ → Given) (k : ℕ) (old new : Trail H) (plan : List Event)
+    : Type 0 where
   pub number : ℕ
   pub rest : List Event
   pub whole : plan ≡ Called (walk.SubmitPicture number) ∷ rest
-  pub does : DoesAll old new (at_unit k (Called (walk.SubmitPicture number) ∷ []))
+  pub does : DoesAll at old new (at_unit k (Called (walk.SubmitPicture number) ∷ []))
 
 -- A unit was taken whole.
-pub record TakesWhole {H : Type 0} (k : ℕ) (old new : Trail H) (y : Meaning) (before : Standing)
+pub record TakesWhole {H : Type 0} (at : ℕ → Given) (k : ℕ) (old new : Trail H) (y : Meaning)
+    (before : Standing)
     : Type 0 where
   pub goes_on : refusal_at y before ≡ None
   pub room : is_full_at y before ≡ false
-  pub does : DoesAll old new (at_unit k (unit_part y before).events)
+  pub does : DoesAll at old new (at_unit k (unit_part y before).events)
 
 -- It was refused for a cause.
-pub record RefusesUnit {H : Type 0} (error : DecodeError) (k : ℕ) (old new : Trail H) (y : Meaning)
+pub record RefusesUnit {H : Type 0} (at : ℕ → Given) (error : DecodeError) (k : ℕ)
+    (old new : Trail H) (y : Meaning)
     (before : Standing) : Type 0 where
   pub room : is_full_at y before ≡ false
   pub cause : Cause
   pub refused : refusal_at y before ≡ Some cause
   pub named : error_of cause ≡ error
-  pub does : DoesAll old new (at_unit k (unit_part y before).events)
+  pub does : DoesAll at old new (at_unit k (unit_part y before).events)
 
 -- The picture before was to be stored into a full buffer.
-pub record FillsUnit {H : Type 0} (k : ℕ) (old new : Trail H) (y : Meaning) (before : Standing)
+pub record FillsUnit {H : Type 0} (at : ℕ → Given) (k : ℕ) (old new : Trail H) (y : Meaning)
+    (before : Standing)
     : Type 0 where
   pub full : is_full_at y before ≡ true
-  pub fills : FillsPlan k old new (unit_part y before).events
+  pub fills : FillsPlan at k old new (unit_part y before).events
 
 -- No frame was free for the picture that it begins.
-pub record HaltsUnit {H : Type 0} (frames k : ℕ) (old new : Trail H) (y : Meaning)
+pub record HaltsUnit {H : Type 0} (at : ℕ → Given) (frames k : ℕ) (old new : Trail H) (y : Meaning)
     (before : Standing) : Type 0 where
   pub told : frames ≡ 1
   pub begins : begins_at y before ≡ true
-  pub stops : StopsPlan ⊥ k old new (unit_part y before).events
+  pub stops : StopsPlan at ⊥ k old new (unit_part y before).events
 
 -- what was done of unit k, whose meaning is y, by its answer
-abbrev pub TakesUnit : {H T : Type 0} → Result T DecodeError → ℕ → Trail H → Trail H → Meaning
+abbrev pub TakesUnit : {H T : Type 0} → (ℕ → Given)
+    → Result T DecodeError → ℕ → Trail H → Trail H → Meaning
     → Standing → Type 0
-TakesUnit (Ok value) k old new y before = TakesWhole k old new y before
-TakesUnit (Err errors.Backend) k old new y before =
-    StopsPlan (Unit {0}) k old new (unit_part y before).events
-TakesUnit (Err errors.NoMemory) k old new y before =
-    StopsPlan ⊥ k old new (unit_part y before).events
-TakesUnit (Err errors.DpbFull) k old new y before = FillsUnit k old new y before
-TakesUnit (Err (errors.NotEnoughOutputBuffers frames)) k old new y before =
-    HaltsUnit frames k old new y before
-TakesUnit (Err errors.NoNal) k old new y before = ⊥
-TakesUnit (Err errors.CheckEvents) k old new y before = ⊥
-TakesUnit (Err errors.PictureNumbersSpent) k old new y before = ⊥
-TakesUnit (Err error) k old new y before = RefusesUnit error k old new y before
+TakesUnit at (Ok value) k old new y before = TakesWhole at k old new y before
+TakesUnit at (Err errors.Backend) k old new y before =
+    StopsPlan at (Unit {0}) k old new (unit_part y before).events
+TakesUnit at (Err errors.NoMemory) k old new y before =
+    StopsPlan at ⊥ k old new (unit_part y before).events
+TakesUnit at (Err errors.DpbFull) k old new y before = FillsUnit at k old new y before
+TakesUnit at (Err (errors.NotEnoughOutputBuffers frames)) k old new y before =
+    HaltsUnit at frames k old new y before
+TakesUnit at (Err errors.NoNal) k old new y before = ⊥
+TakesUnit at (Err errors.CheckEvents) k old new y before = ⊥
+TakesUnit at (Err errors.PictureNumbersSpent) k old new y before = ⊥
+TakesUnit at (Err error) k old new y before = RefusesUnit at error k old new y before
 
 -- The stream ended, behind k units.
-pub record ClosesWhole {H : Type 0} (k : ℕ) (old new : Trail H) (before : Standing) : Type 0 where
+pub record ClosesWhole {H : Type 0} (at : ℕ → Given) (k : ℕ) (old new : Trail H) (before : Standing)
+    : Type 0 where
   pub room : is_full_now before ≡ false
-  pub does : DoesAll old new (at_unit k (closing_part before).events)
+  pub does : DoesAll at old new (at_unit k (closing_part before).events)
 
 -- Its last picture was to be stored into a full buffer.
-pub record FillsAtEnd {H : Type 0} (k : ℕ) (old new : Trail H) (before : Standing) : Type 0 where
+pub record FillsAtEnd {H : Type 0} (at : ℕ → Given) (k : ℕ) (old new : Trail H) (before : Standing)
+    : Type 0 where
   pub full : is_full_now before ≡ true
-  pub fills : FillsPlan k old new (closing_part before).events
+  pub fills : FillsPlan at k old new (closing_part before).events
 
 -- what was done behind the last unit, by the answer
-abbrev pub EndsStream : {H T : Type 0} → Result T DecodeError → ℕ → Trail H → Trail H → Standing
+abbrev pub EndsStream : {H T : Type 0} → (ℕ → Given)
+    → Result T DecodeError → ℕ → Trail H → Trail H → Standing
     → Type 0
-EndsStream (Ok value) k old new before = ClosesWhole k old new before
-EndsStream (Err errors.Backend) k old new before =
-    StopsPlan (Unit {0}) k old new (closing_part before).events
-EndsStream (Err errors.NoMemory) k old new before =
-    StopsPlan ⊥ k old new (closing_part before).events
-EndsStream (Err errors.DpbFull) k old new before = FillsAtEnd k old new before
-EndsStream (Err error) k old new before = ⊥
+EndsStream at (Ok value) k old new before = ClosesWhole at k old new before
+EndsStream at (Err errors.Backend) k old new before =
+    StopsPlan at (Unit {0}) k old new (closing_part before).events
+EndsStream at (Err errors.NoMemory) k old new before =
+    StopsPlan at ⊥ k old new (closing_part before).events
+EndsStream at (Err errors.DpbFull) k old new before = FillsAtEnd at k old new before
+EndsStream at (Err error) k old new before = ⊥

@@ -40,12 +40,12 @@ pub fn decode_source_with<B: StatelessH265DecoderBackend + Drop, S: Source>(
     // All else as for a stream that is there.
     ensures decodes { OfSource result (S.left source.old) (λ decoded stream.
         Decodes (options_of options) stream
-        (told B.log B.counts B.is_faultless backend shown.old.items)
-        (told B.log B.counts B.is_faultless decoded.backend shown.new.items)
+        (told B.log B.handed B.counts B.is_faultless backend shown.old.items)
+        (told B.log B.handed B.counts B.is_faultless decoded.backend shown.new.items)
         decoded.result) }
     ensures honest { IfOk result (λ decoded. IsHonest
-        (told B.log B.counts B.is_faultless backend shown.old.items)
-        (told B.log B.counts B.is_faultless decoded.backend shown.new.items)
+        (told B.log B.handed B.counts B.is_faultless backend shown.old.items)
+        (told B.log B.handed B.counts B.is_faultless decoded.backend shown.new.items)
         decoded.result) }
 
     // Why the input can't be had.

@@ -25,8 +25,8 @@ pub fn decode_stream_with<B: StatelessH265DecoderBackend>(
 ) -> Decoded<B>
     requires { length stream.now < STREAM_LIMIT }
     ensures decodes { Decodes (options_of options) stream.now
-        (told B.log B.counts B.is_faultless backend shown.old.items)
-        (told B.log B.counts B.is_faultless result.backend shown.new.items)
+        (told B.log B.handed B.counts B.is_faultless backend shown.old.items)
+        (told B.log B.handed B.counts B.is_faultless result.backend shown.new.items)
         result.result }
 {
     let mut decoder = StatelessDecoder::new_with(alloc, backend, options);
@@ -47,8 +47,8 @@ pub fn decode_stream<B: StatelessH265DecoderBackend>(
 ) -> Decoded<B>
     requires { length stream.now < STREAM_LIMIT }
     ensures decodes { Decodes default_options stream.now
-        (told B.log B.counts B.is_faultless backend shown.old.items)
-        (told B.log B.counts B.is_faultless result.backend shown.new.items)
+        (told B.log B.handed B.counts B.is_faultless backend shown.old.items)
+        (told B.log B.handed B.counts B.is_faultless result.backend shown.new.items)
         result.result }
 {
     decode_stream_with(alloc, backend, Options::new(), stream, shown)

@@ -1,9 +1,10 @@
 //! The units of a stream, one by one.
-ghost use Rattle.std.specs.Prelude.{◌≡◌, ◌+◌, ◌≤◌, ◌<◌, ◌++◌, [], length, map, vec_len, vec_capacity, true, false, IfOk, IfErr, OnOk};
+ghost use Rattle.std.specs.Prelude.{◌≡◌, ◌+◌, ◌≤◌, ◌<◌, ◌++◌, [], length, map, vec_len, vec_capacity, IfOk, IfErr, OnOk};
 ghost use Rattle.hevc_spec.specs.Units.{units};
 ghost use Rattle.hevc_bits.specs.FoundUnit.{bytes_of};
 ghost use Rattle.hevc_stream.specs.Kept.{none_kept};
 ghost use Rattle.hevc_stream.specs.Stream.{meanings};
+ghost use Rattle.hevc_stateless_laws.specs.Segments.{segments};
 ghost use Rattle.hevc_driver.specs.Answers.{BlamesFairly};
 ghost use Rattle.hevc_stateless.specs.Decoders.{view_of, kept_in, set_for};
 ghost use Rattle.hevc_stateless.specs.Views.{at_beginning};
@@ -52,7 +53,8 @@ fn give<B: StatelessH265DecoderBackend>(
     ensures blames { BlamesFairly B.counts B.is_faultless (view_of decoder.old).backend
         (view_of decoder.new).backend result }
     ensures gives { Gives result unit (set_for decoder.old) nalu.now.header (bytes_of nalu.now)
-        (scene B.log decoder.old shown.old.items) (scene B.log decoder.new shown.new.items) }
+        (scene B.log B.handed decoder.old shown.old.items)
+        (scene B.log B.handed decoder.new shown.new.items) }
     ensures options { set_for decoder.new ≡ set_for decoder.old }
 {
     shown.reserve(MAX_OUTPUTS_OF_UNIT)?;
@@ -82,7 +84,8 @@ fn take_unit<B: StatelessH265DecoderBackend>(
         (view_of decoder.new).backend result }
     ensures gives { GivesWhole result unit (set_for decoder.old) nalu.now.header
         (bytes_of nalu.now)
-        (scene B.log decoder.old shown.old.items) (scene B.log decoder.new shown.new.items) }
+        (scene B.log B.handed decoder.old shown.old.items)
+        (scene B.log B.handed decoder.new shown.new.items) }
     ensures options { set_for decoder.new ≡ set_for decoder.old }
 {
     let taken = give(decoder, nalu, unit, shown);
@@ -103,7 +106,8 @@ fn close<B: StatelessH265DecoderBackend>(
     ensures blames { BlamesFairly B.counts B.is_faultless (view_of decoder.old).backend
         (view_of decoder.new).backend result }
     ensures closes { Closes result unit
-        (scene B.log decoder.old shown.old.items) (scene B.log decoder.new shown.new.items) }
+        (scene B.log B.handed decoder.old shown.old.items)
+        (scene B.log B.handed decoder.new shown.new.items) }
 {
     shown.reserve(MAX_OUTPUTS_OF_UNIT)?;
     let flushed = decoder.flush();
@@ -125,7 +129,8 @@ pub(crate) fn take_piece<B: StatelessH265DecoderBackend>(
     ensures blames { BlamesFairly B.counts B.is_faultless (view_of decoder.old).backend
         (view_of decoder.new).backend (without_unit result) }
     ensures takes { TakesPiece result (set_for decoder.old) first (units piece.now)
-        (scene B.log decoder.old shown.old.items) (scene B.log decoder.new shown.new.items) }
+        (scene B.log B.handed decoder.old shown.old.items)
+        (scene B.log B.handed decoder.new shown.new.items) }
     ensures options { set_for decoder.new ≡ set_for decoder.old }
 {
     let mut position = 0;
@@ -161,7 +166,8 @@ fn finish<B: StatelessH265DecoderBackend>(
     ensures blames { BlamesFairly B.counts B.is_faultless (view_of decoder.old).backend
         (view_of decoder.new).backend (without_unit result) }
     ensures ends { EndsRun result (set_for decoder.old) unit []
-        (scene B.log decoder.old shown.old.items) (scene B.log decoder.new shown.new.items) }
+        (scene B.log B.handed decoder.old shown.old.items)
+        (scene B.log B.handed decoder.new shown.new.items) }
 {
     let pictures = decoder.num_pictures();
     match close(decoder, unit, shown) {
@@ -182,7 +188,8 @@ pub(crate) fn take_last<B: StatelessH265DecoderBackend>(
     ensures blames { BlamesFairly B.counts B.is_faultless (view_of decoder.old).backend
         (view_of decoder.new).backend (without_unit result) }
     ensures ends { EndsRun result (set_for decoder.old) first (units piece.now)
-        (scene B.log decoder.old shown.old.items) (scene B.log decoder.new shown.new.items) }
+        (scene B.log B.handed decoder.old shown.old.items)
+        (scene B.log B.handed decoder.new shown.new.items) }
 {
     let unit = take_piece(decoder, piece, first, shown)?;
     finish(decoder, unit, shown)
@@ -200,8 +207,9 @@ pub(crate) fn take_units<B: StatelessH265DecoderBackend>(
     ensures blames { BlamesFairly B.counts B.is_faultless (view_of decoder.old).backend
         (view_of decoder.new).backend (without_unit result) }
     ensures ended { Ended result (meanings (set_for decoder.old) stream.now)
-        (trail_of (scene B.log decoder.old shown.old.items))
-        (trail_of (scene B.log decoder.new shown.new.items)) }
+        (segments (set_for decoder.old) stream.now)
+        (trail_of (scene B.log B.handed decoder.old shown.old.items))
+        (trail_of (scene B.log B.handed decoder.new shown.new.items)) }
     ensures unit { IfErr result (λ refused. refused.unit ≤ length (units stream.now)) }
 {
     take_last(decoder, stream, 0, shown)

@@ -3,6 +3,7 @@ mod calling;
 mod pieces;
 mod plans;
 mod states;
+mod told;
 
 use calling::{numbers_by_events, numbers_of_source, numbers_of_stream};
 use hevc_backend::Backend;

@@ -11,3 +11,4 @@ mod driver;
 mod report;
 #[cfg(test)]
 mod stateless;
+pub mod telling;

@@ -1,19 +1,20 @@
 -- The picture whose slices came is over, and all that waits is output.
-use Rattle.std.proofs.Common.{◌≡◌, ℕ, ◌++◌, refl, ap, Result, Err, false}
+use Rattle.std.proofs.Common.{◌≡◌, ◌++◌, refl, ap, Result, Err, false}
 use Rattle.std.specs.Result.{IsErrAnd}
 use Rattle.std.proofs.lemmas.Result.{err_from_is_err_and}
 use Rattle.hevc_walk.specs.Buffer.{draining}
 use Rattle.hevc_walk.specs.Walk as walk
-use Rattle.hevc_walk.specs.Walk.{Event, Called, Part, output_by}
+use Rattle.hevc_walk.specs.Walk.{output_by}
 use Rattle.hevc_walk_units.specs.Units.{Standing, on_store, finish_current, is_full_now}
 use Rattle.hevc_driver.specs.declared.decode_error.DecodeError.{DecodeError}
 use Rattle.hevc_driver.specs.declared.decode_error.DecodeError.TheVariants as errors
+use Rattle.hevc_driver.specs.Given.{Given}
 use Rattle.hevc_driver.specs.Does.{Traces, Stops, Completes}
 use Rattle.hevc_driver.specs.Moments.{closes, given_up}
 use Rattle.hevc_driver.specs.Takes.{Finishes, LeftUnsubmitted, Closes}
 use Rattle.hevc_driver.proofs.Doing.{completes_then, stops_as, stops_more}
 
-pub close_refused : {H T : Type 0} (r : Result T DecodeError) (e : DecodeError) (t : ℕ) (a b : Traces H) (s st : Standing) → IsErrAnd r (λ y. y ≡ e) → Finishes {H = H} {T = T} (Err e) t a b s st → Closes r t a b s st
+pub close_refused : {H T : Type 0} (r : Result T DecodeError) (e : DecodeError) (t : Given) (a b : Traces H) (s st : Standing) → IsErrAnd r (λ y. y ≡ e) → Finishes {H = H} {T = T} (Err e) t a b s st → Closes r t a b s st
 close_refused {H} {T} r e t a b s st is h = let q = err_from_is_err_and r is in rw q.1 (rw q.2 (by e h))
   where
     left : (c : walk.Call) → LeftUnsubmitted c s st → st ≡ given_up s
@@ -42,5 +43,5 @@ close_refused {H} {T} r e t a b s st is h = let q = err_from_is_err_and r is in 
     )
     by e h = absurd h
 
-pub close_done : {H : Type 0} (t : ℕ) (a m b : Traces H) (s mid st : Standing) → (is_full_now s ≡ false) × Completes t a m (finish_current s) mid → Completes t m b (on_store (output_by draining) mid) st → (is_full_now s ≡ false) × Completes t a b (closes s) st
+pub close_done : {H : Type 0} (t : Given) (a m b : Traces H) (s mid st : Standing) → (is_full_now s ≡ false) × Completes t a m (finish_current s) mid → Completes t m b (on_store (output_by draining) mid) st → (is_full_now s ≡ false) × Completes t a b (closes s) st
 close_done t a m b s mid st x y = (x.0, completes_then t a m b (finish_current s) (on_store (output_by draining)) mid st x.1 y)

@@ -19,14 +19,20 @@ use Rattle.hevc_bumping.specs.Frames.{frame_output, frame_ticket, entry_output}
 use Rattle.hevc_bumping.specs.Bumps.{Bumps}
 use Rattle.hevc_walk.specs.Buffer.{Bumped, Entry}
 use Rattle.hevc_walk.specs.Walk as walk
-use Rattle.hevc_walk.specs.Walk.{Event, Called, Output, Part, ◌>>=◌, output_of}
+use Rattle.hevc_walk.specs.Walk.{Event, Called, Part, ◌>>=◌, output_of}
 use Rattle.hevc_walk_units.specs.Units.{Standing}
 use Rattle.hevc_driver.specs.declared.decode_error.DecodeError.{DecodeError}
 use Rattle.hevc_driver.specs.declared.decode_error.DecodeError.TheVariants as errors
 use Rattle.hevc_driver.specs.Errors.{backend_error}
 use Rattle.hevc_driver.specs.Calls.{call_of, IsTimed, submission, submissions}
+use Rattle.hevc_backend.specs.Handed.{no_picture}
+use Rattle.hevc_driver.specs.Given.{Given, handed_by, handed_in}
 use Rattle.hevc_driver.specs.Does.{Traces, call_in, output_in, Does, Stops, StopsBy, Completes, Runs}
 use Rattle.hevc_driver.proofs.Members.{part_left, part_right, part_either}
+
+-- any
+abbrev pub no_given : Given
+no_given = record { timestamp = 0; picture = no_picture; segment = None }
 
 pub all_both : {X : Type 0} (P : X → Type 0) (xs ys : List X) → AllByRecursion P xs → AllByRecursion P ys → AllByRecursion P (xs ++ ys)
 all_both P [] ys a b = b
@@ -42,15 +48,16 @@ logged_none (Some log) = ap Some (sym (append-nil log))
 
 -- ---- what was done
 
-pub does_nothing : {H : Type 0} (t : ℕ) (old new : Traces H) → new.log ≡ old.log → new.queue ≡ old.queue → IsPartOf new.tickets old.tickets → Does t old new []
-does_nothing {H} t old new log queue tickets = record {
+pub does_nothing : {H : Type 0} (t : Given) (old new : Traces H) → new.log ≡ old.log → new.handed ≡ old.handed → new.queue ≡ old.queue → IsPartOf new.tickets old.tickets → Does t old new []
+does_nothing {H} t old new log handed queue tickets = record {
   calls = [];
   log = log ∙ logged_none old.log;
   made = refl;
   timed = tt;
+  handed = handed ∙ logged_none old.handed;
   out = [];
   queue = queue ∙ sym (append-nil old.queue);
-  given = refl;
+  shown = refl;
   tied = λ x h. part_left x old.tickets [] (tickets x h);
 }
 
@@ -58,16 +65,17 @@ pub keeps_all : {H : Type 0} (old new : List (ℕ × H)) → new ≡ old → IsP
 keeps_all {H} old new same = λ x h. subst (λ l. Contains l x) same h
 
 -- one call; its ticket, if it has one, may be kept
-pub does_call : {H : Type 0} (t : ℕ) (old new : Traces H) (call : Call H) → new.log ≡ logged old.log (call ∷ []) → new.queue ≡ old.queue → IsPartOf new.tickets (old.tickets ++ submissions (call ∷ [])) → IsTimed t call
+pub does_call : {H : Type 0} (t : Given) (old new : Traces H) (call : Call H) → new.log ≡ logged old.log (call ∷ []) → new.handed ≡ logged old.handed (handed_by t (call_of call) ++ []) → new.queue ≡ old.queue → IsPartOf new.tickets (old.tickets ++ submissions (call ∷ [])) → IsTimed t.timestamp call
     → Does t old new (Called (call_of call) ∷ [])
-does_call {H} t old new call log queue tickets timed = record {
+does_call {H} t old new call log handed queue tickets timed = record {
   calls = call ∷ [];
   log = log;
   made = refl;
   timed = (timed, tt);
+  handed = handed;
   out = [];
   queue = queue ∙ sym (append-nil old.queue);
-  given = refl;
+  shown = refl;
   tied = tickets;
 }
 
@@ -78,21 +86,26 @@ no_calls : (es : List Entry) → flat_map call_in (map output_of es) ≡ []
 no_calls [] = refl
 no_calls (e ∷ es) = no_calls es
 
+none_handed : (t : Given) (es : List Entry) → flat_map (handed_in t) (map output_of es) ≡ []
+none_handed t [] = refl
+none_handed t (e ∷ es) = none_handed t es
+
 all_outputs : (es : List Entry) → flat_map output_in (map output_of es) ≡ map entry_output es
 all_outputs [] = refl
 all_outputs (e ∷ es) = ap (λ os. entry_output e ∷ os) (all_outputs es)
 
 -- entries are output
-pub does_bump : {H Z : Type 0} (t : ℕ) (old new : Traces H) (bumped : Bumped) (a b : Dpb H) (before now : VecDeque (Frame H) Z) → Bumps bumped a b before now → new.log ≡ old.log → old.queue ≡ before.items → new.queue ≡ now.items → old.tickets ≡ tickets (stored_entries a) → new.tickets ≡ tickets (stored_entries b)
+pub does_bump : {H Z : Type 0} (t : Given) (old new : Traces H) (bumped : Bumped) (a b : Dpb H) (before now : VecDeque (Frame H) Z) → Bumps bumped a b before now → new.log ≡ old.log → new.handed ≡ old.handed → old.queue ≡ before.items → new.queue ≡ now.items → old.tickets ≡ tickets (stored_entries a) → new.tickets ≡ tickets (stored_entries b)
     → Does t old new (map output_of bumped.outputs)
-does_bump {H} t old new bumped a b before now x log queue_before queue_now tickets_before tickets_now = record {
+does_bump {H} t old new bumped a b before now x log handed queue_before queue_now tickets_before tickets_now = record {
   calls = [];
   log = log ∙ logged_none old.log;
   made = sym (no_calls bumped.outputs);
   timed = tt;
+  handed = handed ∙ logged_none old.handed ∙ ap (logged old.handed) (sym (none_handed t bumped.outputs));
   out = x.out;
   queue = queue_now ∙ x.appended ∙ ap (λ l. l ++ x.out) (sym queue_before);
-  given = x.given ∙ sym (all_outputs bumped.outputs);
+  shown = x.given ∙ sym (all_outputs bumped.outputs);
   tied = λ y h. part_left y old.tickets [] (subst (λ l. Contains l y) (sym tickets_before) (from y (part_either y (map frame_ticket x.out) new.tickets h)));
 }
   where
@@ -100,15 +113,16 @@ does_bump {H} t old new bumped a b before now x log queue_before queue_now ticke
     from y (inl h) = x.out_handles y h
     from y (inr h) = x.handles y (subst (λ l. Contains l y) tickets_now h)
 
-pub does_then : {H : Type 0} (t : ℕ) (a b c : Traces H) (d e : List Event) → Does t a b d → Does t b c e → Does t a c (d ++ e)
+pub does_then : {H : Type 0} (t : Given) (a b c : Traces H) (d e : List Event) → Does t a b d → Does t b c e → Does t a c (d ++ e)
 does_then {H} t a b c d e x y = record {
   calls = x.calls ++ y.calls;
   log = y.log ∙ ap (λ log. logged log y.calls) x.log ∙ logged_more a.log x.calls y.calls;
   made = map-append call_of x.calls y.calls ∙ ap (λ l. l ++ map call_of y.calls) x.made ∙ ap (λ l. flat_map call_in d ++ l) y.made ∙ sym (flat_map-append call_in d e);
-  timed = all_both (IsTimed t) x.calls y.calls x.timed y.timed;
+  timed = all_both (IsTimed t.timestamp) x.calls y.calls x.timed y.timed;
+  handed = y.handed ∙ ap (λ handed. logged handed (flat_map (handed_in t) e)) x.handed ∙ logged_more a.handed (flat_map (handed_in t) d) (flat_map (handed_in t) e) ∙ ap (logged a.handed) (sym (flat_map-append (handed_in t) d e));
   out = x.out ++ y.out;
   queue = y.queue ∙ ap (λ q. q ++ y.out) x.queue ∙ append_assoc a.queue x.out y.out;
-  given = map-append frame_output x.out y.out ∙ ap (λ l. l ++ map frame_output y.out) x.given ∙ ap (λ l. flat_map output_in d ++ l) y.given ∙ sym (flat_map-append output_in d e);
+  shown = map-append frame_output x.out y.out ∙ ap (λ l. l ++ map frame_output y.out) x.shown ∙ ap (λ l. flat_map output_in d ++ l) y.shown ∙ sym (flat_map-append output_in d e);
   tied = λ z h. from z (part_either z (map frame_ticket x.out) (map frame_ticket y.out ++ c.tickets) (subst (λ l. Contains l z) (ap (λ l. l ++ c.tickets) (map-append frame_ticket x.out y.out) ∙ append_assoc (map frame_ticket x.out) (map frame_ticket y.out) c.tickets) h));
 }
   where
@@ -132,12 +146,12 @@ does_then {H} t a b c d e x y = record {
 -- ---- what stopped
 
 -- a part that stops at its first call
-pub stops_at : {H : Type 0} (t : ℕ) (old new : Traces H) (call : walk.Call) (rest : List Event) (Left : walk.Call → Type 0) → new.log ≡ old.log → new.queue ≡ old.queue → IsPartOf new.tickets old.tickets → Left call
+pub stops_at : {H : Type 0} (t : Given) (old new : Traces H) (call : walk.Call) (rest : List Event) (Left : walk.Call → Type 0) → new.log ≡ old.log → new.handed ≡ old.handed → new.queue ≡ old.queue → IsPartOf new.tickets old.tickets → Left call
     → Stops t old new (Called call ∷ rest) Left
-stops_at t old new call rest Left log queue tickets left = record { done = []; call = call; rest = rest; whole = refl; does = does_nothing t old new log queue tickets; left = left }
+stops_at t old new call rest Left log handed queue tickets left = record { done = []; call = call; rest = rest; whole = refl; does = does_nothing t old new log handed queue tickets; left = left }
 
 -- one that stops behind another
-pub stops_then : {H : Type 0} (t : ℕ) (a b c : Traces H) (d plan : List Event) (Left : walk.Call → Type 0) → Does t a b d → Stops t b c plan Left → Stops t a c (d ++ plan) Left
+pub stops_then : {H : Type 0} (t : Given) (a b c : Traces H) (d plan : List Event) (Left : walk.Call → Type 0) → Does t a b d → Stops t b c plan Left → Stops t a c (d ++ plan) Left
 stops_then t a b c d plan Left x y = record {
   done = d ++ y.done;
   call = y.call;
@@ -148,7 +162,7 @@ stops_then t a b c d plan Left x y = record {
 }
 
 -- one that stops in front of another
-pub stops_more : {H : Type 0} (t : ℕ) (a b : Traces H) (plan more : List Event) (Left : walk.Call → Type 0) → Stops t a b plan Left → Stops t a b (plan ++ more) Left
+pub stops_more : {H : Type 0} (t : Given) (a b : Traces H) (plan more : List Event) (Left : walk.Call → Type 0) → Stops t a b plan Left → Stops t a b (plan ++ more) Left
 stops_more t a b plan more Left x = record {
   done = x.done;
   call = x.call;
@@ -159,7 +173,7 @@ stops_more t a b plan more Left x = record {
 }
 
 -- in other words
-pub stops_as : {H : Type 0} (t : ℕ) (a b : Traces H) (plan plan' : List Event) (Left Left' : walk.Call → Type 0) → plan' ≡ plan → ((c : walk.Call) → Left c → Left' c) → Stops t a b plan Left → Stops t a b plan' Left'
+pub stops_as : {H : Type 0} (t : Given) (a b : Traces H) (plan plan' : List Event) (Left Left' : walk.Call → Type 0) → plan' ≡ plan → ((c : walk.Call) → Left c → Left' c) → Stops t a b plan Left → Stops t a b plan' Left'
 stops_as t a b plan plan' Left Left' same weaker x = record {
   done = x.done;
   call = x.call;
@@ -170,38 +184,38 @@ stops_as t a b plan plan' Left Left' same weaker x = record {
 }
 
 -- a call of the backend was refused
-pub stops_by : {H : Type 0} (e : BackendError) (t : ℕ) (a b : Traces H) (plan : List Event) (Left : walk.Call → Type 0) → Stops t a b plan Left → StopsBy (backend_error e) t a b plan Left
+pub stops_by : {H : Type 0} (e : BackendError) (t : Given) (a b : Traces H) (plan : List Event) (Left : walk.Call → Type 0) → Stops t a b plan Left → StopsBy (backend_error e) t a b plan Left
 stops_by Failed t a b plan Left x = x
 stops_by NoMemory t a b plan Left x = x
 
-pub stops_by_then : {H : Type 0} (e : DecodeError) (t : ℕ) (a b c : Traces H) (d plan : List Event) (Left : walk.Call → Type 0) → Does t a b d → StopsBy e t b c plan Left → StopsBy e t a c (d ++ plan) Left
+pub stops_by_then : {H : Type 0} (e : DecodeError) (t : Given) (a b c : Traces H) (d plan : List Event) (Left : walk.Call → Type 0) → Does t a b d → StopsBy e t b c plan Left → StopsBy e t a c (d ++ plan) Left
 stops_by_then errors.Backend t a b c d plan Left x y = stops_then t a b c d plan Left x y
 stops_by_then errors.NoMemory t a b c d plan Left x y = stops_then t a b c d plan Left x y
 stops_by_then e t a b c d plan Left x y = absurd y
 
-pub stops_by_more : {H : Type 0} (e : DecodeError) (t : ℕ) (a b : Traces H) (plan more : List Event) (Left : walk.Call → Type 0) → StopsBy e t a b plan Left → StopsBy e t a b (plan ++ more) Left
+pub stops_by_more : {H : Type 0} (e : DecodeError) (t : Given) (a b : Traces H) (plan more : List Event) (Left : walk.Call → Type 0) → StopsBy e t a b plan Left → StopsBy e t a b (plan ++ more) Left
 stops_by_more errors.Backend t a b plan more Left x = stops_more t a b plan more Left x
 stops_by_more errors.NoMemory t a b plan more Left x = stops_more t a b plan more Left x
 stops_by_more e t a b plan more Left x = absurd x
 
-pub stops_by_as : {H : Type 0} (e : DecodeError) (t : ℕ) (a b : Traces H) (plan plan' : List Event) (Left Left' : walk.Call → Type 0) → plan' ≡ plan → ((c : walk.Call) → Left c → Left' c) → StopsBy e t a b plan Left → StopsBy e t a b plan' Left'
+pub stops_by_as : {H : Type 0} (e : DecodeError) (t : Given) (a b : Traces H) (plan plan' : List Event) (Left Left' : walk.Call → Type 0) → plan' ≡ plan → ((c : walk.Call) → Left c → Left' c) → StopsBy e t a b plan Left → StopsBy e t a b plan' Left'
 stops_by_as errors.Backend t a b plan plan' Left Left' same weaker x = stops_as t a b plan plan' Left Left' same weaker x
 stops_by_as errors.NoMemory t a b plan plan' Left Left' same weaker x = stops_as t a b plan plan' Left Left' same weaker x
 stops_by_as e t a b plan plan' Left Left' same weaker x = absurd x
 
 -- ---- parts in a row
 
-pub completes_then : {H : Type 0} (t : ℕ) (a b c : Traces H) (p : Part Standing) (f : Standing → Part Standing) (s r : Standing) → Completes t a b p s → Completes t b c (f s) r → Completes t a c (p >>= f) r
+pub completes_then : {H : Type 0} (t : Given) (a b c : Traces H) (p : Part Standing) (f : Standing → Part Standing) (s r : Standing) → Completes t a b p s → Completes t b c (f s) r → Completes t a c (p >>= f) r
 completes_then {H} t a b c p f s r x y =
     let z = subst (λ (v : Standing). Completes t b c (f v) r) x.next y in
     record { does = does_then t a b c p.events (f p.next).events x.does z.does; next = z.next }
 
 -- the exit of a `?` behind a call of the backend
-pub runs_stop : {H T : Type 0} (r : Result T DecodeError) (e : BackendError) (t : ℕ) (a b : Traces H) (part : Part Standing) (Left : walk.Call → Type 0) (st : Standing) → IsErrAnd r (λ y. y ≡ backend_error e) → Stops t a b part.events Left → Runs r t a b part Left st
+pub runs_stop : {H T : Type 0} (r : Result T DecodeError) (e : BackendError) (t : Given) (a b : Traces H) (part : Part Standing) (Left : walk.Call → Type 0) (st : Standing) → IsErrAnd r (λ y. y ≡ backend_error e) → Stops t a b part.events Left → Runs r t a b part Left st
 runs_stop r e t a b part Left st is x = let q = err_from_is_err_and r is in rw q.1 (rw q.2 (stops_by e t a b part.events Left x))
 
 -- the second of two parts
-pub runs_behind : {H T : Type 0} (r : Result T DecodeError) (t : ℕ) (a b c : Traces H) (p : Part Standing) (f : Standing → Part Standing) (Left Left' : walk.Call → Type 0) (s st : Standing) → Completes t a b p s → ((call : walk.Call) → Left call → Left' call) → Runs r t b c (f s) Left st → Runs r t a c (p >>= f) Left' st
+pub runs_behind : {H T : Type 0} (r : Result T DecodeError) (t : Given) (a b c : Traces H) (p : Part Standing) (f : Standing → Part Standing) (Left Left' : walk.Call → Type 0) (s st : Standing) → Completes t a b p s → ((call : walk.Call) → Left call → Left' call) → Runs r t b c (f s) Left st → Runs r t a c (p >>= f) Left' st
 runs_behind (Ok v) t a b c p f Left Left' s st x weaker y = completes_then t a b c p f s st x y
 runs_behind (Err e) t a b c p f Left Left' s st x weaker y =
     stops_by_as e t a c (p.events ++ (f s).events) (p >>= f).events Left Left' (ap (λ (v : Standing). p.events ++ (f v).events) (sym x.next)) weaker (stops_by_then e t a b c p.events (f s).events Left x.does y)

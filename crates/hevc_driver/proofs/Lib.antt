@@ -1,4 +1,5 @@
 pub mod Members
+pub mod Headers
 pub mod Doing
 pub mod Storing
 pub mod PictureBegins

@@ -16,11 +16,12 @@ use Rattle.hevc_walk.specs.Refusals.{PocOutOfRange, refusal_of_picture}
 use Rattle.hevc_walk.specs.Buffer.{Buffer, bumping, draining, needs_bumping}
 use Rattle.hevc_walk.specs.ReferenceSets.{RefPicSet, reference_set, with_marks}
 use Rattle.hevc_walk.specs.Walk as walk
-use Rattle.hevc_walk.specs.Walk.{Event, Called, Output, Part, ◌>>=◌, nothing, call, output_of, make_room, needed_entries, is_decoded, Store, output_by, open_sequence, begin_picture, start_decoding, is_accepted, change_format}
+use Rattle.hevc_walk.specs.Walk.{Event, Called, Part, ◌>>=◌, nothing, call, output_of, make_room, needed_entries, is_decoded, Store, output_by, open_sequence, begin_picture, start_decoding, is_accepted, change_format}
 use Rattle.hevc_walk_units.specs.Units.{Standing, Current, NoPicture, SkippedPicture, OpenPicture, on_store, context_behind, current_of, decode_current, open_picture, decode_slice, begin_slice}
 use Rattle.hevc_driver.specs.declared.decode_error.DecodeError.{DecodeError}
 use Rattle.hevc_driver.specs.declared.decode_error.DecodeError.TheVariants as errors
 use Rattle.hevc_driver.specs.Moments.{given_up, drained, renegotiates, starts, enters, hands_over, room_of, new_call, begin_call}
+use Rattle.hevc_driver.specs.Given.{Given}
 use Rattle.hevc_driver.specs.Does.{Traces, Stops, StopsBy, Completes, Runs}
 use Rattle.hevc_driver.specs.Takes.{LeftStarted, Starts, IsNewSequence, LeftBegun, Begins}
 use Rattle.hevc_driver.proofs.Doing.{runs_behind, does_nothing, does_bump, does_then, stops_more, stops_as, keeps_all}
@@ -32,36 +33,36 @@ with_buffer es s = record s { store = record s.store { buffer = es } }
 
 -- ---- room is made
 
-pub clears : {H : Type 0} (t : ℕ) (a b : Traces H) (p : Head) (s : Standing) (d : Dpb H) → p.no_output_of_prior_pics ≡ true → buffer_of d ≡ [] → tickets (stored_entries d) ≡ [] → b.log ≡ a.log → b.queue ≡ a.queue → b.tickets ≡ tickets (stored_entries d)
+pub clears : {H : Type 0} (t : Given) (a b : Traces H) (p : Head) (s : Standing) (d : Dpb H) → p.no_output_of_prior_pics ≡ true → buffer_of d ≡ [] → tickets (stored_entries d) ≡ [] → b.log ≡ a.log → b.handed ≡ a.handed → b.queue ≡ a.queue → b.tickets ≡ tickets (stored_entries d)
     → Completes t a b (on_store (make_room p) s) (with_buffer (buffer_of d) s)
 unfolding make_room
-clears {H} t a b p s d discards left none log queue now = rw discards (record {
-  does = does_nothing t a b log queue (λ x h. absurd (let k = subst (λ (ts : List (ℕ × H)). Contains ts x) (now ∙ none) h in let l = k.1 in omega arith));
+clears {H} t a b p s d discards left none log handed queue now = rw discards (record {
+  does = does_nothing t a b log handed queue (λ x h. absurd (let k = subst (λ (ts : List (ℕ × H)). Contains ts x) (now ∙ none) h in let l = k.1 in omega arith));
   next = ap (λ es. with_buffer es s) left;
 })
 
-pub drains : {H Z : Type 0} (t : ℕ) (a b : Traces H) (p : Head) (s : Standing) (d e : Dpb H) (before now : VecDeque (Frame H) Z) → p.no_output_of_prior_pics ≡ false → p.starts_sequence ≡ true → s.store.buffer ≡ buffer_of d → Bumps (draining (buffer_of d)) d e before now
-    → b.log ≡ a.log → a.queue ≡ before.items → b.queue ≡ now.items → a.tickets ≡ tickets (stored_entries d) → b.tickets ≡ tickets (stored_entries e) → Completes t a b (on_store (make_room p) s) (with_buffer (buffer_of e) s)
+pub drains : {H Z : Type 0} (t : Given) (a b : Traces H) (p : Head) (s : Standing) (d e : Dpb H) (before now : VecDeque (Frame H) Z) → p.no_output_of_prior_pics ≡ false → p.starts_sequence ≡ true → s.store.buffer ≡ buffer_of d → Bumps (draining (buffer_of d)) d e before now
+    → b.log ≡ a.log → b.handed ≡ a.handed → a.queue ≡ before.items → b.queue ≡ now.items → a.tickets ≡ tickets (stored_entries d) → b.tickets ≡ tickets (stored_entries e) → Completes t a b (on_store (make_room p) s) (with_buffer (buffer_of e) s)
 unfolding make_room
-drains t a b p s d e before now keeps begins same x log qa qb ta tb = rw (keeps, begins, same) (record { does = does_bump t a b (draining (buffer_of d)) d e before now x log qa qb ta tb; next = ap (λ es. with_buffer es s) x.left })
+drains t a b p s d e before now keeps begins same x log handed qa qb ta tb = rw (keeps, begins, same) (record { does = does_bump t a b (draining (buffer_of d)) d e before now x log handed qa qb ta tb; next = ap (λ es. with_buffer es s) x.left })
 
-pub bumps : {H Z : Type 0} (t : ℕ) (a b : Traces H) (p : Head) (s : Standing) (d e : Dpb H) (before now : VecDeque (Frame H) Z) → p.no_output_of_prior_pics ≡ false → p.starts_sequence ≡ false → buffer_of d ≡ needed_entries s.store.buffer → IsPartOf (tickets (stored_entries d)) a.tickets
-    → Bumps (bumping (needs_bumping p.limits) (buffer_of d)) d e before now → b.log ≡ a.log → a.queue ≡ before.items → b.queue ≡ now.items → b.tickets ≡ tickets (stored_entries e) → Completes t a b (on_store (make_room p) s) (with_buffer (buffer_of e) s)
+pub bumps : {H Z : Type 0} (t : Given) (a b : Traces H) (p : Head) (s : Standing) (d e : Dpb H) (before now : VecDeque (Frame H) Z) → p.no_output_of_prior_pics ≡ false → p.starts_sequence ≡ false → buffer_of d ≡ needed_entries s.store.buffer → IsPartOf (tickets (stored_entries d)) a.tickets
+    → Bumps (bumping (needs_bumping p.limits) (buffer_of d)) d e before now → b.log ≡ a.log → b.handed ≡ a.handed → a.queue ≡ before.items → b.queue ≡ now.items → b.tickets ≡ tickets (stored_entries e) → Completes t a b (on_store (make_room p) s) (with_buffer (buffer_of e) s)
 unfolding make_room
-bumps {H} t a b p s d e before now keeps goes needed kept x log qa qb tb = rw (keeps, goes, sym needed) (record {
-  does = does_then t a mid b [] (map output_of (bumping (needs_bumping p.limits) (buffer_of d)).outputs) (does_nothing t a mid refl refl kept) (does_bump t mid b (bumping (needs_bumping p.limits) (buffer_of d)) d e before now x log qa qb refl tb);
+bumps {H} t a b p s d e before now keeps goes needed kept x log handed qa qb tb = rw (keeps, goes, sym needed) (record {
+  does = does_then t a mid b [] (map output_of (bumping (needs_bumping p.limits) (buffer_of d)).outputs) (does_nothing t a mid refl refl refl kept) (does_bump t mid b (bumping (needs_bumping p.limits) (buffer_of d)) d e before now x log handed qa qb refl tb);
   next = ap (λ es. with_buffer es s) x.left;
 })
   where
     mid : Traces H
-    mid = record { log = a.log; queue = a.queue; tickets = tickets (stored_entries d) }
+    mid = record { log = a.log; handed = a.handed; queue = a.queue; tickets = tickets (stored_entries d) }
 
 -- ---- a format is negotiated
 
 -- what waits is output before
-pub drains_first : {H Z : Type 0} (t : ℕ) (a b : Traces H) (s : Standing) (d e : Dpb H) (before now : VecDeque (Frame H) Z) → s.store.buffer ≡ buffer_of d → Bumps (draining (buffer_of d)) d e before now → b.log ≡ a.log → a.queue ≡ before.items → b.queue ≡ now.items → a.tickets ≡ tickets (stored_entries d) → b.tickets ≡ tickets (stored_entries e)
+pub drains_first : {H Z : Type 0} (t : Given) (a b : Traces H) (s : Standing) (d e : Dpb H) (before now : VecDeque (Frame H) Z) → s.store.buffer ≡ buffer_of d → Bumps (draining (buffer_of d)) d e before now → b.log ≡ a.log → b.handed ≡ a.handed → a.queue ≡ before.items → b.queue ≡ now.items → a.tickets ≡ tickets (stored_entries d) → b.tickets ≡ tickets (stored_entries e)
     → Completes t a b (on_store (output_by draining) s) (with_buffer (buffer_of e) s)
-drains_first t a b s d e before now same x log qa qb ta tb = rw same (record { does = does_bump t a b (draining (buffer_of d)) d e before now x log qa qb ta tb; next = ap (λ es. with_buffer es s) x.left })
+drains_first t a b s d e before now same x log handed qa qb ta tb = rw same (record { does = does_bump t a b (draining (buffer_of d)) d e before now x log handed qa qb ta tb; next = ap (λ es. with_buffer es s) x.left })
 
 -- ---- a picture is decoded from here on
 
@@ -93,7 +94,7 @@ starts_is p w s e =
     ∙ ap (λ (es : List Event). record { events = es; next = opened_next p w s }) (append_assoc (room_of p w s).events (Called (new_call p) ∷ Called (begin_call p (reference_set p w s.store.buffer)) ∷ []) (Called (walk.slice_call p (reference_set p w s.store.buffer) w) ∷ []))
 
 -- entries are marked first
-pub entered : {H : Type 0} (t : ℕ) (a b : Traces H) (p : Head) (w : Slice) (s st : Standing) (es : Buffer) (n : Context) (ts : List (ℕ × H)) → es ≡ with_marks p w s.store.buffer → n ≡ context_behind p s.next → ts ≡ a.tickets
+pub entered : {H : Type 0} (t : Given) (a b : Traces H) (p : Head) (w : Slice) (s st : Standing) (es : Buffer) (n : Context) (ts : List (ℕ × H)) → es ≡ with_marks p w s.store.buffer → n ≡ context_behind p s.next → ts ≡ a.tickets
     → Completes t (record a { tickets = ts }) b (on_store (make_room p) (record s { store = record s.store { buffer = es }; next = n })) st → Completes t a b (enters p w s) st
 entered {H} t a b p w s st es n ts marks next tickets x =
     let y = subst (λ (v : List (ℕ × H)). Completes t (record a { tickets = v }) b (on_store (make_room p) (record s { store = record s.store { buffer = es }; next = n })) st) tickets x in
@@ -101,7 +102,7 @@ entered {H} t a b p w s st es n ts marks next tickets x =
     let w = subst (λ (v : Context). Completes t a b (on_store (make_room p) (record s { store = record s.store { buffer = with_marks p w s.store.buffer }; next = v })) st) next z in
     record { does = w.does; next = w.next }
 
-pub opened : {H T : Type 0} (r : Result T DecodeError) (t : ℕ) (a m b : Traces H) (p : Head) (w : Slice) (s mid st : Standing) (set : RefPicSet) → is_decoded p ≡ true → s.current ≡ NoPicture → Completes t a m (enters p w s) mid → set ≡ reference_set p w s.store.buffer
+pub opened : {H T : Type 0} (r : Result T DecodeError) (t : Given) (a m b : Traces H) (p : Head) (w : Slice) (s mid st : Standing) (set : RefPicSet) → is_decoded p ≡ true → s.current ≡ NoPicture → Completes t a m (enters p w s) mid → set ≡ reference_set p w s.store.buffer
     → Runs r t m b (hands_over p set w mid) (λ c. LeftStarted c × (st ≡ mid)) st → Runs r t a b (starts p w s) (λ c. LeftStarted c × (st ≡ given_up (starts p w s).next)) st
 opened {H} {T} r t a m b p w s mid st set decoded none x is y =
     subst (λ (q : Part Standing). Runs r t a b q (λ c. LeftStarted c × (st ≡ given_up q.next)) st) (sym (starts_is p w s decoded))
@@ -126,16 +127,16 @@ skips_is p w s e =
 in_range_head : (p : Head) → order_count_in_range p ≡ true → refusal_of_picture p ≡ None
 in_range_head p e = ap (λ (v : Bool). if v then None else Some PocOutOfRange) e
 
-pub skips_at : {H : Type 0} (t : ℕ) (a b : Traces H) (w : Slice) (s st : Standing) (p : Head) → s.next.number ≢ 2 ^ 64 - 1 → p ≡ head s.next w → order_count_in_range (head s.next w) ≡ true → p.skipped ≡ true → b.log ≡ a.log → b.queue ≡ a.queue → b.tickets ≡ a.tickets → st ≡ record s { current = SkippedPicture; next = context_behind p s.next }
+pub skips_at : {H : Type 0} (t : Given) (a b : Traces H) (w : Slice) (s st : Standing) (p : Head) → s.next.number ≢ 2 ^ 64 - 1 → p ≡ head s.next w → order_count_in_range (head s.next w) ≡ true → p.skipped ≡ true → b.log ≡ a.log → b.handed ≡ a.handed → b.queue ≡ a.queue → b.tickets ≡ a.tickets → st ≡ record s { current = SkippedPicture; next = context_behind p s.next }
     → (s.next.number ≢ 2 ^ 64 - 1) × (refusal_of_picture (head s.next w) ≡ None) × Completes t a b (starts (head s.next w) w s) st
-skips_at t a b w s st p numbered is ranges skipped log queue tickets next = (
+skips_at t a b w s st p numbered is ranges skipped log handed queue tickets next = (
   numbered,
   in_range_head (head s.next w) ranges,
   subst (λ (v : Head). Completes t a b (starts v w s) st) is
-      (subst (λ (q : Part Standing). Completes t a b q st) (sym (skips_is p w s skipped)) (record { does = does_nothing t a b log queue (keeps_all a.tickets b.tickets tickets); next = next })),
+      (subst (λ (q : Part Standing). Completes t a b q st) (sym (skips_is p w s skipped)) (record { does = does_nothing t a b log handed queue (keeps_all a.tickets b.tickets tickets); next = next })),
 )
 
-module _ {H T : Type 0} (r : Result T DecodeError) (t : ℕ) (a b : Traces H) (w : Slice) (s st : Standing) where
+module _ {H T : Type 0} (r : Result T DecodeError) (t : Given) (a b : Traces H) (w : Slice) (s st : Standing) where
   pub starts_at : (p : Head) → s.next.number ≢ 2 ^ 64 - 1 → p ≡ head s.next w → order_count_in_range (head s.next w) ≡ true → Runs r t a b (starts p w s) (λ c. LeftStarted c × (st ≡ given_up (starts p w s).next)) st → Starts r t a b w s st
   starts_at p numbered is ranges x = by r (subst (λ (v : Head). Runs r t a b (starts v w s) (λ c. LeftStarted c × (st ≡ given_up (starts v w s).next)) st) is x)
     where
@@ -191,7 +192,7 @@ negotiated_begun w s st (walk.NewPicture number t c o k) other h = absurd h.0
 negotiated_begun w s st (walk.BeginPicture number set) other h = absurd h.0
 negotiated_begun w s st (walk.DecodeSlice number address bytes l0 l1) other h = absurd h.0
 
-pub begins_accepted : {H T : Type 0} (r : Result T DecodeError) (t : ℕ) (a b : Traces H) (w : Slice) (s st : Standing) → is_accepted w.format s.store.accepted ≡ true → Starts r t a b w s st → Begins r t a b w s st
+pub begins_accepted : {H T : Type 0} (r : Result T DecodeError) (t : Given) (a b : Traces H) (w : Slice) (s st : Standing) → is_accepted w.format s.store.accepted ≡ true → Starts r t a b w s st → Begins r t a b w s st
 begins_accepted {H} {T} r t a b w s st e x = by r x
   where
     left : s.next.number ≢ 2 ^ 64 - 1 → (c : walk.Call) → LeftStarted c × (st ≡ given_up (starts (head s.next w) w s).next) → LeftBegun c w s st
@@ -209,10 +210,10 @@ begins_accepted {H} {T} r t a b w s st e x = by r x
     by (Err other) x = absurd x.1
 
 -- the format differs
-pub begins_negotiated : {H : Type 0} (t : ℕ) (a b : Traces H) (w : Slice) (s st : Standing) → is_accepted w.format s.store.accepted ≡ false → Completes t a b (renegotiates w.format s) st → (is_accepted w.format s.store.accepted ≡ false) × Completes t a b (on_store (change_format w.format) s) st
+pub begins_negotiated : {H : Type 0} (t : Given) (a b : Traces H) (w : Slice) (s st : Standing) → is_accepted w.format s.store.accepted ≡ false → Completes t a b (renegotiates w.format s) st → (is_accepted w.format s.store.accepted ≡ false) × Completes t a b (on_store (change_format w.format) s) st
 begins_negotiated t a b w s st e x = (e, subst (λ (q : Part Standing). Completes t a b q st) (sym (change_other w s e)) x)
 
-pub begins_refused : {H T : Type 0} (r : Result T DecodeError) (e : DecodeError) (t : ℕ) (a b : Traces H) (w : Slice) (s st : Standing) → IsErrAnd r (λ y. y ≡ e) → is_accepted w.format s.store.accepted ≡ false
+pub begins_refused : {H T : Type 0} (r : Result T DecodeError) (e : DecodeError) (t : Given) (a b : Traces H) (w : Slice) (s st : Standing) → IsErrAnd r (λ y. y ≡ e) → is_accepted w.format s.store.accepted ≡ false
     → StopsBy e t a b (renegotiates w.format s).events (λ c. IsNewSequence c × (st ≡ drained s)) → Begins r t a b w s st
 begins_refused {H} {T} r e t a b w s st is other x = let q = err_from_is_err_and r is in rw q.1 (rw q.2 (by e x))
   where

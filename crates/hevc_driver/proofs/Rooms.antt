@@ -3,12 +3,15 @@ use Rattle.std.proofs.Common.{◌≡◌, ℕ, suc, length, Bool, true, false, no
 use Rattle.hevc_spec.specs.UnitTypes.{is_idr}
 use Rattle.hevc_walk.specs.Meanings.{Slice, ShortTermMember, LongTermMember, ShortTermRefPicSet}
 use Rattle.hevc_walk.specs.Pictures.{Head}
-use Rattle.hevc_walk.specs.Buffer.{Buffer, Entry, is_reference, is_needed, left_of, has_number, after_output, due_outputs, needs_bumping, in_output_order, placed}
+use Rattle.hevc_walk.specs.Buffer.{Buffer, Entry, is_reference, left_of, has_number, after_output, due_outputs, needs_bumping, in_output_order, placed}
 use Rattle.hevc_walk.specs.ReferenceSets.{RefPicSet, no_references, names, all_members, reference_set, references_before, unmarked, long_term_entry, long_term_if, short_term_entry, short_term_set, with_long_term, five_lists, is_curr_short_term, is_curr_long_term}
 use Rattle.hevc_walk.specs.Walk.{Store, make_room, needed_entries}
 use Rattle.hevc_dpb.specs.declared.entry.DpbEntry.{DpbEntry}
 use Rattle.hevc_dpb.specs.Entries as dpb
 use Rattle.hevc_dpb.specs.Plain.{plain_entries}
+use Rattle.std.proofs.Common.{arith}
+use Rattle.hevc_dpb.proofs.Sublists.{sublist_part, filter_sublist}
+use Rattle.hevc_backend.specs.Handed.{numbered, stored_pictures}
 use Rattle.hevc_dpb.proofs.PlainLaws.{plain_unmarked}
 use Rattle.hevc_bumping.specs.Bumps.{num_waiting}
 use Rattle.hevc_bumping.proofs.Steps.{placed_length}
@@ -22,6 +25,15 @@ or_either false b c f h = f h
 not_this : (a r b : Bool) → r ≡ false → ((a && r) || b) ≡ true → b ≡ true
 not_this true r b e h = rw e at h
 not_this false r b e h = h
+
+-- ---- pictures that leave
+
+-- those that are needed are some of all
+pub needed_pictures : {H : Type 0} (old new : List (DpbEntry H)) → new ≡ filter dpb.is_needed old → dpb.IsPartOf (stored_pictures new) (stored_pictures old)
+needed_pictures old new is = subst (λ l. dpb.IsPartOf (stored_pictures l) (stored_pictures old)) (sym is) (λ x k. sublist_part (filter_sublist (λ (e : DpbEntry _). numbered e.number e.picture) dpb.is_needed old) x k)
+
+pub none_pictures : {H : Type 0} (old new : List (DpbEntry H)) → new ≡ [] → dpb.IsPartOf (stored_pictures new) (stored_pictures old)
+none_pictures old new is = subst (λ l. dpb.IsPartOf (stored_pictures l) (stored_pictures old)) (sym is) (λ x k. absurd (let l = k.1 in omega arith))
 
 -- ---- references stay as pictures leave
 

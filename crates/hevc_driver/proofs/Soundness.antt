@@ -34,7 +34,10 @@ use Rattle.hevc_driver.specs.declared.current.Current.{Current}
 use Rattle.hevc_driver.specs.declared.current.Current.TheVariants.{NoPicture, SkippedPicture, OpenPicture}
 use Rattle.hevc_driver.specs.declared.standing.Standing as driver
 use Rattle.hevc_driver.specs.Standings.{current_of}
-use Rattle.hevc_driver.specs.Sound.{AreBelow, IsAccepted, IsLatest, Fits, IsOpenNewest, IsSound, Leaves, Grows}
+use Rattle.hevc_backend.specs.Trait.{logged}
+use Rattle.hevc_backend.specs.Handed.{Handed, stored_pictures}
+use Rattle.hevc_backend.proofs.HandedLaws.{announced_same, announced_more, among_more}
+use Rattle.hevc_driver.specs.Sound.{AsAnnounced, IsOpenAnnounced, AreBelow, IsAccepted, IsLatest, Fits, IsOpenNewest, IsSound, Leaves, Grows}
 
 -- ---- no picture is open
 
@@ -48,6 +51,11 @@ none_latest NoPicture picture is = tt
 none_latest SkippedPicture picture is = tt
 none_latest (OpenPicture o) picture is = absurd (cc is)
 
+pub none_announced : {P : Type 0} (handed : Option (List Handed)) (c : Current P) → current_of c ≡ units.NoPicture → IsOpenAnnounced handed c
+none_announced handed NoPicture is = tt
+none_announced handed SkippedPicture is = tt
+none_announced handed (OpenPicture o) is = absurd (cc is)
+
 -- ---- numbers
 
 pub below_part : {H : Type 0} (n m : ℕ) (ts us : List (ℕ × H)) → AreBelow n ts → n ≤ m → IsPartOf us ts → AreBelow m us
@@ -55,8 +63,9 @@ below_part n m ts us below more part = λ t k. let l = below t (part t k) in ome
 
 -- ---- pictures are output, and some leave
 
-pub left_sound : {H P : Type 0} (log : Option (List (Call H))) (old new : driver.Standing H P) → IsSound log old → current_of old.current ≡ units.NoPicture → Leaves old new → old.next.number ≤ new.next.number → IsSound log new
-left_sound log old new s none l more = record {
+pub left_sound : {H P : Type 0} (log : Option (List (Call H))) (handed : Option (List Handed)) (old new : driver.Standing H P) → IsSound log handed old → current_of old.current ≡ units.NoPicture → Leaves old new → old.next.number ≤ new.next.number → IsSound log handed new
+left_sound log handed old new s none l more = record {
+  announced = record { stored = announced_same handed handed (stored_entries new.dpb) (stored_entries old.dpb) refl l.pictures s.announced.stored; current = none_announced handed new.current (ap current_of l.current ∙ none) };
   sized = l.size ∙ s.sized ∙ ap (λ (a : Option NegotiationInfo). accepted_size (option_map format_of a)) (sym l.accepted);
   latency = l.latency;
   below = below_part old.next.number new.next.number (tickets (stored_entries old.dpb)) (tickets (stored_entries new.dpb)) s.below more l.handles;
@@ -93,8 +102,12 @@ kept_newest (OpenPicture o) old new entries accepted number h = record {
   accepted = accepted ∙ h.accepted;
 }
 
-pub kept_sound : {H P : Type 0} (log : Option (List (Call H))) (old new : driver.Standing H P) → IsSound log old → stored_entries new.dpb ≡ stored_entries old.dpb → max_num_pics_of new.dpb ≡ max_num_pics_of old.dpb → new.accepted ≡ old.accepted → new.current ≡ old.current → new.next.number ≡ old.next.number → IsSound log new
-kept_sound log old new s entries size accepted current number = record {
+pub same_pictures : {H : Type 0} (es fs : List (DpbEntry H)) → fs ≡ es → IsPartOf (stored_pictures fs) (stored_pictures es)
+same_pictures {H} es fs same = λ x k. subst (λ (l : List (DpbEntry H)). Contains (stored_pictures l) x) same k
+
+pub kept_sound : {H P : Type 0} (log : Option (List (Call H))) (handed : Option (List Handed)) (old new : driver.Standing H P) → IsSound log handed old → stored_entries new.dpb ≡ stored_entries old.dpb → max_num_pics_of new.dpb ≡ max_num_pics_of old.dpb → new.accepted ≡ old.accepted → new.current ≡ old.current → new.next.number ≡ old.next.number → IsSound log handed new
+kept_sound log handed old new s entries size accepted current number = record {
+  announced = record { stored = announced_same handed handed (stored_entries new.dpb) (stored_entries old.dpb) refl (same_pictures (stored_entries old.dpb) (stored_entries new.dpb) entries) s.announced.stored; current = subst (IsOpenAnnounced handed) (sym current) s.announced.current };
   sized = size ∙ s.sized ∙ ap (λ (a : Option NegotiationInfo). accepted_size (option_map format_of a)) (sym accepted);
   latency = subst HaveLatency (sym entries) s.latency;
   below = below_part old.next.number new.next.number (tickets (stored_entries old.dpb)) (tickets (stored_entries new.dpb)) s.below (omega (arith, number)) (part_same (stored_entries old.dpb) (stored_entries new.dpb) entries);
@@ -154,8 +167,20 @@ fits_none w t u none submitted sequence h = record {
   picture = none_latest w.current u.picture none;
 }
 
-pub sound_told : {H P : Type 0} (log now : Option (List (Call H))) (w : driver.Standing H P) → IsSound log w → WhereTold now (Fits w) → IsSound now w
-sound_told log now w s told = record { sized = s.sized; latency = s.latency; below = s.below; newest = s.newest; told = told }
+pub sound_told : {H P : Type 0} (log now : Option (List (Call H))) (handed new : Option (List Handed)) (w : driver.Standing H P) → IsSound log handed w → WhereTold now (Fits w) → AsAnnounced new w → IsSound now new w
+sound_told log now handed new w s told announced = record { sized = s.sized; latency = s.latency; below = s.below; newest = s.newest; told = told; announced = announced }
+
+-- what was announced goes on
+pub current_more : {P : Type 0} (before now : Option (List Handed)) (x : Handed) (c : Current P) → now ≡ logged before (x ∷ []) → IsOpenAnnounced before c → IsOpenAnnounced now c
+current_more before now x NoPicture is h = tt
+current_more before now x SkippedPicture is h = tt
+current_more before now x (OpenPicture o) is h = among_more before now x o.head.number o.head.picture is h
+
+pub as_announced_more : {H P : Type 0} (before now : Option (List Handed)) (x : Handed) (w : driver.Standing H P) → now ≡ logged before (x ∷ []) → AsAnnounced before w → AsAnnounced now w
+as_announced_more before now x w is h = record { stored = announced_more before now x (stored_entries w.dpb) is h.stored; current = current_more before now x w.current is h.current }
+
+pub as_announced_same : {H P : Type 0} (before now : Option (List Handed)) (w : driver.Standing H P) → now ≡ before → AsAnnounced before w → AsAnnounced now w
+as_announced_same before now w is h = subst (λ o. AsAnnounced o w) (sym is) h
 
 unchanged_by : (a named : Format) (b : Bool) → same_format a named ≡ b → (if b then None else Some (ChangedMidPicture a named)) ≡ None → b ≡ true
 unchanged_by a named true is h = refl

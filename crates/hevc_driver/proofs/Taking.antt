@@ -1,17 +1,18 @@
 -- A slice as a whole.
-use Rattle.std.proofs.Common.{◌≡◌, ◌≢◌, ◌==◌, ◌-◌, ◌^◌, eq-eqb, ne_eqb, inl, inr, ℕ, [], ◌++◌, refl, sym, ◌∙◌, ap, subst, Option, Some, None, Result, Ok, Err, Bool, true, false, not, ◌&&◌, if◌then◌else◌}
+use Rattle.std.proofs.Common.{◌≡◌, ◌≢◌, ◌==◌, ◌-◌, ◌^◌, eq-eqb, ne_eqb, inl, inr, [], ◌++◌, refl, sym, ◌∙◌, ap, subst, Option, Some, None, Result, Ok, Err, Bool, true, false, not, ◌&&◌, if◌then◌else◌}
 use Rattle.std.specs.Prelude.{is_some}
 use Rattle.std.proofs.lemmas.List.{append-nil}
 use Rattle.hevc_walk.specs.Meanings.{Format, Slice, Meaning, CodedSlice}
 use Rattle.hevc_walk.specs.DependentSlices.{whole_slice}
 use Rattle.hevc_walk.specs.Pictures.{Head, head}
 use Rattle.hevc_walk.specs.Walk as walk
-use Rattle.hevc_walk.specs.Walk.{Event, Called, Part, ◌>>=◌, nothing, call, slice_call, Store, is_decoded, is_accepted, finish, store_picture, change_format, begin_picture}
+use Rattle.hevc_walk.specs.Walk.{Part, ◌>>=◌, nothing, call, slice_call, Store, is_decoded, is_accepted, finish, store_picture, change_format}
 use Rattle.hevc_walk.specs.Refusals.{Cause, NoIndependentSlice, PocOutOfRange, ChangedMidPicture, refusal_of_picture}
 use Rattle.hevc_walk_units.specs.Units.{Standing, Current, NoPicture, SkippedPicture, OpenPicture, on_store, finish_current, open_head, begin_slice, first_slice, later_slice, whole_part, decode_slice, decode_current, begins_picture, refusal_of_later, refusal_of_whole, refusal_at, is_full_now, is_full_at, fills_by}
 use Rattle.hevc_driver.specs.declared.decode_error.DecodeError.{DecodeError}
 use Rattle.hevc_driver.specs.declared.decode_error.DecodeError.TheVariants as errors
 use Rattle.hevc_backend.specs.Negotiation.{format_of}
+use Rattle.hevc_driver.specs.Given.{Given}
 use Rattle.hevc_driver.specs.Does.{Traces, Does, Stops, Completes}
 use Rattle.hevc_driver.specs.Moments.{given_up, with_kept, begins_at, begins_by, negotiates, negotiates_by, spends, opening, opening_by, step_part}
 use Rattle.hevc_driver.specs.Takes.{Fills, Halts, Refuses, LeftAt, Takes, Follows, Changes, IsRefused, Finishes, Begins, LeftStarted, LeftBegun, LeftUnsubmitted, Changed}
@@ -50,7 +51,7 @@ finish_accepted (Some p) st = by p.skipped
     by true = refl
     by false = refl
 
-module _ {H : Type 0} (t : ℕ) (a b : Traces H) (x w : Slice) (s st : Standing) (whole : whole_slice s.kept x ≡ Some w) where
+module _ {H : Type 0} (t : Given) (a b : Traces H) (x w : Slice) (s st : Standing) (whole : whole_slice s.kept x ≡ Some w) where
   abbrev u : Meaning
   u = CodedSlice x
 
@@ -103,7 +104,7 @@ module _ {H : Type 0} (t : ℕ) (a b : Traces H) (x w : Slice) (s st : Standing)
       refused = refusal_is false later ∙ y.0.refused;
       named = sym y.0.told;
       does = subst (Does t a b) (sym (ap (λ (q : Part Standing). q.events) (part_is false later) ∙ later_refused w k (ChangedMidPicture (format_of y.0.accepted) (format_of y.0.named)) y.0.refused))
-          (does_nothing t a b (ap (λ (v : Traces H). v.log) y.1) (ap (λ (v : Traces H). v.queue) y.1) (keeps_all a.tickets b.tickets (ap (λ (v : Traces H). v.tickets) y.1)));
+          (does_nothing t a b (ap (λ (v : Traces H). v.log) y.1) (ap (λ (v : Traces H). v.handed) y.1) (ap (λ (v : Traces H). v.queue) y.1) (keeps_all a.tickets b.tickets (ap (λ (v : Traces H). v.tickets) y.1)));
       left = y.2;
     }
 
@@ -228,14 +229,14 @@ module _ {H : Type 0} (t : ℕ) (a b : Traces H) (x w : Slice) (s st : Standing)
     takes_first r (inr (i, y)) = unfinished r i y
 
 -- a slice that lacks an independent one
-pub lacks : {H : Type 0} (t : ℕ) (a b : Traces H) (x : Slice) (s st : Standing) → whole_slice s.kept x ≡ None → b.log ≡ a.log → b.queue ≡ a.queue → b.tickets ≡ a.tickets → st ≡ s → Refuses errors.NoIndependentSlice t a b (CodedSlice x) s st
-lacks t a b x s st none log queue tickets same = record {
+pub lacks : {H : Type 0} (t : Given) (a b : Traces H) (x : Slice) (s st : Standing) → whole_slice s.kept x ≡ None → b.log ≡ a.log → b.handed ≡ a.handed → b.queue ≡ a.queue → b.tickets ≡ a.tickets → st ≡ s → Refuses errors.NoIndependentSlice t a b (CodedSlice x) s st
+lacks t a b x s st none log handed queue tickets same = record {
   accepted = ap (λ o. negotiates_by o s) none;
   room = ap (λ o. fills_by o s) none;
   numbered = ap (λ o. begins_by o s && not (negotiates (CodedSlice x) s) && (s.next.number == 2 ^ 64 - 1)) none;
   cause = NoIndependentSlice;
   refused = ap (λ o. refusal_of_whole o s) none;
   named = refl;
-  does = subst (Does t a b) (sym (ap (λ o. (whole_part o (with_kept x s)).events) none)) (does_nothing t a b log queue (keeps_all a.tickets b.tickets tickets));
+  does = subst (Does t a b) (sym (ap (λ o. (whole_part o (with_kept x s)).events) none)) (does_nothing t a b log handed queue (keeps_all a.tickets b.tickets tickets));
   left = same;
 }

@@ -10,13 +10,16 @@ use Rattle.hevc_bumping.specs.declared.frame.Frame.{Frame}
 use Rattle.hevc_bumping.specs.Frames.{frame_output, frame_ticket}
 use Rattle.hevc_backend.specs.declared.call.Call.{Call}
 use Rattle.hevc_backend.specs.Trait.{logged}
+use Rattle.hevc_backend.specs.Handed.{Handed}
 use Rattle.hevc_driver.specs.declared.decode_error.DecodeError.{DecodeError}
 use Rattle.hevc_driver.specs.declared.decode_error.DecodeError.TheVariants as errors
 use Rattle.hevc_driver.specs.Calls.{call_of, IsTimed, submissions}
+use Rattle.hevc_driver.specs.Given.{Given, handed_in}
 
--- All that a part may change: the log, the queue, and what is stored.
+-- All that a part may change: what a backend tells, the queue, and what is stored.
 pub record Traces (H : Type 0) : Type 0 where
   pub log : Option (List (Call H))
+  pub handed : Option (List Handed)
   pub queue : List (Frame H)
   pub tickets : List (ℕ × H)
 
@@ -28,44 +31,46 @@ abbrev pub output_in : Event → List (ℕ × ℤ)
 output_in (Called call) = []
 output_in (Output number order_count) = (number, order_count) ∷ []
 
--- These events were done, each new picture with this timestamp, each output with a handle that was
--- stored or was submitted for its number.
-pub record Does {H : Type 0} (timestamp : ℕ) (old new : Traces H) (done : List Event) : Type 0 where
+-- These events were done with what came with a unit, each output with a handle that was stored or
+-- was submitted for its number.
+pub record Does {H : Type 0} (given : Given) (old new : Traces H) (done : List Event) : Type 0 where
   pub calls : List (Call H)
   pub log : new.log ≡ logged old.log calls
   pub made : map call_of calls ≡ flat_map call_in done
-  pub timed : AllByRecursion (IsTimed timestamp) calls
+  pub timed : AllByRecursion (IsTimed given.timestamp) calls
+  pub handed : new.handed ≡ logged old.handed (flat_map (handed_in given) done)
   pub out : List (Frame H)
   pub queue : new.queue ≡ old.queue ++ out
-  pub given : map frame_output out ≡ flat_map output_in done
+  pub shown : map frame_output out ≡ flat_map output_in done
   pub tied : IsPartOf (map frame_ticket out ++ new.tickets) (old.tickets ++ submissions calls)
 
 -- A plan was done up to a call, which the backend refused.
-pub record Stops {H : Type 0} (timestamp : ℕ) (old new : Traces H) (plan : List Event)
+pub record Stops {H : Type 0} (given : Given) (old new : Traces H) (plan : List Event)
     (Left : walk.Call → Type 0) : Type 0 where
   pub done : List Event
   pub call : walk.Call
   pub rest : List Event
   pub whole : plan ≡ done ++ Called call ∷ rest
-  pub does : Does timestamp old new done
+  pub does : Does given old new done
   pub left : Left call
 
 -- A part was done whole, and led to a standing.
-pub record Completes {H : Type 0} (timestamp : ℕ) (old new : Traces H) (part : Part Standing)
+pub record Completes {H : Type 0} (given : Given) (old new : Traces H) (part : Part Standing)
     (standing : Standing) : Type 0 where
-  pub does : Does timestamp old new part.events
+  pub does : Does given old new part.events
   pub next : standing ≡ part.next
 
 -- the backend refused a call, for want of memory or because it failed
-abbrev pub StopsBy : {H : Type 0} → DecodeError → ℕ → Traces H → Traces H → List Event
+abbrev pub StopsBy : {H : Type 0} → DecodeError → Given → Traces H → Traces H → List Event
     → (walk.Call → Type 0) → Type 0
-StopsBy errors.Backend timestamp old new plan Left = Stops timestamp old new plan Left
-StopsBy errors.NoMemory timestamp old new plan Left = Stops timestamp old new plan Left
-StopsBy error timestamp old new plan Left = ⊥
+StopsBy errors.Backend given old new plan Left = Stops given old new plan Left
+StopsBy errors.NoMemory given old new plan Left = Stops given old new plan Left
+StopsBy error given old new plan Left = ⊥
 
 -- a part was done whole, or up to a call
-abbrev pub Runs : {H T : Type 0} → Result T DecodeError → ℕ → Traces H → Traces H → Part Standing
+abbrev pub Runs : {H T : Type 0} → Result T DecodeError → Given → Traces H → Traces H
+    → Part Standing
     → (walk.Call → Type 0) → Standing → Type 0
-Runs (Ok value) timestamp old new part Left standing = Completes timestamp old new part standing
-Runs (Err error) timestamp old new part Left standing =
-    StopsBy error timestamp old new part.events Left
+Runs (Ok value) given old new part Left standing = Completes given old new part standing
+Runs (Err error) given old new part Left standing =
+    StopsBy error given old new part.events Left

@@ -2,6 +2,8 @@ pub mod Heads
 pub mod Slices
 pub mod Errors
 pub mod Calls
+pub mod Headers
+pub mod Given
 pub mod Does
 pub mod Moments
 pub mod Takes

@@ -9,6 +9,7 @@ use Rattle.hevc_types_c.specs.Sps.{plain_sps}
 use Rattle.hevc_types_c.specs.declared.sps.Sps.{Sps}
 use Rattle.hevc_types_d.specs.declared.pps.Pps.{Pps}
 use Rattle.hevc_types_d.specs.declared.slice.Slice.{Slice}
+use Rattle.hevc_types_d.specs.declared.slice_header.SliceHeader.{SliceHeader}
 use Rattle.hevc_dpb.specs.Entries.{IsPartOf, numbers, tickets}
 use Rattle.hevc_refs.specs.declared.ref_pic_set.RefPicSet.{RefPicSet}
 use Rattle.hevc_dpb.specs.Plain.{HaveLatency}
@@ -17,6 +18,7 @@ use Rattle.hevc_bumping.specs.Bumps.{num_waiting}
 use Rattle.hevc_backend.specs.declared.call.Call.{Call}
 use Rattle.hevc_backend.specs.declared.negotiation.NegotiationInfo.{NegotiationInfo}
 use Rattle.hevc_backend.specs.Negotiation.{format_of, info_of}
+use Rattle.hevc_backend.specs.Handed.{Handed, AreAnnounced, IsAmong, stored_pictures}
 use Rattle.hevc_backend.specs.Named.{SetNamesAmong}
 use Rattle.hevc_backend.specs.Told.{Told, WhereTold, AreSubmitted, BegunPicture, begun_picture}
 use Rattle.hevc_walk.specs.Meanings.{Format}
@@ -62,13 +64,27 @@ IsOpenNewest NoPicture w = Unit {0}
 IsOpenNewest SkippedPicture w = Unit {0}
 IsOpenNewest (OpenPicture open_) w = IsNewest open_.head open_.set w
 
-pub record IsSound {H P : Type 0} (log : Option (List (Call H))) (w : driver.Standing H P) : Type 0 where
+-- the open picture was announced
+abbrev pub IsOpenAnnounced : {P : Type 0} → Option (List Handed) → Current P → Type 0
+IsOpenAnnounced handed NoPicture = Unit {0}
+IsOpenAnnounced handed SkippedPicture = Unit {0}
+IsOpenAnnounced handed (OpenPicture open_) = IsAmong handed open_.head.number open_.head.picture
+
+-- what is stored, and the open picture, are as they were announced
+pub record AsAnnounced {H P : Type 0} (handed : Option (List Handed)) (w : driver.Standing H P)
+    : Type 0 where
+  pub stored : AreAnnounced handed (stored_entries w.dpb)
+  pub current : IsOpenAnnounced handed w.current
+
+pub record IsSound {H P : Type 0} (log : Option (List (Call H))) (handed : Option (List Handed))
+    (w : driver.Standing H P) : Type 0 where
   -- the buffer has the size that was accepted
   pub sized : max_num_pics_of w.dpb ≡ accepted_size (option_map format_of w.accepted)
   pub latency : HaveLatency (stored_entries w.dpb)
   pub below : AreBelow w.next.number (tickets (stored_entries w.dpb))
   pub newest : IsOpenNewest w.current w
   pub told : WhereTold log (Fits w)
+  pub announced : AsAnnounced handed w
 
 -- how many pictures came out or may come out
 abbrev pub total : {H P : Type 0} → driver.Standing H P → ℕ
@@ -87,18 +103,29 @@ pub record Grows {H P : Type 0} (more : ℕ) (old new : driver.Standing H P) : T
 
 -- It is sound again, with at most so many pictures more that came out or wait.
 pub record StaysSound {H P : Type 0} (more : ℕ) (log : Option (List (Call H)))
-    (old new : driver.Standing H P) : Type 0 where
-  pub sound : IsSound log new
+    (handed : Option (List Handed)) (old new : driver.Standing H P) : Type 0 where
+  pub sound : IsSound log handed new
   pub grows : Grows more old new
+  -- the header of the latest independent slice segment stays
+  pub kept : new.kept ≡ old.kept
+
+-- with this header of the latest independent slice segment
+abbrev pub with_header : {H P : Type 0} → Option SliceHeader → driver.Standing H P
+    → driver.Standing H P
+with_header kept w = record w { kept = kept }
 
 -- Pictures are output, and some leave; none comes in.
 pub record Leaves {H P : Type 0} (old new : driver.Standing H P) : Type 0 where
   pub handles : IsPartOf (tickets (stored_entries new.dpb)) (tickets (stored_entries old.dpb))
+  -- nothing of them changes but their marks, and whether they wait
+  pub pictures :
+      IsPartOf (stored_pictures (stored_entries new.dpb)) (stored_pictures (stored_entries old.dpb))
   pub size : max_num_pics_of new.dpb ≡ max_num_pics_of old.dpb
   pub latency : HaveLatency (stored_entries new.dpb)
   pub grows : Grows 0 old new
   pub accepted : new.accepted ≡ old.accepted
   pub current : new.current ≡ old.current
+  pub kept : new.kept ≡ old.kept
 
 -- the sets are the ones that the slice names (7.4.7.1, 7.4.3.3.1)
 abbrev pub AreNamed : Slice → Sps → Pps → Type 0
@@ -109,13 +136,14 @@ AreNamed slice sps pps =
 -- A picture may begin with this slice: none is current, its format is the accepted one, and the
 -- backend has a free frame.
 pub record MayBegin {H P : Type 0} (has_frame : Bool) (log : Option (List (Call H)))
-    (slice : Slice) (sps : Sps) (pps : Pps) (w : driver.Standing H P) : Type 0 where
+    (handed : Option (List Handed)) (slice : Slice) (sps : Sps) (pps : Pps)
+    (w : driver.Standing H P) : Type 0 where
   pub none : current_of w.current ≡ units.NoPicture
   pub accepted :
       is_accepted (format_of_set (plain_sps sps)) (option_map format_of w.accepted) ≡ true
   pub named : AreNamed slice sps pps
   pub frame : IsTrue has_frame
-  pub sound : IsSound log w
+  pub sound : IsSound log handed w
 
 -- The head of the next picture, which is decoded.
 pub record IsNext {H P : Type 0} (head : Head) (sps : Sps) (w : driver.Standing H P) : Type 0 where

@@ -6,6 +6,7 @@ use Rattle.hevc_dpb.specs.Entries.{tickets}
 use Rattle.hevc_dpb.specs.Views.{stored_entries, buffer_of}
 use Rattle.hevc_refs.specs.Sets.{plain_set}
 use Rattle.hevc_backend.specs.declared.call.Call.{Call}
+use Rattle.hevc_backend.specs.Handed.{Handed}
 use Rattle.hevc_backend.specs.Negotiation.{format_of}
 use Rattle.hevc_driver.specs.declared.current.Current.{Current}
 use Rattle.hevc_driver.specs.declared.current.Current.TheVariants as code
@@ -29,8 +30,14 @@ standing w = record {
   next = context_of w.next;
 }
 
-abbrev pub traces : {H P : Type 0} → Option (List (Call H)) → driver.Standing H P → Traces H
-traces log w = record { log = log; queue = w.queue.items; tickets = tickets (stored_entries w.dpb) }
+abbrev pub traces : {H P : Type 0} → Option (List (Call H)) → Option (List Handed)
+    → driver.Standing H P → Traces H
+traces log handed w = record {
+  log = log;
+  handed = handed;
+  queue = w.queue.items;
+  tickets = tickets (stored_entries w.dpb);
+}
 
 -- with this picture open
 abbrev pub with_open : {P : Type 0} → Open P → Standing → Standing

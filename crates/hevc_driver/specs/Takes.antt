@@ -11,50 +11,51 @@ use Rattle.hevc_backend.specs.Negotiation.{format_of}
 use Rattle.hevc_driver.specs.declared.decode_error.DecodeError.{DecodeError}
 use Rattle.hevc_driver.specs.declared.decode_error.DecodeError.TheVariants as errors
 use Rattle.hevc_driver.specs.Errors.{error_of}
+use Rattle.hevc_driver.specs.Given.{Given}
 use Rattle.hevc_driver.specs.Does.{Traces, Does, Stops, StopsBy, Completes, Runs}
 use Rattle.hevc_driver.specs.Moments.{begins_at, negotiates, spends, opening, step_part, kept_behind, not_stored, left_at, left_by, given_up, drained, renegotiates, starts, closes}
 
 -- The unit was taken.
-pub record Goes {H : Type 0} (timestamp : ℕ) (old new : Traces H) (u : Meaning)
+pub record Goes {H : Type 0} (given : Given) (old new : Traces H) (u : Meaning)
     (before standing : Standing) : Type 0 where
   pub accepted : negotiates u before ≡ false
   pub room : is_full_at u before ≡ false
   pub numbered : spends u before ≡ false
   pub goes_on : refusal_at u before ≡ None
-  pub completes : Completes timestamp old new (step_part u before) standing
+  pub completes : Completes given old new (step_part u before) standing
 
 -- A format was negotiated, and is awaited. The unit is to be given once more.
-pub record Opens {H : Type 0} (timestamp : ℕ) (old new : Traces H) (u : Meaning)
+pub record Opens {H : Type 0} (given : Given) (old new : Traces H) (u : Meaning)
     (before standing : Standing) : Type 0 where
   pub negotiates : negotiates u before ≡ true
   pub room : is_full_at u before ≡ false
-  pub completes : Completes timestamp old new (opening u before) standing
+  pub completes : Completes given old new (opening u before) standing
 
 -- The picture before was to be stored into a full buffer: it was submitted, and no more.
-pub record Fills {H : Type 0} (timestamp : ℕ) (old new : Traces H) (plan : List Event)
+pub record Fills {H : Type 0} (given : Given) (old new : Traces H) (plan : List Event)
     (before standing : Standing) : Type 0 where
   pub number : ℕ
   pub rest : List Event
   pub whole : plan ≡ Called (walk.SubmitPicture number) ∷ rest
-  pub does : Does timestamp old new (Called (walk.SubmitPicture number) ∷ [])
+  pub does : Does given old new (Called (walk.SubmitPicture number) ∷ [])
   pub left : standing ≡ not_stored before
 
 -- A picture begins, and what was before it is over.
-pub record Halts {H : Type 0} (timestamp : ℕ) (old new : Traces H) (u : Meaning)
+pub record Halts {H : Type 0} (given : Given) (old new : Traces H) (u : Meaning)
     (before standing : Standing) : Type 0 where
   pub begins : begins_at u before ≡ true
   pub room : is_full_at u before ≡ false
-  pub does : Does timestamp old new (finish_current (kept_behind u before)).events
+  pub does : Does given old new (finish_current (kept_behind u before)).events
   pub left : standing ≡ (finish_current (kept_behind u before)).next
 
 -- No number is left for a picture that begins.
-pub record Spends {H : Type 0} (timestamp : ℕ) (old new : Traces H) (u : Meaning)
+pub record Spends {H : Type 0} (given : Given) (old new : Traces H) (u : Meaning)
     (before standing : Standing) : Type 0 where
   pub spent : spends u before ≡ true
-  pub halts : Halts timestamp old new u before standing
+  pub halts : Halts given old new u before standing
 
 -- The unit was refused for a cause.
-pub record Refuses {H : Type 0} (error : DecodeError) (timestamp : ℕ) (old new : Traces H)
+pub record Refuses {H : Type 0} (error : DecodeError) (given : Given) (old new : Traces H)
     (u : Meaning) (before standing : Standing) : Type 0 where
   pub accepted : negotiates u before ≡ false
   pub room : is_full_at u before ≡ false
@@ -62,7 +63,7 @@ pub record Refuses {H : Type 0} (error : DecodeError) (timestamp : ℕ) (old new
   pub cause : Cause
   pub refused : refusal_at u before ≡ Some cause
   pub named : error_of cause ≡ error
-  pub does : Does timestamp old new (step_part u before).events
+  pub does : Does given old new (step_part u before).events
   pub left : standing ≡ left_by cause u before
 
 -- a number was left for the picture of a refused call; one that is submitted has its own
@@ -79,24 +80,24 @@ pub record Stays {H : Type 0} (old new : Traces H) (before standing : Standing) 
   pub traces : new ≡ old
   pub left : standing ≡ before
 
-abbrev pub Takes : {H T : Type 0} → Result T DecodeError → ℕ → Traces H → Traces H → Meaning
+abbrev pub Takes : {H T : Type 0} → Result T DecodeError → Given → Traces H → Traces H → Meaning
     → Standing → Standing → Type 0
-Takes (Ok value) timestamp old new u before standing = Goes timestamp old new u before standing
-Takes (Err errors.CheckEvents) timestamp old new u before standing =
-    Opens timestamp old new u before standing
-Takes (Err errors.Backend) timestamp old new u before standing =
-    Stops timestamp old new (step_part u before).events (λ call. LeftAt call u before standing)
-Takes (Err errors.NoMemory) timestamp old new u before standing =
-    Stops timestamp old new (step_part u before).events (λ call. LeftAt call u before standing)
-Takes (Err errors.DpbFull) timestamp old new u before standing =
+Takes (Ok value) given old new u before standing = Goes given old new u before standing
+Takes (Err errors.CheckEvents) given old new u before standing =
+    Opens given old new u before standing
+Takes (Err errors.Backend) given old new u before standing =
+    Stops given old new (step_part u before).events (λ call. LeftAt call u before standing)
+Takes (Err errors.NoMemory) given old new u before standing =
+    Stops given old new (step_part u before).events (λ call. LeftAt call u before standing)
+Takes (Err errors.DpbFull) given old new u before standing =
     (is_full_at u before ≡ true)
-    × Fills timestamp old new (step_part u before).events (kept_behind u before) standing
-Takes (Err (errors.NotEnoughOutputBuffers frames)) timestamp old new u before standing =
-    (frames ≡ 1) × Halts timestamp old new u before standing
-Takes (Err errors.PictureNumbersSpent) timestamp old new u before standing =
-    Spends timestamp old new u before standing
-Takes (Err error) timestamp old new u before standing =
-    Refuses error timestamp old new u before standing
+    × Fills given old new (step_part u before).events (kept_behind u before) standing
+Takes (Err (errors.NotEnoughOutputBuffers frames)) given old new u before standing =
+    (frames ≡ 1) × Halts given old new u before standing
+Takes (Err errors.PictureNumbersSpent) given old new u before standing =
+    Spends given old new u before standing
+Takes (Err error) given old new u before standing =
+    Refuses error given old new u before standing
 
 -- ---- the parts of a slice
 
@@ -106,14 +107,14 @@ LeftUnsubmitted (walk.SubmitPicture number) s standing = standing ≡ given_up s
 LeftUnsubmitted call s standing = ⊥
 
 -- the picture whose slices came is over
-abbrev pub Finishes : {H T : Type 0} → Result T DecodeError → ℕ → Traces H → Traces H → Standing
+abbrev pub Finishes : {H T : Type 0} → Result T DecodeError → Given → Traces H → Traces H → Standing
     → Standing → Type 0
-Finishes (Ok value) timestamp old new s standing =
-    (is_full_now s ≡ false) × Completes timestamp old new (finish_current s) standing
-Finishes (Err errors.DpbFull) timestamp old new s standing =
-    (is_full_now s ≡ true) × Fills timestamp old new (finish_current s).events s standing
-Finishes (Err error) timestamp old new s standing =
-    StopsBy error timestamp old new (finish_current s).events
+Finishes (Ok value) given old new s standing =
+    (is_full_now s ≡ false) × Completes given old new (finish_current s) standing
+Finishes (Err errors.DpbFull) given old new s standing =
+    (is_full_now s ≡ true) × Fills given old new (finish_current s).events s standing
+Finishes (Err error) given old new s standing =
+    StopsBy error given old new (finish_current s).events
     (λ call. LeftUnsubmitted call s standing)
 
 abbrev pub IsNewSequence : walk.Call → Type 0
@@ -121,10 +122,10 @@ IsNewSequence (walk.NewSequence info) = Unit {0}
 IsNewSequence call = ⊥
 
 -- a format was negotiated, behind what waited
-abbrev pub Negotiates : {H T : Type 0} → Result T DecodeError → ℕ → Traces H → Traces H → Format
+abbrev pub Negotiates : {H T : Type 0} → Result T DecodeError → Given → Traces H → Traces H → Format
     → Standing → Standing → Type 0
-Negotiates result timestamp old new format s standing =
-    Runs result timestamp old new (renegotiates format s)
+Negotiates result given old new format s standing =
+    Runs result given old new (renegotiates format s)
     (λ call. IsNewSequence call × (standing ≡ drained s)) standing
 
 -- a call of a picture that begins was refused
@@ -138,31 +139,31 @@ LeftBegun call slice s standing =
     × (standing ≡ given_up (begin_slice slice s).next)
 
 -- a picture begins where none is current
-abbrev pub Begins : {H T : Type 0} → Result T DecodeError → ℕ → Traces H → Traces H → Slice
+abbrev pub Begins : {H T : Type 0} → Result T DecodeError → Given → Traces H → Traces H → Slice
     → Standing → Standing → Type 0
-Begins (Ok value) timestamp old new slice s standing =
+Begins (Ok value) given old new slice s standing =
     (is_accepted slice.format s.store.accepted ≡ true)
     × (s.next.number ≢ 2 ^ 64 - 1)
     × (refusal_of_picture (head s.next slice) ≡ None)
-    × Completes timestamp old new (begin_slice slice s) standing
-Begins (Err errors.CheckEvents) timestamp old new slice s standing =
+    × Completes given old new (begin_slice slice s) standing
+Begins (Err errors.CheckEvents) given old new slice s standing =
     (is_accepted slice.format s.store.accepted ≡ false)
-    × Completes timestamp old new (on_store (change_format slice.format) s) standing
-Begins (Err (errors.NotEnoughOutputBuffers frames)) timestamp old new slice s standing =
+    × Completes given old new (on_store (change_format slice.format) s) standing
+Begins (Err (errors.NotEnoughOutputBuffers frames)) given old new slice s standing =
     (frames ≡ 1) × (new ≡ old) × (standing ≡ s)
-Begins (Err errors.PictureNumbersSpent) timestamp old new slice s standing =
+Begins (Err errors.PictureNumbersSpent) given old new slice s standing =
     (is_accepted slice.format s.store.accepted ≡ true)
     × (s.next.number ≡ 2 ^ 64 - 1)
     × (new ≡ old)
     × (standing ≡ s)
-Begins (Err errors.PocOutOfRange) timestamp old new slice s standing =
+Begins (Err errors.PocOutOfRange) given old new slice s standing =
     (is_accepted slice.format s.store.accepted ≡ true)
     × (s.next.number ≢ 2 ^ 64 - 1)
     × (refusal_of_picture (head s.next slice) ≡ Some PocOutOfRange)
     × (new ≡ old)
     × (standing ≡ s)
-Begins (Err error) timestamp old new slice s standing =
-    StopsBy error timestamp old new (begin_slice slice s).events
+Begins (Err error) given old new slice s standing =
+    StopsBy error given old new (begin_slice slice s).events
     (λ call. LeftBegun call slice s standing)
 
 -- the refused call is one of a picture that has begun
@@ -172,22 +173,22 @@ LeftStarted (walk.NewSequence info) = ⊥
 LeftStarted call = Unit {0}
 
 -- a picture of the accepted format begins
-abbrev pub Starts : {H T : Type 0} → Result T DecodeError → ℕ → Traces H → Traces H → Slice
+abbrev pub Starts : {H T : Type 0} → Result T DecodeError → Given → Traces H → Traces H → Slice
     → Standing → Standing → Type 0
-Starts (Ok value) timestamp old new slice s standing =
+Starts (Ok value) given old new slice s standing =
     (s.next.number ≢ 2 ^ 64 - 1)
     × (refusal_of_picture (head s.next slice) ≡ None)
-    × Completes timestamp old new (starts (head s.next slice) slice s) standing
-Starts (Err errors.PictureNumbersSpent) timestamp old new slice s standing =
+    × Completes given old new (starts (head s.next slice) slice s) standing
+Starts (Err errors.PictureNumbersSpent) given old new slice s standing =
     (s.next.number ≡ 2 ^ 64 - 1) × (new ≡ old) × (standing ≡ s)
-Starts (Err errors.PocOutOfRange) timestamp old new slice s standing =
+Starts (Err errors.PocOutOfRange) given old new slice s standing =
     (s.next.number ≢ 2 ^ 64 - 1)
     × (refusal_of_picture (head s.next slice) ≡ Some PocOutOfRange)
     × (new ≡ old)
     × (standing ≡ s)
-Starts (Err error) timestamp old new slice s standing =
+Starts (Err error) given old new slice s standing =
     (s.next.number ≢ 2 ^ 64 - 1)
-    × StopsBy error timestamp old new (starts (head s.next slice) slice s).events (λ call.
+    × StopsBy error given old new (starts (head s.next slice) slice s).events (λ call.
     LeftStarted call × (standing ≡ given_up (starts (head s.next slice) slice s).next))
 
 -- the answer to a format that differs in mid-picture
@@ -202,18 +203,18 @@ ChecksFormat (Ok value) refusal = refusal ≡ None
 ChecksFormat (Err error) refusal = Changed error refusal
 
 -- a later slice of the current picture
-abbrev pub Follows : {H T : Type 0} → Result T DecodeError → ℕ → Traces H → Traces H → Slice
+abbrev pub Follows : {H T : Type 0} → Result T DecodeError → Given → Traces H → Traces H → Slice
     → Standing → Standing → Type 0
-Follows (Ok value) timestamp old new slice s standing =
+Follows (Ok value) given old new slice s standing =
     (refusal_of_later s.current slice s.store.accepted ≡ None)
-    × Completes timestamp old new (later_slice slice s) standing
-Follows (Err errors.Backend) timestamp old new slice s standing =
-    Stops timestamp old new (later_slice slice s).events
+    × Completes given old new (later_slice slice s) standing
+Follows (Err errors.Backend) given old new slice s standing =
+    Stops given old new (later_slice slice s).events
     (λ call. LeftStarted call × (standing ≡ given_up s))
-Follows (Err errors.NoMemory) timestamp old new slice s standing =
-    Stops timestamp old new (later_slice slice s).events
+Follows (Err errors.NoMemory) given old new slice s standing =
+    Stops given old new (later_slice slice s).events
     (λ call. LeftStarted call × (standing ≡ given_up s))
-Follows (Err error) timestamp old new slice s standing =
+Follows (Err error) given old new slice s standing =
     Changed error (refusal_of_later s.current slice s.store.accepted)
     × (new ≡ old)
     × (standing ≡ given_up s)
@@ -224,29 +225,29 @@ given_up_by (Ok value) s = s
 given_up_by (Err error) s = given_up s
 
 -- a picture is over and the next begins, the header being kept
-pub record BeginsBehind {H T : Type 0} (result : Result T DecodeError) (timestamp : ℕ)
+pub record BeginsBehind {H T : Type 0} (result : Result T DecodeError) (given : Given)
     (old new : Traces H) (slice : Slice) (s standing : Standing) : Type 0 where
   pub mid : Traces H
   pub room : is_full_now s ≡ false
-  pub finishes : Does timestamp old mid (finish_current s).events
-  pub begins : Begins result timestamp mid new slice (finish_current s).next standing
+  pub finishes : Does given old mid (finish_current s).events
+  pub begins : Begins result given mid new slice (finish_current s).next standing
 
 abbrev pub IsRefused : {T : Type 0} → Result T DecodeError → Type 0
 IsRefused (Ok value) = ⊥
 IsRefused (Err error) = Unit {0}
 
-abbrev pub Changes : {H T : Type 0} → Result T DecodeError → ℕ → Traces H → Traces H → Slice
+abbrev pub Changes : {H T : Type 0} → Result T DecodeError → Given → Traces H → Traces H → Slice
     → Standing → Standing → Type 0
-Changes result timestamp old new slice s standing =
-    BeginsBehind result timestamp old new slice s standing
-    ⊎ (IsRefused result × Finishes result timestamp old new s standing)
+Changes result given old new slice s standing =
+    BeginsBehind result given old new slice s standing
+    ⊎ (IsRefused result × Finishes result given old new s standing)
 
 -- the picture whose slices came is over, and all that waits is output
-abbrev pub Closes : {H T : Type 0} → Result T DecodeError → ℕ → Traces H → Traces H → Standing
+abbrev pub Closes : {H T : Type 0} → Result T DecodeError → Given → Traces H → Traces H → Standing
     → Standing → Type 0
-Closes (Ok value) timestamp old new s standing =
-    (is_full_now s ≡ false) × Completes timestamp old new (closes s) standing
-Closes (Err errors.DpbFull) timestamp old new s standing =
-    (is_full_now s ≡ true) × Fills timestamp old new (closes s).events s standing
-Closes (Err error) timestamp old new s standing =
-    StopsBy error timestamp old new (closes s).events (λ call. standing ≡ given_up s)
+Closes (Ok value) given old new s standing =
+    (is_full_now s ≡ false) × Completes given old new (closes s) standing
+Closes (Err errors.DpbFull) given old new s standing =
+    (is_full_now s ≡ true) × Fills given old new (closes s).events s standing
+Closes (Err error) given old new s standing =
+    StopsBy error given old new (closes s).events (λ call. standing ≡ given_up s)

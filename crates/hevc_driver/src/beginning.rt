@@ -4,6 +4,7 @@ ghost use Rattle.hevc_spec.specs.UnitTypes.{is_rasl};
 ghost use Rattle.hevc_bits.specs.NaluType.{nalu_type_number};
 ghost use Rattle.hevc_types_c.specs.Sps.{plain_sps};
 ghost use Rattle.hevc_walk_inputs.specs.Sequences.{format_of_set};
+ghost use Rattle.hevc_backend.specs.Handed.{first_picture, plain_picture};
 ghost use Rattle.hevc_backend.specs.Negotiation.{info_of};
 ghost use Rattle.hevc_types_d.specs.declared.pps.Pps.{Pps};
 ghost use Rattle.hevc_walk.specs.Pictures.{head, order_count_in_range};
@@ -39,6 +40,9 @@ pub(crate) fn head_of_first(
 ) -> Result<Head, PocOutOfRange>
     ensures head { (pps : Pps) → IfOk result (λ h. head_of h
         ≡ head (context_of next.now) (slice_of options slice.now sps.now pps)) }
+    ensures picture { (pps : Pps) → IfOk result (λ h. plain_picture h.picture
+        ≡ first_picture (context_of next.now) (slice_of options slice.now sps.now pps)
+        slice.now.header.st_rps_bits) }
     ensures format { IfOk result (λ h. h.format ≡ info_of (format_of_set (plain_sps sps.now))) }
     ensures within { (pps : Pps) → OnOk result (order_count_in_range
         (head (context_of next.now) (slice_of options slice.now sps.now pps)) ≡ true) }

@@ -1,6 +1,7 @@
 //! The driver, and what ends a stream.
-ghost use Rattle.std.specs.Prelude.{◌≡◌, [], ℕ, None, OnOk};
+ghost use Rattle.std.specs.Prelude.{◌≡◌, [], None, OnOk};
 ghost use Rattle.hevc_walk_units.specs.Units.{at_first};
+ghost use Rattle.hevc_driver.specs.Given.{Given};
 ghost use Rattle.hevc_driver.specs.Answers.{IsFair};
 ghost use Rattle.hevc_driver.specs.Standings.{standing, traces};
 ghost use Rattle.hevc_driver.specs.Sound.{IsSound, HasRoom, total, StaysSound};
@@ -35,8 +36,9 @@ impl<B: StatelessH265DecoderBackend> Driver<B> {
         ensures backend { result.backend ≡ backend }
         ensures standing { standing result.standing ≡ at_first }
         ensures queue { result.standing.queue.items ≡ [] }
-        ensures tickets { (traces None result.standing).tickets ≡ [] }
-        ensures sound { IsSound (B.log backend) result.standing }
+        ensures tickets { (traces None None result.standing).tickets ≡ [] }
+        ensures kept { result.standing.kept ≡ None }
+        ensures sound { IsSound (B.log backend) (B.handed backend) result.standing }
     {
         Driver {
             alloc,
@@ -63,14 +65,17 @@ impl<B: StatelessH265DecoderBackend> Driver<B> {
     ///
     /// Errors: no memory; nothing has changed then but how much room there is.
     pub fn reserve(&mut self) -> Result<(), AllocError>
-        requires sound { IsSound (B.log self.old.backend) self.old.standing }
-        ensures sound { IsSound (B.log self.new.backend) self.new.standing }
+        requires sound { IsSound (B.log self.old.backend) (B.handed self.old.backend)
+            self.old.standing }
+        ensures sound { IsSound (B.log self.new.backend) (B.handed self.new.backend)
+            self.new.standing }
         ensures room { OnOk result (HasRoom 1 self.new.standing) }
         ensures standing { standing self.new.standing ≡ standing self.old.standing }
-        ensures traces { traces (B.log self.new.backend) self.new.standing
-            ≡ traces (B.log self.old.backend) self.old.standing }
+        ensures traces { traces (B.log self.new.backend) (B.handed self.new.backend) self.new.standing
+            ≡ traces (B.log self.old.backend) (B.handed self.old.backend) self.old.standing }
         ensures total { total self.new.standing ≡ total self.old.standing }
         ensures backend { self.new.backend ≡ self.old.backend }
+        ensures kept { self.new.standing.kept ≡ self.old.standing.kept }
     {
         self.standing.queue.reserve(MAX_OUTPUTS_OF_UNIT)?;
         self.standing.dpb.reserve()?;
@@ -81,15 +86,17 @@ impl<B: StatelessH265DecoderBackend> Driver<B> {
     ///
     /// Errors: `Backend`, `DpbFull`, `NoMemory`; the picture is given up then, and nothing is output.
     pub fn close(&mut self) -> Result<(), DecodeError>
-        requires sound { IsSound (B.log self.old.backend) self.old.standing }
+        requires sound { IsSound (B.log self.old.backend) (B.handed self.old.backend)
+            self.old.standing }
         requires room { HasRoom 1 self.old.standing }
-        ensures stays { StaysSound 1 (B.log self.new.backend) self.old.standing
+        ensures stays { StaysSound 1
+            (B.log self.new.backend) (B.handed self.new.backend) self.old.standing
             self.new.standing }
         ensures fair { IsFair B.counts B.is_faultless B.info self.old.backend self.new.backend
             result }
-        ensures part { (timestamp : ℕ) → Closes result timestamp
-            (traces (B.log self.old.backend) self.old.standing)
-            (traces (B.log self.new.backend) self.new.standing)
+        ensures part { (given : Given) → Closes result given
+            (traces (B.log self.old.backend) (B.handed self.old.backend) self.old.standing)
+            (traces (B.log self.new.backend) (B.handed self.new.backend) self.new.standing)
             (standing self.old.standing) (standing self.new.standing) }
     {
         self.finish()?;

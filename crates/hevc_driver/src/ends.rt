@@ -12,26 +12,32 @@ use hevc_backend::StatelessH265DecoderBackend;
 impl<B: StatelessH265DecoderBackend> Driver<B> {
     /// The next picture is the first one behind an end of sequence (7.4.2.4.4).
     pub fn end_sequence(&mut self)
-        requires sound { IsSound (B.log self.old.backend) self.old.standing }
-        ensures sound { IsSound (B.log self.new.backend) self.new.standing }
+        requires sound { IsSound (B.log self.old.backend) (B.handed self.old.backend)
+            self.old.standing }
+        ensures sound { IsSound (B.log self.new.backend) (B.handed self.new.backend)
+            self.new.standing }
         ensures standing { standing self.new.standing
             ≡ (step_part EndOfSequence (standing self.old.standing)).next }
-        ensures traces { traces (B.log self.new.backend) self.new.standing
-            ≡ traces (B.log self.old.backend) self.old.standing }
+        ensures traces { traces (B.log self.new.backend) (B.handed self.new.backend) self.new.standing
+            ≡ traces (B.log self.old.backend) (B.handed self.old.backend) self.old.standing }
         ensures backend { self.new.backend ≡ self.old.backend }
+        ensures kept { self.new.standing.kept ≡ self.old.standing.kept }
     {
         self.standing.next.first_picture_after_eos = true;
     }
 
     /// The next picture is the first one in the bitstream, behind an end of the one before (7.4.2.4.4).
     pub fn end_bitstream(&mut self)
-        requires sound { IsSound (B.log self.old.backend) self.old.standing }
-        ensures sound { IsSound (B.log self.new.backend) self.new.standing }
+        requires sound { IsSound (B.log self.old.backend) (B.handed self.old.backend)
+            self.old.standing }
+        ensures sound { IsSound (B.log self.new.backend) (B.handed self.new.backend)
+            self.new.standing }
         ensures standing { standing self.new.standing
             ≡ (step_part EndOfBitstream (standing self.old.standing)).next }
-        ensures traces { traces (B.log self.new.backend) self.new.standing
-            ≡ traces (B.log self.old.backend) self.old.standing }
+        ensures traces { traces (B.log self.new.backend) (B.handed self.new.backend) self.new.standing
+            ≡ traces (B.log self.old.backend) (B.handed self.old.backend) self.old.standing }
         ensures backend { self.new.backend ≡ self.old.backend }
+        ensures kept { self.new.standing.kept ≡ self.old.standing.kept }
     {
         self.standing.next.first_picture_in_bitstream = true;
     }
@@ -39,12 +45,15 @@ impl<B: StatelessH265DecoderBackend> Driver<B> {
     /// No format is accepted any more: the next picture negotiates one.
     pub fn forget_format(&mut self)
         requires none { current_of self.old.standing.current ≡ NoPicture }
-        requires sound { IsSound (B.log self.old.backend) self.old.standing }
-        ensures sound { IsSound (B.log self.new.backend) self.new.standing }
+        requires sound { IsSound (B.log self.old.backend) (B.handed self.old.backend)
+            self.old.standing }
+        ensures sound { IsSound (B.log self.new.backend) (B.handed self.new.backend)
+            self.new.standing }
         ensures standing { standing self.new.standing ≡ forgotten (standing self.old.standing) }
-        ensures traces { traces (B.log self.new.backend) self.new.standing
-            ≡ traces (B.log self.old.backend) self.old.standing }
+        ensures traces { traces (B.log self.new.backend) (B.handed self.new.backend) self.new.standing
+            ≡ traces (B.log self.old.backend) (B.handed self.old.backend) self.old.standing }
         ensures backend { self.new.backend ≡ self.old.backend }
+        ensures kept { self.new.standing.kept ≡ self.old.standing.kept }
     {
         self.standing.accepted = None;
         self.standing.dpb.set_max_num_pics(0);

@@ -1,6 +1,8 @@
 //! A picture is over: it is submitted and stored (C.5.2.3).
-ghost use Rattle.std.specs.Prelude.{◌≡◌, ℕ};
+ghost use Rattle.std.specs.Prelude.{◌≡◌};
 ghost use Rattle.hevc_walk_units.specs.Units.{NoPicture};
+ghost use Rattle.hevc_backend.specs.Handed.{IsAmong};
+ghost use Rattle.hevc_driver.specs.Given.{Given};
 ghost use Rattle.hevc_driver.specs.Answers.{IsFair};
 ghost use Rattle.hevc_driver.specs.Standings.{standing, traces, current_of, with_open};
 ghost use Rattle.hevc_driver.specs.Sound.{IsSound, IsNewest, HasRoom, StaysSound};
@@ -17,15 +19,17 @@ use std::mem::replace;
 impl<B: StatelessH265DecoderBackend> Driver<B> {
     /// The picture whose slices came is over, or the one whose slices were passed over.
     pub(crate) fn finish(&mut self) -> Result<(), DecodeError>
-        requires sound { IsSound (B.log self.old.backend) self.old.standing }
+        requires sound { IsSound (B.log self.old.backend) (B.handed self.old.backend)
+            self.old.standing }
         requires room { HasRoom 1 self.old.standing }
-        ensures stays { StaysSound 1 (B.log self.new.backend) self.old.standing
+        ensures stays { StaysSound 1
+            (B.log self.new.backend) (B.handed self.new.backend) self.old.standing
             self.new.standing }
         ensures fair { IsFair B.counts B.is_faultless B.info self.old.backend self.new.backend
             result }
-        ensures part { (timestamp : ℕ) → Finishes result timestamp
-            (traces (B.log self.old.backend) self.old.standing)
-            (traces (B.log self.new.backend) self.new.standing)
+        ensures part { (given : Given) → Finishes result given
+            (traces (B.log self.old.backend) (B.handed self.old.backend) self.old.standing)
+            (traces (B.log self.new.backend) (B.handed self.new.backend) self.new.standing)
             (standing self.old.standing) (standing self.new.standing) }
     {
         match replace(&mut self.standing.current, Current::NoPicture) {
@@ -39,15 +43,19 @@ impl<B: StatelessH265DecoderBackend> Driver<B> {
     fn store(&mut self, opened: Open<B::Picture>) -> Result<(), DecodeError>
         requires none { current_of self.old.standing.current ≡ NoPicture }
         requires newest { IsNewest opened.head opened.set self.old.standing }
-        requires sound { IsSound (B.log self.old.backend) self.old.standing }
+        requires announced { IsAmong (B.handed self.old.backend) opened.head.number
+            opened.head.picture }
+        requires sound { IsSound (B.log self.old.backend) (B.handed self.old.backend)
+            self.old.standing }
         requires room { HasRoom 1 self.old.standing }
-        ensures stays { StaysSound 1 (B.log self.new.backend) self.old.standing
+        ensures stays { StaysSound 1
+            (B.log self.new.backend) (B.handed self.new.backend) self.old.standing
             self.new.standing }
         ensures fair { IsFair B.counts B.is_faultless B.info self.old.backend self.new.backend
             result }
-        ensures part { (timestamp : ℕ) → Finishes result timestamp
-            (traces (B.log self.old.backend) self.old.standing)
-            (traces (B.log self.new.backend) self.new.standing)
+        ensures part { (given : Given) → Finishes result given
+            (traces (B.log self.old.backend) (B.handed self.old.backend) self.old.standing)
+            (traces (B.log self.new.backend) (B.handed self.new.backend) self.new.standing)
             (with_open opened (standing self.old.standing)) (standing self.new.standing) }
     {
         let Open {

@@ -1,9 +1,11 @@
 //! The headers of dependent slice segments (7.4.7.1).
-ghost use Rattle.std.specs.Prelude.{◌≡◌, ◌==◌, ◌&&◌, nat_le, Option, Some, None, option_map, if◌then◌else◌};
+ghost use Rattle.std.specs.Prelude.{◌≡◌, true, false, ◌==◌, ◌&&◌, nat_le, Option, Some, None, option_map, if◌then◌else◌};
 ghost use Rattle.hevc_types_c.specs.declared.sps.Sps.{Sps};
 ghost use Rattle.hevc_types_d.specs.declared.pps.Pps.{Pps};
 ghost use Rattle.hevc_walk.specs.DependentSlices.{KeptHeader, whole_slice, kept_header};
 ghost use Rattle.hevc_options.specs.declared.Options.{Options};
+ghost use Rattle.hevc_types_d.specs.SliceHeader.{plain_slice_header};
+ghost use Rattle.hevc_driver.specs.Headers.{OnTrue, latest_behind, latest_of, shared_header, whole_header};
 ghost use Rattle.hevc_driver.specs.Slices.{slice_of, kept_of, StaysUnlessWhole};
 
 use hevc_types_c::Sps;
@@ -32,6 +34,10 @@ pub(crate) fn complete(kept: &Option<SliceHeader>, slice: &mut Slice<'_>, sps: &
     ensures kept { (o : Options) (pps : Pps) (latest : Option KeptHeader) →
         kept_header latest (slice_of o slice.new sps.now pps)
         ≡ kept_header latest (slice_of o slice.old sps.now pps) }
+    ensures header { OnTrue result
+        (whole_header (latest_of kept.now) (plain_slice_header slice.old.header)
+        ≡ Some (plain_slice_header slice.new.header)) }
+    ensures dependent { result ≡ false → slice.old.header.dependent_slice_segment_flag ≡ true }
     ensures unit { slice.new.nalu ≡ slice.old.nalu }
     ensures id { slice.new.header.pic_parameter_set_id ≡ slice.old.header.pic_parameter_set_id }
 {
@@ -51,8 +57,10 @@ pub(crate) fn complete(kept: &Option<SliceHeader>, slice: &mut Slice<'_>, sps: &
 /// Keeps the header of an independent slice segment for the dependent ones after it.
 #[tactic(auto, unfolding(crate::specs::Slices::slice_of, crate::specs::Slices::kept_of))]
 pub(crate) fn keep(alloc: Global, kept: &mut Option<SliceHeader>, slice: &Slice<'_>)
-    ensures { (o : Options) (sps : Sps) (pps : Pps) → option_map kept_of kept.new
+    ensures kept { (o : Options) (sps : Sps) (pps : Pps) → option_map kept_of kept.new
         ≡ kept_header (option_map kept_of kept.old) (slice_of o slice.now sps pps) }
+    ensures latest { latest_of kept.new
+        ≡ latest_behind (latest_of kept.old) (plain_slice_header slice.now.header) }
 {
     if slice.header().dependent_slice_segment_flag {
         return;
@@ -70,7 +78,9 @@ pub(crate) fn keep(alloc: Global, kept: &mut Option<SliceHeader>, slice: &Slice<
 /// Puts a header in the place of a kept one, but for what dependent segments have of their own.
 #[tactic(auto, unfolding(crate::specs::Slices::kept_of))]
 fn put(kept: &mut SliceHeader, header: &SliceHeader)
-    ensures { kept_of kept.new ≡ kept_of header.now }
+    ensures kept { kept_of kept.new ≡ kept_of header.now }
+    ensures shared { shared_header (plain_slice_header kept.new)
+        ≡ shared_header (plain_slice_header header.now) }
 {
     kept.pic_parameter_set_id = header.pic_parameter_set_id;
     kept.complete(header);

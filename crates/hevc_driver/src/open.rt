@@ -4,6 +4,8 @@ ghost use Rattle.hevc_walk.specs.Walk.{is_decoded};
 ghost use Rattle.hevc_refs.specs.Sets.{plain_set};
 ghost use Rattle.hevc_driver.specs.Heads.{head_of};
 ghost use Rattle.hevc_driver.specs.Slices.{slice_of};
+ghost use Rattle.hevc_backend.specs.Handed.{plain_picture, segment_of};
+ghost use Rattle.hevc_driver.specs.Given.{given_slice, picture_from};
 ghost use Rattle.hevc_driver.specs.Answers.{IsFair};
 ghost use Rattle.hevc_driver.specs.Does.{Runs};
 ghost use Rattle.hevc_driver.specs.Moments.{starts, hands_over, given_up};
@@ -34,16 +36,21 @@ impl<B: StatelessH265DecoderBackend> Driver<B> {
         sps: &Sps,
         pps: &Pps,
     ) -> Result<(), DecodeError>
-        requires ready { MayBegin (B.room self.old.backend) (B.log self.old.backend) slice.now
+        requires ready { MayBegin (B.room self.old.backend) (B.log self.old.backend)
+            (B.handed self.old.backend) slice.now
             sps.now pps.now self.old.standing }
         requires room { HasRoom 0 self.old.standing }
-        ensures stays { StaysSound 0 (B.log self.new.backend) self.old.standing
+        ensures stays { StaysSound 0
+            (B.log self.new.backend) (B.handed self.new.backend) self.old.standing
             self.new.standing }
         ensures fair { IsFair B.counts B.is_faultless B.info self.old.backend self.new.backend
             result }
-        ensures part { Starts result timestamp
-            (traces (B.log self.old.backend) self.old.standing)
-            (traces (B.log self.new.backend) self.new.standing)
+        ensures part { Starts result
+            (given_slice timestamp (picture_from (slice_of options slice.now sps.now pps.now)
+            (segment_of slice.now sps.now pps.now) (standing self.old.standing))
+            (segment_of slice.now sps.now pps.now))
+            (traces (B.log self.old.backend) (B.handed self.old.backend) self.old.standing)
+            (traces (B.log self.new.backend) (B.handed self.new.backend) self.new.standing)
             (slice_of options slice.now sps.now pps.now)
             (standing self.old.standing) (standing self.new.standing) }
     {
@@ -68,17 +75,21 @@ impl<B: StatelessH265DecoderBackend> Driver<B> {
         sps: &Sps,
         pps: &Pps,
     ) -> Result<(), DecodeError>
-        requires ready { MayBegin (B.room self.old.backend) (B.log self.old.backend) slice.now
+        requires ready { MayBegin (B.room self.old.backend) (B.log self.old.backend)
+            (B.handed self.old.backend) slice.now
             sps.now pps.now self.old.standing }
         requires next { IsNext head.now sps.now self.old.standing }
         requires room { HasRoom 0 self.old.standing }
-        ensures stays { StaysSound 0 (B.log self.new.backend) self.old.standing
+        ensures stays { StaysSound 0
+            (B.log self.new.backend) (B.handed self.new.backend) self.old.standing
             self.new.standing }
         ensures fair { IsFair B.counts B.is_faultless B.info self.old.backend self.new.backend
             result }
-        ensures part { (o : code_options.Options) → Runs result timestamp
-            (traces (B.log self.old.backend) self.old.standing)
-            (traces (B.log self.new.backend) self.new.standing)
+        ensures part { (o : code_options.Options) → Runs result
+            (given_slice timestamp (plain_picture head.now.picture)
+            (segment_of slice.now sps.now pps.now))
+            (traces (B.log self.old.backend) (B.handed self.old.backend) self.old.standing)
+            (traces (B.log self.new.backend) (B.handed self.new.backend) self.new.standing)
             (starts (head_of head.now) (slice_of o slice.now sps.now pps.now)
             (standing self.old.standing))
             (λ call. LeftStarted call × (standing self.new.standing
@@ -100,17 +111,21 @@ impl<B: StatelessH265DecoderBackend> Driver<B> {
         sps: &Sps,
         pps: &Pps,
     ) -> Result<(), DecodeError>
-        requires ready { MayBegin (B.room self.old.backend) (B.log self.old.backend) slice.now
+        requires ready { MayBegin (B.room self.old.backend) (B.log self.old.backend)
+            (B.handed self.old.backend) slice.now
             sps.now pps.now self.old.standing }
         requires newest { IsNewest head.now set self.old.standing }
         requires decoded { is_decoded (head_of head.now) ≡ true }
-        ensures stays { StaysSound 0 (B.log self.new.backend) self.old.standing
+        ensures stays { StaysSound 0
+            (B.log self.new.backend) (B.handed self.new.backend) self.old.standing
             self.new.standing }
         ensures fair { IsFair B.counts B.is_faultless B.info self.old.backend self.new.backend
             result }
-        ensures part { (o : code_options.Options) → Runs result timestamp
-            (traces (B.log self.old.backend) self.old.standing)
-            (traces (B.log self.new.backend) self.new.standing)
+        ensures part { (o : code_options.Options) → Runs result
+            (given_slice timestamp (plain_picture head.now.picture)
+            (segment_of slice.now sps.now pps.now))
+            (traces (B.log self.old.backend) (B.handed self.old.backend) self.old.standing)
+            (traces (B.log self.new.backend) (B.handed self.new.backend) self.new.standing)
             (hands_over (head_of head.now) (plain_set set)
             (slice_of o slice.now sps.now pps.now) (standing self.old.standing))
             (λ call. LeftStarted call × (standing self.new.standing ≡ standing self.old.standing))

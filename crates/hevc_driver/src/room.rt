@@ -1,5 +1,5 @@
 //! Pictures leave the buffer before one is decoded (8.3.2, C.5.2.2).
-ghost use Rattle.std.specs.Prelude.{◌≡◌, ◌<◌, ◌+◌, ◌-◌, ◌^◌, ℕ, List, Option};
+ghost use Rattle.std.specs.Prelude.{◌≡◌, ◌<◌, ◌+◌, ◌-◌, ◌^◌, List, Option};
 ghost use Rattle.hevc_types_d.specs.declared.pps.Pps.{Pps};
 ghost use Rattle.hevc_walk.specs.ReferenceSets.{reference_set};
 ghost use Rattle.hevc_walk.specs.Buffer.{draining};
@@ -10,6 +10,7 @@ ghost use Rattle.hevc_dpb.specs.Plain.{HaveLatency};
 ghost use Rattle.hevc_dpb.specs.Views.{stored_entries, buffer_of};
 ghost use Rattle.hevc_refs.specs.Sets.{plain_set};
 ghost use Rattle.hevc_backend.specs.declared.call.Call.{Call};
+ghost use Rattle.hevc_backend.specs.Handed.{Handed};
 ghost use Rattle.hevc_backend.specs.Named.{SetNamesAmong};
 
 use crate::beginning::behind;
@@ -26,6 +27,7 @@ impl<H: Copy, P> Standing<H, P> {
     ghost use Rattle.hevc_driver.specs.Heads.{head_of};
     ghost use Rattle.hevc_driver.specs.Slices.{slice_of};
     ghost use Rattle.hevc_driver.specs.Does.{Completes};
+    ghost use Rattle.hevc_driver.specs.Given.{Given};
     ghost use Rattle.hevc_driver.specs.Moments.{enters};
     ghost use Rattle.hevc_driver.specs.Standings.{standing, traces};
     ghost use Rattle.hevc_driver.specs.Sound.{HasRoom, Leaves};
@@ -34,8 +36,9 @@ impl<H: Copy, P> Standing<H, P> {
     pub(crate) fn output_all(&mut self)
         requires latency { HaveLatency (stored_entries self.old.dpb) }
         requires room { HasRoom 0 self.old }
-        ensures part { (log : Option (List (Call H))) (timestamp : ℕ)
-            → Completes timestamp (traces log self.old) (traces log self.new)
+        ensures part { (log : Option (List (Call H)))
+            (handed : Option (List Handed)) (given : Given)
+            → Completes given (traces log handed self.old) (traces log handed self.new)
             (on_store (output_by draining) (standing self.old)) (standing self.new) }
         ensures leaves { Leaves self.old self.new }
         ensures next { self.new.next ≡ self.old.next }
@@ -47,8 +50,9 @@ impl<H: Copy, P> Standing<H, P> {
     fn make_room(&mut self, head: &Head)
         requires latency { HaveLatency (stored_entries self.old.dpb) }
         requires room { HasRoom 0 self.old }
-        ensures part { (log : Option (List (Call H))) (timestamp : ℕ)
-            → Completes timestamp (traces log self.old) (traces log self.new)
+        ensures part { (log : Option (List (Call H)))
+            (handed : Option (List Handed)) (given : Given)
+            → Completes given (traces log handed self.old) (traces log handed self.new)
             (on_store (make_room (head_of head.now)) (standing self.old)) (standing self.new) }
         ensures leaves { Leaves self.old self.new }
         ensures next { self.new.next ≡ self.old.next }
@@ -71,8 +75,9 @@ impl<H: Copy, P> Standing<H, P> {
         ensures set { (o : Options) (pps : Pps) → plain_set result
             ≡ reference_set (head_of head.now) (slice_of o slice.now sps.now pps)
             (buffer_of self.old.dpb) }
-        ensures part { (log : Option (List (Call H))) (timestamp : ℕ) (o : Options) (pps : Pps)
-            → Completes timestamp (traces log self.old) (traces log self.new)
+        ensures part { (log : Option (List (Call H)))
+            (handed : Option (List Handed)) (given : Given) (o : Options) (pps : Pps)
+            → Completes given (traces log handed self.old) (traces log handed self.new)
             (enters (head_of head.now) (slice_of o slice.now sps.now pps) (standing self.old))
             (standing self.new) }
         ensures references { SetNamesAmong (numbers (stored_entries self.new.dpb)) result }

@@ -1,17 +1,21 @@
 //! A slice segment is taken: it begins a picture, or is a later one of the current picture (7.4.2.4.5).
-ghost use Rattle.std.specs.Prelude.{◌≡◌, ℕ, Some, option_map};
+ghost use Rattle.std.specs.Prelude.{◌≡◌, Some, option_map};
 ghost use Rattle.hevc_walk.specs.Meanings.{CodedSlice, same_format};
 ghost use Rattle.hevc_walk.specs.DependentSlices.{whole_slice};
 ghost use Rattle.hevc_walk_units.specs.Units.{NoPicture, begins_picture, changed_by};
 ghost use Rattle.hevc_backend.specs.Negotiation.{format_of};
 ghost use Rattle.hevc_driver.specs.Slices.{slice_of, kept_of, LeavesSlice};
+ghost use Rattle.hevc_backend.specs.Handed.{segment_of};
+ghost use Rattle.hevc_driver.specs.Given.{Given, given_at, given_slice, next_picture};
+ghost use Rattle.hevc_driver.specs.Headers.{latest_of, latest_behind, whole_segment};
 ghost use Rattle.hevc_driver.specs.Answers.{IsFair};
 ghost use Rattle.hevc_driver.specs.Standings.{standing, traces, current_of};
 ghost use Rattle.hevc_driver.specs.declared.current.Current.TheVariants.{OpenPicture};
-ghost use Rattle.hevc_driver.specs.Sound.{IsSound, HasRoom, AreNamed, StaysSound};
+ghost use Rattle.hevc_driver.specs.Sound.{IsSound, HasRoom, AreNamed, StaysSound, with_header};
 ghost use Rattle.hevc_driver.specs.Takes.{Takes, Changes, Follows, given_up_by, ChecksFormat};
 ghost use Rattle.hevc_types_c.specs.declared.sps.Sps as code_sps;
 ghost use Rattle.hevc_types_d.specs.declared.pps.Pps as code_pps;
+ghost use Rattle.hevc_types_d.specs.SliceHeader.{plain_slice_header};
 ghost use Rattle.hevc_options.specs.declared.Options as code_options;
 
 use crate::current::Current;
@@ -73,15 +77,22 @@ impl<B: StatelessH265DecoderBackend> Driver<B> {
         pps: &Pps,
     ) -> Result<(), DecodeError>
         requires named { AreNamed slice.old sps.now pps.now }
-        requires sound { IsSound (B.log self.old.backend) self.old.standing }
+        requires sound { IsSound (B.log self.old.backend) (B.handed self.old.backend)
+            self.old.standing }
         requires room { HasRoom 1 self.old.standing }
-        ensures stays { StaysSound 1 (B.log self.new.backend) self.old.standing
-            self.new.standing }
+        ensures stays { StaysSound 1 (B.log self.new.backend) (B.handed self.new.backend)
+            (with_header self.new.standing.kept self.old.standing) self.new.standing }
         ensures fair { IsFair B.counts B.is_faultless B.info self.old.backend self.new.backend
             result }
-        ensures part { Takes result timestamp
-            (traces (B.log self.old.backend) self.old.standing)
-            (traces (B.log self.new.backend) self.new.standing)
+        ensures kept { latest_of self.new.standing.kept
+            ≡ latest_behind (latest_of self.old.standing.kept)
+            (plain_slice_header slice.old.header) }
+        ensures part { Takes result
+            (given_at timestamp (slice_of options slice.old sps.now pps.now)
+            (whole_segment (latest_of self.old.standing.kept) slice.old sps.now pps.now)
+            (standing self.old.standing))
+            (traces (B.log self.old.backend) (B.handed self.old.backend) self.old.standing)
+            (traces (B.log self.new.backend) (B.handed self.new.backend) self.new.standing)
             (CodedSlice (slice_of options slice.old sps.now pps.now))
             (standing self.old.standing) (standing self.new.standing) }
         ensures slice { LeavesSlice
@@ -111,15 +122,20 @@ impl<B: StatelessH265DecoderBackend> Driver<B> {
         pps: &Pps,
     ) -> Result<(), DecodeError>
         requires named { AreNamed slice.now sps.now pps.now }
-        requires sound { IsSound (B.log self.old.backend) self.old.standing }
+        requires sound { IsSound (B.log self.old.backend) (B.handed self.old.backend)
+            self.old.standing }
         requires room { HasRoom 1 self.old.standing }
-        ensures stays { StaysSound 1 (B.log self.new.backend) self.old.standing
+        ensures stays { StaysSound 1
+            (B.log self.new.backend) (B.handed self.new.backend) self.old.standing
             self.new.standing }
         ensures fair { IsFair B.counts B.is_faultless B.info self.old.backend self.new.backend
             result }
-        ensures part { Changes result timestamp
-            (traces (B.log self.old.backend) self.old.standing)
-            (traces (B.log self.new.backend) self.new.standing)
+        ensures part { Changes result
+            (given_slice timestamp (next_picture (slice_of options slice.now sps.now pps.now)
+            (segment_of slice.now sps.now pps.now) (standing self.old.standing))
+            (segment_of slice.now sps.now pps.now))
+            (traces (B.log self.old.backend) (B.handed self.old.backend) self.old.standing)
+            (traces (B.log self.new.backend) (B.handed self.new.backend) self.new.standing)
             (slice_of options slice.now sps.now pps.now)
             (standing self.old.standing) (standing self.new.standing) }
     {
@@ -130,15 +146,18 @@ impl<B: StatelessH265DecoderBackend> Driver<B> {
     /// A later slice of the current picture.
     fn follow(&mut self, slice: &Slice<'_>, sps: &Sps, pps: &Pps) -> Result<(), DecodeError>
         requires named { AreNamed slice.now sps.now pps.now }
-        requires sound { IsSound (B.log self.old.backend) self.old.standing }
-        ensures stays { StaysSound 0 (B.log self.new.backend) self.old.standing
+        requires sound { IsSound (B.log self.old.backend) (B.handed self.old.backend)
+            self.old.standing }
+        ensures stays { StaysSound 0
+            (B.log self.new.backend) (B.handed self.new.backend) self.old.standing
             self.new.standing }
         ensures fair { IsFair B.counts B.is_faultless B.info self.old.backend self.new.backend
             result }
-        ensures part { (timestamp : ℕ) (o : code_options.Options)
-            → Follows result timestamp
-            (traces (B.log self.old.backend) self.old.standing)
-            (traces (B.log self.new.backend) self.new.standing)
+        ensures part { (given : Given) (o : code_options.Options)
+            → given.segment ≡ Some (segment_of slice.now sps.now pps.now)
+            → Follows result given
+            (traces (B.log self.old.backend) (B.handed self.old.backend) self.old.standing)
+            (traces (B.log self.new.backend) (B.handed self.new.backend) self.new.standing)
             (slice_of o slice.now sps.now pps.now)
             (standing self.old.standing) (standing self.new.standing) }
     {
@@ -152,15 +171,18 @@ impl<B: StatelessH265DecoderBackend> Driver<B> {
     /// A later slice is handed over, where a picture is open. Where that is refused the picture is to be given up.
     fn hand_slice(&mut self, slice: &Slice<'_>, sps: &Sps, pps: &Pps) -> Result<(), DecodeError>
         requires named { AreNamed slice.now sps.now pps.now }
-        requires sound { IsSound (B.log self.old.backend) self.old.standing }
-        ensures stays { StaysSound 0 (B.log self.new.backend) self.old.standing
+        requires sound { IsSound (B.log self.old.backend) (B.handed self.old.backend)
+            self.old.standing }
+        ensures stays { StaysSound 0
+            (B.log self.new.backend) (B.handed self.new.backend) self.old.standing
             self.new.standing }
         ensures fair { IsFair B.counts B.is_faultless B.info self.old.backend self.new.backend
             result }
-        ensures part { (timestamp : ℕ) (o : code_options.Options)
-            → Follows result timestamp
-            (traces (B.log self.old.backend) self.old.standing)
-            (traces (B.log self.new.backend) self.new.standing)
+        ensures part { (given : Given) (o : code_options.Options)
+            → given.segment ≡ Some (segment_of slice.now sps.now pps.now)
+            → Follows result given
+            (traces (B.log self.old.backend) (B.handed self.old.backend) self.old.standing)
+            (traces (B.log self.new.backend) (B.handed self.new.backend) self.new.standing)
             (slice_of o slice.now sps.now pps.now)
             (standing self.old.standing) (given_up_by result (standing self.new.standing)) }
     {

@@ -10,22 +10,22 @@ use Rattle.hevc_driver.specs.declared.decode_error.DecodeError.{DecodeError}
 use Rattle.hevc_driver.specs.declared.decode_error.DecodeError.TheVariants as errors
 use Rattle.hevc_driver.specs.declared.decode_error.DecodeError.TheVariants.{CheckEvents}
 use Rattle.hevc_stateless.specs.States.{is_awaited}
-use Rattle.hevc_stateless.specs.Steps.{Seen, Step, StepsIn, TakesFirst}
+use Rattle.hevc_stateless.specs.Steps.{Seen, Step, StepsIn, TakesFirst, given_to}
 
 isnt_both : (b : Bool) → b ≡ true → b ≡ false → ⊥
 isnt_both b one other = cc (sym one ∙ other)
 
 module _ {B H : Type 0} (t : ℕ) (o : Options) (old new : Seen B H) where
-  pub steps_in : {T : Type 0} (r : Result T DecodeError) (h : UnitHeader) (bytes : List ℕ) → is_awaited old.view.state ≡ false → Step r t o h bytes old new → StepsIn r t o h bytes old new
+  pub steps_in : {T : Type 0} (r : Result T DecodeError) (h : UnitHeader) (bytes : List ℕ) → is_awaited old.view.state ≡ false → Step r (given_to t o h bytes old) o h bytes old new → StepsIn r t o h bytes old new
   steps_in r h bytes going step = record { awaited = λ waits. absurd (isnt_both (is_awaited old.view.state) waits going); taken = λ _. step }
 
   abbrev error_in : {T : Type 0} → DecodeError → Result T DecodeError → DecodeError
   error_in e (Ok v) = e
   error_in e (Err x) = x
 
-  same_refusal : (e : DecodeError) (h : UnitHeader) (bytes : List ℕ) → Step {T = Unit {0}} (Err e) t o h bytes old new → Step {T = ℕ} (Err e) t o h bytes old new
-  same_refusal errors.NoMemory h bytes step = record { takes = ⊎_elim inl (λ a. inr (record { part = a.part; state = a.state })) step.takes; kept = step.kept }
-  same_refusal e h bytes step = record { takes = record { part = step.takes.part; state = step.takes.state }; kept = step.kept }
+  same_refusal : (e : DecodeError) (h : UnitHeader) (bytes : List ℕ) → Step {T = Unit {0}} (Err e) (given_to t o h bytes old) o h bytes old new → Step {T = ℕ} (Err e) (given_to t o h bytes old) o h bytes old new
+  same_refusal errors.NoMemory h bytes step = record { takes = ⊎_elim inl (λ a. inr (record { part = a.part; state = a.state })) step.takes; kept = step.kept; latest = step.latest }
+  same_refusal e h bytes step = record { takes = record { part = step.takes.part; state = step.takes.state }; kept = step.kept; latest = step.latest }
 
   refused_in : (e : DecodeError) (h : UnitHeader) (bytes : List ℕ) → StepsIn {T = Unit {0}} (Err e) t o h bytes old new → StepsIn {T = ℕ} (Err e) t o h bytes old new
   refused_in e h bytes x = record {
@@ -33,8 +33,8 @@ module _ {B H : Type 0} (t : ℕ) (o : Options) (old new : Seen B H) where
     taken = λ going. same_refusal e h bytes (x.taken going);
   }
 
-  same_step : {T : Type 0} (v : T) (place : ℕ) (h : UnitHeader) (bytes : List ℕ) → Step (Ok v) t o h bytes old new → Step (Ok place) t o h bytes old new
-  same_step v place h bytes step = record { takes = record { part = step.takes.part; state = step.takes.state }; kept = step.kept }
+  same_step : {T : Type 0} (v : T) (place : ℕ) (h : UnitHeader) (bytes : List ℕ) → Step (Ok v) (given_to t o h bytes old) o h bytes old new → Step (Ok place) (given_to t o h bytes old) o h bytes old new
+  same_step v place h bytes step = record { takes = record { part = step.takes.part; state = step.takes.state }; kept = step.kept; latest = step.latest }
 
   taken_in : {T : Type 0} (v : T) (place : ℕ) (h : UnitHeader) (bytes : List ℕ) → StepsIn (Ok v) t o h bytes old new → StepsIn (Ok place) t o h bytes old new
   taken_in v place h bytes x = record {

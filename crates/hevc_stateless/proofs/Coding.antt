@@ -12,13 +12,15 @@ use Rattle.hevc_walk.specs.Meanings.{UnitCause, Meaning, SequenceSet, CodedSlice
 use Rattle.hevc_stream.specs.Options.{Options}
 use Rattle.hevc_stream.specs.Kept.{Kept}
 use Rattle.hevc_stream.specs.Slices.{temporal_id, slice_segment_meaning}
-use Rattle.hevc_stream.specs.Contents.{Content, refused, slice, end_of_sequence, end_of_bitstream, nothing, content_read, coded_content, content}
+use Rattle.hevc_stream.specs.Contents.{Content, refused, slice, end_of_sequence, end_of_bitstream, nothing, content_read, coded_content, slice_content, content}
 use Rattle.hevc_stream.specs.Stream.{meaning_of, meaning, kept_behind, with_content}
 use Rattle.hevc_stream_laws.proofs.ByType.{of_end_of_sequence, of_end_of_bitstream}
 use Rattle.hevc_backend.specs.declared.call.Call.{Call}
 use Rattle.hevc_walk_units.specs.Units.{Standing}
 use Rattle.hevc_driver.specs.declared.decode_error.DecodeError.{DecodeError}
 use Rattle.hevc_driver.specs.declared.decode_error.DecodeError.TheVariants as errors
+use Rattle.hevc_backend.specs.Handed.{Handed, Segment}
+use Rattle.hevc_driver.specs.Given.{Given}
 use Rattle.hevc_driver.specs.Does.{Traces}
 use Rattle.hevc_driver.specs.Moments.{step_part}
 use Rattle.hevc_driver.specs.Takes.{Goes, Takes}
@@ -27,8 +29,9 @@ use Rattle.hevc_stateless.specs.declared.state.State.{State}
 use Rattle.hevc_stateless.specs.declared.state.State.TheVariants.{AwaitingStreamInfo, AwaitingFormat, Decoding, Reset}
 use Rattle.hevc_stateless.specs.States.{Unit, unit_at, is_sequence_set, is_parameter_set, later_meaning, state_behind, meaning_when, meaning_in, is_decoding, state_at}
 use Rattle.hevc_stateless.specs.Views.{View, traces_of, moment_of}
-use Rattle.hevc_stateless.specs.Steps.{Step, TakesIn, KeepsBehind, with_read_set}
-use Rattle.hevc_stateless.proofs.Passing.{idle_unit}
+use Rattle.hevc_stateless.specs.Steps.{Step, TakesIn, MovesLatest, KeepsBehind, with_read_set}
+use Rattle.hevc_stateless.specs.Segments.{header_in, latest_at, own_header, given_with}
+use Rattle.hevc_stateless.proofs.Passing.{idle_unit, latest_same, latest_without}
 use Rattle.hevc_stateless.proofs.Setting.{means}
 
 -- ---- the content
@@ -96,13 +99,20 @@ module _ (o : Options) (k : Kept) (bytes : List ℕ) (h : UnitHeader) (parsed : 
     pub other_means : is_slice h.nal_unit_type ≡ false → (h.nal_unit_type == 36) ≡ false → (h.nal_unit_type == 37) ≡ false → (unit_at o k h bytes).meaning ≡ Other
     other_means s e c = means o k bytes h parsed wanted nothing (of_other sure ∙ rw (s, e, c) refl)
 
+    -- a unit that is no slice has no header of a slice
+    pub own_none : is_slice h.nal_unit_type ≡ false → own_header o k bytes ≡ None
+    own_none no_slice =
+        ap header_in (of_other sure)
+        ∙ ap (λ (b : Bool). header_in (if b then slice_content sure h bytes else (if h.nal_unit_type == 36 then end_of_sequence else (if h.nal_unit_type == 37 then end_of_bitstream else nothing)))) no_slice
+        ∙ either header_in None (h.nal_unit_type == 36) end_of_sequence _ refl (either header_in None (h.nal_unit_type == 37) end_of_bitstream nothing refl refl)
+
 -- ---- ends
 
-pub ends : {H : Type 0} (t : ℕ) (a : Traces H) (s : Standing) → Goes t a a EndOfSequence s (step_part EndOfSequence s).next
-ends t a s = record { accepted = refl; room = refl; numbered = refl; goes_on = refl; completes = record { does = does_nothing t a a refl refl (keeps_all a.tickets a.tickets refl); next = refl } }
+pub ends : {H : Type 0} (t : Given) (a : Traces H) (s : Standing) → Goes t a a EndOfSequence s (step_part EndOfSequence s).next
+ends t a s = record { accepted = refl; room = refl; numbered = refl; goes_on = refl; completes = record { does = does_nothing t a a refl refl refl (keeps_all a.tickets a.tickets refl); next = refl } }
 
-pub closes : {H : Type 0} (t : ℕ) (a : Traces H) (s : Standing) → Goes t a a EndOfBitstream s (step_part EndOfBitstream s).next
-closes t a s = record { accepted = refl; room = refl; numbered = refl; goes_on = refl; completes = record { does = does_nothing t a a refl refl (keeps_all a.tickets a.tickets refl); next = refl } }
+pub closes : {H : Type 0} (t : Given) (a : Traces H) (s : Standing) → Goes t a a EndOfBitstream s (step_part EndOfBitstream s).next
+closes t a s = record { accepted = refl; room = refl; numbered = refl; goes_on = refl; completes = record { does = does_nothing t a a refl refl refl (keeps_all a.tickets a.tickets refl); next = refl } }
 
 -- ---- the states
 
@@ -180,16 +190,16 @@ coded_waits Reset u d p = ap (λ (b : Bool). if b then later_meaning u.meaning e
 
 -- ---- steps
 
-pub end_step : {B H : Type 0} (logs : B → Option (List (Call H))) (t : ℕ) (view now : View B H) (m : Meaning) → m ≡ EndOfSequence → now ≡ record view { standing = (step_part EndOfSequence view.standing).next }
-    → Goes t (traces_of (logs view.backend) view) (traces_of (logs now.backend) now) m view.standing now.standing
-end_step logs t view now m is same = rw same (rw is (ends t (traces_of (logs view.backend) view) view.standing))
+pub end_step : {B H : Type 0} (logs : B → Option (List (Call H))) (handeds : B → Option (List Handed)) (t : Given) (view now : View B H) (m : Meaning) → m ≡ EndOfSequence → now ≡ record view { standing = (step_part EndOfSequence view.standing).next }
+    → Goes t (traces_of (logs view.backend) (handeds view.backend) view) (traces_of (logs now.backend) (handeds now.backend) now) m view.standing now.standing
+end_step logs handeds t view now m is same = rw same (rw is (ends t (traces_of (logs view.backend) (handeds view.backend) view) view.standing))
 
-pub close_step : {B H : Type 0} (logs : B → Option (List (Call H))) (t : ℕ) (view now : View B H) (m : Meaning) → m ≡ EndOfBitstream → now ≡ record view { standing = (step_part EndOfBitstream view.standing).next }
-    → Goes t (traces_of (logs view.backend) view) (traces_of (logs now.backend) now) m view.standing now.standing
-close_step logs t view now m is same = rw same (rw is (closes t (traces_of (logs view.backend) view) view.standing))
+pub close_step : {B H : Type 0} (logs : B → Option (List (Call H))) (handeds : B → Option (List Handed)) (t : Given) (view now : View B H) (m : Meaning) → m ≡ EndOfBitstream → now ≡ record view { standing = (step_part EndOfBitstream view.standing).next }
+    → Goes t (traces_of (logs view.backend) (handeds view.backend) view) (traces_of (logs now.backend) (handeds now.backend) now) m view.standing now.standing
+close_step logs handeds t view now m is same = rw same (rw is (closes t (traces_of (logs view.backend) (handeds view.backend) view) view.standing))
 
-pub idle_step : {B H : Type 0} (logs : B → Option (List (Call H))) (t : ℕ) (view : View B H) (m : Meaning) → m ≡ Other → Goes t (traces_of (logs view.backend) view) (traces_of (logs view.backend) view) m view.standing view.standing
-idle_step logs t view m is = rw is (idle_unit t (traces_of (logs view.backend) view) view.standing)
+pub idle_step : {B H : Type 0} (logs : B → Option (List (Call H))) (handeds : B → Option (List Handed)) (t : Given) (view : View B H) (m : Meaning) → m ≡ Other → Goes t (traces_of (logs view.backend) (handeds view.backend) view) (traces_of (logs view.backend) (handeds view.backend) view) m view.standing view.standing
+idle_step logs handeds t view m is = rw is (idle_unit t (traces_of (logs view.backend) (handeds view.backend) view) view.standing)
 
 module _ (o : Options) (k : Kept) (bytes : List ℕ) (h : UnitHeader) (parsed : unit_header bytes ≡ Ok h) where
   abbrev u : Unit
@@ -221,13 +231,14 @@ module _ (o : Options) (k : Kept) (bytes : List ℕ) (h : UnitHeader) (parsed : 
   unfolding kept_behind
   unwanted_kept above = sym (ap (λ (c : Content). with_content o bytes c k) (of_unwanted o k bytes h parsed above k))
 
-  pub unwanted_step : {B H T : Type 0} (value : T) (t : ℕ) (log : Option (List (Call H))) (view : View B H) → nat_le (temporal_id h) o.highest_tid ≡ false → Step (Ok value) t o h bytes (record { log = log; view = view; kept = k }) (record { log = log; view = view; kept = k })
-  unwanted_step value t log view above = record {
+  pub unwanted_step : {B H T : Type 0} (value : T) (t : Given) (log : Option (List (Call H))) (handed : Option (List Handed)) (view : View B H) → nat_le (temporal_id h) o.highest_tid ≡ false → Step (Ok value) t o h bytes (record { log = log; handed = handed; view = view; kept = k }) (record { log = log; handed = handed; view = view; kept = k })
+  unwanted_step value t log handed view above = record {
     takes = record {
-      part = subst (λ (m : Meaning). Takes (Ok value) t (traces_of log view) (traces_of log view) m view.standing view.standing) (sym (ap (λ (x : State). meaning_when x u) (unwanted_behind view.state above) ∙ unwanted_when view.state (unwanted_means above))) (idle_unit t (traces_of log view) view.standing);
+      part = subst (λ (m : Meaning). Takes (Ok value) t (traces_of log handed view) (traces_of log handed view) m view.standing view.standing) (sym (ap (λ (x : State). meaning_when x u) (unwanted_behind view.state above) ∙ unwanted_when view.state (unwanted_means above))) (idle_unit t (traces_of log handed view) view.standing);
       state = sym (unwanted_behind view.state above);
     };
     kept = unwanted_kept above;
+    latest = latest_same (Ok value) _ view.latest view.latest (ap (λ (m : Meaning). latest_at m (own_header o k bytes) view.latest) (ap (λ (x : State). meaning_when x u) (unwanted_behind view.state above) ∙ unwanted_when view.state (unwanted_means above))) refl;
   }
 
   -- ---- units that are no parameter sets
@@ -236,36 +247,49 @@ module _ (o : Options) (k : Kept) (bytes : List ℕ) (h : UnitHeader) (parsed : 
     behind : (st : State) → state_behind st u ≡ state_at (is_idr h.nal_unit_type) st
     behind st = let w : nat_le (temporal_id h) o.highest_tid ≡ true = grind (arith, nat_tests, wanted) in coded_behind st u w (coded_isnt o k bytes h parsed wanted other)
 
-    pub passed_step : {B H T : Type 0} (value : T) (t : ℕ) (log : Option (List (Call H))) (view : View B H) (at : Bool) → at ≡ is_idr h.nal_unit_type → is_decoding (state_at at view.state) ≡ false
-        → Step (Ok value) t o h bytes (record { log = log; view = view; kept = k }) (record { log = log; view = view; kept = k })
-    passed_step {B} {H} {T} value t log view at is waits =
+    pub passed_step : {B H T : Type 0} (value : T) (t : Given) (log : Option (List (Call H))) (handed : Option (List Handed)) (view : View B H) (at : Bool) → at ≡ is_idr h.nal_unit_type → is_decoding (state_at at view.state) ≡ false
+        → Step (Ok value) t o h bytes (record { log = log; handed = handed; view = view; kept = k }) (record { log = log; handed = handed; view = view; kept = k })
+    passed_step {B} {H} {T} value t log handed view at is waits =
         let st : view.state ≡ state_behind view.state u = sym (still at view.state waits) ∙ ap (λ (b : Bool). state_at b view.state) is ∙ sym (behind view.state) in
         let m : meaning_in view.state u ≡ Other = ap (λ (x : State). meaning_when x u) (sym st) ∙ coded_waits view.state u (ap is_decoding (sym (still at view.state waits)) ∙ waits) other in
         record {
           takes = record {
-            part = subst (λ (x : Meaning). Takes (Ok value) t (traces_of log view) (traces_of log view) x view.standing view.standing) (sym m) (idle_unit t (traces_of log view) view.standing);
+            part = subst (λ (x : Meaning). Takes (Ok value) t (traces_of log handed view) (traces_of log handed view) x view.standing view.standing) (sym m) (idle_unit t (traces_of log handed view) view.standing);
             state = st;
           };
           kept = coded_keeps o k bytes h parsed wanted other (Ok value);
+          latest = latest_same (Ok value) _ view.latest view.latest (ap (λ (x : Meaning). latest_at x (own_header o k bytes) view.latest) m) refl;
         }
 
-    pub taken_step : {B H T : Type 0} (r : Result T DecodeError) (t : ℕ) (log newlog : Option (List (Call H))) (view now : View B H) (at : Bool) (new : Kept) → at ≡ is_idr h.nal_unit_type → is_decoding (state_at at view.state) ≡ true → new ≡ k
-        → TakesIn r t u.meaning (state_at (is_idr h.nal_unit_type) view.state) (moment_of log view) (moment_of newlog now)
-        → Step r t o h bytes (record { log = log; view = view; kept = k }) (record { log = newlog; view = now; kept = new })
-    taken_step {B} {H} {T} r t log newlog view now at new is goes kept takes =
+    means_in : {B H : Type 0} (view : View B H) (at : Bool) → at ≡ is_idr h.nal_unit_type → is_decoding (state_at at view.state) ≡ true → meaning_in view.state u ≡ u.meaning
+    means_in view at is goes = ap (λ (x : State). meaning_when x u) (behind view.state) ∙ coded_means (state_at (is_idr h.nal_unit_type) view.state) u (ap (λ (b : Bool). is_decoding (state_at b view.state)) (sym is) ∙ goes) (coded_isnt o k bytes h parsed wanted other)
+
+    pub taken_step : {B H T : Type 0} (r : Result T DecodeError) (t : Given) (log newlog : Option (List (Call H))) (handed newhanded : Option (List Handed)) (view now : View B H) (at : Bool) (new : Kept) → at ≡ is_idr h.nal_unit_type → is_decoding (state_at at view.state) ≡ true → new ≡ k → MovesLatest r (latest_at u.meaning (own_header o k bytes) view.latest) view.latest now.latest
+        → TakesIn r t u.meaning (state_at (is_idr h.nal_unit_type) view.state) (moment_of log handed view) (moment_of newlog newhanded now)
+        → Step r t o h bytes (record { log = log; handed = handed; view = view; kept = k }) (record { log = newlog; handed = newhanded; view = now; kept = new })
+    taken_step {B} {H} {T} r t log newlog handed newhanded view now at new is goes kept latest takes =
         let st : state_at (is_idr h.nal_unit_type) view.state ≡ state_behind view.state u = sym (behind view.state) in
-        let m : meaning_in view.state u ≡ u.meaning = ap (λ (x : State). meaning_when x u) (sym st) ∙ coded_means (state_at (is_idr h.nal_unit_type) view.state) u (ap (λ (b : Bool). is_decoding (state_at b view.state)) (sym is) ∙ goes) (coded_isnt o k bytes h parsed wanted other) in
+        let m : meaning_in view.state u ≡ u.meaning = means_in view at is goes in
         record {
-          takes = subst (λ (x : Meaning). TakesIn r t x (state_behind view.state u) (moment_of log view) (moment_of newlog now)) (sym m) (subst (λ (x : State). TakesIn r t u.meaning x (moment_of log view) (moment_of newlog now)) st takes);
+          takes = subst (λ (x : Meaning). TakesIn r t x (state_behind view.state u) (moment_of log handed view) (moment_of newlog newhanded now)) (sym m) (subst (λ (x : State). TakesIn r t u.meaning x (moment_of log handed view) (moment_of newlog newhanded now)) st takes);
           kept = subst (λ (x : Kept). KeepsBehind r o bytes k x) (sym kept) (coded_keeps o k bytes h parsed wanted other r);
+          latest = subst (λ (x : Meaning). MovesLatest r (latest_at x (own_header o k bytes) view.latest) view.latest now.latest) (sym m) latest;
         }
+
+    -- one that comes with what its meaning tells
+    pub coded_step : {B H T : Type 0} (r : Result T DecodeError) (timestamp : ℕ) (segment : Option Segment) (log newlog : Option (List (Call H))) (handed newhanded : Option (List Handed)) (view now : View B H) (at : Bool) (new : Kept) → at ≡ is_idr h.nal_unit_type → is_decoding (state_at at view.state) ≡ true → new ≡ k → MovesLatest r (latest_at u.meaning (own_header o k bytes) view.latest) view.latest now.latest
+        → TakesIn r (given_with timestamp u.meaning segment view.standing) u.meaning (state_at (is_idr h.nal_unit_type) view.state) (moment_of log handed view) (moment_of newlog newhanded now)
+        → Step r (given_with timestamp (meaning_in view.state u) segment view.standing) o h bytes (record { log = log; handed = handed; view = view; kept = k }) (record { log = newlog; handed = newhanded; view = now; kept = new })
+    coded_step {B} {H} {T} r timestamp segment log newlog handed newhanded view now at new is goes kept latest takes =
+        subst (λ (t : Given). Step r t o h bytes (record { log = log; handed = handed; view = view; kept = k }) (record { log = newlog; handed = newhanded; view = now; kept = new })) (ap (λ (x : Meaning). given_with timestamp x segment view.standing) (sym (means_in view at is goes)))
+        (taken_step r (given_with timestamp u.meaning segment view.standing) log newlog handed newhanded view now at new is goes kept latest takes)
 
     -- a unit that asks for no call
-    pub ended_step : {B H T : Type 0} (logs : B → Option (List (Call H))) (value : T) (t : ℕ) (view now : View B H) (at : Bool) (new : Kept) → at ≡ is_idr h.nal_unit_type → is_decoding (state_at at view.state) ≡ true → is_slice h.nal_unit_type ≡ false → new ≡ k → now ≡ record view { standing = now.standing }
-        → Goes t (traces_of (logs view.backend) view) (traces_of (logs now.backend) now) u.meaning view.standing now.standing
-        → Step (Ok value) t o h bytes (record { log = logs view.backend; view = view; kept = k }) (record { log = logs now.backend; view = now; kept = new })
-    ended_step logs value t view now at new is goes no_slice kept same part =
-        taken_step (Ok value) t (logs view.backend) (logs now.backend) view now at new is goes kept (record {
+    pub ended_step : {B H T : Type 0} (logs : B → Option (List (Call H))) (handeds : B → Option (List Handed)) (value : T) (t : Given) (view now : View B H) (at : Bool) (new : Kept) → at ≡ is_idr h.nal_unit_type → is_decoding (state_at at view.state) ≡ true → is_slice h.nal_unit_type ≡ false → new ≡ k → now ≡ record view { standing = now.standing }
+        → Goes t (traces_of (logs view.backend) (handeds view.backend) view) (traces_of (logs now.backend) (handeds now.backend) now) u.meaning view.standing now.standing
+        → Step (Ok value) t o h bytes (record { log = logs view.backend; handed = handeds view.backend; view = view; kept = k }) (record { log = logs now.backend; handed = handeds now.backend; view = now; kept = new })
+    ended_step logs handeds value t view now at new is goes no_slice kept same part =
+        taken_step (Ok value) t (logs view.backend) (logs now.backend) (handeds view.backend) (handeds now.backend) view now at new is goes kept (latest_same (Ok value) _ view.latest now.latest (ap (λ (own : Option PlainSliceSegmentHeader). latest_at u.meaning own view.latest) (own_none o k bytes h parsed wanted other no_slice) ∙ latest_without u.meaning view.latest) (ap (λ (v : View _ _). v.latest) same)) (record {
           part = part;
           state = ap (λ (v : View _ _). v.state) same ∙ sym (ap (λ (b : Bool). state_at b view.state) (no_idr h.nal_unit_type no_slice) ∙ still_false view.state);
         })

@@ -1,5 +1,5 @@
 -- Units that are passed over or refused, and the states.
-use Rattle.std.proofs.Common.{◌≡◌, inr, ℕ, ◌&&◌, ◌||◌, refl, ◌∙◌, ap, Result, Ok, Err, Bool, true, false, if◌then◌else◌}
+use Rattle.std.proofs.Common.{◌≡◌, inr, ◌&&◌, ◌||◌, refl, ◌∙◌, ap, Result, Ok, Err, Bool, true, false, if◌then◌else◌}
 use Rattle.hevc_spec.specs.UnitTypes.{is_idr}
 use Rattle.hevc_walk.specs.Meanings as meaning
 use Rattle.hevc_walk.specs.Meanings.{UnitCause, Meaning, Other, Refused}
@@ -8,10 +8,15 @@ use Rattle.hevc_walk_units.specs.Units.{Standing}
 use Rattle.hevc_driver.specs.declared.decode_error.DecodeError.{DecodeError}
 use Rattle.hevc_driver.specs.declared.decode_error.DecodeError.TheVariants as errors
 use Rattle.hevc_driver.specs.Errors.{cause_error}
+use Rattle.hevc_driver.specs.Given.{Given}
 use Rattle.hevc_driver.specs.Does.{Traces}
 use Rattle.hevc_driver.specs.Takes.{Goes, Refuses, Takes}
 use Rattle.hevc_driver.proofs.Doing.{does_nothing, keeps_all}
-use Rattle.hevc_stateless.specs.Steps.{Acts, TakesIn}
+use Rattle.std.proofs.Common.{inl, sym}
+use Rattle.std.specs.Prelude.{Option, None}
+use Rattle.hevc_records.specs.SliceHeader.{PlainSliceSegmentHeader}
+use Rattle.hevc_stateless.specs.Segments.{latest_at}
+use Rattle.hevc_stateless.specs.Steps.{Acts, TakesIn, MovesLatest}
 use Rattle.hevc_stateless.specs.Views.{Moment}
 use Rattle.hevc_stateless.specs.declared.state.State.{State}
 use Rattle.hevc_stateless.specs.declared.state.State.TheVariants.{AwaitingStreamInfo, AwaitingFormat, Decoding, Reset}
@@ -19,7 +24,7 @@ use Rattle.hevc_stateless.specs.States.{Unit, is_sequence_set, is_parameter_set,
 
 -- ---- what a unit asks
 
-refuses : {H : Type 0} (c : UnitCause) (t : ℕ) (a : Traces H) (s : Standing) → Refuses (cause_error c) t a a (Refused c) s s
+refuses : {H : Type 0} (c : UnitCause) (t : Given) (a : Traces H) (s : Standing) → Refuses (cause_error c) t a a (Refused c) s s
 refuses {H} c t a s = record {
   accepted = refl;
   room = refl;
@@ -27,12 +32,12 @@ refuses {H} c t a s = record {
   cause = UnitRefused c;
   refused = refl;
   named = refl;
-  does = does_nothing t a a refl refl (keeps_all a.tickets a.tickets refl);
+  does = does_nothing t a a refl refl refl (keeps_all a.tickets a.tickets refl);
   left = refl;
 }
 
 -- a unit that is refused by itself
-pub refused_unit : {H : Type 0} (T : Type 0) (c : UnitCause) (t : ℕ) (a : Traces H) (s : Standing) → Takes {T = T} (Err (cause_error c)) t a a (Refused c) s s
+pub refused_unit : {H : Type 0} (T : Type 0) (c : UnitCause) (t : Given) (a : Traces H) (s : Standing) → Takes {T = T} (Err (cause_error c)) t a a (Refused c) s s
 refused_unit T meaning.TruncatedNalu t a s = refuses meaning.TruncatedNalu t a s
 refused_unit T (meaning.InvalidNaluType n) t a s = refuses (meaning.InvalidNaluType n) t a s
 refused_unit T meaning.OutOfBits t a s = refuses meaning.OutOfBits t a s
@@ -48,20 +53,37 @@ refused_moves T (meaning.OutOfRange x y) behind now is = is
 refused_moves T (meaning.MissingPps n) behind now is = is
 
 -- a unit that was taken
-pub acts_in : {H T : Type 0} (r : Result T DecodeError) (t : ℕ) (u : Meaning) (behind : State) (old new : Moment H) → Acts r t u behind old new → TakesIn r t u behind old new
+pub acts_in : {H T : Type 0} (r : Result T DecodeError) (t : Given) (u : Meaning) (behind : State) (old new : Moment H) → Acts r t u behind old new → TakesIn r t u behind old new
 acts_in (Ok v) t u behind old new a = a
 acts_in (Err errors.NoMemory) t u behind old new a = inr a
 acts_in (Err e) t u behind old new a = a
 
 -- a unit that means nothing
-pub idle_unit : {H : Type 0} (t : ℕ) (a : Traces H) (s : Standing) → Goes t a a Other s s
+pub idle_unit : {H : Type 0} (t : Given) (a : Traces H) (s : Standing) → Goes t a a Other s s
 idle_unit {H} t a s = record {
   accepted = refl;
   room = refl;
   numbered = refl;
   goes_on = refl;
-  completes = record { does = does_nothing t a a refl refl (keeps_all a.tickets a.tickets refl); next = refl };
+  completes = record { does = does_nothing t a a refl refl refl (keeps_all a.tickets a.tickets refl); next = refl };
 }
+
+-- ---- the latest independent header
+
+-- a unit that doesn't change it
+pub latest_same : {A T : Type 0} (r : Result T DecodeError) (behind old new : A) → behind ≡ old → new ≡ old → MovesLatest r behind old new
+latest_same (Ok v) behind old new is same = same ∙ sym is
+latest_same (Err errors.CheckEvents) behind old new is same = same ∙ sym is
+latest_same (Err e) behind old new is same = inl same
+
+-- no header of its own was read
+pub latest_without : (m : Meaning) (latest : Option PlainSliceSegmentHeader) → latest_at m None latest ≡ latest
+latest_without (meaning.SequenceSet f) latest = refl
+latest_without (meaning.CodedSlice s) latest = refl
+latest_without meaning.EndOfSequence latest = refl
+latest_without meaning.EndOfBitstream latest = refl
+latest_without meaning.Other latest = refl
+latest_without (meaning.Refused c) latest = refl
 
 -- ---- the states
 

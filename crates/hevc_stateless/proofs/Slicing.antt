@@ -1,5 +1,5 @@
 -- The units of slice segments.
-use Rattle.std.proofs.Common.{◌≡◌, ℕ, ◌≤◌, List, refl, sym, ◌∙◌, ap, subst, Option, Result, Ok, Err, Bool, true}
+use Rattle.std.proofs.Common.{◌≡◌, inl, ℕ, ◌≤◌, List, refl, sym, ◌∙◌, ap, subst, Option, Result, Ok, Err, Bool, true}
 use Rattle.std.specs.Prelude.{IsTrue, drop}
 use Rattle.hevc_spec.specs.UnitTypes.{is_slice}
 use Rattle.hevc_spec.specs.UnitHeader.{UnitHeader, unit_header}
@@ -33,12 +33,18 @@ use Rattle.hevc_options.specs.declared.Options as code_options
 use Rattle.hevc_options.specs.Options.{options_of}
 use Rattle.hevc_driver.specs.Slices.{slice_of}
 use Rattle.hevc_driver.specs.Errors.{cause_error}
+use Rattle.hevc_driver.specs.Given.{Given}
 use Rattle.hevc_driver.specs.Does.{Traces}
 use Rattle.hevc_driver.specs.Takes.{Takes}
 use Rattle.hevc_stateless.specs.declared.state.State.{State}
 use Rattle.hevc_slice.specs.Slices.{active_of}
 use Rattle.hevc_stateless.specs.States.{unit_at}
-use Rattle.hevc_stateless.specs.Steps.{Acts, TakesIn}
+use Rattle.std.specs.Prelude.{Some}
+use Rattle.hevc_walk.specs.Meanings.{Slice}
+use Rattle.hevc_driver.specs.Headers.{whole_header}
+use Rattle.hevc_driver.specs.Given.{given_at}
+use Rattle.hevc_stateless.specs.Segments.{header_in, own_header, with_sets, segment_with, segment_at, given_with}
+use Rattle.hevc_stateless.specs.Steps.{Acts, TakesIn, MovesLatest}
 use Rattle.hevc_stateless.specs.Refusals.{IsOfUnit, refusal_of}
 use Rattle.hevc_stateless.proofs.Passing.{refused_unit, refused_moves}
 use Rattle.hevc_stateless.proofs.Setting.{means}
@@ -69,7 +75,19 @@ module _ (o : Options) (k : Kept) (bytes : List ℕ) (h : UnitHeader) (parsed : 
   pub segment_means : (segment : PlainSliceSegmentHeader) (rest : List Bool) (sets : Option ActiveSets) → reading ≡ gives segment rest → active_sets k.sequence_sets k.picture_sets segment.pic_parameter_set_id ≡ sets → (unit_at o k h bytes).meaning ≡ slice_segment_meaning o h bytes segment sets
   segment_means segment rest sets is active = slice_means (gives segment rest) is ∙ ap (slice_segment_meaning o h bytes segment) active
 
-  module _ {H : Type 0} (T : Type 0) (t : ℕ) (a : Traces H) (s : Standing) (before state : State) where
+  -- its header
+  pub segment_own : (segment : PlainSliceSegmentHeader) (rest : List Bool) → reading ≡ gives segment rest → own_header o k bytes ≡ Some segment
+  segment_own segment rest is = ap header_in (of_slice o (record k { has_sequence_set = true }) bytes h parsed wanted refl typed ∙ ap (content_read (slice h)) is)
+
+  -- what comes with it
+  pub segment_given : (timestamp : ℕ) (latest : Option PlainSliceSegmentHeader) (s : Standing) (segment : PlainSliceSegmentHeader) (rest : List Bool) (sets : ActiveSets) (x : Slice) → reading ≡ gives segment rest → active_sets k.sequence_sets k.picture_sets segment.pic_parameter_set_id ≡ Some sets → (unit_at o k h bytes).meaning ≡ CodedSlice x
+      → given_at timestamp x (with_sets (Some sets) (whole_header latest segment)) s ≡ given_with timestamp (unit_at o k h bytes).meaning (segment_at o k latest bytes) s
+  segment_given timestamp latest s segment rest sets x is active means =
+      ap (λ (a : Option ActiveSets). given_at timestamp x (with_sets a (whole_header latest segment)) s) (sym active)
+      ∙ ap (λ (own : Option PlainSliceSegmentHeader). given_at timestamp x (segment_with k latest own) s) (sym (segment_own segment rest is))
+      ∙ ap (λ (m : Meaning). given_with timestamp m (segment_at o k latest bytes) s) (sym means)
+
+  module _ {H : Type 0} (T : Type 0) (t : Given) (a : Traces H) (s : Standing) (before state : State) where
     -- it is refused for a cause
     refused_for : (cause : UnitCause) → (unit_at o k h bytes).meaning ≡ Refused cause → Acts {T = T} (Err (cause_error cause)) t (unit_at o k h bytes).meaning state (record { traces = a; standing = s; state = before }) (record { traces = a; standing = s; state = state })
     refused_for cause is = record {
@@ -85,6 +103,15 @@ module _ (o : Options) (k : Kept) (bytes : List ℕ) (h : UnitHeader) (parsed : 
     segment_refused (parse.MissingSps id) isnt why names = absurd names
     segment_refused (parse.MissingPps id) isnt why names = refused_for (MissingPps id) (slice_means (refuses (not_kept names_picture_set id) why.0) why.1)
     segment_refused parse.NoMemory isnt why names = absurd (isnt refl)
+
+-- where it is refused the latest independent header stays
+pub refused_latest : {A : Type 0} (T : Type 0) (e : ParseError) (behind old new : A) → (e ≡ parse.NoMemory → ⊥) → new ≡ old → MovesLatest {T = T} (Err (refusal_of e)) behind old new
+refused_latest T parse.WrongNaluType behind old new isnt same = inl same
+refused_latest T parse.OutOfBits behind old new isnt same = inl same
+refused_latest T (parse.OutOfRange table row) behind old new isnt same = inl same
+refused_latest T (parse.MissingSps id) behind old new isnt same = inl same
+refused_latest T (parse.MissingPps id) behind old new isnt same = inl same
+refused_latest T parse.NoMemory behind old new isnt same = absurd (isnt refl)
 
 -- ---- what the code's words mean
 

@@ -11,12 +11,15 @@ use Rattle.hevc_kept_sets.specs.declared.kept_sets.KeptSets.{KeptSets}
 use Rattle.hevc_kept_sets.specs.Kept.{kept_of}
 use Rattle.hevc_kept_sets.specs.Takes.{StopsReading}
 use Rattle.hevc_backend.specs.declared.call.Call.{Call}
+use Rattle.hevc_backend.specs.Handed.{Handed}
 use Rattle.hevc_driver.specs.declared.decode_error.DecodeError.{DecodeError}
 use Rattle.hevc_driver.specs.declared.decode_error.DecodeError.TheVariants as errors
 use Rattle.hevc_driver.specs.Errors.{cause_error}
+use Rattle.hevc_driver.specs.Given.{Given}
 use Rattle.hevc_driver.specs.Takes.{Takes}
 use Rattle.hevc_stateless.specs.declared.state.State.{State}
 use Rattle.hevc_stateless.specs.States.{unit_at, meaning_in, state_behind, MovesBy, is_awaited}
+use Rattle.hevc_stateless.specs.Segments.{latest_at, own_header, segment_at, given_with}
 use Rattle.hevc_stateless.specs.Views.{View, Moment, moment_of}
 
 -- a sequence set that was read is kept
@@ -39,14 +42,17 @@ KeepsBehind (Err errors.NoMemory) options bytes old new =
     ⊎ StopsReading options (with_read_set (content options old bytes) old) new)
 KeepsBehind (Err error) options bytes old new = new ≡ old
 
--- What a decoder is seen by: its backend's log, its view and what it keeps.
+-- What a decoder is seen by: what its backend tells, its view and what it keeps.
 pub record Seen (B H : Type 0) : Type 0 where
   pub log : Option (List (Call H))
+  pub handed : Option (List Handed)
   pub view : View B H
   pub kept : Kept
 
-abbrev pub seen : {B H : Type 0} → Option (List (Call H)) → View B H → KeptSets → Seen B H
-seen log view sets = record { log = log; view = view; kept = kept_of sets }
+abbrev pub seen : {B H : Type 0} → Option (List (Call H)) → Option (List Handed) → View B H
+    → KeptSets → Seen B H
+seen log handed view sets =
+    record { log = log; handed = handed; view = view; kept = kept_of sets }
 
 -- the errors of a parameter set's unit
 abbrev pub IsOfSet : DecodeError → Type 0
@@ -56,33 +62,51 @@ IsOfSet errors.NoMemory = Unit {0}
 IsOfSet error = ⊥
 
 -- A unit of this meaning was taken, which this state follows.
-pub record Acts {H T : Type 0} (result : Result T DecodeError) (timestamp : ℕ) (u : Meaning)
+pub record Acts {H T : Type 0} (result : Result T DecodeError) (given : Given) (u : Meaning)
     (behind : State) (old new : Moment H) : Type 0 where
-  pub part : Takes result timestamp old.traces new.traces u old.standing new.standing
+  pub part : Takes result given old.traces new.traces u old.standing new.standing
   pub state : MovesBy result behind new.state
 
 -- it was, or nothing has changed, since memory was wanted before a call of the backend
-abbrev pub TakesIn : {H T : Type 0} → Result T DecodeError → ℕ → Meaning → State → Moment H
+abbrev pub TakesIn : {H T : Type 0} → Result T DecodeError → Given → Meaning → State → Moment H
     → Moment H → Type 0
-TakesIn {H} {T} (Err errors.NoMemory) timestamp u behind old new =
-    (new ≡ old) ⊎ Acts {T = T} (Err errors.NoMemory) timestamp u behind old new
-TakesIn result timestamp u behind old new = Acts result timestamp u behind old new
+TakesIn {H} {T} (Err errors.NoMemory) given u behind old new =
+    (new ≡ old) ⊎ Acts {T = T} (Err errors.NoMemory) given u behind old new
+TakesIn result given u behind old new = Acts result given u behind old new
 
--- A unit of this header and these bytes was taken, while no format is awaited.
-pub record Step {B H T : Type 0} (result : Result T DecodeError) (timestamp : ℕ) (options : Options)
+-- the header of the latest independent slice segment moved on with a unit; it may have stayed where
+-- that is refused
+abbrev pub MovesLatest : {A T : Type 0} → Result T DecodeError → (behind old new : A) → Type 0
+MovesLatest (Ok value) behind old new = new ≡ behind
+MovesLatest (Err errors.CheckEvents) behind old new = new ≡ behind
+MovesLatest (Err error) behind old new = (new ≡ old) ⊎ (new ≡ behind)
+
+-- A unit of this header and these bytes was taken with this, while no format is awaited.
+pub record Step {B H T : Type 0} (result : Result T DecodeError) (given : Given) (options : Options)
     (header : UnitHeader) (bytes : List ℕ) (old new : Seen B H) : Type 0 where
-  pub takes : TakesIn result timestamp
+  pub takes : TakesIn result given
       (meaning_in old.view.state (unit_at options old.kept header bytes))
       (state_behind old.view.state (unit_at options old.kept header bytes))
-      (moment_of old.log old.view) (moment_of new.log new.view)
+      (moment_of old.log old.handed old.view) (moment_of new.log new.handed new.view)
   pub kept : KeepsBehind result options bytes old.kept new.kept
+  pub latest : MovesLatest result
+      (latest_at (meaning_in old.view.state (unit_at options old.kept header bytes))
+      (own_header options old.kept bytes) old.view.latest)
+      old.view.latest new.view.latest
+
+-- what comes with a unit of this header and these bytes
+abbrev pub given_to : {B H : Type 0} → (timestamp : ℕ) → Options → UnitHeader → (bytes : List ℕ)
+    → Seen B H → Given
+given_to timestamp options header bytes old =
+    given_with timestamp (meaning_in old.view.state (unit_at options old.kept header bytes))
+    (segment_at options old.kept old.view.latest bytes) old.view.standing
 
 -- A unit of this header and these bytes was given: a format that is awaited comes before it.
 pub record StepsIn {B H T : Type 0} (result : Result T DecodeError) (timestamp : ℕ)
     (options : Options) (header : UnitHeader) (bytes : List ℕ) (old new : Seen B H) : Type 0 where
   pub awaited : is_awaited old.view.state ≡ true → (result ≡ Err errors.CheckEvents) × (new ≡ old)
   pub taken : is_awaited old.view.state ≡ false
-      → Step result timestamp options header bytes old new
+      → Step result (given_to timestamp options header bytes old) options header bytes old new
 
 -- a header that is refused comes before all else (7.3.1.2)
 abbrev pub StepsBehind : {B H T : Type 0} → Result UnitHeader HeaderFault → Result T DecodeError → ℕ

@@ -3,7 +3,9 @@ use Rattle.std.specs.Prelude.{◌≡◌, ℕ, ◌+◌, ◌≤◌, List, [], ◌�
 use Rattle.hevc_walk_units.specs.Units as units
 use Rattle.hevc_walk_units.specs.Units.{Standing, at_first}
 use Rattle.hevc_bumping.specs.declared.frame.Frame.{Frame}
+use Rattle.hevc_records.specs.SliceHeader.{PlainSliceSegmentHeader}
 use Rattle.hevc_backend.specs.declared.call.Call.{Call}
+use Rattle.hevc_backend.specs.Handed.{Handed}
 use Rattle.hevc_driver.specs.Does.{Traces}
 use Rattle.hevc_stateless.specs.declared.state.State.{State}
 use Rattle.hevc_stateless.specs.declared.state.State.TheVariants.{AwaitingStreamInfo}
@@ -18,6 +20,8 @@ pub record View (B H : Type 0) : Type 0 where
   pub queue : List (Frame H)
   -- the numbers of the stored pictures, with their handles
   pub tickets : List (ℕ × H)
+  -- what dependent slice segments take from the latest independent one (7.4.7.1)
+  pub latest : Option PlainSliceSegmentHeader
 
 -- at the beginning of a stream
 abbrev pub at_beginning : {B H : Type 0} → B → View B H
@@ -27,11 +31,14 @@ at_beginning backend = record {
   standing = at_first;
   queue = [];
   tickets = [];
+  latest = None;
 }
 
--- all that decoding may change, where the backend tells this log
-abbrev pub traces_of : {B H : Type 0} → Option (List (Call H)) → View B H → Traces H
-traces_of log v = record { log = log; queue = v.queue; tickets = v.tickets }
+-- all that decoding may change, where the backend tells this log, and this that it was handed
+abbrev pub traces_of : {B H : Type 0} → Option (List (Call H)) → Option (List Handed) → View B H
+    → Traces H
+traces_of log handed v =
+    record { log = log; handed = handed; queue = v.queue; tickets = v.tickets }
 
 -- What taking a unit may change: the traces, what the pictures so far mean, and the state.
 pub record Moment (H : Type 0) : Type 0 where
@@ -39,8 +46,10 @@ pub record Moment (H : Type 0) : Type 0 where
   pub standing : Standing
   pub state : State
 
-abbrev pub moment_of : {B H : Type 0} → Option (List (Call H)) → View B H → Moment H
-moment_of log v = record { traces = traces_of log v; standing = v.standing; state = v.state }
+abbrev pub moment_of : {B H : Type 0} → Option (List (Call H)) → Option (List Handed) → View B H
+    → Moment H
+moment_of log handed v =
+    record { traces = traces_of log handed v; standing = v.standing; state = v.state }
 
 -- At most 17 pictures came out: the 16 that may be stored, and one more.
 abbrev pub OutputsFew : {B H : Type 0} → View B H → View B H → Type 0

@@ -1,9 +1,10 @@
 //! The decoder and its calls.
-ghost use Rattle.std.specs.Prelude.{◌≡◌, ◌<◌, ◌≤◌, ◌^◌, ℕ, length, IfOk, [], option_map, OnOk, OnErr};
+ghost use Rattle.std.specs.Prelude.{◌≡◌, ◌<◌, ◌≤◌, ◌^◌, length, IfOk, [], option_map, OnOk, OnErr};
 ghost use Rattle.hevc_spec.specs.Units.{units};
 ghost use Rattle.hevc_stream.specs.Kept.{none_kept};
 ghost use Rattle.hevc_stream.specs.Options.{default_options};
 ghost use Rattle.hevc_options.specs.Options.{options_of};
+ghost use Rattle.hevc_driver.specs.Given.{Given};
 ghost use Rattle.hevc_driver.specs.Answers.{IsFair};
 ghost use Rattle.hevc_stateless.specs.declared.state.State.TheVariants.{AwaitingFormat, Decoding, Reset};
 ghost use Rattle.hevc_stateless.specs.States.{is_awaited};
@@ -66,7 +67,7 @@ impl<B: StatelessH265DecoderBackend> StatelessDecoder<B> {
         ensures fair { IsFair B.counts B.is_faultless B.info (view_of self.old).backend
             (view_of self.new).backend result }
         ensures takes { TakesFirst (units bitstream.now) result timestamp (set_for self.old)
-            (seen_by B.log self.old) (seen_by B.log self.new) }
+            (seen_by B.log B.handed self.old) (seen_by B.log B.handed self.new) }
         ensures inside { IfOk result (λ place. (3 ≤ place) × (place ≤ length bitstream.now)) }
         ensures options { set_for self.new ≡ set_for self.old }
     {
@@ -92,7 +93,7 @@ impl<B: StatelessH265DecoderBackend> StatelessDecoder<B> {
             (view_of self.new).backend result }
         ensures takes { StepsIn result timestamp (set_for self.old)
             nalu.now.header (bytes_of nalu.now)
-            (seen_by B.log self.old) (seen_by B.log self.new) }
+            (seen_by B.log B.handed self.old) (seen_by B.log B.handed self.new) }
         ensures options { set_for self.new ≡ set_for self.old }
     {
         if self.awaiting_format() {
@@ -112,10 +113,13 @@ impl<B: StatelessH265DecoderBackend> StatelessDecoder<B> {
         ensures few { OutputsFew (view_of self.old) (view_of self.new) }
         ensures fair { IsFair B.counts B.is_faultless B.info (view_of self.old).backend
             (view_of self.new).backend result }
-        ensures flushes { (timestamp : ℕ) → Flushes result timestamp
-            (traces_of (B.log (view_of self.old).backend) (view_of self.old))
-            (traces_of (B.log (view_of self.new).backend) (view_of self.new))
+        ensures flushes { (given : Given) → Flushes result given
+            (traces_of (B.log (view_of self.old).backend) (B.handed (view_of self.old).backend)
+            (view_of self.old))
+            (traces_of (B.log (view_of self.new).backend) (B.handed (view_of self.new).backend)
+            (view_of self.new))
             (view_of self.old).state (view_of self.old).standing (view_of self.new).standing }
+        ensures latest { (view_of self.new).latest ≡ (view_of self.old).latest }
         ensures state { OnOk result ((view_of self.new).state ≡ Reset) }
         ensures stays { OnErr result ((view_of self.new).state ≡ (view_of self.old).state) }
         ensures kept { kept_in self.new ≡ kept_in self.old }

@@ -1,10 +1,13 @@
 //! A stream that is being decoded.
-ghost use Rattle.std.specs.Prelude.{◌≡◌, true, ℕ, OnOk, OnErr};
+ghost use Rattle.std.specs.Prelude.{◌≡◌, true, OnOk, OnErr};
 ghost use Rattle.hevc_spec.specs.UnitTypes.{is_idr};
 ghost use Rattle.hevc_bits.specs.NaluType.{nalu_type_number};
 ghost use Rattle.hevc_types_c.specs.Sps.{plain_sps};
 ghost use Rattle.hevc_walk_inputs.specs.Sequences.{format_of_set};
 ghost use Rattle.hevc_walk.specs.Meanings.{SequenceSet, CodedSlice, EndOfSequence, EndOfBitstream};
+ghost use Rattle.hevc_types_d.specs.SliceHeader.{plain_slice_header};
+ghost use Rattle.hevc_driver.specs.Headers.{latest_behind, whole_segment};
+ghost use Rattle.hevc_driver.specs.Given.{Given, given_at};
 ghost use Rattle.hevc_driver.specs.Answers.{IsFair};
 ghost use Rattle.hevc_driver.specs.Moments.{step_part};
 ghost use Rattle.hevc_driver.specs.Slices.{slice_of};
@@ -12,7 +15,7 @@ ghost use Rattle.hevc_driver.specs.Sound.{AreNamed};
 ghost use Rattle.hevc_stateless.specs.declared.state.State.TheVariants.{AwaitingStreamInfo, AwaitingFormat, Decoding, Reset};
 ghost use Rattle.hevc_stateless.specs.States.{is_awaited, awaits_stream_info, is_decoding, state_at};
 ghost use Rattle.hevc_stateless.specs.Flushes.{Flushes};
-ghost use Rattle.hevc_stateless.specs.Steps.{Acts, TakesIn};
+ghost use Rattle.hevc_stateless.specs.Steps.{Acts, TakesIn, MovesLatest};
 ghost use Rattle.hevc_stateless.specs.Views.{at_beginning, traces_of, moment_of, PopsFrame, OutputsFew};
 
 use crate::state::State;
@@ -35,14 +38,15 @@ impl<B: StatelessH265DecoderBackend> Model for Session<B> {
     ghost use Rattle.hevc_dpb.specs.Entries.{tickets};
     ghost use Rattle.hevc_dpb.specs.Views.{stored_entries};
     ghost use Rattle.hevc_driver.specs.Sound.{IsSound};
+    ghost use Rattle.hevc_driver.specs.Headers.{latest_of};
     ghost use Rattle.hevc_driver.specs.Standings.{standing, current_of};
     ghost use Rattle.hevc_stateless.specs.Views.{View, IsIdleBefore};
 
     ghost Value = { View B B.Handle };
 
-    ghost view = { λ s. record { backend = s.driver.backend; state = s.state; standing = standing s.driver.standing; queue = s.driver.standing.queue.items; tickets = tickets (stored_entries s.driver.standing.dpb) } };
+    ghost view = { λ s. record { backend = s.driver.backend; state = s.state; standing = standing s.driver.standing; queue = s.driver.standing.queue.items; tickets = tickets (stored_entries s.driver.standing.dpb); latest = latest_of s.driver.standing.kept } };
 
-    ghost invariant = { λ s. IsSound (B.log s.driver.backend) s.driver.standing × IsIdleBefore s.state (current_of s.driver.standing.current) };
+    ghost invariant = { λ s. IsSound (B.log s.driver.backend) (B.handed s.driver.backend) s.driver.standing × IsIdleBefore s.state (current_of s.driver.standing.current) };
 }
 
 /// The state that follows a unit of this type, no parameter set: a slice of an IDR picture ends the wait after `flush`.
@@ -150,10 +154,11 @@ impl<B: StatelessH265DecoderBackend> Session<B> {
         ensures few { OutputsFew self.old self.new }
         ensures fair { IsFair B.counts B.is_faultless B.info self.old.backend self.new.backend
             result }
-        ensures acts { (timestamp : ℕ) → Acts result timestamp
+        ensures latest { self.new.latest ≡ self.old.latest }
+        ensures acts { (given : Given) → Acts result given
             (SequenceSet (format_of_set (plain_sps sps.now))) self.old.state
-            (moment_of (B.log self.old.backend) self.old)
-            (moment_of (B.log self.new.backend) self.new) }
+            (moment_of (B.log self.old.backend) (B.handed self.old.backend) self.old)
+            (moment_of (B.log self.new.backend) (B.handed self.new.backend) self.new) }
     {
         self.driver.open_sequence(sps)?;
         self.state = State::AwaitingFormat;
@@ -178,11 +183,16 @@ impl<B: StatelessH265DecoderBackend> Session<B> {
         ensures few { OutputsFew self.old self.new }
         ensures fair { IsFair B.counts B.is_faultless B.info self.old.backend self.new.backend
             result }
-        ensures takes { TakesIn result timestamp
+        ensures latest { MovesLatest result
+            (latest_behind self.old.latest (plain_slice_header slice.old.header))
+            self.old.latest self.new.latest }
+        ensures takes { TakesIn result
+            (given_at timestamp (slice_of options slice.old sps.now pps.now)
+            (whole_segment self.old.latest slice.old sps.now pps.now) self.old.standing)
             (CodedSlice (slice_of options slice.old sps.now pps.now))
             (state_at (is_idr slice.old.nalu.header.nal_unit_type) self.old.state)
-            (moment_of (B.log self.old.backend) self.old)
-            (moment_of (B.log self.new.backend) self.new) }
+            (moment_of (B.log self.old.backend) (B.handed self.old.backend) self.old)
+            (moment_of (B.log self.new.backend) (B.handed self.new.backend) self.new) }
     {
         self.driver.reserve()?;
         self.state = behind_unit(self.state, slice.nalu().header().nalu_type());
@@ -216,10 +226,11 @@ impl<B: StatelessH265DecoderBackend> Session<B> {
         ensures few { OutputsFew self.old self.new }
         ensures fair { IsFair B.counts B.is_faultless B.info self.old.backend self.new.backend
             result }
-        ensures flushes { (timestamp : ℕ) → Flushes result timestamp
-            (traces_of (B.log self.old.backend) self.old)
-            (traces_of (B.log self.new.backend) self.new)
+        ensures flushes { (given : Given) → Flushes result given
+            (traces_of (B.log self.old.backend) (B.handed self.old.backend) self.old)
+            (traces_of (B.log self.new.backend) (B.handed self.new.backend) self.new)
             self.old.state self.old.standing self.new.standing }
+        ensures latest { self.new.latest ≡ self.old.latest }
         ensures state { OnOk result (self.new.state ≡ Reset) }
         ensures stays { OnErr result (self.new.state ≡ self.old.state) }
     {

@@ -1,13 +1,15 @@
 //! Units are taken.
-ghost use Rattle.std.specs.Prelude.{◌≡◌, ◌<◌, ◌≤◌, ℕ, length, true, false, Ok, Some, IsSome, IfErr};
+ghost use Rattle.std.specs.Prelude.{◌≡◌, ◌<◌, ◌≤◌, length, true, false, Ok, Some, IsSome, IfErr};
 ghost use Rattle.hevc_spec.specs.UnitHeader.{unit_header};
 ghost use Rattle.hevc_spec.specs.UnitTypes.{is_idr, is_slice};
 ghost use Rattle.hevc_bits.specs.FoundUnit.{bytes_of};
 ghost use Rattle.hevc_stream.specs.Slices.{temporal_id};
 ghost use Rattle.hevc_kept_sets.specs.Kept.{kept_of, options_in};
+ghost use Rattle.hevc_driver.specs.Given.{Given};
 ghost use Rattle.hevc_driver.specs.Answers.{IsFair};
 ghost use Rattle.hevc_stateless.specs.States.{is_awaited, is_decoding, is_parameter_set, state_at, unit_at};
-ghost use Rattle.hevc_stateless.specs.Steps.{Acts, Step, TakesIn, seen, IsOfSet};
+ghost use Rattle.hevc_stateless.specs.Segments.{given_with, latest_at, own_header, segment_at};
+ghost use Rattle.hevc_stateless.specs.Steps.{Acts, Step, TakesIn, MovesLatest, given_to, seen, IsOfSet};
 ghost use Rattle.hevc_records.specs.Sps.{PlainSps};
 ghost use Rattle.hevc_walk_inputs.specs.Sequences.{format_of_set};
 ghost use Rattle.hevc_walk.specs.Meanings.{SequenceSet};
@@ -32,10 +34,12 @@ impl<B: StatelessH265DecoderBackend> StatelessDecoder<B> {
         requires wanted { temporal_id nalu.now.header ≤ (options_in self.old.kept).highest_tid }
         ensures same { self.new.session ≡ self.old.session }
         ensures options { options_in self.new.kept ≡ options_in self.old.kept }
-        ensures step { (timestamp : ℕ) → Step result timestamp (options_in self.old.kept)
+        ensures step { (given : Given) → Step result given (options_in self.old.kept)
             nalu.now.header (bytes_of nalu.now)
-            (seen (B.log self.old.session.backend) self.old.session self.old.kept)
-            (seen (B.log self.new.session.backend) self.new.session self.new.kept) }
+            (seen (B.log self.old.session.backend) (B.handed self.old.session.backend)
+            self.old.session self.old.kept)
+            (seen (B.log self.new.session.backend) (B.handed self.new.session.backend)
+            self.new.session self.new.kept) }
         ensures refused { IfErr result IsOfSet }
     {
         match self.kept.take_video_set(nalu) {
@@ -58,10 +62,12 @@ impl<B: StatelessH265DecoderBackend> StatelessDecoder<B> {
         ensures fair { IsFair B.counts B.is_faultless B.info self.old.session.backend
             self.new.session.backend result }
         ensures options { options_in self.new.kept ≡ options_in self.old.kept }
-        ensures step { (timestamp : ℕ) → Step result timestamp (options_in self.old.kept)
+        ensures step { (given : Given) → Step result given (options_in self.old.kept)
             nalu.now.header (bytes_of nalu.now)
-            (seen (B.log self.old.session.backend) self.old.session self.old.kept)
-            (seen (B.log self.new.session.backend) self.new.session self.new.kept) }
+            (seen (B.log self.old.session.backend) (B.handed self.old.session.backend)
+            self.old.session self.old.kept)
+            (seen (B.log self.new.session.backend) (B.handed self.new.session.backend)
+            self.new.session self.new.kept) }
     {
         let id = match self.kept.keep_sequence_set(nalu) {
             Ok(id) => id,
@@ -82,11 +88,14 @@ impl<B: StatelessH265DecoderBackend> StatelessDecoder<B> {
         ensures few { OutputsFew self.old.session self.new.session }
         ensures fair { IsFair B.counts B.is_faultless B.info self.old.session.backend
             self.new.session.backend result }
-        ensures acts { (timestamp : ℕ) (set : PlainSps)
+        ensures latest { self.new.session.latest ≡ self.old.session.latest }
+        ensures acts { (given : Given) (set : PlainSps)
             → (kept_of self.old.kept).sequence_sets id ≡ Some set
-            → Acts result timestamp (SequenceSet (format_of_set set)) self.old.session.state
-            (moment_of (B.log self.old.session.backend) self.old.session)
-            (moment_of (B.log self.new.session.backend) self.new.session) }
+            → Acts result given (SequenceSet (format_of_set set)) self.old.session.state
+            (moment_of (B.log self.old.session.backend) (B.handed self.old.session.backend)
+            self.old.session)
+            (moment_of (B.log self.new.session.backend) (B.handed self.new.session.backend)
+            self.new.session) }
         ensures kept { kept_of self.new.kept ≡ kept_of self.old.kept }
         ensures options { options_in self.new.kept ≡ options_in self.old.kept }
     {
@@ -105,10 +114,12 @@ impl<B: StatelessH265DecoderBackend> StatelessDecoder<B> {
         requires wanted { temporal_id nalu.now.header ≤ (options_in self.old.kept).highest_tid }
         ensures same { self.new.session ≡ self.old.session }
         ensures options { options_in self.new.kept ≡ options_in self.old.kept }
-        ensures step { (timestamp : ℕ) → Step result timestamp (options_in self.old.kept)
+        ensures step { (given : Given) → Step result given (options_in self.old.kept)
             nalu.now.header (bytes_of nalu.now)
-            (seen (B.log self.old.session.backend) self.old.session self.old.kept)
-            (seen (B.log self.new.session.backend) self.new.session self.new.kept) }
+            (seen (B.log self.old.session.backend) (B.handed self.old.session.backend)
+            self.old.session self.old.kept)
+            (seen (B.log self.new.session.backend) (B.handed self.new.session.backend)
+            self.new.session self.new.kept) }
         ensures refused { IfErr result (λ e. e ≡ NoMemory) }
     {
         self.kept.take_picture_set(nalu)?;
@@ -127,12 +138,24 @@ impl<B: StatelessH265DecoderBackend> StatelessDecoder<B> {
         ensures fair { IsFair B.counts B.is_faultless B.info self.old.session.backend
             self.new.session.backend result }
         ensures kept { self.new.kept ≡ self.old.kept }
-        ensures takes { TakesIn result timestamp
+        ensures latest { MovesLatest result
+            (latest_at (unit_at (options_in self.old.kept) (kept_of self.old.kept)
+            nalu.entry.header (bytes_of nalu.entry)).meaning
+            (own_header (options_in self.old.kept) (kept_of self.old.kept) (bytes_of nalu.entry))
+            self.old.session.latest)
+            self.old.session.latest self.new.session.latest }
+        ensures takes { TakesIn result
+            (given_with timestamp (unit_at (options_in self.old.kept) (kept_of self.old.kept)
+            nalu.entry.header (bytes_of nalu.entry)).meaning
+            (segment_at (options_in self.old.kept) (kept_of self.old.kept) self.old.session.latest
+            (bytes_of nalu.entry)) self.old.session.standing)
             (unit_at (options_in self.old.kept) (kept_of self.old.kept) nalu.entry.header
             (bytes_of nalu.entry)).meaning
             (state_at (is_idr nalu.entry.header.nal_unit_type) self.old.session.state)
-            (moment_of (B.log self.old.session.backend) self.old.session)
-            (moment_of (B.log self.new.session.backend) self.new.session) }
+            (moment_of (B.log self.old.session.backend) (B.handed self.old.session.backend)
+            self.old.session)
+            (moment_of (B.log self.new.session.backend) (B.handed self.new.session.backend)
+            self.new.session) }
     {
         let nalu_type = nalu.header().nalu_type();
         let parser = self.kept.parser();
@@ -161,9 +184,11 @@ impl<B: StatelessH265DecoderBackend> StatelessDecoder<B> {
         ensures kept { self.new.kept ≡ self.old.kept }
         ensures others { self.new.session
             ≡ record self.old.session { standing = self.new.session.standing } }
-        ensures goes { (timestamp : ℕ) → Goes timestamp
-            (traces_of (B.log self.old.session.backend) self.old.session)
-            (traces_of (B.log self.new.session.backend) self.new.session)
+        ensures goes { (given : Given) → Goes given
+            (traces_of (B.log self.old.session.backend) (B.handed self.old.session.backend)
+            self.old.session)
+            (traces_of (B.log self.new.session.backend) (B.handed self.new.session.backend)
+            self.new.session)
             (unit_at (options_in self.old.kept) (kept_of self.old.kept) nalu.now.header
             (bytes_of nalu.now)).meaning
             self.old.session.standing self.new.session.standing }
@@ -186,10 +211,16 @@ impl<B: StatelessH265DecoderBackend> StatelessDecoder<B> {
         ensures fair { IsFair B.counts B.is_faultless B.info self.old.session.backend
             self.new.session.backend result }
         ensures options { options_in self.new.kept ≡ options_in self.old.kept }
-        ensures step { Step result timestamp (options_in self.old.kept)
+        ensures step { Step result
+            (given_to timestamp (options_in self.old.kept) nalu.entry.header (bytes_of nalu.entry)
+            (seen (B.log self.old.session.backend) (B.handed self.old.session.backend)
+            self.old.session self.old.kept))
+            (options_in self.old.kept)
             nalu.entry.header (bytes_of nalu.entry)
-            (seen (B.log self.old.session.backend) self.old.session self.old.kept)
-            (seen (B.log self.new.session.backend) self.new.session self.new.kept) }
+            (seen (B.log self.old.session.backend) (B.handed self.old.session.backend)
+            self.old.session self.old.kept)
+            (seen (B.log self.new.session.backend) (B.handed self.new.session.backend)
+            self.new.session self.new.kept) }
     {
         let nalu_type = nalu.header().nalu_type();
         if !self.session.decodes(nalu_type) {
@@ -215,10 +246,16 @@ impl<B: StatelessH265DecoderBackend> StatelessDecoder<B> {
         ensures fair { IsFair B.counts B.is_faultless B.info self.old.session.backend
             self.new.session.backend result }
         ensures options { options_in self.new.kept ≡ options_in self.old.kept }
-        ensures step { Step result timestamp (options_in self.old.kept)
+        ensures step { Step result
+            (given_to timestamp (options_in self.old.kept) nalu.entry.header (bytes_of nalu.entry)
+            (seen (B.log self.old.session.backend) (B.handed self.old.session.backend)
+            self.old.session self.old.kept))
+            (options_in self.old.kept)
             nalu.entry.header (bytes_of nalu.entry)
-            (seen (B.log self.old.session.backend) self.old.session self.old.kept)
-            (seen (B.log self.new.session.backend) self.new.session self.new.kept) }
+            (seen (B.log self.old.session.backend) (B.handed self.old.session.backend)
+            self.old.session self.old.kept)
+            (seen (B.log self.new.session.backend) (B.handed self.new.session.backend)
+            self.new.session self.new.kept) }
     {
         let header = nalu.header();
         if header.temporal_id_plus1() - 1 > self.kept.options().highest_tid {

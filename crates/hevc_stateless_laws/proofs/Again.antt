@@ -35,8 +35,13 @@ use Rattle.hevc_stateless.specs.Steps.{Seen, Step, StepsIn, StepsBehind, TakesFi
 use Rattle.hevc_stateless.specs.Views.{traces_of}
 use Rattle.hevc_stateless_laws.specs.Stands.{state_by, meant, standing_after, asked, kept_after, first_meaning, meant_next, StandsBetween, TookAgain}
 use Rattle.hevc_stateless_laws.proofs.Accepting.{stays_accepted}
+use Rattle.hevc_driver.specs.Given.{Given}
+use Rattle.hevc_backend.specs.Trait.{logged}
+use Rattle.hevc_stateless_laws.specs.Stands.{given_next}
+use Rattle.hevc_stateless_laws.proofs.Given.{handed_calls, given_second, latest_second}
 use Rattle.hevc_stateless_laws.proofs.Keeping.{meant_last, kept_last, length_meant, kept_has, is_coded, none_coded, IsReadAgain, read_again}
-use Rattle.hevc_stateless_laws.proofs.Standing.{calls_are, later_is, is_decoding, or_true}
+use Rattle.hevc_stateless_laws.proofs.Standing.{calls_are, is_decoding, or_true}
+use Rattle.hevc_stateless_laws.proofs.Means.{later_is}
 use Rattle.hevc_stateless_laws.proofs.Twice.{TwiceBy, twice, quiet}
 
 nothing_out : {H : Type 0} (out : List (Frame H)) → map frame_output out ≡ [] → out ≡ []
@@ -100,11 +105,11 @@ module _ {B H : Type 0} (o : Options) (us : List NalUnit) (u : NalUnit) (h : Uni
   pub meant_is : (unit_at o old.kept h u.bytes).meaning ≡ y
   meant_is = ap (λ (kk : Kept). meaning o (record kk { has_sequence_set = true }) u.bytes) between.kept ∙ again.means
 
-  module _ (t : ℕ) (new : Seen B H) (v : ℕ) (decoding : old.view.state ≡ Decoding) (step : Step (Ok v) t o h u.bytes old new) where
-    goes : Goes t (traces_of old.log old.view) (traces_of new.log new.view) (later_meaning y) n new.view.standing
-    goes = subst (λ (m : Meaning). Goes t (traces_of old.log old.view) (traces_of new.log new.view) (later_meaning m) n new.view.standing) meant_is
-        (subst (λ (s : Standing). Goes t (traces_of old.log old.view) (traces_of new.log new.view) (meaning_in Decoding (unit_at o old.kept h u.bytes)) s new.view.standing) between.stands
-        (subst (λ (x : State). Goes t (traces_of old.log old.view) (traces_of new.log new.view) (meaning_in x (unit_at o old.kept h u.bytes)) old.view.standing new.view.standing) decoding step.takes.part))
+  module _ (t : ℕ) (new : Seen B H) (v : ℕ) (decoding : old.view.state ≡ Decoding) (step : Step (Ok v) (given_next t o us u) o h u.bytes old new) where
+    goes : Goes (given_next t o us u) (traces_of old.log old.handed old.view) (traces_of new.log new.handed new.view) (later_meaning y) n new.view.standing
+    goes = subst (λ (m : Meaning). Goes (given_next t o us u) (traces_of old.log old.handed old.view) (traces_of new.log new.handed new.view) (later_meaning m) n new.view.standing) meant_is
+        (subst (λ (s : Standing). Goes (given_next t o us u) (traces_of old.log old.handed old.view) (traces_of new.log new.handed new.view) (meaning_in Decoding (unit_at o old.kept h u.bytes)) s new.view.standing) between.stands
+        (subst (λ (x : State). Goes (given_next t o us u) (traces_of old.log old.handed old.view) (traces_of new.log new.handed new.view) (meaning_in x (unit_at o old.kept h u.bytes)) old.view.standing new.view.standing) decoding step.takes.part))
 
     fine : refusal (stream ms) y ≡ None
     fine = sym (refusal-same (stream ms) y) ∙ tw.refusal ∙ goes.goes_on
@@ -141,20 +146,22 @@ module _ {B H : Type 0} (o : Options) (us : List NalUnit) (u : NalUnit) (h : Uni
         state_is = step.takes.state ∙ ap (λ (x : State). state_behind x (unit_at o old.kept h u.bytes)) decoding ∙ sym (is_decoding new.view.standing.store.accepted some) ∙ ap (λ (s : Standing). state_by s.store.accepted) next_list;
         room = room_now;
         kept = step.kept ∙ ap (λ (kk : Kept). kept_behind o kk u.bytes) between.kept ∙ again.kept ∙ sym (kept_last o none_kept us u);
+        latest = step.latest ∙ latest_second o us u h old between parsed meant_is decoding;
         started = ap (λ (s : Standing). is_some s.store.accepted) (sym next_list) ∙ some ∙ sym has_now;
       };
       later = flat_map call_in (step_part (later_meaning y) n).events;
-      logs = record { made = goes.completes.does.calls; log = goes.completes.does.log; calls_are = goes.completes.does.made; timed = goes.completes.does.timed };
+      logs = record { made = goes.completes.does.calls; log = goes.completes.does.log; calls_are = goes.completes.does.made; timed = goes.completes.does.timed; handed = goes.completes.does.handed ∙ ap (logged old.handed) (handed_calls (given_next t o us u) (step_part (later_meaning y) n).events) };
       both = here (λ i l. map asked (calls_of_unit i (calls l))) ∙ ap (map asked) (calls-at ms y [] between.goes_on) ∙ calls_are (length ms) (unit_part y S).events ∙ ap (λ (q : Part Standing). flat_map call_in q.events) tw.part ∙ flat_map-append call_in (opening (meant_next o us u) S).events (step_part (later_meaning y) n).events;
-      queue = goes.completes.does.queue ∙ ap (λ (l : List (Frame H)). old.view.queue ++ l) (nothing_out goes.completes.does.out (goes.completes.does.given ∙ quiet a y S refl between.negotiates)) ∙ append-nil old.view.queue;
+      queue = goes.completes.does.queue ∙ ap (λ (l : List (Frame H)). old.view.queue ++ l) (nothing_out goes.completes.does.out (goes.completes.does.shown ∙ quiet a y S refl between.negotiates)) ∙ append-nil old.view.queue;
     }
 
-goes_of : {B H : Type 0} (v t : ℕ) (o : Options) (h : UnitHeader) (bytes : List ℕ) (old new : Seen B H) → old.view.state ≡ Decoding → StepsIn (Ok v) t o h bytes old new → Step (Ok v) t o h bytes old new
-goes_of v t o h bytes old new decoding y = y.taken (ap is_awaited decoding)
+goes_of : {B H : Type 0} (v t : ℕ) (o : Options) (us : List NalUnit) (u : NalUnit) (h : UnitHeader) (old new : Seen B H) → StandsBetween o us u old → unit_header u.bytes ≡ Ok h → old.view.state ≡ Decoding → StepsIn (Ok v) t o h u.bytes old new → Step (Ok v) (given_next t o us u) o h u.bytes old new
+goes_of v t o us u h old new between parsed decoding y =
+    subst (λ (g : Given). Step (Ok v) g o h u.bytes old new) (given_second o us u h old between parsed (meant_is o us u h old between parsed) decoding t) (y.taken (ap is_awaited decoding))
 
 pub took_first_again : {B H : Type 0} (t : ℕ) (o : Options) (us others : List NalUnit) (u : NalUnit) (old new : Seen B H) (v : ℕ) → StandsBetween o us u old → old.view.state ≡ Decoding → TakesFirst (u ∷ others) (Ok v) t o old new → TookAgain t o us u old new
 took_first_again t o us others u old new v between decoding takes = by (unit_header u.bytes) refl takes.0
   where
     by : (r : Result UnitHeader HeaderFault) → unit_header u.bytes ≡ r → StepsBehind r (Ok v) t o u.bytes old new → TookAgain t o us u old new
-    by (Ok h) is step = took_again o us u h old between is t new v decoding (goes_of v t o h u.bytes old new decoding step)
+    by (Ok h) is step = took_again o us u h old between is t new v decoding (goes_of v t o us u h old new between is decoding step)
     by (Err fault) is step = absurd (cc step.0)

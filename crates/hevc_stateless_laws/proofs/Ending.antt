@@ -15,6 +15,9 @@ use Rattle.hevc_walk_joined.specs.Standings.{standing, full_by}
 use Rattle.hevc_walk_joined.proofs.Cuts.{AllBelow, stream-below, events-cut, verdict-cut, of_unit, of_unit-below, of_unit-at, calls_of_unit-in, outputs_of_unit-in}
 use Rattle.hevc_stream.specs.Options.{Options}
 use Rattle.hevc_stream.specs.Kept.{none_kept}
+use Rattle.hevc_backend.specs.Trait.{logged}
+use Rattle.hevc_driver.specs.Given.{Given, handed_by}
+use Rattle.hevc_stateless_laws.proofs.Given.{handed_calls}
 use Rattle.hevc_driver.specs.Does.{call_in, output_in}
 use Rattle.hevc_stateless.specs.Flushes.{Ends}
 use Rattle.hevc_stateless.specs.Steps.{Seen}
@@ -50,21 +53,23 @@ module _ (ms : List Meaning) (none : stop ms ≡ None) where
       ap verdict (sym (append-nil ms)) ∙ verdict-cut ms [] none ∙ ap (λ (f : Option ℕ). full_or f (verdict_from S k [])) room
       ∙ ap (λ (b : Bool). refused_at k (full_or_cause b None) (Ok S.next.number)) full
 
-pub ended : {B H : Type 0} (t : ℕ) (o : Options) (us : List NalUnit) (old new : Seen B H) → StandsAfter o us old → Ends t (traces_of old.log old.view) (traces_of new.log new.view) old.view.state old.view.standing new.view.standing → Ended t o us old new
+pub ended : {B H : Type 0} (t : Given) (o : Options) (us : List NalUnit) (old new : Seen B H) → StandsAfter o us old → Ends t (traces_of old.log old.handed old.view) (traces_of new.log new.handed new.view) old.view.state old.view.standing new.view.standing → Ended t o us old new
 ended t o us old new after ends =
     let ms = meant o us in
     let same = length_meant o none_kept us in
+    let asked_is = ap (λ (s : Standing). flat_map call_in (closing_part s).events) after.stands ∙ sym (calls_are (length ms) (closing_part (standing_after ms)).events) ∙ sym (ap (map asked) (calls_end ms after.goes_on)) ∙ ap (λ (n : ℕ). map asked (calls_of_unit n (calls ms))) same in
     record {
       verdict = verdict_end ms after.goes_on after.room (ap is_full_now (sym after.stands) ∙ ends.room) ∙ ap (λ (s : Standing). Ok s.next.number) (sym after.stands);
       calls = record {
         made = ends.does.calls;
         log = ends.does.log;
-        calls_are = ends.does.made ∙ ap (λ (s : Standing). flat_map call_in (closing_part s).events) after.stands ∙ sym (calls_are (length ms) (closing_part (standing_after ms)).events) ∙ sym (ap (map asked) (calls_end ms after.goes_on)) ∙ ap (λ (n : ℕ). map asked (calls_of_unit n (calls ms))) same;
+        calls_are = ends.does.made ∙ asked_is;
         timed = ends.does.timed;
+        handed = ends.does.handed ∙ ap (logged old.handed) (handed_calls t (closing_part old.view.standing).events ∙ ap (flat_map (handed_by t)) asked_is);
       };
       outputs = record {
         out = ends.does.out;
         queue = ends.does.queue;
-        outputs_are = ap (λ (n : ℕ). map (frame_at n) ends.does.out) (sym same) ∙ outputs_are (length ms) (closing_part (standing_after ms)).events ends.does.out (ends.does.given ∙ ap (λ (s : Standing). flat_map output_in (closing_part s).events) after.stands) ∙ sym (outputs_end ms after.goes_on) ∙ ap (λ (n : ℕ). outputs_of_unit n (outputs ms)) same;
+        outputs_are = ap (λ (n : ℕ). map (frame_at n) ends.does.out) (sym same) ∙ outputs_are (length ms) (closing_part (standing_after ms)).events ends.does.out (ends.does.shown ∙ ap (λ (s : Standing). flat_map output_in (closing_part s).events) after.stands) ∙ sym (outputs_end ms after.goes_on) ∙ ap (λ (n : ℕ). outputs_of_unit n (outputs ms)) same;
       };
     }

@@ -208,6 +208,11 @@ module _ (o : Options) (k : Kept) (bytes : List ℕ) (h : UnitHeader) (parsed : 
   not_kept end_of_bitstream isnt = refl
   not_kept nothing isnt = refl
 
+  -- what isn't a sequence set keeps none
+  pub not_read : is_sequence_set (meaning o k bytes) ≡ false → with_read_set (content o k bytes) k ≡ k
+  unfolding meaning
+  not_read isnt = not_kept (content o k bytes) isnt
+
   -- a unit whose content is a sequence set has its type
   video_other : (r : Reading PlainVps) → is_sequence_set (meaning_of o k bytes (content_read video_set r)) ≡ false
   video_other (gives set rest) = refl

@@ -8,3 +8,5 @@ pub mod Shortened
 pub mod Standing
 pub mod Repeating
 pub mod Twice
+pub mod Means
+pub mod Given

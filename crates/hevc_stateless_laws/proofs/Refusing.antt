@@ -26,8 +26,15 @@ use Rattle.hevc_stateless.specs.States.{unit_at, meaning_in, state_behind, is_aw
 use Rattle.hevc_stateless.specs.Steps.{Seen, Step, TakesIn, StepsIn, StepsBehind, TakesFirst}
 use Rattle.hevc_stateless.specs.Views.{Moment, moment_of, traces_of}
 use Rattle.hevc_stateless_laws.specs.Stands.{state_by, meant, standing_after, StandsAfter, asked, frame_at, kept_after, IsRefusal, RefusedUnit}
+use Rattle.std.specs.List.{flat_map}
+use Rattle.hevc_backend.specs.Trait.{logged}
+use Rattle.hevc_driver.specs.Given.{Given, handed_by}
+use Rattle.hevc_driver.specs.Does.{call_in}
+use Rattle.hevc_stateless_laws.specs.Stands.{given_next}
+use Rattle.hevc_stateless_laws.proofs.Given.{handed_calls, given_first}
 use Rattle.hevc_stateless_laws.proofs.Keeping.{meant_last, meant_behind, length_meant}
-use Rattle.hevc_stateless_laws.proofs.Standing.{Means, means, calls_are, outputs_are, going_by}
+use Rattle.hevc_stateless_laws.proofs.Standing.{calls_are, outputs_are, going_by}
+use Rattle.hevc_stateless_laws.proofs.Means.{Means, means}
 
 -- where a unit is refused, that is the answer to the stream
 answers_at : {B H : Type 0} {seen : Seen B H} (o : Options) (us : List NalUnit) (u : NalUnit) (back : List NalUnit) (after : StandsAfter o us seen) (r : Option Cause) (cause : Cause) → r ≡ Some cause
@@ -57,8 +64,11 @@ module _ {B H : Type 0} (e : DecodeError) (t : ℕ) (o : Options) (us : List Nal
   here : {A : Type 0} (P : ℕ → List Meaning → A) → P (length us) (meant o (us ++ u ∷ [])) ≡ P (length ms) (ms ++ y ∷ [])
   here P = ap (λ (n : ℕ). P n (meant o (us ++ u ∷ []))) (sym (length_meant o none_kept us)) ∙ ap (P (length ms)) (meant_last o none_kept us u)
 
+  asked_is : flat_map call_in (unit_part y S).events ≡ map asked (calls_of_unit (length us) (calls (meant o (us ++ u ∷ []))))
+  asked_is = sym (calls_are (length ms) (unit_part y S).events) ∙ sym (ap (map asked) (calls-at ms y [] after.goes_on)) ∙ sym (here (λ n l. map asked (calls_of_unit n (calls l))))
+
   -- what the unit asks was done, up to its refusal
-  refused_unit : (cause : Cause) → refusal (stream ms) y ≡ Some cause → is_full_at y S ≡ false → error_of cause ≡ e → Does t (traces_of old.log old.view) (traces_of new.log new.view) (unit_part y S).events → RefusedUnit e t o us u old new
+  refused_unit : (cause : Cause) → refusal (stream ms) y ≡ Some cause → is_full_at y S ≡ false → error_of cause ≡ e → Does (given_next t o us u) (traces_of old.log old.handed old.view) (traces_of new.log new.handed new.view) (unit_part y S).events → RefusedUnit e t o us u old new
   refused_unit cause refused full named does = record {
     cause = cause;
     refused = refused;
@@ -67,13 +77,14 @@ module _ {B H : Type 0} (e : DecodeError) (t : ℕ) (o : Options) (us : List Nal
     calls = record {
       made = does.calls;
       log = does.log;
-      calls_are = does.made ∙ sym (calls_are (length ms) (unit_part y S).events) ∙ sym (ap (map asked) (calls-at ms y [] after.goes_on)) ∙ sym (here (λ n l. map asked (calls_of_unit n (calls l))));
+      calls_are = does.made ∙ asked_is;
       timed = does.timed;
+      handed = does.handed ∙ ap (logged old.handed) (handed_calls (given_next t o us u) (unit_part y S).events ∙ ap (flat_map (handed_by (given_next t o us u))) asked_is);
     };
     outputs = record {
       out = does.out;
       queue = does.queue;
-      outputs_are = ap (λ (n : ℕ). map (frame_at n) does.out) (sym (length_meant o none_kept us)) ∙ outputs_are (length ms) (unit_part y S).events does.out does.given ∙ sym (outputs-at ms y [] after.goes_on) ∙ sym (here (λ n l. outputs_of_unit n (outputs l)));
+      outputs_are = ap (λ (n : ℕ). map (frame_at n) does.out) (sym (length_meant o none_kept us)) ∙ outputs_are (length ms) (unit_part y S).events does.out does.shown ∙ sym (outputs-at ms y [] after.goes_on) ∙ sym (here (λ n l. outputs_of_unit n (outputs l)));
     };
   }
 
@@ -81,8 +92,8 @@ module _ {B H : Type 0} (e : DecodeError) (t : ℕ) (o : Options) (us : List Nal
   header_refused : (fault : HeaderFault) → unit_header u.bytes ≡ Err fault → e ≡ cause_error (header_cause fault) → new ≡ old → RefusedUnit e t o us u old new
   unfolding meaning content
   header_refused fault parsed is same = refused_unit (UnitRefused (header_cause fault)) (sym (refusal-same (stream ms) y) ∙ ap (λ (m : Meaning). refusal_at m S) means_it) (ap (λ (m : Meaning). is_full_at m S) means_it) (sym is)
-      (subst (λ (m : Meaning). Does t (traces_of old.log old.view) (traces_of new.log new.view) (unit_part m S).events) (sym means_it)
-      (does_nothing t (traces_of old.log old.view) (traces_of new.log new.view) (ap (λ (s : Seen B H). s.log) same) (ap (λ (s : Seen B H). s.view.queue) same) (keeps_all old.view.tickets new.view.tickets (ap (λ (s : Seen B H). s.view.tickets) same))))
+      (subst (λ (m : Meaning). Does (given_next t o us u) (traces_of old.log old.handed old.view) (traces_of new.log new.handed new.view) (unit_part m S).events) (sym means_it)
+      (does_nothing (given_next t o us u) (traces_of old.log old.handed old.view) (traces_of new.log new.handed new.view) (ap (λ (s : Seen B H). s.log) same) (ap (λ (s : Seen B H). s.handed) same) (ap (λ (s : Seen B H). s.view.queue) same) (keeps_all old.view.tickets new.view.tickets (ap (λ (s : Seen B H). s.view.tickets) same))))
     where
       means_it : y ≡ Refused (header_cause fault)
       means_it = rw parsed refl
@@ -97,13 +108,13 @@ module _ {B H : Type 0} (e : DecodeError) (t : ℕ) (o : Options) (us : List Nal
     same : Means x y old.view.standing
     same = subst (λ (k : Kept). Means x (meaning o k u.bytes) old.view.standing) after.kept (means o old.kept u.bytes h parsed a old.view.standing (ap (λ (s : Standing). s.store.accepted) after.stands) after.started)
 
-    read_refused : takes.Refuses e t (traces_of old.log old.view) (traces_of new.log new.view) x old.view.standing new.view.standing → RefusedUnit e t o us u old new
+    read_refused : takes.Refuses e (given_next t o us u) (traces_of old.log old.handed old.view) (traces_of new.log new.handed new.view) x old.view.standing new.view.standing → RefusedUnit e t o us u old new
     read_refused r = refused_unit r.cause (sym (refusal-same (stream ms) y) ∙ ap (refusal_at y) (sym after.stands) ∙ sym same.refusal ∙ r.refused) (ap (is_full_at y) (sym after.stands) ∙ sym same.full ∙ r.room) r.named
-        (subst (λ (q : Part Standing). Does t (traces_of old.log old.view) (traces_of new.log new.view) q.events) (same.part ∙ ap (unit_part y) after.stands) r.does)
+        (subst (λ (q : Part Standing). Does (given_next t o us u) (traces_of old.log old.handed old.view) (traces_of new.log new.handed new.view) q.events) (same.part ∙ ap (unit_part y) after.stands) r.does)
 
 -- ---- by the error
 
-refuses_of : {H : Type 0} (e : DecodeError) (t : ℕ) (u : Meaning) (behind : State) (old new : Moment H) → IsRefusal e → TakesIn {H = H} {T = ℕ} (Err e) t u behind old new → takes.Refuses e t old.traces new.traces u old.standing new.standing
+refuses_of : {H : Type 0} (e : DecodeError) (t : Given) (u : Meaning) (behind : State) (old new : Moment H) → IsRefusal e → TakesIn {H = H} {T = ℕ} (Err e) t u behind old new → takes.Refuses e t old.traces new.traces u old.standing new.standing
 refuses_of errors.TruncatedNalu t u behind old new is y = y.part
 refuses_of (errors.InvalidNaluType n) t u behind old new is y = y.part
 refuses_of errors.OutOfBits t u behind old new is y = y.part
@@ -120,16 +131,16 @@ refuses_of errors.PictureNumbersSpent t u behind old new is y = absurd is
 refuses_of errors.Backend t u behind old new is y = absurd is
 refuses_of errors.NoMemory t u behind old new is y = absurd is
 
-step_of : {B H : Type 0} (a : Option Format) (e : DecodeError) (t : ℕ) (o : Options) (h : UnitHeader) (bytes : List ℕ) (old new : Seen B H) → old.view.state ≡ state_by a → StepsIn {T = ℕ} (Err e) t o h bytes old new → Step {T = ℕ} (Err e) t o h bytes old new
-step_of a e t o h bytes old new is y = y.taken (ap is_awaited is ∙ going_by a)
+step_of : {B H : Type 0} (e : DecodeError) (t : ℕ) (o : Options) (us : List NalUnit) (u : NalUnit) (h : UnitHeader) (old new : Seen B H) → StandsAfter o us old → unit_header u.bytes ≡ Ok h → StepsIn {T = ℕ} (Err e) t o h u.bytes old new → Step {T = ℕ} (Err e) (given_next t o us u) o h u.bytes old new
+step_of e t o us u h old new after parsed y = subst (λ (g : Given). Step {T = ℕ} (Err e) g o h u.bytes old new) (given_first o us u h old after parsed t) (y.taken (ap is_awaited after.state_is ∙ going_by (standing_after (meant o us)).store.accepted))
 
 pub refused_first : {B H : Type 0} (e : DecodeError) (t : ℕ) (o : Options) (us others : List NalUnit) (u : NalUnit) (old new : Seen B H) → IsRefusal e → StandsAfter o us old → TakesFirst (u ∷ others) (Err e) t o old new → RefusedUnit e t o us u old new
 refused_first {B} {H} e t o us others u old new is after first = by (unit_header u.bytes) refl first.0
   where
     by : (r : Result UnitHeader HeaderFault) → unit_header u.bytes ≡ r → StepsBehind {T = ℕ} r (Err e) t o u.bytes old new → RefusedUnit e t o us u old new
     by (Ok h) parsed step =
-        let s = step_of (standing_after (meant o us)).store.accepted e t o h u.bytes old new after.state_is step in
-        read_refused e t o us u old new after h parsed (subst (λ (x : State). takes.Refuses e t (traces_of old.log old.view) (traces_of new.log new.view) (meaning_in x (unit_at o old.kept h u.bytes)) old.view.standing new.view.standing) after.state_is (refuses_of e t (meaning_in old.view.state (unit_at o old.kept h u.bytes)) (state_behind old.view.state (unit_at o old.kept h u.bytes)) (moment_of old.log old.view) (moment_of new.log new.view) is s.takes))
+        let s = step_of e t o us u h old new after parsed step in
+        read_refused e t o us u old new after h parsed (subst (λ (x : State). takes.Refuses e (given_next t o us u) (traces_of old.log old.handed old.view) (traces_of new.log new.handed new.view) (meaning_in x (unit_at o old.kept h u.bytes)) old.view.standing new.view.standing) after.state_is (refuses_of e (given_next t o us u) (meaning_in old.view.state (unit_at o old.kept h u.bytes)) (state_behind old.view.state (unit_at o old.kept h u.bytes)) (moment_of old.log old.handed old.view) (moment_of new.log new.handed new.view) is s.takes))
     by (Err fault) parsed step = header_refused e t o us u old new after fault parsed (cc step.0) step.1
 
 -- ---- a full store
@@ -145,7 +156,7 @@ full_first {B} {H} t o us others back u old new after first = by (unit_header u.
 
     by : (r : Result UnitHeader HeaderFault) → unit_header u.bytes ≡ r → StepsBehind {T = ℕ} r (Err errors.DpbFull) t o u.bytes old new → verdict (meant o (us ++ u ∷ back)) ≡ Err (record { unit = length us; cause = DpbFull })
     by (Ok h) parsed step =
-        let s = step_of (standing_after (meant o us)).store.accepted errors.DpbFull t o h u.bytes old new after.state_is step in
+        let s = step_of errors.DpbFull t o us u h old new after parsed step in
         let m = same errors.DpbFull t o us u old new after h parsed in
         let y = meaning o (kept_after o us) u.bytes in
         let S = standing_after (meant o us) in

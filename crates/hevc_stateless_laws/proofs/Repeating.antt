@@ -21,7 +21,7 @@ kept_once k x = by x.dependent_slice_segment_flag
     by true = refl
     by false = refl
 
-whole_once : (k : Option KeptHeader) (x : Slice) → whole_slice (kept_header k x) x ≡ whole_slice k x
+pub whole_once : (k : Option KeptHeader) (x : Slice) → whole_slice (kept_header k x) x ≡ whole_slice k x
 whole_once k x = by x.dependent_slice_segment_flag
   where
     by : (d : Bool) → (if d then dependent.with_kept (if d then k else Some (record { pic_parameter_set_id = x.pic_parameter_set_id; header = x.header })) x else Some x) ≡ (if d then dependent.with_kept k x else Some x)
@@ -35,7 +35,7 @@ same_refl : (f : Format) → same_format f f ≡ true
 same_refl f = rw (eq_same f.coded_width, eq_same f.coded_height, eq_same f.general_profile_idc, eq_same f.bit_depth_luma_minus8, eq_same f.bit_depth_chroma_minus8, eq_same f.chroma_format_idc, eq_same f.max_num_pics) refl
 
 -- nothing is current
-finish_none : (s : Standing) → s.current ≡ NoPicture → finish_current s ≡ nothing s
+pub finish_none : (s : Standing) → s.current ≡ NoPicture → finish_current s ≡ nothing s
 unfolding finish
 finish_none s none = ap (λ (v : Current). finish_current (record s { current = v })) none ∙ ap (λ (v : Current). nothing (record s { current = v })) (sym none)
 

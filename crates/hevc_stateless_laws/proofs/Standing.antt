@@ -1,5 +1,5 @@
 -- From a step to the moment of each call and output.
-use Rattle.std.proofs.Common.{◌≡◌, ℕ, ℤ, List, [], ◌∷◌, ◌++◌, map, length, refl, sym, ◌∙◌, ap, subst, Option, Some, None, Result, Ok, Err, Bool, true, false, ◌||◌, if◌then◌else◌}
+use Rattle.std.proofs.Common.{◌≡◌, ℕ, ℤ, List, [], ◌∷◌, ◌++◌, map, length, refl, sym, ◌∙◌, ap, subst, Option, Some, None, Result, Ok, Err, Bool, true, false, ◌||◌}
 use Rattle.std.specs.List.{flat_map}
 use Rattle.std.specs.Prelude.{is_some}
 use Rattle.hevc_spec.specs.Units.{NalUnit}
@@ -19,77 +19,24 @@ use Rattle.hevc_walk_joined.proofs.Joined.{refusal-same}
 use Rattle.hevc_walk_joined.proofs.Cuts.{calls-at, outputs-at}
 use Rattle.hevc_stream.specs.Options.{Options}
 use Rattle.hevc_stream.specs.Kept.{Kept, none_kept}
-use Rattle.hevc_stream.specs.Contents.{content}
-use Rattle.hevc_stream.specs.Stream.{meaning_of, meaning, kept_behind}
+use Rattle.hevc_stream.specs.Stream.{meaning, kept_behind}
 use Rattle.hevc_bumping.specs.declared.frame.Frame.{Frame}
 use Rattle.hevc_bumping.specs.Frames.{frame_output}
 use Rattle.hevc_driver.specs.Does.{call_in, output_in}
-use Rattle.hevc_driver.specs.Moments.{begins_at, step_part, negotiates}
+use Rattle.hevc_driver.specs.Moments.{step_part, negotiates}
 use Rattle.hevc_driver.specs.Takes.{Goes}
 use Rattle.hevc_stateless.specs.declared.state.State.{State}
-use Rattle.hevc_stateless.specs.declared.state.State.TheVariants.{AwaitingStreamInfo, Decoding}
-use Rattle.hevc_stateless.specs.States.{Unit, unit_at, is_sequence_set, is_parameter_set, later_meaning, state_behind, meaning_in, is_awaited}
-use Rattle.hevc_stateless.specs.Steps.{Seen, Step, StepsIn, StepsBehind, TakesFirst}
+use Rattle.hevc_stateless.specs.declared.state.State.TheVariants.{Decoding}
+use Rattle.hevc_stateless.specs.States.{Unit, unit_at, is_sequence_set, state_behind, meaning_in, is_awaited}
+use Rattle.hevc_stateless.specs.Steps.{Seen, Step, StepsIn, StepsBehind, TakesFirst, given_to}
 use Rattle.hevc_stateless.specs.Views.{traces_of}
-use Rattle.hevc_stateless_laws.specs.Stands.{state_by, meant, standing_after, StandsAfter, frame_at, asked, first_meaning, Took}
+use Rattle.hevc_stateless_laws.specs.Stands.{state_by, meant, standing_after, StandsAfter, given_next, frame_at, asked, Took}
+use Rattle.hevc_stateless_laws.proofs.Means.{Means, none_means, means}
+use Rattle.hevc_stateless_laws.proofs.Given.{handed_calls, given_first, latest_first}
+use Rattle.hevc_driver.specs.Given.{Given, handed_by}
+use Rattle.hevc_backend.specs.Trait.{logged}
 use Rattle.hevc_stateless_laws.proofs.Accepting.{stays_accepted}
-use Rattle.hevc_stateless_laws.proofs.Keeping.{meant_last, kept_last, length_meant, kept_has, set_is_same, other_is_nothing, is_coded, none_coded}
-
--- What a unit means in a state is what it means where a decoder stands.
-pub record Means (x y : Meaning) (s : Standing) : Type 0 where
-  pub part : step_part x s ≡ unit_part y s
-  pub refusal : refusal_at x s ≡ refusal_at y s
-  pub full : is_full_at x s ≡ is_full_at y s
-  pub begins : begins_at x s ≡ begins_at y s
-
-first_part : (x : Meaning) (s : Standing) → s.store.accepted ≡ None → step_part x s ≡ unit_part x s
-first_part (SequenceSet f) s none = rw none refl
-first_part (CodedSlice w) s none = refl
-first_part EndOfSequence s none = refl
-first_part EndOfBitstream s none = refl
-first_part Other s none = refl
-first_part (Refused c) s none = refl
-
-pub later_part : (f : Format) (y : Meaning) (s : Standing) → s.store.accepted ≡ Some f → Means (later_meaning y) y s
-later_part f (SequenceSet g) s is = record { part = rw is refl; refusal = refl; full = refl; begins = refl }
-later_part f (CodedSlice w) s is = record { part = refl; refusal = refl; full = refl; begins = refl }
-later_part f EndOfSequence s is = record { part = refl; refusal = refl; full = refl; begins = refl }
-later_part f EndOfBitstream s is = record { part = refl; refusal = refl; full = refl; begins = refl }
-later_part f Other s is = record { part = refl; refusal = refl; full = refl; begins = refl }
-later_part f (Refused c) s is = record { part = refl; refusal = refl; full = refl; begins = refl }
-
-module _ (o : Options) (k : Kept) (bytes : List ℕ) (h : UnitHeader) (parsed : unit_header bytes ≡ Ok h) where
-  abbrev u : Unit
-  u = unit_at o k h bytes
-
-  -- where a sequence set is kept
-  sure_means : k.has_sequence_set ≡ true → u.meaning ≡ meaning o k bytes
-  sure_means has = ap (λ (b : Bool). meaning o (record k { has_sequence_set = b }) bytes) (sym has)
-
-  -- and where none is
-  none_means : k.has_sequence_set ≡ false → meaning_in AwaitingStreamInfo u ≡ meaning o k bytes
-  unfolding meaning
-  none_means none = by (is_parameter_set h.nal_unit_type) refl
-    where
-      by : (b : Bool) → is_parameter_set h.nal_unit_type ≡ b → (if is_parameter_set h.nal_unit_type then u.meaning else Other) ≡ meaning_of o k bytes (content o k bytes)
-      by true e = ap (λ (b : Bool). if b then u.meaning else Other) e ∙ ap (meaning_of o (record k { has_sequence_set = true }) bytes) (set_is_same o k bytes h parsed e)
-      by false e = ap (λ (b : Bool). if b then u.meaning else Other) e ∙ sym (ap (meaning_of o k bytes) (other_is_nothing o k bytes h parsed e none))
-
-  pub first_is : (a : Option Format) → is_some a ≡ k.has_sequence_set → meaning_in (state_by a) u ≡ first_meaning a (meaning o k bytes)
-  first_is None has = none_means (sym has)
-  first_is (Some f) has = ap later_meaning (sure_means (sym has))
-
-  pub means : (a : Option Format) (s : Standing) → s.store.accepted ≡ a → is_some a ≡ k.has_sequence_set → Means (meaning_in (state_by a) u) (meaning o k bytes) s
-  means None s is has = subst (λ (x : Meaning). Means x (meaning o k bytes) s) (sym (none_means (sym has))) (record { part = first_part (meaning o k bytes) s is; refusal = refl; full = refl; begins = refl })
-  means (Some f) s is has = subst (λ (x : Meaning). Means (later_meaning x) (meaning o k bytes) s) (sym (sure_means (sym has))) (later_part f (meaning o k bytes) s is)
-
--- where a format is accepted
-pub later_is : (y : Meaning) (s : Standing) → is_some s.store.accepted ≡ true → step_part (later_meaning y) s ≡ unit_part y s
-later_is y s some = by s.store.accepted refl some
-  where
-    by : (a : Option Format) → s.store.accepted ≡ a → is_some a ≡ true → step_part (later_meaning y) s ≡ unit_part y s
-    by None is some = absurd (cc some)
-    by (Some f) is some = (later_part f y s is).part
+use Rattle.hevc_stateless_laws.proofs.Keeping.{meant_last, kept_last, length_meant, kept_has, is_coded, none_coded}
 
 -- ---- calls and outputs of a unit
 
@@ -141,7 +88,7 @@ or_true false = refl
 
 -- ---- one more unit
 
-module _ {B H : Type 0} (t : ℕ) (o : Options) (us : List NalUnit) (u : NalUnit) (h : UnitHeader) (old new : Seen B H) (v : ℕ) (after : StandsAfter o us old) (parsed : unit_header u.bytes ≡ Ok h) (step : Step (Ok v) t o h u.bytes old new) where
+module _ {B H : Type 0} (t : ℕ) (o : Options) (us : List NalUnit) (u : NalUnit) (h : UnitHeader) (old new : Seen B H) (v : ℕ) (after : StandsAfter o us old) (parsed : unit_header u.bytes ≡ Ok h) (step : Step (Ok v) (given_next t o us u) o h u.bytes old new) where
   abbrev ms : List Meaning
   ms = meant o us
 
@@ -163,8 +110,8 @@ module _ {B H : Type 0} (t : ℕ) (o : Options) (us : List NalUnit) (u : NalUnit
   same : Means (meaning_in (state_by a) taken) y old.view.standing
   same = means o old.kept u.bytes h parsed a old.view.standing accepted after.started
 
-  goes : Goes t (traces_of old.log old.view) (traces_of new.log new.view) (meaning_in (state_by a) taken) old.view.standing new.view.standing
-  goes = subst (λ (x : State). Goes t (traces_of old.log old.view) (traces_of new.log new.view) (meaning_in x taken) old.view.standing new.view.standing) after.state_is step.takes.part
+  goes : Goes (given_next t o us u) (traces_of old.log old.handed old.view) (traces_of new.log new.handed new.view) (meaning_in (state_by a) taken) old.view.standing new.view.standing
+  goes = subst (λ (x : State). Goes (given_next t o us u) (traces_of old.log old.handed old.view) (traces_of new.log new.handed new.view) (meaning_in x taken) old.view.standing new.view.standing) after.state_is step.takes.part
 
   part_is : step_part (meaning_in (state_by a) taken) old.view.standing ≡ unit_part y (standing_after ms)
   part_is = same.part ∙ ap (unit_part y) after.stands
@@ -209,6 +156,9 @@ module _ {B H : Type 0} (t : ℕ) (o : Options) (us : List NalUnit) (u : NalUnit
   here : {A : Type 0} (P : ℕ → List Meaning → A) → P (length us) (meant o (us ++ u ∷ [])) ≡ P (length ms) (ms ++ y ∷ [])
   here P = ap (λ (n : ℕ). P n (meant o (us ++ u ∷ []))) (sym (length_meant o none_kept us)) ∙ ap (P (length ms)) list
 
+  asked_is : flat_map call_in (step_part (meaning_in (state_by a) taken) old.view.standing).events ≡ map asked (calls_of_unit (length us) (calls (meant o (us ++ u ∷ []))))
+  asked_is = ap (λ (q : Part Standing). flat_map call_in q.events) part_is ∙ sym (calls_are (length ms) (unit_part y (standing_after ms)).events) ∙ sym (ap (map asked) (calls-at ms y [] after.goes_on)) ∙ sym (here (λ n l. map asked (calls_of_unit n (calls l))))
+
   -- A unit was taken behind some units.
   pub took : Took t o us u old new
   took = record {
@@ -218,18 +168,20 @@ module _ {B H : Type 0} (t : ℕ) (o : Options) (us : List NalUnit) (u : NalUnit
       state_is = stays ∙ (together a refl).0 ∙ ap (λ (s : Standing). state_by s.store.accepted) next_list;
       room = room_now;
       kept = step.kept ∙ ap (λ (k : Kept). kept_behind o k u.bytes) after.kept ∙ sym (kept_last o none_kept us u);
+      latest = step.latest ∙ latest_first o us u h old after parsed;
       started = ap (λ (s : Standing). is_some s.store.accepted) (sym next_list) ∙ (together a refl).1;
     };
     calls = record {
       made = goes.completes.does.calls;
       log = goes.completes.does.log;
-      calls_are = goes.completes.does.made ∙ ap (λ (q : Part Standing). flat_map call_in q.events) part_is ∙ sym (calls_are (length ms) (unit_part y (standing_after ms)).events) ∙ sym (ap (map asked) (calls-at ms y [] after.goes_on)) ∙ sym (here (λ n l. map asked (calls_of_unit n (calls l))));
+      calls_are = goes.completes.does.made ∙ asked_is;
       timed = goes.completes.does.timed;
+      handed = goes.completes.does.handed ∙ ap (logged old.handed) (handed_calls (given_next t o us u) (step_part (meaning_in (state_by a) taken) old.view.standing).events ∙ ap (flat_map (handed_by (given_next t o us u))) asked_is);
     };
     outputs = record {
       out = goes.completes.does.out;
       queue = goes.completes.does.queue;
-      outputs_are = ap (λ (n : ℕ). map (frame_at n) goes.completes.does.out) (sym (length_meant o none_kept us)) ∙ outputs_are (length ms) (unit_part y (standing_after ms)).events goes.completes.does.out (goes.completes.does.given ∙ ap (λ (q : Part Standing). flat_map output_in q.events) part_is) ∙ sym (outputs-at ms y [] after.goes_on) ∙ sym (here (λ n l. outputs_of_unit n (outputs l)));
+      outputs_are = ap (λ (n : ℕ). map (frame_at n) goes.completes.does.out) (sym (length_meant o none_kept us)) ∙ outputs_are (length ms) (unit_part y (standing_after ms)).events goes.completes.does.out (goes.completes.does.shown ∙ ap (λ (q : Part Standing). flat_map output_in q.events) part_is) ∙ sym (outputs-at ms y [] after.goes_on) ∙ sym (here (λ n l. outputs_of_unit n (outputs l)));
     };
   }
 
@@ -240,10 +192,10 @@ going_by (Some f) = refl
 
 -- ---- a call that answers Ok
 
-steps_of : {B H : Type 0} (v t : ℕ) (o : Options) (h : UnitHeader) (bytes : List ℕ) (old new : Seen B H) → StepsIn (Ok v) t o h bytes old new → Step (Ok v) t o h bytes old new
-steps_of v t o h bytes old new y = by (is_awaited old.view.state) refl
+steps_of : {B H : Type 0} (v t : ℕ) (o : Options) (us : List NalUnit) (u : NalUnit) (h : UnitHeader) (old new : Seen B H) → StandsAfter o us old → unit_header u.bytes ≡ Ok h → StepsIn (Ok v) t o h u.bytes old new → Step (Ok v) (given_next t o us u) o h u.bytes old new
+steps_of {B} {H} v t o us u h old new after parsed y = subst (λ (g : Given). Step (Ok v) g o h u.bytes old new) (given_first o us u h old after parsed t) (by (is_awaited old.view.state) refl)
   where
-    by : (b : Bool) → is_awaited old.view.state ≡ b → Step (Ok v) t o h bytes old new
+    by : (b : Bool) → is_awaited old.view.state ≡ b → Step (Ok v) (given_to t o h u.bytes old) o h u.bytes old new
     by true waits = absurd (cc (y.awaited waits).0)
     by false going = y.taken going
 
@@ -251,5 +203,5 @@ pub took_first : {B H : Type 0} (t : ℕ) (o : Options) (us others : List NalUni
 took_first t o us others u old new v after takes = by (unit_header u.bytes) refl takes.0
   where
     by : (r : Result UnitHeader HeaderFault) → unit_header u.bytes ≡ r → StepsBehind r (Ok v) t o u.bytes old new → Took t o us u old new
-    by (Ok h) is step = took t o us u h old new v after is (steps_of v t o h u.bytes old new step)
+    by (Ok h) is step = took t o us u h old new v after is (steps_of v t o us u h old new after is step)
     by (Err fault) is step = absurd (cc step.0)

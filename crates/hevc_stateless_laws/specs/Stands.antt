@@ -20,12 +20,15 @@ use Rattle.hevc_driver.specs.declared.decode_error.DecodeError.{DecodeError}
 use Rattle.hevc_driver.specs.declared.decode_error.DecodeError.TheVariants as errors
 use Rattle.hevc_driver.specs.Errors.{error_of}
 use Rattle.hevc_driver.specs.Calls.{call_of, IsTimed}
+use Rattle.hevc_driver.specs.Given.{Given, handed_by}
 use Rattle.hevc_driver.specs.Does.{call_in}
 use Rattle.hevc_driver.specs.Moments.{negotiates, opening}
 use Rattle.hevc_stateless.specs.declared.state.State.{State}
 use Rattle.hevc_stateless.specs.declared.state.State.TheVariants.{AwaitingStreamInfo, AwaitingFormat, Decoding}
 use Rattle.hevc_stateless.specs.States.{later_meaning}
+use Rattle.hevc_stateless.specs.Segments.{segment_at, given_with}
 use Rattle.hevc_stateless.specs.Steps.{Seen, with_read_set}
+use Rattle.hevc_stateless_laws.specs.Segments.{latest_after}
 
 -- before the first sequence set nothing is decoded
 abbrev pub state_by : Option Format → State
@@ -35,6 +38,10 @@ state_by (Some format) = Decoding
 -- what units mean from the beginning of a stream on
 abbrev pub meant : Options → List NalUnit → List Meaning
 meant options us = meanings_behind options none_kept us
+
+-- what is kept behind some units
+abbrev pub kept_after : Options → List NalUnit → Kept
+kept_after options us = kept_behind_all options none_kept us
 
 -- what stands after some units
 abbrev pub standing_after : List Meaning → Standing
@@ -47,6 +54,7 @@ pub record StandsAfter {B H : Type 0} (options : Options) (us : List NalUnit) (s
   pub stands : seen.view.standing ≡ standing_after (meant options us)
   pub state_is : seen.view.state ≡ state_by (standing_after (meant options us)).store.accepted
   pub kept : seen.kept ≡ kept_behind_all options none_kept us
+  pub latest : seen.view.latest ≡ latest_after options us
   -- no picture was to be stored into a full buffer
   pub room : joined.full_by (stream (meant options us)) ≡ None
   -- a format was negotiated exactly where a sequence set is kept
@@ -59,13 +67,21 @@ frame_at k f = record { number = f.number; order_count = f.order_count; unit = k
 abbrev pub asked : ℕ × walk.Call → walk.Call
 asked c = c.1
 
--- the log grew by these calls, each new picture with this timestamp
-pub record Logged {B H : Type 0} (timestamp : ℕ) (old new : Seen B H) (calls : List walk.Call)
+-- the log grew by these calls, with what comes with a unit
+pub record Logged {B H : Type 0} (given : Given) (old new : Seen B H) (calls : List walk.Call)
     : Type 0 where
   pub made : List (Call H)
   pub log : new.log ≡ logged old.log made
   pub calls_are : map call_of made ≡ calls
-  pub timed : AllByRecursion (IsTimed timestamp) made
+  pub timed : AllByRecursion (IsTimed given.timestamp) made
+  pub handed : new.handed ≡ logged old.handed (flat_map (handed_by given) calls)
+
+-- what comes with a unit behind some units
+abbrev pub given_next : (timestamp : ℕ) → Options → List NalUnit → NalUnit → Given
+given_next timestamp options us u =
+    given_with timestamp (meaning options (kept_after options us) u.bytes)
+    (segment_at options (kept_after options us) (latest_after options us) u.bytes)
+    (standing_after (meant options us))
 
 -- the queue grew by these outputs, of the k-th unit
 pub record Queued {B H : Type 0} (k : ℕ) (old new : Seen B H) (outputs : List OutputPicture)
@@ -79,16 +95,12 @@ pub record Queued {B H : Type 0} (k : ℕ) (old new : Seen B H) (outputs : List 
 pub record Took {B H : Type 0} (timestamp : ℕ) (options : Options) (us : List NalUnit) (u : NalUnit)
     (old new : Seen B H) : Type 0 where
   pub stands : StandsAfter options (us ++ u ∷ []) new
-  pub calls : Logged timestamp old new
+  pub calls : Logged (given_next timestamp options us u) old new
       (map asked (calls_of_unit (length us) (calls (meant options (us ++ u ∷ [])))))
   pub outputs : Queued (length us) old new
       (outputs_of_unit (length us) (outputs (meant options (us ++ u ∷ []))))
 
 -- ---- a unit that opens a negotiation
-
--- what is kept behind some units
-abbrev pub kept_after : Options → List NalUnit → Kept
-kept_after options us = kept_behind_all options none_kept us
 
 -- the first sequence set is negotiated, and a later one isn't
 abbrev pub first_meaning : Option Format → Meaning → Meaning
@@ -117,6 +129,7 @@ pub record StandsBetween {B H : Type 0} (options : Options) (us : List NalUnit) 
       ≡ (opening (meant_next options us u) (standing_after (meant options us))).next
   pub kept : seen.kept
       ≡ with_read_set (content options (kept_after options us) u.bytes) (kept_after options us)
+  pub latest : seen.view.latest ≡ latest_after options (us ++ u ∷ [])
   -- a format was negotiated before exactly where a sequence set was kept
   pub started : is_some (standing_after (meant options us)).store.accepted
       ≡ (kept_after options us).has_sequence_set
@@ -127,7 +140,7 @@ pub record Opened {B H : Type 0} (timestamp : ℕ) (options : Options) (us : Lis
     (u : NalUnit) (old new : Seen B H) : Type 0 where
   pub between : StandsBetween options us u new
   pub state_is : new.view.state ≡ AwaitingFormat
-  pub calls : Logged timestamp old new (first_calls options us u)
+  pub calls : Logged (given_next timestamp options us u) old new (first_calls options us u)
   pub outputs : Queued (length us) old new
       (outputs_of_unit (length us) (outputs (meant options (us ++ u ∷ []))))
 
@@ -136,7 +149,7 @@ pub record TookAgain {B H : Type 0} (timestamp : ℕ) (options : Options) (us : 
     (u : NalUnit) (old new : Seen B H) : Type 0 where
   pub stands : StandsAfter options (us ++ u ∷ []) new
   pub later : List walk.Call
-  pub logs : Logged timestamp old new later
+  pub logs : Logged (given_next timestamp options us u) old new later
   pub both : map asked (calls_of_unit (length us) (calls (meant options (us ++ u ∷ []))))
       ≡ first_calls options us u ++ later
   pub queue : new.view.queue ≡ old.view.queue
@@ -167,7 +180,7 @@ pub record RefusedUnit {B H : Type 0} (error : DecodeError) (timestamp : ℕ) (o
   -- whatever comes behind it, that is the answer to the stream
   pub verdict : (back : List NalUnit)
       → verdict (meant options (us ++ u ∷ back)) ≡ Err (record { unit = length us; cause = cause })
-  pub calls : Logged timestamp old new
+  pub calls : Logged (given_next timestamp options us u) old new
       (map asked (calls_of_unit (length us) (calls (meant options (us ++ u ∷ [])))))
   pub outputs : Queued (length us) old new
       (outputs_of_unit (length us) (outputs (meant options (us ++ u ∷ []))))
@@ -176,10 +189,10 @@ pub record RefusedUnit {B H : Type 0} (error : DecodeError) (timestamp : ℕ) (o
 
 -- The stream ended behind these units: the calls and outputs at its end were made, and the answer
 -- is the number of its pictures.
-pub record Ended {B H : Type 0} (timestamp : ℕ) (options : Options) (us : List NalUnit)
+pub record Ended {B H : Type 0} (given : Given) (options : Options) (us : List NalUnit)
     (old new : Seen B H) : Type 0 where
   pub verdict : verdict (meant options us) ≡ Ok old.view.standing.next.number
   pub calls :
-      Logged timestamp old new (map asked (calls_of_unit (length us) (calls (meant options us))))
+      Logged given old new (map asked (calls_of_unit (length us) (calls (meant options us))))
   pub outputs :
       Queued (length us) old new (outputs_of_unit (length us) (outputs (meant options us)))

@@ -5,6 +5,7 @@ ghost use Rattle.std.specs.Prelude.{◌≡◌, ◌+◌, ◌∷◌, ◌++◌, [],
 ghost use Rattle.hevc_spec.specs.Units.{NalUnit, units};
 ghost use Rattle.hevc_stream.specs.Kept.{none_kept};
 ghost use Rattle.hevc_stream.specs.Options.{Options};
+ghost use Rattle.hevc_driver.specs.Given.{Given};
 ghost use Rattle.hevc_stateless.specs.Steps.{Seen, TakesFirst};
 ghost use Rattle.hevc_stateless.specs.Views.{at_beginning, traces_of};
 ghost use Rattle.hevc_stateless_laws.specs.Shortened.{moved};
@@ -81,9 +82,10 @@ pub fn fills_the_buffer<B, H>()
 /// Where a decoder stands after all units of a stream and is flushed, the answer to the stream is the number of its pictures, and the
 /// calls and outputs at its end were made.
 pub fn ends_the_stream<B, H>()
-    ensures { (timestamp : ℕ) (options : Options) (us : List NalUnit) (old new : Seen B H)
+    ensures { (given : Given) (options : Options) (us : List NalUnit) (old new : Seen B H)
         → StandsAfter options us old
-        → Ends timestamp (traces_of old.log old.view) (traces_of new.log new.view)
+        → Ends given (traces_of old.log old.handed old.view)
+        (traces_of new.log new.handed new.view)
         old.view.state old.view.standing new.view.standing
-        → Ended timestamp options us old new }
+        → Ended given options us old new }
 {}

@@ -58,6 +58,8 @@ impl<D: Device> StatelessH265DecoderBackend for OverDevice<D> {
 
     ghost log = { λ _. None };
 
+    ghost handed = { λ _. None };
+
     ghost counts = { λ b. record { faults = b.faults; empty_answers = b.empty_answers } };
 
     ghost room = { λ b. b.room };

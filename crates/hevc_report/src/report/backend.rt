@@ -82,6 +82,8 @@ impl StatelessH265DecoderBackend for ReportBackend {
 
     ghost log = { λ b. Some b.log };
 
+    ghost handed = { λ _. None };
+
     ghost counts = { λ _. record { faults = 0; empty_answers = 0 } };
 
     ghost room = { λ b. b.room };

@@ -14,11 +14,12 @@ use Rattle.hevc_decoder.proofs.feed.take_whole.Goals as goal
 pub returns-in_err-next-clause-feeds : goal.returns-in_err-next-clause-feeds
 returns-in_err-next-clause-feeds g c begin given x =
     let logs = g.B.StatelessH265DecoderBackend.log in
+    let handeds = g.B.StatelessH265DecoderBackend.handed in
     let o = set_for c.args.decoder.now in
     let window = c.args.window.now in
     let n = c.whole_units-cut.result in
-    let old = scene logs c.args.decoder.now c.args.shown.now.items in
-    let new = scene logs c.take_piece.new.decoder c.take_piece.new.shown.items in
+    let old = scene logs handeds c.args.decoder.now c.args.shown.now.items in
+    let new = scene logs handeds c.take_piece.new.decoder c.take_piece.new.shown.items in
     let p = err_from_is_err_and c.from_residual.result c.from_residual.ensures.1 in
     let last : IsLastStart window c.args.seen n = subst (λ (bytes : List ℕ). IsLastStart bytes c.args.seen n) c.as_slice.ensures c.whole_units-cut.ensures.last in
     let takes : TakesPiece (Err c.in_err-next.field-0.0) o c.args.unit (units (take n window)) old new = subst (λ (bytes : List ℕ). TakesPiece (Err c.in_err-next.field-0.0) o c.args.unit (units (take n bytes)) old new) c.as_slice-2.ensures c.in_err-next.ensures.takes in
@@ -27,11 +28,12 @@ returns-in_err-next-clause-feeds g c begin given x =
 pub returns-clause-feeds : goal.returns-clause-feeds
 returns-clause-feeds g c begin given x =
     let logs = g.B.StatelessH265DecoderBackend.log in
+    let handeds = g.B.StatelessH265DecoderBackend.handed in
     let o = set_for c.args.decoder.now in
     let window = c.args.window.now in
     let n = c.whole_units-cut.result in
-    let old = scene logs c.args.decoder.now c.args.shown.now.items in
-    let new = scene logs c.take_piece.new.decoder c.take_piece.new.shown.items in
+    let old = scene logs handeds c.args.decoder.now c.args.shown.now.items in
+    let new = scene logs handeds c.take_piece.new.decoder c.take_piece.new.shown.items in
     let last : IsLastStart window c.args.seen n = subst (λ (bytes : List ℕ). IsLastStart bytes c.args.seen n) c.as_slice.ensures c.whole_units-cut.ensures.last in
     let takes : TakesPiece (Ok c.in_ok-next.next) o c.args.unit (units (take n window)) old new = subst (λ (bytes : List ℕ). TakesPiece (Ok c.in_ok-next.next) o c.args.unit (units (take n bytes)) old new) c.as_slice-2.ensures c.in_ok-next.ensures.takes in
     subst (λ (rest : List ℕ). Fed o given rest c.in_ok-next.next begin new) (sym c.drop_front.ensures) (window_fed o given window c.args.unit c.args.seen n begin old new last x (Ok c.in_ok-next.next) takes)

@@ -1,3 +1,4 @@
+use Rattle.hevc_stateless_laws.specs.Segments.{segments_of}
 use Rattle.std.proofs.Common.{◌+◌, List, ◌++◌, refl, sym, ◌∙◌, ap, subst, arith, rules, Result, Ok, Err}
 use Rattle.hevc_spec.specs.Units.{NalUnit, units, units_from, kept_bytes}
 use Rattle.hevc_spec.specs.UnitHeader.{unit_header}
@@ -28,14 +29,15 @@ loop-nalu-init g c = record {
 
 pub returns-in-NoNal-clause-takes : goal.returns-in-NoNal-clause-takes
 returns-in-NoNal-clause-takes g c begin all later x =
-    subst (λ (us : List NalUnit). Reached (set_for c.args.decoder.now) all c.loop-nalu.unit begin (scene g.B.StatelessH265DecoderBackend.log c.loop-nalu.decoder c.loop-nalu.shown.items) (us ++ later)) (c.in-Err.ensures.none.0 (ap Err c.in-NoNal.is))
+    subst (λ (us : List NalUnit). Reached (set_for c.args.decoder.now) all c.loop-nalu.unit begin (scene g.B.StatelessH265DecoderBackend.log g.B.StatelessH265DecoderBackend.handed c.loop-nalu.decoder c.loop-nalu.shown.items) (us ++ later)) (c.in-Err.ensures.none.0 (ap Err c.in-NoNal.is))
     (c.loop-nalu.invariant.reached begin all later x)
 
 pub returns-in-TruncatedNalu : goal.returns-in-TruncatedNalu
 returns-in-TruncatedNalu g c =
     let logs = g.B.StatelessH265DecoderBackend.log in
+    let handeds = g.B.StatelessH265DecoderBackend.handed in
     let e = c.in-Err.error in
-    let mid = scene logs c.loop-nalu.decoder c.loop-nalu.shown.items in
+    let mid = scene logs handeds c.loop-nalu.decoder c.loop-nalu.shown.items in
     let z = c.in-Err.ensures.refused (search rules) in
     record {
       empty = tt;
@@ -46,7 +48,7 @@ returns-in-TruncatedNalu g c =
       };
       takes = λ begin all later x.
           let here = c.loop-nalu.invariant.reached begin all later x in (
-            subst (λ (x : DecodeError). Ended (Err (record { unit = c.loop-nalu.unit; error = x })) (meant (set_for c.args.decoder.now) all) (trail_of begin) (trail_of mid)) (sym c.into-error.ensures)
+            subst (λ (x : DecodeError). Ended (Err (record { unit = c.loop-nalu.unit; error = x })) (meant (set_for c.args.decoder.now) all) (segments_of (set_for c.args.decoder.now) all) (trail_of begin) (trail_of mid)) (sym c.into-error.ensures)
                 (header_ended (set_for c.args.decoder.now) all (units_from kept_bytes c.loop-nalu.position c.args.piece.now ++ later) (z.1 ++ later) z.0 c.loop-nalu.unit begin mid e here (ap (λ (us : List NalUnit). us ++ later) z.2) z.3),
             reached_within (set_for c.args.decoder.now) all c.loop-nalu.unit begin mid (units_from kept_bytes c.loop-nalu.position c.args.piece.now ++ later) here,
           );
@@ -56,10 +58,11 @@ returns-in-TruncatedNalu g c =
 pub returns-in-Err-take_unit-clause-takes : goal.returns-in-Err-take_unit-clause-takes
 returns-in-Err-take_unit-clause-takes g c begin all later x =
     let logs = g.B.StatelessH265DecoderBackend.log in
+    let handeds = g.B.StatelessH265DecoderBackend.handed in
     let nalu = c.in-Ok.nalu in
     let o = set_for c.args.decoder.now in
-    let mid = scene logs c.loop-nalu.decoder c.loop-nalu.shown.items in
-    let new = scene logs c.take_unit.new.decoder c.take_unit.new.shown.items in
+    let mid = scene logs handeds c.loop-nalu.decoder c.loop-nalu.shown.items in
+    let new = scene logs handeds c.take_unit.new.decoder c.take_unit.new.shown.items in
     let here = c.loop-nalu.invariant.reached begin all later x in
     let others = units_from kept_bytes (nalu.offset + nalu.size) c.args.piece.now ++ later in (
       refused_here o all c.loop-nalu.unit begin mid new (unit_of nalu) others nalu.header (next_is o all c.loop-nalu.unit begin mid (units_from kept_bytes c.loop-nalu.position c.args.piece.now ++ later) others (unit_of nalu) (ap (λ (us : List NalUnit). us ++ later) c.in-Ok.ensures.first) here) (header_is (unit_header (bytes_of nalu)) nalu.header c.in-Ok.ensures.header)
@@ -71,11 +74,12 @@ returns-in-Err-take_unit-clause-takes g c begin all later x =
 pub loop-nalu-preserved : goal.loop-nalu-preserved
 loop-nalu-preserved g c =
     let logs = g.B.StatelessH265DecoderBackend.log in
+    let handeds = g.B.StatelessH265DecoderBackend.handed in
     let nalu = c.in-Ok.nalu in
     let o = set_for c.args.decoder.now in
-    let mid = scene logs c.loop-nalu.decoder c.loop-nalu.shown.items in
-    let new = scene logs c.take_unit.new.decoder c.take_unit.new.shown.items in
-    let more : (begin : Scene g.row.B.Denot g.row.B-Handle.Denot) (all later : List NalUnit) → Reached o all c.args.first begin (scene logs c.args.decoder.now c.args.shown.now.items) (units c.args.piece.now ++ later) → Reached o all (c.loop-nalu.unit + 1) begin new (units_from kept_bytes (nalu.offset + nalu.size) c.args.piece.now ++ later)
+    let mid = scene logs handeds c.loop-nalu.decoder c.loop-nalu.shown.items in
+    let new = scene logs handeds c.take_unit.new.decoder c.take_unit.new.shown.items in
+    let more : (begin : Scene g.row.B.Denot g.row.B-Handle.Denot) (all later : List NalUnit) → Reached o all c.args.first begin (scene logs handeds c.args.decoder.now c.args.shown.now.items) (units c.args.piece.now ++ later) → Reached o all (c.loop-nalu.unit + 1) begin new (units_from kept_bytes (nalu.offset + nalu.size) c.args.piece.now ++ later)
     = λ begin all later x. goes_on o all c.loop-nalu.unit begin mid new (unit_of nalu) (units_from kept_bytes (nalu.offset + nalu.size) c.args.piece.now ++ later) nalu.header (next_is o all c.loop-nalu.unit begin mid (units_from kept_bytes c.loop-nalu.position c.args.piece.now ++ later) (units_from kept_bytes (nalu.offset + nalu.size) c.args.piece.now ++ later) (unit_of nalu) (ap (λ (us : List NalUnit). us ++ later) c.in-Ok.ensures.first) (c.loop-nalu.invariant.reached begin all later x)) (header_is (unit_header (bytes_of nalu)) nalu.header c.in-Ok.ensures.header)
     (omega (arith, c.loop-nalu.invariant.few, c.loop-nalu.invariant.within, c.requires.short)) c.in_default.field-0
     (subst (λ (o : Options). GivesWhole (Ok c.in_default.field-0) c.loop-nalu.unit o nalu.header (bytes_of nalu) mid new) c.loop-nalu.invariant.options (subst (λ (r : Result (Unit {0}) DecodeError). GivesWhole r c.loop-nalu.unit (set_for c.loop-nalu.decoder) nalu.header (bytes_of nalu) mid new) c.in_default.is c.take_unit.ensures.gives)) c.in_default.ensures.empty in

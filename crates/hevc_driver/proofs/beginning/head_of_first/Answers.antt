@@ -1,6 +1,7 @@
 use Rattle.std.proofs.Common.{◌&&◌, refl, ap, sym, ◌∙◌, Ok}
 use Rattle.hevc_records.specs.Pps.{default_pps}
 use Rattle.hevc_spec.specs.UnitTypes.{is_rasl}
+use Rattle.hevc_backend.proofs.HandedLaws.{is_first_picture}
 use Rattle.hevc_backend.specs.Negotiation.{format_of}
 use Rattle.hevc_driver.specs.Heads.{context_of}
 use Rattle.hevc_options.specs.Options.{options_of}
@@ -30,6 +31,13 @@ invariant_of-result c =
     let told = c.in_ok-picture.ensures.told (context_of c.args.next.now) w (record { first_in_bitstream = refl; first_after_end = refl; prev_tid0_count = refl })
     (any_first_slice (options_of c.args.options) c.args.slice.now c.args.sps.now default_pps _ (rw c.nalu.ensures at (c.header.ensures.parsed ∙ ap Ok c.header.ensures.value)) lsb) in
     record { lsb = from_lsb _ _ told.told.pic_order_cnt_lsb; prior = prior_starts (context_of c.args.next.now) w _ _ told.told.no_output_of_prior_pics told.told.starts_sequence }
+
+pub returns-clause-picture : goal.returns-clause-picture
+returns-clause-picture c pps =
+    let lsb = signed_lsb c.max_pic_order_cnt_lsb.result c.args.sps.now.log2_max_pic_order_cnt_lsb_minus4 c.args.sps.now.order_count_bits c.max_pic_order_cnt_lsb.ensures.value in
+    let w = slice_of c.args.options c.args.slice.now c.args.sps.now pps in
+    is_first_picture _ w _ c.in_ok-picture.picture (c.in_ok-picture.ensures.told (context_of c.args.next.now) w (record { first_in_bitstream = refl; first_after_end = refl; prev_tid0_count = refl })
+    (is_first_slice c.args.options c.args.slice.now c.args.sps.now pps _ (rw c.nalu.ensures at (c.header.ensures.parsed ∙ ap Ok c.header.ensures.value)) lsb))
 
 pub returns-clause-head : goal.returns-clause-head
 returns-clause-head c pps =

@@ -6,6 +6,8 @@ use Rattle.hevc_walk.specs.Walk.{is_accepted}
 use Rattle.hevc_backend.specs.declared.negotiation.NegotiationInfo.{NegotiationInfo}
 use Rattle.hevc_backend.specs.Negotiation.{format_of}
 use Rattle.hevc_refs.specs.Sets.{plain_set}
+use Rattle.hevc_backend.specs.Handed.{plain_picture, segment_of}
+use Rattle.hevc_driver.specs.Given.{given_slice}
 use Rattle.hevc_driver.specs.Heads.{head_of}
 use Rattle.hevc_driver.specs.Slices.{slice_of}
 use Rattle.hevc_driver.specs.Standings.{standing, current_of}
@@ -15,7 +17,7 @@ use Rattle.hevc_driver.proofs.driver.Driver.open.Goals as goal
 
 pub returns-clause-part : goal.returns-clause-part
 returns-clause-part g c o =
-    opened _ _ _ _ _ (head_of c.args.head.now) (slice_of o c.args.slice.now c.args.sps.now c.args.pps.now) (standing c.args.self.now.standing) (standing c.enter-set.new.self) _ (plain_set c.enter-set.result) c.requires.next.decoded c.requires.ready.none (c.enter-set.ensures.part _ c.args.timestamp o c.args.pps.now) (c.enter-set.ensures.set o c.args.pps.now) (c.hand_over.ensures.part o)
+    opened _ _ _ _ _ (head_of c.args.head.now) (slice_of o c.args.slice.now c.args.sps.now c.args.pps.now) (standing c.args.self.now.standing) (standing c.enter-set.new.self) _ (plain_set c.enter-set.result) c.requires.next.decoded c.requires.ready.none (c.enter-set.ensures.part _ _ (given_slice c.args.timestamp (plain_picture c.args.head.now.picture) (segment_of c.args.slice.now c.args.sps.now c.args.pps.now)) o c.args.pps.now) (c.enter-set.ensures.set o c.args.pps.now) (c.hand_over.ensures.part o)
 
 pub hand_over-requires-clause-newest : goal.hand_over-requires-clause-newest
 hand_over-requires-clause-newest g c =
@@ -36,5 +38,5 @@ hand_over-requires-clause-ready g c =
       accepted = ap (λ (a : Option NegotiationInfo). is_accepted (format_of_set (plain_sps c.args.sps.now)) (option_map format_of a)) l.accepted ∙ r.accepted;
       named = r.named;
       frame = r.frame;
-      sound = left_sound _ _ _ r.sound r.none l (omega (arith, c.requires.next.number, c.enter-set.ensures.number));
+      sound = left_sound _ _ _ _ r.sound r.none l (omega (arith, c.requires.next.number, c.enter-set.ensures.number));
     }

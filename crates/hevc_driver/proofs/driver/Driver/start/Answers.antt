@@ -1,10 +1,13 @@
-use Rattle.std.proofs.Common.{refl, ap, arith, rules}
+use Rattle.std.proofs.Common.{refl, ap, arith, subst, rules}
 use Rattle.hevc_walk.specs.Pictures.{Context}
 use Rattle.hevc_walk_units.specs.Units.{SkippedPicture}
 use Rattle.hevc_backend.proofs.ToldLaws.{told_same}
 use Rattle.hevc_driver.specs.Heads.{head_of}
 use Rattle.hevc_driver.specs.Slices.{slice_of}
-use Rattle.hevc_driver.specs.Standings.{standing}
+use Rattle.hevc_backend.specs.Handed.{PlainPicture, segment_of}
+use Rattle.hevc_driver.specs.Given.{given_slice}
+use Rattle.hevc_driver.specs.Takes.{Starts}
+use Rattle.hevc_driver.specs.Standings.{standing, traces}
 use Rattle.hevc_driver.proofs.HeadViews.{decoded_is}
 use Rattle.hevc_driver.proofs.PictureBegins.{skips_at, starts_at, head_number}
 use Rattle.hevc_driver.proofs.Soundness.{below_part, same_grows}
@@ -25,7 +28,7 @@ open-requires-clause-next g c =
 
 pub returns-then-head-clause-part : goal.returns-then-head-clause-part
 returns-then-head-clause-part g c =
-    skips_at _ _ _ (slice_of c.args.options c.args.slice.now c.args.sps.now c.args.pps.now) (standing c.args.self.now.standing) _ (head_of c.in_ok-head.head) (λ e. omega (arith, e)) (c.in_ok-head.ensures.head c.args.pps.now) (c.in_ok-head.ensures.within c.args.pps.now) c.if-head.true refl refl refl
+    skips_at _ _ _ (slice_of c.args.options c.args.slice.now c.args.sps.now c.args.pps.now) (standing c.args.self.now.standing) _ (head_of c.in_ok-head.head) (λ e. omega (arith, e)) (c.in_ok-head.ensures.head c.args.pps.now) (c.in_ok-head.ensures.within c.args.pps.now) c.if-head.true refl refl refl refl
     (ap (λ (v : Context). record (standing c.args.self.now.standing) { current = SkippedPicture; next = v }) c.behind-self.ensures)
 
 pub returns-then-head-clause-stays : goal.returns-then-head-clause-stays
@@ -39,11 +42,18 @@ returns-then-head-clause-stays g c =
         latency = s.latency;
         below = below_part _ _ _ _ s.below (omega (arith, h, n)) (λ x k. k);
         newest = tt;
+        announced = record { stored = s.announced.stored; current = tt };
         told = told_same refl s.told (λ t f. record { handles = f.handles; sequence = f.sequence; picture = tt });
       };
       grows = same_grows 0 _ _ refl refl;
+      kept = refl;
     }
 
 pub returns-clause-part : goal.returns-clause-part
 returns-clause-part g c =
-    starts_at _ _ _ _ (slice_of c.args.options c.args.slice.now c.args.sps.now c.args.pps.now) _ _ (head_of c.in_ok-head.head) (λ e. omega (arith, e)) (c.in_ok-head.ensures.head c.args.pps.now) (c.in_ok-head.ensures.within c.args.pps.now) (c.open.ensures.part c.args.options)
+    let w = slice_of c.args.options c.args.slice.now c.args.sps.now c.args.pps.now in
+    let segment = segment_of c.args.slice.now c.args.sps.now c.args.pps.now in
+    let s = standing c.args.self.now.standing in
+    subst (λ (p : PlainPicture). Starts c.open.result (given_slice c.args.timestamp p segment) (traces (g.B.StatelessH265DecoderBackend.log c.args.self.now.backend) (g.B.StatelessH265DecoderBackend.handed c.args.self.now.backend) c.args.self.now.standing) (traces (g.B.StatelessH265DecoderBackend.log c.open.new.self.backend) (g.B.StatelessH265DecoderBackend.handed c.open.new.self.backend) c.open.new.self.standing) w s (standing c.open.new.self.standing))
+    (c.in_ok-head.ensures.picture c.args.pps.now)
+    (starts_at _ _ _ _ (slice_of c.args.options c.args.slice.now c.args.sps.now c.args.pps.now) _ _ (head_of c.in_ok-head.head) (λ e. omega (arith, e)) (c.in_ok-head.ensures.head c.args.pps.now) (c.in_ok-head.ensures.within c.args.pps.now) (c.open.ensures.part c.args.options))

@@ -8,19 +8,21 @@ use Rattle.hevc_backend.proofs.NamedLaws.{set_among, set_stored}
 use Rattle.hevc_driver.specs.Heads.{head_of, context_of}
 use Rattle.hevc_driver.specs.Slices.{slice_of}
 use Rattle.hevc_driver.specs.Standings.{standing}
+use Rattle.hevc_backend.proofs.HandedLaws.{stored_marked}
+use Rattle.hevc_driver.proofs.Doing.{no_given}
 use Rattle.hevc_driver.proofs.PictureBegins.{entered}
 use Rattle.hevc_driver.proofs.Rooms.{reference_stays, marks_wait}
 use Rattle.hevc_driver.proofs.standing.Standing.enter.Goals as goal
 
 pub returns-clause-part : goal.returns-clause-part
-returns-clause-part g c log t o pps =
+returns-clause-part g c log handed t o pps =
     entered t _ _ (head_of c.args.head.now) (slice_of o c.args.slice.now c.args.sps.now pps) (standing c.args.self.now) _ (buffer_of c.reference_set-set.new.dpb) (context_of c.behind-self.result) (tickets (stored_entries c.reference_set-set.new.dpb))
-    (c.reference_set-set.ensures.marks o pps) c.behind-self.ensures c.reference_set-set.ensures.kept.handles (c.make_room.ensures.part log t)
+    (c.reference_set-set.ensures.marks o pps) c.behind-self.ensures c.reference_set-set.ensures.kept.handles (c.make_room.ensures.part log handed t)
 
 pub returns-clause-references : goal.returns-clause-references
 returns-clause-references g c =
     set_stored c.reference_set-set.result (stored_entries c.make_room.new.self.dpb) (set_among c.reference_set-set.result (stored_entries c.make_room.new.self.dpb) (λ n h.
-    ap (λ (s : Standing). has_reference n s.store.buffer) (c.make_room.ensures.part None 0).next
+    ap (λ (s : Standing). has_reference n s.store.buffer) (c.make_room.ensures.part None None no_given).next
     ∙ reference_stays (head_of c.args.head.now) (record (standing c.args.self.now).store { buffer = buffer_of c.reference_set-set.new.dpb }) n c.args.head.now.prior (λ begins. absurd (cc (sym (c.reference_set-set.ensures.nothing n begins) ∙ h))) (c.reference_set-set.ensures.named n h)))
 
 pub make_room-requires-clause-room : goal.make_room-requires-clause-room
@@ -36,9 +38,11 @@ returns-clause-leaves g c =
     let wait = marks_wait (stored_entries c.reference_set-set.new.dpb) (stored_entries c.args.self.now.dpb) k.entries in
     record {
       handles = λ x h. subst (λ ts. Contains ts x) k.handles (l.handles x h);
+      pictures = λ x h. subst (λ ts. Contains ts x) (stored_marked _ _ k.entries) (l.pictures x h);
       size = l.size ∙ k.size;
       latency = l.latency;
       grows = record { few = omega (arith, wait, l.grows.few); capacity = l.grows.capacity; stored = l.grows.stored ∙ k.room };
       accepted = l.accepted;
       current = l.current;
+      kept = l.kept;
     }

@@ -15,4 +15,4 @@ unwrap-set-requires g c = some_of (λ set. plain_sps set.now) c.get_sps.result _
 pub returns-clause-acts : goal.returns-clause-acts
 returns-clause-acts g c t set is =
     let same = named_of (λ set. plain_sps set.now) c.get_sps.result c.unwrap-set.result set c.unwrap-set.ensures (c.get_sps.ensures.found ∙ ap (λ (k : Kept). k.sequence_sets c.args.id) c.parser.ensures ∙ is) in
-    subst (λ (s : PlainSps). Acts c.open_sequence.result t (SequenceSet (format_of_set s)) c.args.self.now.session.state (moment_of (g.B.StatelessH265DecoderBackend.log c.args.self.now.session.backend) c.args.self.now.session) (moment_of (g.B.StatelessH265DecoderBackend.log c.open_sequence.new.self.backend) c.open_sequence.new.self)) same (c.open_sequence.ensures.acts t)
+    subst (λ (s : PlainSps). Acts c.open_sequence.result t (SequenceSet (format_of_set s)) c.args.self.now.session.state (moment_of (g.B.StatelessH265DecoderBackend.log c.args.self.now.session.backend) (g.B.StatelessH265DecoderBackend.handed c.args.self.now.session.backend) c.args.self.now.session) (moment_of (g.B.StatelessH265DecoderBackend.log c.open_sequence.new.self.backend) (g.B.StatelessH265DecoderBackend.handed c.open_sequence.new.self.backend) c.open_sequence.new.self)) same (c.open_sequence.ensures.acts t)
