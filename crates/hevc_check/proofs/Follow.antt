@@ -1,0 +1,265 @@
+-- What is kept of the pictures of a sequence tells what the next one breaks.
+use Rattle.std.proofs.Common.{◌≡◌, ℕ, ℤ, zero, suc, ◌+◌, ◌<◌, ◌≤◌, ◌≤ℤ◌, ◌<ℤ◌, Bool, true, false, not, cond, ◌&&◌, ◌||◌, List, [], ◌∷◌, ◌++◌, length, get_or, refl, sym, ap, ◌∙◌, subst, arith, Option, Some, None, if◌then◌else◌}
+use Rattle.std.specs.Prelude.{min, nat_lt, nat_le, int_lt, count_by, filter, slice_set, ◌==◌}
+use Rattle.std.specs.Ordering.{int_cmp, int_eq, is_eq}
+use Rattle.std.specs.declared.cmp.Ordering.TheVariants.{Less, Equal, Greater}
+use Rattle.std.specs.List.{list_any}
+use Rattle.std.specs.BTreeSet.{contains}
+use Rattle.std.proofs.lemmas.List.Sums.{sum_by-cons}
+use Rattle.std.proofs.lemmas.Bool.Decides.{nat_tests}
+use Rattle.std.proofs.lemmas.Int.{ints}
+use Rattle.hevc_walk.specs.Meanings.{Format}
+use Rattle.hevc_walk.specs.Pictures.{Head, Picture}
+use Rattle.hevc_walk_order.specs.Sequences.{begins, earliest, is_for_output}
+use Rattle.hevc_walk_order.specs.DisplayOrder.{entries_before}
+use Rattle.hevc_pictures.specs.declared.limits.Limits.{Limits}
+use Rattle.hevc_pictures.specs.Limits.{limits_of}
+use Rattle.hevc_backend.specs.Negotiation.{format_of}
+use Rattle.hevc_driver.specs.declared.head.Head.{Head as CodeHead}
+use Rattle.hevc_driver.specs.Heads.{head_of}
+use Rattle.hevc_check_laws.specs.Breaches as laws
+use Rattle.hevc_check_laws.specs.Breaches.{Breach, Changed, Latency, SameCount, Full, Discards, Reorder, latest_sequence, earlier_in}
+use Rattle.hevc_check.specs.declared.begun.Begun.{Begun}
+use Rattle.hevc_check.specs.declared.sequence.Sequence.{Sequence}
+use Rattle.hevc_check.specs.Sequences.{Follows, FollowsAll, Tells, first_or, above, has_count, output_above}
+
+-- ---- the first breach
+
+abbrev chain : (a b c d e f : Bool) → Option Breach
+chain a b c d e f = if a then Some Changed else if b then Some Latency else if c then Some SameCount else if d then Some Full else if e then Some Discards else if f then Some Reorder else None
+
+pub third : (a b c d e f : Bool) → a ≡ false → b ≡ false → c ≡ true → Some SameCount ≡ chain a b c d e f
+third a b c d e f ha hb hc = rw (ha, hb, hc) refl
+
+pub fourth : (a b c d e f : Bool) → a ≡ false → b ≡ false → c ≡ false → d ≡ true → Some Full ≡ chain a b c d e f
+fourth a b c d e f ha hb hc hd = rw (ha, hb, hc, hd) refl
+
+pub fifth : (a b c d e f : Bool) → a ≡ false → b ≡ false → c ≡ false → d ≡ false → e ≡ true → Some Discards ≡ chain a b c d e f
+fifth a b c d e f ha hb hc hd he = rw (ha, hb, hc, hd, he) refl
+
+pub sixth : (a b c d e f : Bool) → a ≡ false → b ≡ false → c ≡ false → d ≡ false → e ≡ false → f ≡ true → Some Reorder ≡ chain a b c d e f
+sixth a b c d e f ha hb hc hd he hf = rw (ha, hb, hc, hd, he, hf) refl
+
+pub none_of : (a b c d e f : Bool) → a ≡ false → b ≡ false → c ≡ false → d ≡ false → e ≡ false → f ≡ false → None ≡ chain a b c d e f
+none_of a b c d e f ha hb hc hd he hf = rw (ha, hb, hc, hd, he, hf) refl
+
+-- whether a latency is declared
+pub no_latency : (b : Begun) (p : Picture) → head_of b.head ≡ p.head → b.head.limits.latency_plus1 ≡ 0 → not (p.limits.max_latency_increase_plus1 == 0) ≡ false
+no_latency b p same none = ap (λ (n : ℕ). not (n == 0)) (sym (ap (λ (h : Head). h.limits.max_latency_increase_plus1) same) ∙ none)
+
+-- whether the buffer is full
+full_by : (s b : Bool) (m n k : ℕ) → (s ≡ false → n ≡ k) → (not s && not b && nat_le m n) ≡ (not s && not b && nat_le m k)
+full_by true b m n k same = refl
+full_by false b m n k same = ap (λ (x : ℕ). not b && nat_le m x) (same refl)
+
+pub full_same : (set : Option (ℕ × Format)) (p : Picture) (before : List Picture) (b : Begun) → Tells set p before b
+    → (not b.head.skipped && not b.begins_sequence && nat_le (b.head.limits.buffering + 1) b.num_stored) ≡ (not p.skipped && not (begins p before) && nat_le (p.limits.max_dec_pic_buffering_minus1 + 1) (length (entries_before set p before)))
+full_same set p before b t =
+    ap (λ (h : Head). not h.skipped && not b.begins_sequence && nat_le (h.limits.max_dec_pic_buffering_minus1 + 1) b.num_stored) t.head
+    ∙ ap (λ (x : Bool). not p.skipped && not x && nat_le (p.limits.max_dec_pic_buffering_minus1 + 1) b.num_stored) t.begins
+    ∙ full_by p.skipped (begins p before) (p.limits.max_dec_pic_buffering_minus1 + 1) b.num_stored (length (entries_before set p before)) t.stored
+
+-- ---- how many are above a count
+
+pub capped : (r x y : ℕ) → min (r + 1) x ≡ min (r + 1) y → nat_lt r x ≡ nat_lt r y
+capped r x y h = grind (arith, nat_tests, h)
+
+abbrev one_of : Bool → ℕ
+one_of b = cond b 1 0
+
+pub any_default : {X : Type 0} (xs : List X) (i : ℕ) (a b : X) → i < length xs → get_or xs i a ≡ get_or xs i b
+any_default [] i a b l = absurd (omega (arith, l))
+any_default (x ∷ xs) zero a b l = refl
+any_default (x ∷ xs) (suc i) a b l = any_default xs i a b (omega (arith, l))
+
+count_cons : {X : Type 0} (f : X → Bool) (x : X) (xs : List X) → count_by f (x ∷ xs) ≡ one_of (f x) + count_by f xs
+count_cons f x xs = sum_by-cons (λ y. cond (f y) 1 0) x xs
+
+count_set : (f : ℤ → Bool) (xs : List ℤ) (i : ℕ) (y d : ℤ) → i < length xs → count_by f (slice_set xs i y) + one_of (f (get_or xs i d)) ≡ count_by f xs + one_of (f y)
+count_set f [] i y d l = absurd (omega (arith, l))
+count_set f (x ∷ xs) zero y d l =
+    let a : count_by f (slice_set (x ∷ xs) zero y) ≡ one_of (f y) + count_by f xs = count_cons f y xs in
+    let b = count_cons f x xs in
+    let g : one_of (f (get_or (x ∷ xs) zero d)) ≡ one_of (f x) = refl in
+    omega (arith, a, b, g)
+count_set f (x ∷ xs) (suc i) y d l =
+    let more = count_set f xs i y d (omega (arith, l)) in
+    let a : count_by f (slice_set (x ∷ xs) (suc i) y) ≡ one_of (f x) + count_by f (slice_set xs i y) = count_cons f x (slice_set xs i y) in
+    let b = count_cons f x xs in
+    let g : one_of (f (get_or (x ∷ xs) (suc i) d)) ≡ one_of (f (get_or xs i d)) = refl in
+    omega (arith, more, a, b, g)
+
+all_above : (c m : ℤ) (xs : List ℤ) → c <ℤ m → ((k : ℕ) (d : ℤ) → k < length xs → m ≤ℤ get_or xs k d) → count_by (λ b. int_lt c b) xs ≡ length xs
+all_above c m [] l least = refl
+all_above c m (x ∷ xs) l least =
+    let here : m ≤ℤ x = least 0 x (omega arith) in
+    let more = all_above c m xs l (λ k d j. least (suc k) d (omega (arith, j))) in
+    let above : int_lt c x ≡ true = grind (arith, nat_tests, ints, here, l) in
+    let one : one_of (int_lt c x) ≡ 1 = ap one_of above in
+    let a = count_cons (λ b. int_lt c b) x xs in
+    omega (arith, more, one, a)
+
+count_append : {X : Type 0} (f : X → Bool) (xs : List X) (y : X) → count_by f (xs ++ y ∷ []) ≡ count_by f xs + one_of (f y)
+count_append f [] y = count_cons f y [] ∙ omega arith
+count_append f (x ∷ xs) y =
+    let more = count_append f xs y in
+    let a : count_by f ((x ∷ xs) ++ y ∷ []) ≡ one_of (f x) + count_by f (xs ++ y ∷ []) = count_cons f x (xs ++ y ∷ []) in
+    let b = count_cons f x xs in
+    omega (arith, more, a, b)
+
+above_one : (c y : ℤ) → above c (y ∷ []) ≡ one_of (int_lt c y)
+unfolding above
+above_one c y = count_cons (λ b. int_lt c b) y [] ∙ omega arith
+
+min_more : (k a n o : ℕ) → min k a ≡ min k n → min k (a + o) ≡ min k (o + n)
+min_more k a n o same = grind (arith, same)
+
+min_all : (k a n o : ℕ) → min k a ≡ min k n → k ≤ a → min k a ≡ min k (o + n)
+min_all k a n o same most = grind (arith, same, most)
+
+-- a count comes to those that are kept
+pub pushed : (k n : ℕ) (c y : ℤ) (xs : List ℤ) → min k (above c xs) ≡ min k n → min k (above c (xs ++ y ∷ [])) ≡ min k (above c (y ∷ []) + n)
+unfolding above
+pushed k n c y xs same = ap (min k) (count_append (λ b. int_lt c b) xs y) ∙ min_more k (count_by (λ b. int_lt c b) xs) n (one_of (int_lt c y)) same ∙ ap (λ (o : ℕ). min k (o + n)) (sym (above_one c y))
+
+-- the lowest gives way to it, where there are many
+pub replaced : (k n : ℕ) (c x y : ℤ) (xs : List ℤ) (i : ℕ) → k ≤ length xs → i < length xs → x ≡ get_or xs i x → ((j : ℕ) (d : ℤ) → j < length xs → get_or xs i d ≤ℤ get_or xs j d) → x <ℤ y → min k (above c xs) ≡ min k n
+    → min k (above c (slice_set xs i y)) ≡ min k (above c (y ∷ []) + n)
+unfolding above
+replaced k n c x y xs i many within is least less same = by (int_lt c x) refl ∙ ap (λ (o : ℕ). min k (o + n)) (sym (above_one c y))
+  where
+    f : ℤ → Bool
+    f = λ b. int_lt c b
+
+    sum : count_by f (slice_set xs i y) + one_of (int_lt c x) ≡ count_by f xs + one_of (int_lt c y)
+    sum = ap (λ (z : ℤ). count_by f (slice_set xs i y) + one_of (int_lt c z)) is ∙ count_set f xs i y x within
+
+    by : (b : Bool) → int_lt c x ≡ b → min k (count_by f (slice_set xs i y)) ≡ min k (one_of (int_lt c y) + n)
+    by true e =
+        let low : c <ℤ x = grind (arith, nat_tests, ints, e) in
+        let high : int_lt c y ≡ true = grind (arith, nat_tests, ints, low, less) in
+        let all : count_by f xs ≡ length xs = all_above c x xs low (λ j d l. subst (λ (z : ℤ). z ≤ℤ get_or xs j d) (any_default xs i d x within ∙ sym is) (least j d l)) in
+        let one = ap one_of e in
+        let other = ap one_of high in
+        let same_sum : count_by f (slice_set xs i y) ≡ count_by f xs = omega (arith, sum, one, other) in
+        ap (min k) same_sum ∙ min_all k (count_by f xs) n (one_of (int_lt c y)) same (omega (arith, all, many))
+    by false e =
+        let one = ap one_of e in
+        let same_sum : count_by f (slice_set xs i y) ≡ count_by f xs + one_of (int_lt c y) = omega (arith, sum, one) in
+        ap (min k) same_sum ∙ min_more k (count_by f xs) n (one_of (int_lt c y)) same
+
+-- it is no higher than the lowest, where there are many
+pub left_out : (k n : ℕ) (c x y : ℤ) (xs : List ℤ) (i : ℕ) → k ≤ length xs → i < length xs → x ≡ get_or xs i x → ((j : ℕ) (d : ℤ) → j < length xs → get_or xs i d ≤ℤ get_or xs j d) → y ≤ℤ x → min k (above c xs) ≡ min k n
+    → min k (above c xs) ≡ min k (above c (y ∷ []) + n)
+unfolding above
+left_out k n c x y xs i many within is least less same = by (int_lt c y) refl ∙ ap (λ (o : ℕ). min k (o + n)) (sym (above_one c y))
+  where
+    f : ℤ → Bool
+    f = λ b. int_lt c b
+
+    by : (b : Bool) → int_lt c y ≡ b → min k (count_by f xs) ≡ min k (one_of (int_lt c y) + n)
+    by true e =
+        let low : c <ℤ x = grind (arith, nat_tests, ints, e, less) in
+        let all : count_by f xs ≡ length xs = all_above c x xs low (λ j d l. subst (λ (z : ℤ). z ≤ℤ get_or xs j d) (any_default xs i d x within ∙ sym is) (least j d l)) in
+        min_all k (count_by f xs) n (one_of (int_lt c y)) same (omega (arith, all, many))
+    by false e = let one : one_of (int_lt c y) ≡ 0 = ap one_of e in same ∙ ap (min k) (omega (arith, one))
+
+-- ---- one place more
+
+pub lower_so_far : (xs : List ℤ) (place low next : ℕ) → ((k : ℕ) (d : ℤ) → k < place → get_or xs low d ≤ℤ get_or xs k d) → ((d : ℤ) → get_or xs next d ≤ℤ get_or xs low d) → ((d : ℤ) → get_or xs next d ≤ℤ get_or xs place d)
+    → (k : ℕ) (d : ℤ) → k < place + 1 → get_or xs next d ≤ℤ get_or xs k d
+lower_so_far xs place low next so_far one other k d l = by (nat_lt k place) refl
+  where
+    by : (b : Bool) → nat_lt k place ≡ b → get_or xs next d ≤ℤ get_or xs k d
+    by true e =
+        let below : k < place = grind (arith, nat_tests, e) in
+        let a = so_far k d below in
+        let b = one d in
+        omega (arith, ints, a, b)
+    by false e =
+        let here : place ≡ k = grind (arith, nat_tests, e, l) in
+        subst (λ (j : ℕ). get_or xs next d ≤ℤ get_or xs j d) here (other d)
+
+-- ---- what the definitions say
+
+pub same_count : {v : Bool} (p : Picture) (before : List Picture) → has_count p.order_count (earlier_in p before) ≡ v → list_any (λ q. int_eq p.order_count q.order_count) (earlier_in p before) ≡ v
+unfolding has_count
+same_count p before is = is
+
+pub reordered : {v : Bool} (p : Picture) (before : List Picture) → (is_for_output p && nat_lt p.limits.max_num_reorder_pics (output_above p.order_count (earlier_in p before))) ≡ v → laws.is_reordered p before ≡ v
+unfolding output_above
+reordered p before is = is
+
+-- ---- one picture more
+
+earliest_any : (a b p : Picture) (es : List Picture) → first_or a (earliest (p ∷ es)) ≡ first_or b (earliest (p ∷ es))
+earliest_any a b p [] = refl
+earliest_any a b p (q ∷ es) = earliest_any a b q es
+
+first_same : (p next : Picture) (es : List Picture) → first_or p (earliest es) ≡ first_or next (earliest (p ∷ es))
+first_same p next [] = refl
+first_same p next (q ∷ es) = earliest_any p next q es
+
+eq_sym : (a b : ℤ) → is_eq (int_cmp a b) ≡ is_eq (int_cmp b a)
+eq_sym a b = by (int_lt a b) (int_lt b a)
+  where
+    by : (x y : Bool) → is_eq (cond x Less (cond y Greater Equal)) ≡ is_eq (cond y Less (cond x Greater Equal))
+    by true true = refl
+    by true false = refl
+    by false true = refl
+    by false false = refl
+
+or_is : (b x : Bool) → cond b true x ≡ b || x
+or_is true x = refl
+or_is false x = refl
+
+count_more : (c k : ℤ) (p : Picture) (es : List Picture) (b : Bool) → k ≡ p.order_count → b ≡ has_count c es → cond (is_eq (int_cmp k c)) true b ≡ has_count c (p ∷ es)
+unfolding has_count
+count_more c k p es b same is = ap (λ (x : Bool). cond (is_eq (int_cmp k c)) true x) is ∙ or_is (is_eq (int_cmp k c)) (list_any (λ q. int_eq c q.order_count) es) ∙ ap (λ (x : Bool). x || list_any (λ q. int_eq c q.order_count) es) (eq_sym k c ∙ ap (λ (y : ℤ). int_eq c y) same)
+
+pub output_more : (c : ℤ) (p : Picture) (es : List Picture) → is_for_output p ≡ true → output_above c (p ∷ es) ≡ above c (p.order_count ∷ []) + output_above c es
+unfolding output_above
+output_more c p es is =
+    ap (λ (b : Bool). count_by (λ q. int_lt c q.order_count) (cond b (p ∷ filter is_for_output es) (filter is_for_output es))) is
+    ∙ count_cons (λ q. int_lt c q.order_count) p (filter is_for_output es)
+    ∙ ap (λ (o : ℕ). o + count_by (λ q. int_lt c q.order_count) (filter is_for_output es)) (sym (above_one c p.order_count))
+
+pub output_same : (c : ℤ) (p : Picture) (es : List Picture) → is_for_output p ≡ false → output_above c (p ∷ es) ≡ output_above c es
+unfolding output_above
+output_same c p es is = ap (λ (b : Bool). count_by (λ q. int_lt c q.order_count) (cond b (p ∷ filter is_for_output es) (filter is_for_output es))) is
+
+pub follows_more : (p next : Picture) (es : List Picture) (q new : Sequence) (k : ℤ) → Follows p es q → new.limits ≡ q.limits → new.format ≡ q.format → k ≡ p.order_count
+    → ((c : ℤ) → contains int_cmp new.counts c ≡ cond (is_eq (int_cmp k c)) true (contains int_cmp q.counts c))
+    → ((c : ℤ) → min (q.limits.reorder + 1) (above c new.highest.items) ≡ min (q.limits.reorder + 1) (output_above c (p ∷ es))) → Follows next (p ∷ es) new
+follows_more p next es q new k f limits format same counts highest = record {
+  limits = ap limits_of limits ∙ f.limits ∙ ap (λ (x : Picture). x.limits) (first_same p next es);
+  format = ap format_of format ∙ f.format ∙ ap (λ (x : Picture). x.format) (first_same p next es);
+  counts = λ c. counts c ∙ count_more c k p es (contains int_cmp q.counts c) same (f.counts c);
+  highest = λ c. subst (λ (l : Limits). min (l.reorder + 1) (above c new.highest.items) ≡ min (l.reorder + 1) (output_above c (p ∷ es))) (sym limits) (highest c);
+}
+
+-- ---- from picture to picture
+
+pub follows_on : (p : Picture) (before : List Picture) (q : Sequence) → begins p before ≡ false → FollowsAll before q → Follows p (earlier_in p before) q
+follows_on p [] q isnt all = absurd (cc isnt)
+follows_on p (r ∷ before) q isnt all = subst (λ (b : Bool). Follows p (if b then [] else latest_sequence (r ∷ before)) q) (sym isnt) (all p)
+
+pub follows_first : (p : Picture) (before : List Picture) (q : Sequence) → begins p before ≡ true → Follows p [] q → Follows p (earlier_in p before) q
+follows_first p before q is f = subst (λ (b : Bool). Follows p (if b then [] else latest_sequence before) q) (sym is) f
+
+none_above : (k : ℕ) (c : ℤ) (xs : List ℤ) → xs ≡ [] → min k (above c xs) ≡ min k (output_above c [])
+unfolding above output_above
+none_above k c xs none = ap (λ (l : List ℤ). min k (count_by (λ b. int_lt c b) l)) none
+
+none_counted : (c : ℤ) (ks : List ℤ) → ks ≡ [] → list_any (λ k. is_eq (int_cmp c k)) ks ≡ has_count c []
+unfolding has_count
+none_counted c ks none = ap (list_any (λ k. is_eq (int_cmp c k))) none
+
+-- a sequence begins
+pub follows_none : (p : Picture) (q : Sequence) (b : CodeHead) → head_of b ≡ p.head → q.limits ≡ b.limits → q.format ≡ b.format → q.counts.keys ≡ [] → q.highest.items ≡ [] → Follows p [] q
+follows_none p q b same limits format counts highest = record {
+  limits = ap limits_of limits ∙ ap (λ (h : Head). h.limits) same;
+  format = ap format_of format ∙ ap (λ (h : Head). h.format) same;
+  counts = λ c. none_counted c q.counts.keys counts;
+  highest = λ c. none_above (q.limits.reorder + 1) c q.highest.items highest;
+}

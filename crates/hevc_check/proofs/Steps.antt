@@ -1,0 +1,262 @@
+-- A check goes on from unit to unit.
+use Rattle.std.proofs.Common.{◌≡◌, ℕ, ℤ, ◌+◌, ◌≤◌, Bool, true, false, cond, List, [], ◌∷◌, ◌++◌, refl, sym, ap, ◌∙◌, subst, arith, Option, Some, None, if◌then◌else◌}
+use Rattle.std.specs.Prelude.{int_lt, count_by, filter, is_some, option_map}
+use Rattle.hevc_walk.specs.Meanings.{Format, Slice, Meaning, SequenceSet, CodedSlice, EndOfSequence, EndOfBitstream, Other, Refused}
+use Rattle.hevc_walk.specs.DependentSlices.{KeptHeader, whole_slice, kept_header}
+use Rattle.hevc_walk.specs.Pictures.{Context, Head, Picture, Stream, head, context, with_unit, with_slice, with_whole, with_sequence_end, with_bitstream_end, new_picture}
+use Rattle.hevc_walk.specs.Walk.{latest_head}
+use Rattle.hevc_walk_joined.specs.Standings.{full_by}
+use Rattle.hevc_walk_order.specs.Sequences.{begins, earliest, is_for_output}
+use Rattle.hevc_check_laws.specs.Breaches.{Breach, Changed, Latency, SameCount, Full, Discards, Reorder, latest_sequence, differs_from, all_breaches}
+use Rattle.hevc_check_laws.specs.Bounds.{breaks_bounds}
+use Rattle.hevc_check_laws.specs.Checks.{BrokenAt, first_breach, broken_at, earlier_broken, lowest_broken}
+use Rattle.hevc_check.specs.declared.begun.Begun.{Begun}
+use Rattle.hevc_check.specs.declared.sequence.Sequence.{Sequence}
+use Rattle.hevc_check.specs.declared.check.Check.{Check}
+use Rattle.hevc_check.specs.declared.check.Checked.TheVariants.{No}
+use Rattle.hevc_check.specs.declared.breach.Breach as code
+use Rattle.hevc_check.specs.Breaches.{breach_of}
+use Rattle.hevc_check.specs.Places.{Place, place, meant, first_slice, first_by, begun_by, begins_at, IsBegun, TellsFirst}
+use Rattle.hevc_check.specs.Sequences.{Follows, FollowsAll, Tells, first_or, has_count, output_above}
+use Rattle.hevc_check.specs.Steps as steps
+use Rattle.hevc_check.specs.Steps.{IsAt, num_sequences, lowest}
+use Rattle.hevc_check.proofs.Places.{place_unit}
+
+-- ---- later slices and ends of a picture say nothing of what it breaks
+
+abbrev touched : List (ℕ × Slice) → Bool → Bool → Picture → Picture
+touched ss a b p = record p { slices = ss; sequence_ends = a; bitstream_ends = b }
+
+module _ (ss : List (ℕ × Slice)) (a b : Bool) (p : Picture) where
+  differs_same : (o : Option Picture) → differs_from (touched ss a b p) o ≡ differs_from p o
+  differs_same None = refl
+  differs_same (Some first) = refl
+
+  breaks_same : (set : Option (ℕ × Format)) (before : List Picture) (x : Breach) → breaks_bounds set (touched ss a b p) before x ≡ breaks_bounds set p before x
+  breaks_same set [] Changed = refl
+  breaks_same set (q ∷ before) Changed = differs_same (earliest (if p.starts_sequence then [] else latest_sequence (q ∷ before)))
+  breaks_same set before Latency = refl
+  breaks_same set [] SameCount = refl
+  breaks_same set (q ∷ before) SameCount = refl
+  breaks_same set [] Full = refl
+  breaks_same set (q ∷ before) Full = refl
+  breaks_same set before Discards = refl
+  breaks_same set [] Reorder = refl
+  breaks_same set (q ∷ before) Reorder = refl
+
+  broken_same : (o : Option Breach) → broken_at (touched ss a b p) o ≡ broken_at p o
+  broken_same None = refl
+  broken_same (Some x) = refl
+
+  lowest_same : (set : Option (ℕ × Format)) (before : List Picture) → lowest_broken (breaks_bounds set) (touched ss a b p ∷ before) ≡ lowest_broken (breaks_bounds set) (p ∷ before)
+  lowest_same set before =
+      ap (λ (o : Option Breach). earlier_broken (lowest_broken (breaks_bounds set) before) (broken_at (touched ss a b p) o)) (by all_breaches)
+      ∙ ap (earlier_broken (lowest_broken (breaks_bounds set) before)) (broken_same (first_breach (breaks_bounds set p before) all_breaches))
+    where
+      by : (bs : List Breach) → first_breach (breaks_bounds set (touched ss a b p) before) bs ≡ first_breach (breaks_bounds set p before) bs
+      by [] = refl
+      by (x ∷ bs) = ap (λ (t : Bool). if t then Some x else first_breach (breaks_bounds set (touched ss a b p) before) bs) (breaks_same set before x) ∙ ap (λ (o : Option Breach). if breaks_bounds set p before x then Some x else o) (by bs)
+
+  first_limits : (next : Picture) (es : List Picture) → ((first_or next (earliest (touched ss a b p ∷ es))).limits ≡ (first_or next (earliest (p ∷ es))).limits) × ((first_or next (earliest (touched ss a b p ∷ es))).format ≡ (first_or next (earliest (p ∷ es))).format)
+  first_limits next [] = (refl, refl)
+  first_limits next (q ∷ es) = (refl, refl)
+
+  counts_same : (c : ℤ) (es : List Picture) → has_count c (touched ss a b p ∷ es) ≡ has_count c (p ∷ es)
+  unfolding has_count
+  counts_same c es = refl
+
+  output_same : (c : ℤ) (es : List Picture) → output_above c (touched ss a b p ∷ es) ≡ output_above c (p ∷ es)
+  unfolding output_above
+  output_same c es = by (is_for_output p) (filter is_for_output es)
+    where
+      by : (t : Bool) (xs : List Picture) → count_by (λ q. int_lt c q.order_count) (cond t (touched ss a b p ∷ xs) xs) ≡ count_by (λ q. int_lt c q.order_count) (cond t (p ∷ xs) xs)
+      by true xs = refl
+      by false xs = refl
+
+  follows_same : (next : Picture) (es : List Picture) (q : Sequence) → Follows next (p ∷ es) q → Follows next (touched ss a b p ∷ es) q
+  follows_same next es q f = record {
+    limits = f.limits ∙ sym (first_limits next es).0;
+    format = f.format ∙ sym (first_limits next es).1;
+    counts = λ c. f.counts c ∙ sym (counts_same c es);
+    highest = λ c. f.highest c ∙ ap (Rattle.std.specs.Prelude.min (q.limits.reorder + 1)) (sym (output_same c es));
+  }
+
+  all_same : (before : List Picture) (q : Sequence) → FollowsAll (p ∷ before) q → FollowsAll (touched ss a b p ∷ before) q
+  all_same [] q f = λ next. follows_same next [] q (f next)
+  all_same (r ∷ before) q f = λ next. follows_same next (if p.starts_sequence then [] else latest_sequence (r ∷ before)) q (f next)
+
+  sequences_same : (before : List Picture) → num_sequences (touched ss a b p ∷ before) ≡ num_sequences (p ∷ before)
+  sequences_same [] = refl
+  sequences_same (r ∷ before) = refl
+
+-- What stays as it was with a unit.
+pub record Still (v w : Stream) : Type 0 where
+  pub follows : (q : Sequence) → FollowsAll v.pictures q → FollowsAll w.pictures q
+  pub sequences : num_sequences w.pictures ≡ num_sequences v.pictures
+  pub lowest_is : lowest w ≡ lowest v
+  pub full : full_by w ≡ full_by v
+
+same_still : (v : Stream) → Still v v
+same_still v = record { follows = λ q f. f; sequences = refl; lowest_is = refl; full = refl }
+
+set_still : (k : ℕ) (format : Format) (v : Stream) (set : Option (ℕ × Format)) (ps : List Picture) → v.first_set ≡ set → v.pictures ≡ ps → Still v (with_unit k (SequenceSet format) v)
+set_still k format v None [] e ps = rw (e, ps) (record { follows = λ q f. f; sequences = refl; lowest_is = refl; full = refl })
+set_still k format v None (p ∷ before) e ps = rw (e, ps) (record { follows = λ q f. f; sequences = refl; lowest_is = refl; full = refl })
+set_still k format v (Some set) ps e is = rw e (record { follows = λ q f. f; sequences = refl; lowest_is = refl; full = refl })
+
+touched_still : (set : Option (ℕ × Format)) (kept later : Option KeptHeader) (ss : List (ℕ × Slice)) (a b : Bool) (p : Picture) (before : List Picture)
+    → Still (record { first_set = set; kept = kept; pictures = p ∷ before }) (record { first_set = set; kept = later; pictures = touched ss a b p ∷ before })
+touched_still set kept later ss a b p before = record {
+  follows = λ q f. all_same ss a b p before q f;
+  sequences = sequences_same ss a b p before;
+  lowest_is = lowest_same ss a b p set before;
+  full = refl;
+}
+
+abbrev of_parts : Option (ℕ × Format) → Option KeptHeader → List Picture → Stream
+of_parts set kept ps = record { first_set = set; kept = kept; pictures = ps }
+
+kept_still : (set : Option (ℕ × Format)) (kept later : Option KeptHeader) (ps : List Picture) → Still (of_parts set kept ps) (of_parts set later ps)
+kept_still set kept later ps = record { follows = λ q f. f; sequences = refl; lowest_is = refl; full = refl }
+
+slice_still : (k : ℕ) (set : Option (ℕ × Format)) (kept later : Option KeptHeader) (s : Slice) (ps : List Picture) → first_by (Some s) (latest_head ps) ≡ None → Still (of_parts set kept ps) (of_parts set later (with_slice k s ps))
+slice_still k set kept later s [] none = absurd (cc none)
+slice_still k set kept later s (p ∷ before) none = by s.first_slice_segment_in_pic_flag none
+  where
+    by : (t : Bool) → cond t (Some s) None ≡ None → Still (of_parts set kept (p ∷ before)) (of_parts set later (cond t (new_picture k s (p ∷ before) ∷ p ∷ before) (record p { slices = p.slices ++ (k, s) ∷ [] } ∷ before)))
+    by true e = absurd (cc e)
+    by false e = touched_still set kept later (p.slices ++ (k, s) ∷ []) p.sequence_ends p.bitstream_ends p before
+
+whole_still : (k : ℕ) (set : Option (ℕ × Format)) (kept later : Option KeptHeader) (s : Option Slice) (ps : List Picture) → first_by s (latest_head ps) ≡ None → Still (of_parts set kept ps) (of_parts set later (with_whole k s ps))
+whole_still k set kept later None ps none = kept_still set kept later ps
+whole_still k set kept later (Some s) ps none = slice_still k set kept later s ps none
+
+sequence_end_still : (set : Option (ℕ × Format)) (kept : Option KeptHeader) (ps : List Picture) → Still (of_parts set kept ps) (of_parts set kept (with_sequence_end ps))
+sequence_end_still set kept [] = kept_still set kept kept []
+sequence_end_still set kept (p ∷ before) = touched_still set kept kept p.slices true p.bitstream_ends p before
+
+bitstream_end_still : (set : Option (ℕ × Format)) (kept : Option KeptHeader) (ps : List Picture) → Still (of_parts set kept ps) (of_parts set kept (with_bitstream_end ps))
+bitstream_end_still set kept [] = kept_still set kept kept []
+bitstream_end_still set kept (p ∷ before) = touched_still set kept kept p.slices p.sequence_ends true p before
+
+-- a unit with which no picture begins
+pub still : (k : ℕ) (u : Meaning) (v : Stream) → first_slice u (place v) ≡ None → Still v (with_unit k u v)
+still k (SequenceSet format) v none = set_still k format v v.first_set v.pictures refl refl
+still k (CodedSlice s) v none = whole_still k v.first_set v.kept (kept_header v.kept s) (whole_slice v.kept s) v.pictures none
+still k EndOfSequence v none = sequence_end_still v.first_set v.kept v.pictures
+still k EndOfBitstream v none = bitstream_end_still v.first_set v.kept v.pictures
+still k Other v none = same_still v
+still k (Refused cause) v none = same_still v
+
+-- ---- a picture begins
+
+-- What begins with a unit.
+pub record Begins (k : ℕ) (u : Meaning) (v : Stream) (s : Slice) : Type 0 where
+  pub set : (with_unit k u v).first_set ≡ v.first_set
+  pub pictures : (with_unit k u v).pictures ≡ new_picture k s v.pictures ∷ v.pictures
+
+slice_begins : (k : ℕ) (s t : Slice) (ps : List Picture) → first_by (Some s) (latest_head ps) ≡ Some t → with_slice k s ps ≡ new_picture k t ps ∷ ps
+slice_begins k s t [] is = let same : s ≡ t = cc is in ap (λ (x : Slice). new_picture k x [] ∷ []) same
+slice_begins k s t (p ∷ before) is = by s.first_slice_segment_in_pic_flag is
+  where
+    by : (b : Bool) → cond b (Some s) None ≡ Some t → cond b (new_picture k s (p ∷ before) ∷ p ∷ before) (record p { slices = p.slices ++ (k, s) ∷ [] } ∷ before) ≡ new_picture k t (p ∷ before) ∷ p ∷ before
+    by true e = let same : s ≡ t = cc e in ap (λ (x : Slice). new_picture k x (p ∷ before) ∷ p ∷ before) same
+    by false e = absurd (cc e)
+
+whole_begins : (k : ℕ) (s : Option Slice) (t : Slice) (ps : List Picture) → first_by s (latest_head ps) ≡ Some t → with_whole k s ps ≡ new_picture k t ps ∷ ps
+whole_begins k None t ps is = absurd (cc is)
+whole_begins k (Some s) t ps is = slice_begins k s t ps is
+
+pub unit_begins : (k : ℕ) (u : Meaning) (v : Stream) (s : Slice) → first_slice u (place v) ≡ Some s → Begins k u v s
+unit_begins k (SequenceSet format) v s is = absurd (cc is)
+unit_begins k (CodedSlice x) v s is = record { set = refl; pictures = whole_begins k (whole_slice v.kept x) s v.pictures is }
+unit_begins k EndOfSequence v s is = absurd (cc is)
+unit_begins k EndOfBitstream v s is = absurd (cc is)
+unit_begins k Other v s is = absurd (cc is)
+unit_begins k (Refused cause) v s is = absurd (cc is)
+
+begins_same : (k : ℕ) (s : Slice) (ps : List Picture) → begins_at (head (context ps) s) (latest_head ps) ≡ begins (new_picture k s ps) ps
+begins_same k s [] = refl
+begins_same k s (p ∷ before) = refl
+
+pub tells : (k : ℕ) (s : Slice) (v : Stream) (b : Begun) → IsBegun s (place v) b → Tells v.first_set (new_picture k s v.pictures) v.pictures b
+tells k s v b is = record { head = is.same_head; begins = is.begins ∙ begins_same k s v.pictures; stored = is.stored }
+
+-- ---- a check
+
+pub at_still : (k : ℕ) (u : Meaning) (v : Stream) (old new : Check) → IsAt v old → first_slice u old.walk.pictures ≡ None → new.walk.pictures ≡ meant u old.walk.pictures → new.sequence ≡ old.sequence → new.sequences ≡ old.sequences → IsAt (with_unit k u v) new
+at_still k u v old new at none next sequence sequences =
+    let s = still k u v (ap (first_slice u) (sym at.place) ∙ none) in
+    record {
+      place = next ∙ ap (meant u) at.place ∙ sym (place_unit k u v);
+      follows = subst (FollowsAll (with_unit k u v).pictures) (sym sequence) (s.follows old.sequence at.follows);
+      sequences = sequences ∙ at.sequences ∙ sym s.sequences;
+      unbroken = s.lowest_is ∙ at.unbroken;
+    }
+
+lowest_new : (k : ℕ) (u : Meaning) (v : Stream) (s : Slice) → Begins k u v s
+    → lowest (with_unit k u v) ≡ earlier_broken (lowest v) (broken_at (new_picture k s v.pictures) (first_breach (breaks_bounds v.first_set (new_picture k s v.pictures) v.pictures) all_breaches))
+lowest_new k u v s b = ap (λ (set : Option (ℕ × Format)). lowest_broken (breaks_bounds set) (with_unit k u v).pictures) b.set ∙ ap (lowest_broken (breaks_bounds v.first_set)) b.pictures
+
+-- how many sequences there are with one picture more
+sequences_by : (t : Bool) (n m : ℕ) → m ≡ n + (if t then 1 else 0) → m ≡ (if t then n + 1 else n)
+sequences_by true n m is = is
+sequences_by false n m is = omega (arith, is)
+
+pub at_begun : (k : ℕ) (u : Meaning) (v : Stream) (s : Slice) (old new : Check) (b : Begun) → IsAt v old → first_slice u old.walk.pictures ≡ Some s → IsBegun s old.walk.pictures b → new.walk.pictures ≡ meant u old.walk.pictures
+    → FollowsAll (new_picture k s v.pictures ∷ v.pictures) new.sequence → new.sequences ≡ old.sequences + (if b.begins_sequence then 1 else 0)
+    → first_breach (breaks_bounds v.first_set (new_picture k s v.pictures) v.pictures) all_breaches ≡ None → IsAt (with_unit k u v) new
+at_begun k u v s old new b at some is next follows sequences none =
+    let p = new_picture k s v.pictures in
+    let t = unit_begins k u v s (ap (first_slice u) (sym at.place) ∙ some) in
+    let told = tells k s v b (subst (λ (w : Place). IsBegun s w b) at.place is) in
+    record {
+      place = next ∙ ap (meant u) at.place ∙ sym (place_unit k u v);
+      follows = subst (λ (ps : List Picture). FollowsAll ps new.sequence) (sym t.pictures) follows;
+      sequences = sequences_by (begins p v.pictures) (num_sequences v.pictures) new.sequences (sequences ∙ ap (λ (n : ℕ). n + (if b.begins_sequence then 1 else 0)) at.sequences ∙ ap (λ (x : Bool). num_sequences v.pictures + (if x then 1 else 0)) told.begins) ∙ sym (ap num_sequences t.pictures);
+      unbroken = lowest_new k u v s t ∙ ap (λ (o : Option BrokenAt). earlier_broken o (broken_at p (first_breach (breaks_bounds v.first_set p v.pictures) all_breaches))) at.unbroken ∙ ap (broken_at p) none;
+    }
+
+pub at_broken : (k : ℕ) (u : Meaning) (v : Stream) (s : Slice) (old : Check) (b : Begun) (breach : code.Breach) → IsAt v old → first_slice u old.walk.pictures ≡ Some s → IsBegun s old.walk.pictures b
+    → first_breach (breaks_bounds v.first_set (new_picture k s v.pictures) v.pictures) all_breaches ≡ Some (breach_of breach) → steps.Tells (with_unit k u v) (No b.head.number k breach)
+at_broken k u v s old b breach at some is broken =
+    let p = new_picture k s v.pictures in
+    let t = unit_begins k u v s (ap (first_slice u) (sym at.place) ∙ some) in
+    let told = tells k s v b (subst (λ (w : Place). IsBegun s w b) at.place is) in
+    record {
+      broken = record { number = b.head.number; unit = k; breach = breach_of breach };
+      told_is = refl;
+      lowest_is = lowest_new k u v s t ∙ ap (λ (o : Option BrokenAt). earlier_broken o (broken_at p (first_breach (breaks_bounds v.first_set p v.pictures) all_breaches))) at.unbroken ∙ ap (broken_at p) broken
+          ∙ ap (λ (n : ℕ). Some (record { number = n; unit = k; breach = breach_of breach })) (sym (ap (λ (h : Head). h.number) told.head));
+    }
+
+-- ---- what is told of a unit
+
+pub told_none : (f : Option Slice) (w : Place) (told : Option Begun) → TellsFirst f w told → told ≡ None → f ≡ None
+told_none None w told h is = refl
+told_none (Some s) w told h is = absurd (cc (sym h.1 ∙ is))
+
+pub told_some : (f : Option Slice) (w : Place) (told : Option Begun) (b : Begun) → TellsFirst f w told → told ≡ Some b → (s : Slice) × (f ≡ Some s) × IsBegun s w b
+told_some None w told b h is = absurd (cc (sym h ∙ is))
+told_some (Some s) w told b h is =
+    let same : h.0 ≡ b = cc (sym h.1 ∙ is) in
+    (s, refl, subst (λ (x : Begun). IsBegun s w x) same h.2)
+
+head_number : (c : Context) (s : Slice) → (head c s).number ≡ c.number
+unfolding head
+head_number c s = refl
+
+pub number_after : (u : Meaning) (w : Place) → (meant u w).next.number ≤ w.next.number + 1
+number_after (SequenceSet format) w = omega arith
+number_after (CodedSlice s) w = by (first_slice (CodedSlice s) w)
+  where
+    by : (f : Option Slice) → (begun_by f (record w { kept = kept_header w.kept s })).next.number ≤ w.next.number + 1
+    by None = omega arith
+    by (Some t) = let n = head_number w.next t in omega (arith, n)
+number_after EndOfSequence w = omega arith
+number_after EndOfBitstream w = omega arith
+number_after Other w = omega arith
+number_after (Refused cause) w = omega arith
+
+pub tells_at : (k : ℕ) (s : Slice) (v : Stream) (old : Check) (b : Begun) → IsAt v old → IsBegun s old.walk.pictures b → Tells v.first_set (new_picture k s v.pictures) v.pictures b
+tells_at k s v old b at is = tells k s v b (subst (λ (w : Place). IsBegun s w b) at.place is)

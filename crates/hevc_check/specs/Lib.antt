@@ -1,0 +1,6 @@
+pub mod Breaches
+pub mod Places
+pub mod Sequences
+pub mod Walks
+pub mod Answers
+pub mod Steps

@@ -1,0 +1,158 @@
+-- Where the walk over the pictures of a stream is.
+use Rattle.std.specs.Prelude.{◌≡◌, ◌⊎◌, ◌≤◌, ◌<◌, ◌+◌, Bool, true, false, [], length, if◌then◌else◌, Option, Some, None, IfSome, option_map, Result, Ok, Err}
+use Rattle.std.specs.declared.collections.VecDeque.{VecDeque}
+use Rattle.std.specs.VecDeque.{deque_capacity}
+use Rattle.hevc_walk.specs.Meanings.{Format, Slice, Meaning, SequenceSet, CodedSlice, EndOfSequence, EndOfBitstream, Other, Refused}
+use Rattle.hevc_walk.specs.DependentSlices.{KeptHeader, whole_slice, kept_header}
+use Rattle.hevc_walk.specs.Pictures as walk
+use Rattle.hevc_walk.specs.Pictures.{Stream, head, context, order_count_in_range}
+use Rattle.hevc_walk.specs.Buffer.{Buffer, bumping, needs_bumping}
+use Rattle.hevc_walk.specs.ReferenceSets.{with_marks}
+use Rattle.hevc_walk.specs.Walk.{Store, store, latest_head, finish, prepare, picture_part, needed_entries, accepted_size, is_full}
+use Rattle.hevc_walk_units.specs.Units.{tid0_behind}
+use Rattle.hevc_dpb.specs.declared.dpb.Dpb.{Dpb}
+use Rattle.hevc_dpb.specs.Entries.{tickets}
+use Rattle.hevc_dpb.specs.Plain.{HaveLatency}
+use Rattle.hevc_dpb.specs.Views.{stored_entries, max_num_pics_of, room_of}
+use Rattle.hevc_bumping.specs.declared.frame.Frame.{Frame}
+use Rattle.hevc_backend.specs.declared.negotiation.NegotiationInfo.{NegotiationInfo}
+use Rattle.hevc_backend.specs.Negotiation.{format_of}
+use Rattle.hevc_driver.specs.declared.head.Head.{Head}
+use Rattle.hevc_driver.specs.declared.head.Context.{Context}
+use Rattle.hevc_driver.specs.Heads.{head_of}
+use Rattle.hevc_driver.specs.Sound.{AreBelow}
+use Rattle.hevc_check.specs.declared.begun.Begun.{Begun}
+use Rattle.hevc_check.specs.declared.unlike.Unlike.{Unlike}
+use Rattle.hevc_check.specs.declared.unlike.Unlike.TheVariants as unlike
+
+-- What the pictures so far mean for the next one: what is stored once the latest has begun, this
+-- one, what it and those before it tell, and the latest independent slice's header.
+pub record Place : Type 0 where
+  pub store : Store
+  pub latest : Option walk.Head
+  pub next : walk.Context
+  pub kept : Option KeptHeader
+
+-- after some units
+abbrev pub place : Stream → Place
+place v = record {
+  store = store v.first_set v.pictures;
+  latest = latest_head v.pictures;
+  next = context v.pictures;
+  kept = v.kept;
+}
+
+-- what the pictures with this one tell of the next (8.1.3, 8.3.1)
+abbrev pub context_after : walk.Head → walk.Context → walk.Context
+context_after p c = record {
+  number = p.number + 1;
+  first_in_bitstream = false;
+  first_after_end = false;
+  prev_tid0_count = tid0_behind (Some p) c.prev_tid0_count;
+  latest_irap_no_rasl = p.latest_irap_no_rasl;
+}
+
+-- the latest picture is over (C.5.2.3)
+abbrev pub finished : Place → Place
+finished w = record w { store = (finish w.latest w.store).next; latest = None }
+
+-- a picture begins with a slice
+abbrev pub begun : Slice → Place → Place
+begun s w = record {
+  store = (picture_part w.latest (head w.next s) s w.store).next;
+  latest = Some (head w.next s);
+  next = context_after (head w.next s) w.next;
+  kept = w.kept;
+}
+
+-- what is left of the needed entries as a picture is to be decoded (C.5.2.2)
+abbrev pub room_left : walk.Head → Buffer → Buffer
+room_left p es =
+    if p.no_output_of_prior_pics then [] else if p.starts_sequence then []
+    else (bumping (needs_bumping p.limits) es).left
+
+-- a picture begins a sequence: it is the first of all,
+-- or an IRAP picture with NoRaslOutputFlag (8.1.3)
+abbrev pub begins_at : walk.Head → Option walk.Head → Bool
+begins_at p None = true
+begins_at p (Some latest) = p.starts_sequence
+
+-- the entries that stay as the picture of a first slice is to be decoded (C.5.2.2)
+abbrev pub entries_at : Slice → Place → Buffer
+entries_at s w =
+    needed_entries
+    (with_marks (head w.next s) s (prepare w.latest (head w.next s) w.store).next.buffer)
+
+-- What is told of the picture that a slice begins.
+pub record IsBegun (s : Slice) (w : Place) (b : Begun) : Type 0 where
+  pub same_head : head_of b.head ≡ head w.next s
+  pub begins : b.begins_sequence ≡ begins_at (head w.next s) w.latest
+  pub stored : (head w.next s).skipped ≡ false → b.num_stored ≡ length (entries_at s w)
+
+-- What holds between two calls.
+pub record IsSound {Z : Type 0} (accepted : Option NegotiationInfo) (dpb : Dpb (Unit {0}))
+    (out : VecDeque (Frame (Unit {0})) Z) (latest : Option Head) (next : Context) : Type 0 where
+  -- the buffer has the size that was accepted
+  pub sized : max_num_pics_of dpb ≡ accepted_size (option_map format_of accepted)
+  pub latency : HaveLatency (stored_entries dpb)
+  -- there is room for what may be stored and may be output
+  pub stored : 16 ≤ room_of dpb
+  pub queue : 16 ≤ deque_capacity out
+  pub below : AreBelow next.number (tickets (stored_entries dpb))
+  pub newest : IfSome latest (λ h.
+      AreBelow h.number (tickets (stored_entries dpb)) × (h.number < next.number))
+
+-- a picture can't begin with a slice: the one before finds the buffer full as it is to be stored
+-- (C.5.2.3), or the order count isn't in range (8.3.1)
+abbrev pub CannotBegin : Slice → Place → Type 0
+CannotBegin s w =
+    (is_full w.latest w.store ≡ true) ⊎ (order_count_in_range (head w.next s) ≡ false)
+
+-- a slice begins a picture (7.4.2.4.5)
+abbrev pub begins_picture : Slice → Option walk.Head → Bool
+begins_picture s None = true
+begins_picture s (Some latest) = s.first_slice_segment_in_pic_flag
+
+abbrev pub first_by : Option Slice → Option walk.Head → Option Slice
+first_by None latest = None
+first_by (Some s) latest = if begins_picture s latest then Some s else None
+
+-- the slice of a unit with which a picture begins, if one does
+abbrev pub first_slice : Meaning → Place → Option Slice
+first_slice (CodedSlice s) w = first_by (whole_slice w.kept s) w.latest
+first_slice u w = None
+
+abbrev pub begun_by : Option Slice → Place → Place
+begun_by None w = w
+begun_by (Some s) w = begun s w
+
+-- the first sequence set is negotiated
+abbrev pub opened : Option Format → Format → Option Format
+opened None format = Some format
+opened (Some accepted) format = Some accepted
+
+-- after one more unit
+abbrev pub meant : Meaning → Place → Place
+meant (SequenceSet format) w =
+    record w { store = record w.store { accepted = opened w.store.accepted format } }
+meant (CodedSlice s) w =
+    begun_by (first_slice (CodedSlice s) w) (record w { kept = kept_header w.kept s })
+meant EndOfSequence w = record w { next = record w.next { first_after_end = true } }
+meant EndOfBitstream w = record w { next = record w.next { first_in_bitstream = true } }
+meant Other w = w
+meant (Refused cause) w = w
+
+-- the picture that begins is told, if one does
+abbrev pub TellsFirst : Option Slice → Place → Option Begun → Type 0
+TellsFirst None w told = told ≡ None
+TellsFirst (Some s) w told = (b : Begun) × (told ≡ Some b) × IsBegun s w b
+
+abbrev pub CannotBeginBy : Option Slice → Place → Type 0
+CannotBeginBy None w = ⊥
+CannotBeginBy (Some s) w = CannotBegin s w
+
+-- a unit was taken; or it wasn't, since its picture can't begin, or for want of memory
+abbrev pub Takes : Result (Option Begun) Unlike → Meaning → Place → Place → Type 0
+Takes (Ok told) u old new = TellsFirst (first_slice u old) old told × (new ≡ meant u old)
+Takes (Err unlike.Refused) u old new = CannotBeginBy (first_slice u old) old
+Takes (Err unlike.NoMemory) u old new = Unit {0}

@@ -1,0 +1,7 @@
+//! Tests of the checker of declared bounds, over streams in memory.
+#![tactic(auto)]
+
+#[cfg(test)]
+mod checks;
+#[cfg(test)]
+mod streams;

@@ -1,0 +1,10 @@
+use Rattle.std.proofs.Common.{◌≡◌, ◌<◌, ◌^◌, drop}
+use Rattle.hevc_index.specs.Requests.{digits_behind, picture_number}
+use Rattle.hevc_index.proofs.words.read_number.Given as goal
+
+-- the digits that are left stand behind the number
+abbrev pub invariant-loop-digit : goal.invariant-loop-digit
+invariant-loop-digit l = record {
+  few : l.number < 2 ^ 64;
+  rest : digits_behind l.number (drop l.digit-index l.digits) ≡ picture_number l.digits;
+}

@@ -1,0 +1,5 @@
+pub mod Indexing
+pub mod Finding
+pub mod Splicing
+pub mod Requests
+pub mod Written
