@@ -1,6 +1,6 @@
 -- A check goes on from unit to unit.
 use Rattle.std.proofs.Common.{◌≡◌, ℕ, ℤ, ◌+◌, ◌≤◌, Bool, true, false, cond, List, [], ◌∷◌, ◌++◌, refl, sym, ap, ◌∙◌, subst, arith, Option, Some, None, if◌then◌else◌}
-use Rattle.std.specs.Prelude.{int_lt, count_by, filter, is_some, option_map}
+use Rattle.std.specs.Prelude.{int_lt, count_by, filter}
 use Rattle.hevc_walk.specs.Meanings.{Format, Slice, Meaning, SequenceSet, CodedSlice, EndOfSequence, EndOfBitstream, Other, Refused}
 use Rattle.hevc_walk.specs.DependentSlices.{KeptHeader, whole_slice, kept_header}
 use Rattle.hevc_walk.specs.Pictures.{Context, Head, Picture, Stream, head, context, with_unit, with_slice, with_whole, with_sequence_end, with_bitstream_end, new_picture}

@@ -3,8 +3,6 @@ ghost use Rattle.std.specs.Prelude.{◌≡◌, ◌&&◌, ◌<◌, ◌+◌, ◌-�
 ghost use Rattle.hevc_spec.specs.UnitTypes.{is_rasl};
 ghost use Rattle.hevc_bits.specs.NaluType.{nalu_type_number};
 ghost use Rattle.hevc_types_c.specs.Sps.{plain_sps};
-ghost use Rattle.hevc_walk_inputs.specs.Sequences.{format_of_set};
-ghost use Rattle.hevc_backend.specs.Negotiation.{info_of};
 ghost use Rattle.hevc_types_d.specs.declared.pps.Pps.{Pps};
 ghost use Rattle.hevc_walk.specs.Pictures.{head, order_count_in_range};
 ghost use Rattle.hevc_walk_units.specs.Units.{tid0_behind};

@@ -1,5 +1,5 @@
 //! What a picture breaks, after the pictures before it in its coded video sequence.
-ghost use Rattle.std.specs.Prelude.{◌≡◌, ◌<◌, ◌+◌, ◌≤ℤ◌, ◌&&◌, ◌||◌, ◌==◌, not, nat_le, nat_lt, min, ℕ, ℤ, List, [], ◌∷◌, length, slice_index_or, Option, option_map, IfOk, OnOk, true, false};
+ghost use Rattle.std.specs.Prelude.{◌≡◌, ◌<◌, ◌+◌, ◌≤ℤ◌, ◌&&◌, ◌==◌, nat_lt, min, ℕ, ℤ, List, [], ◌∷◌, length, slice_index_or, Option, option_map, IfOk, OnOk, false};
 ghost use Rattle.hevc_walk.specs.Meanings.{Format, same_format};
 ghost use Rattle.hevc_walk.specs.Pictures.{Picture};
 ghost use Rattle.hevc_walk_order.specs.Sequences.{earliest, is_for_output};

@@ -5,7 +5,7 @@ ghost use Rattle.hevc_spec.specs.UnitTypes.{is_slice};
 ghost use Rattle.hevc_bits.specs.FoundUnit.{bytes_of};
 ghost use Rattle.hevc_bits.specs.declared.stream_limit.TheConstants.{STREAM_LIMIT};
 ghost use Rattle.hevc_stream.specs.Slices.{temporal_id};
-ghost use Rattle.hevc_stream.specs.Stream.{meaning, kept_behind};
+ghost use Rattle.hevc_stream.specs.Stream.{meaning};
 ghost use Rattle.hevc_stream.specs.Kept.{none_kept};
 ghost use Rattle.hevc_stream.specs.Options.{default_options};
 ghost use Rattle.hevc_walk.specs.Pictures.{nothing_yet};

@@ -1,5 +1,5 @@
 //! The points of a stream, found unit by unit.
-ghost use Rattle.std.specs.Prelude.{◌≡◌, ◌<◌, ◌≤◌, [], IfOk, OnOk, length, option_map};
+ghost use Rattle.std.specs.Prelude.{◌≡◌, ◌<◌, [], IfOk, OnOk, length, option_map};
 ghost use Rattle.hevc_bits.specs.declared.stream_limit.TheConstants.{STREAM_LIMIT};
 ghost use Rattle.hevc_bits.specs.FoundUnit.{bytes_of, unit_of};
 ghost use Rattle.hevc_stream.specs.Contents.{slice};

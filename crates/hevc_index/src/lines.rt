@@ -1,6 +1,5 @@
 //! The lines that are written.
 ghost use Rattle.std.specs.Prelude.{◌≡◌, ◌++◌, IfOk, OnOk, map};
-ghost use Rattle.std.specs.List.{flat_map};
 ghost use Rattle.std.specs.String.{string_bytes};
 ghost use Rattle.hevc_report.specs.Report.{cause_text, refusal_line};
 ghost use Rattle.hevc_index.specs.Indexing.{plain_point};
