@@ -3,8 +3,8 @@ ghost use Rattle.std.specs.Prelude.{◌<◌};
 ghost use Rattle.hevc_bits.specs.declared.stream_limit.TheConstants.{STREAM_LIMIT};
 
 use crate::streams::{
-    CRA, DISCARDING_IDR, END_OF_BITSTREAM, END_OF_SEQUENCE, IDR, LARGE_SPS, P2, P4, P8, PPS, RASL4,
-    RASL6, SPS, T0, TRUNCATED, UNKNOWN_PPS_IDR, WIDE_SPS, stream,
+    CRA, DISCARDING_IDR, END_OF_BITSTREAM, END_OF_SEQUENCE, IDR, LARGE_SPS, LATENCY_SPS, P2, P4,
+    P8, PPS, RASL4, RASL6, SMALL_BUFFER_SPS, SPS, T0, TRUNCATED, UNKNOWN_PPS_IDR, WIDE_SPS, stream,
 };
 use hevc_bits::STREAM_LIMIT;
 use hevc_check::{Breach, CheckError, Checked, check_stream};
@@ -94,7 +94,10 @@ fn a_picture_breaks_a_bound(rt: HostRuntime) -> Result<(), Fail> {
         5,
         Breach::Changed,
     )?;
+    breaks(&rt, alloc, &[LATENCY_SPS, PPS, IDR], 0, 2, Breach::Latency)?;
     breaks(&rt, alloc, &[SPS, PPS, IDR, T0], 1, 3, Breach::SameCount)?;
+    let full: &[&[u8]] = &[SMALL_BUFFER_SPS, PPS, IDR, P4, P2, P8];
+    breaks(&rt, alloc, full, 3, 5, Breach::Full)?;
     breaks(
         &rt,
         alloc,
