@@ -33,8 +33,10 @@ pub(crate) fn start<B: StatelessH265DecoderBackend>(
     sps: &Sps,
 ) -> Result<(), DecodeError>
     requires none { current_of driver.old.standing.current ≡ NoPicture }
-    requires sound { IsSound (B.log driver.old.backend) driver.old.standing }
-    ensures sound { IsSound (B.log driver.new.backend) driver.new.standing }
+    requires sound { IsSound (B.log driver.old.backend)
+        (B.handed driver.old.backend) driver.old.standing }
+    ensures sound { IsSound (B.log driver.new.backend)
+        (B.handed driver.new.backend) driver.new.standing }
 {
     driver.reserve()?;
     driver.open_sequence(sps)
@@ -47,8 +49,10 @@ pub(crate) fn give<B: StatelessH265DecoderBackend>(
     slice: &mut Slice<'_>,
     sps: &Sps,
 ) -> Result<(), DecodeError>
-    requires sound { IsSound (B.log driver.old.backend) driver.old.standing }
-    ensures sound { IsSound (B.log driver.new.backend) driver.new.standing }
+    requires sound { IsSound (B.log driver.old.backend)
+        (B.handed driver.old.backend) driver.old.standing }
+    ensures sound { IsSound (B.log driver.new.backend)
+        (B.handed driver.new.backend) driver.new.standing }
 {
     let pps = Pps::new();
     if pps.pic_parameter_set_id != slice.header.pic_parameter_set_id
@@ -64,8 +68,10 @@ pub(crate) fn give<B: StatelessH265DecoderBackend>(
 pub(crate) fn close<B: StatelessH265DecoderBackend>(
     driver: &mut Driver<B>,
 ) -> Result<(), DecodeError>
-    requires sound { IsSound (B.log driver.old.backend) driver.old.standing }
-    ensures sound { IsSound (B.log driver.new.backend) driver.new.standing }
+    requires sound { IsSound (B.log driver.old.backend)
+        (B.handed driver.old.backend) driver.old.standing }
+    ensures sound { IsSound (B.log driver.new.backend)
+        (B.handed driver.new.backend) driver.new.standing }
 {
     driver.reserve()?;
     driver.close()
