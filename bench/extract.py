@@ -7,7 +7,7 @@ Both programs read the whole file first. By word `0` the extractor copies what i
 import os
 import sys
 
-from measure import in_turns, least, once, peak
+from measure import in_turns, least, name, once, peak, table
 
 HEAD = ["stream", "reading, MB/s", "cutting, MB/s", "taking out, MB/s", "beside cutting", "its memory, bytes a byte"]
 
@@ -21,22 +21,15 @@ def row(bench, extractor, path):
     ]))
     size = os.path.getsize(path)
     return [
-        os.path.basename(path).removesuffix(".h265"),
+        name(path),
         *(f"{size / run.processor / 1e6:.0f}" for run in (read, cut, extract)),
         f"{cut.processor / extract.processor:.2f}", f"{peak([extractor, '0'], path) / size:.1f}",
     ]
 
 
-def line(cells):
-    return "| " + " | ".join(cells) + " |"
-
-
 def main():
     bench, extractor, *files = sys.argv[1:]
-    print(line(HEAD))
-    print("|" + "---|" * len(HEAD))
-    for path in files:
-        print(line(row(bench, extractor, path)), flush=True)
+    table(HEAD, lambda path: row(bench, extractor, path), files)
 
 
 main()

@@ -3,15 +3,11 @@
 # two sub-layers beside what is decoded of its lower one. Nothing of it is in the gate. Builds hevc_bench, hevc_extractor and hevc_trace first:
 # bench/extract.sh [BYTES]
 set -eu
-top=$(cd "$(dirname "$0")/.." && pwd)
-bytes=${1:-100000000}
-folder=$(mktemp -d)
-trap 'rm -rf "$folder"' EXIT
+source "$(dirname "$0")/folder.sh"
 (cd "$top/crates/hevc_bench" && rt run </dev/null >/dev/null)
 (cd "$top/crates/hevc_trace" && rt run </dev/null >/dev/null)
 (cd "$top/crates/hevc_extractor" && rt run -- 0 </dev/null >/dev/null)
 extractor=$top/crates/hevc_extractor/out/hevc_extractor trace=$top/crates/hevc_trace/out/hevc_trace
-stream=$top/crates/hevc_bench/stdin
 
 "$extractor" 0 <"$stream" >"$folder/lower"
 "$trace" layer 0 <"$stream" | sed 's/ unit [0-9]*$//' >"$folder/whole.txt"
@@ -20,7 +16,5 @@ cmp "$folder/whole.txt" "$folder/lower.txt"
 echo "The reports by \`layer 0\` on the whole and on its lower sub-layer have the same $(wc -l <"$folder/whole.txt") lines, but for the units."
 echo
 
-size=$(stat -c %s "$stream")
-for _ in $(seq $((bytes / size))); do cat "$stream"; done >"$folder/x265.h265"
-python3 "$top/bench/streams.py" "$folder" "$bytes" 25000 680
+make_streams "${1:-100000000}"
 python3 "$top/bench/extract.py" "$top/crates/hevc_bench/out/hevc_bench" "$extractor" "$folder"/*.h265

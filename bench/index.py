@@ -7,7 +7,7 @@ Both programs read the whole file first. Without words the splicer tells the poi
 import os
 import sys
 
-from measure import in_turns, least, once, peak
+from measure import in_turns, least, name, once, peak, table
 
 HEAD = ["stream", "reading, MB/s", "decoding, MB/s", "points, MB/s", "beside decoding", "splicing, MB/s", "memory for points, bytes a byte", "for splicing"]
 
@@ -22,23 +22,16 @@ def row(bench, splicer, path):
     ]))
     size = os.path.getsize(path)
     return [
-        os.path.basename(path).removesuffix(".h265"),
+        name(path),
         *(f"{size / run.processor / 1e6:.0f}" for run in (read, decode, index)),
         f"{decode.processor / index.processor:.2f}", f"{size / splice.processor / 1e6:.0f}",
         f"{peak([splicer], path) / size:.1f}", f"{peak([splicer, 'splice', '0'], path) / size:.1f}",
     ]
 
 
-def line(cells):
-    return "| " + " | ".join(cells) + " |"
-
-
 def main():
     bench, splicer, *files = sys.argv[1:]
-    print(line(HEAD))
-    print("|" + "---|" * len(HEAD))
-    for path in files:
-        print(line(row(bench, splicer, path)), flush=True)
+    table(HEAD, lambda path: row(bench, splicer, path), files)
 
 
 main()

@@ -44,3 +44,16 @@ def in_turns(measures):
     """What each of some measures gives in each turn; a turn takes one of each."""
     rounds = [[measure() for measure in measures] for _ in range(TURNS)]
     return [list(column) for column in zip(*rounds)]
+
+
+def name(path):
+    """What a table calls a stream."""
+    return os.path.basename(path).removesuffix(".h265")
+
+
+def table(head, row, paths):
+    """Prints a table in Markdown, with the row of each path as soon as it is there."""
+    print("| " + " | ".join(head) + " |")
+    print("|" + "---|" * len(head))
+    for path in paths:
+        print("| " + " | ".join(row(path)) + " |", flush=True)
