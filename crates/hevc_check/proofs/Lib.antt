@@ -3,5 +3,6 @@ pub mod Sounds
 pub mod Meant
 pub mod Follow
 pub mod Steps
+mod Texts
 pub mod Whole
 pub mod Answering

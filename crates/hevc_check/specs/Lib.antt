@@ -4,3 +4,5 @@ pub mod Sequences
 pub mod Walks
 pub mod Answers
 pub mod Steps
+pub mod Requests
+pub mod Written

@@ -5,9 +5,7 @@ ghost use Rattle.hevc_bits.specs.FoundUnit.{bytes_of};
 ghost use Rattle.hevc_bits.specs.declared.stream_limit.TheConstants.{STREAM_LIMIT};
 ghost use Rattle.hevc_walk.specs.Meanings.{Format};
 ghost use Rattle.hevc_walk.specs.Pictures.{Picture, Stream, nothing_yet};
-ghost use Rattle.hevc_walk.specs.Results.{outputs, verdict};
-ghost use Rattle.hevc_walk_order.specs.Sequences.{Sequence as WalkSequence, IsSequence, pictures_for_output, outputs_of};
-ghost use Rattle.hevc_walk_order.specs.DisplayOrder.{AreInOrder};
+ghost use Rattle.hevc_walk.specs.Results.{verdict};
 ghost use Rattle.hevc_check_laws.specs.Breaches.{all_breaches};
 ghost use Rattle.hevc_check_laws.specs.Bounds.{breaks_bounds};
 ghost use Rattle.hevc_check_laws.specs.Checks.{Yes, checked_bounds, first_breach};
@@ -17,7 +15,7 @@ ghost use Rattle.hevc_stream.specs.Kept.{none_kept};
 ghost use Rattle.hevc_stream.specs.Options.{default_options};
 ghost use Rattle.hevc_stream.specs.Stream.{meaning, meanings};
 ghost use Rattle.hevc_kept_sets.specs.Kept.{kept_of, options_in};
-ghost use Rattle.hevc_check.specs.Answers.{checked_of, error_by, AnswersCheck, IsYes};
+ghost use Rattle.hevc_check.specs.Answers.{checked_of, error_by, AnswersCheck, AreAllInOrder, IsYes};
 ghost use Rattle.hevc_check.specs.Steps.{IsAt, Steps};
 ghost use Rattle.hevc_check.specs.Walks.{HasStarted, KeepsBehind};
 
@@ -193,10 +191,7 @@ pub fn check_stream(alloc: Global, stream: &[u8]) -> Result<Checked, CheckError>
     requires { length stream.now < STREAM_LIMIT }
     ensures answer { AnswersCheck result (verdict (meanings default_options stream.now))
         (checked_bounds (meanings default_options stream.now)) }
-    ensures order { IsYes result → (q : WalkSequence)
-        → IsSequence (meanings default_options stream.now) q
-        → AreInOrder (pictures_for_output q)
-        (outputs_of q (outputs (meanings default_options stream.now))) }
+    ensures order { IsYes result → AreAllInOrder (meanings default_options stream.now) }
 {
     let mut shown = Vec::new(alloc);
     let decoded = decode_stream(alloc, SilentBackend::new(), stream, &mut shown);
