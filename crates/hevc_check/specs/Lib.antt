@@ -1,5 +1,8 @@
 pub mod Breaches
+pub mod Filled
+pub mod Late
 pub mod Places
+pub mod Tables
 pub mod Sequences
 pub mod Walks
 pub mod Answers

@@ -7,7 +7,7 @@ use Rattle.hevc_report.specs.Report.{ending_of, refusal_line}
 use Rattle.hevc_check_laws.specs.Breaches.{Breach, Changed, Latency, SameCount, Full, Discards, Reorder}
 use Rattle.hevc_check_laws.specs.Checks.{Checked, Yes, No}
 use Rattle.hevc_check.specs.declared.table.Table.{Table}
-use Rattle.hevc_check.specs.Requests.{checked_by}
+use Rattle.hevc_check.specs.Tables.{checked_by}
 
 abbrev pub breach_name : Breach → List ℕ
 breach_name Changed = codes "Changed"

@@ -4,13 +4,11 @@ ghost use Rattle.hevc_bits.specs.declared.stream_limit.TheConstants.{STREAM_LIMI
 ghost use Rattle.std.specs.String.{string_bytes};
 ghost use Rattle.hevc_stream.specs.Options.{default_options};
 ghost use Rattle.hevc_stream.specs.Stream.{meanings};
-ghost use Rattle.hevc_walk.specs.Results.{verdict};
 ghost use Rattle.hevc_report.specs.Report.{refusal_line};
-ghost use Rattle.hevc_check.specs.Answers.{checked_of, AnswersCheck, AreAllInOrder, IsYes};
-ghost use Rattle.hevc_check.specs.Requests.{checked_by};
+ghost use Rattle.hevc_check.specs.Answers.{checked_of, AreAllInOrder};
 ghost use Rattle.hevc_check.specs.Written.{checked_line, checked_status, status_of, written_of};
 
-use crate::check::{CheckError, Checked, check_stream};
+use crate::check::{CheckError, Checked, check_by};
 use crate::lines::{checked_line, refusal_line};
 use crate::table::Table;
 use hevc_decoder::Refused;
@@ -36,18 +34,6 @@ pub(crate) fn answer_to(alloc: Global, table: Table, stream: &[u8]) -> Result<An
         Ok(checked) => checked_answer(alloc, checked),
         Err(CheckError::Refused(refused)) => refusal_answer(alloc, refused),
         Err(CheckError::NoMemory) => Err(AllocError),
-    }
-}
-
-/// The check of a stream by a table.
-fn check_by(alloc: Global, table: Table, stream: &[u8]) -> Result<Checked, CheckError>
-    requires { length stream.now < STREAM_LIMIT }
-    ensures answer { AnswersCheck result (verdict (meanings default_options stream.now))
-        (checked_by table (meanings default_options stream.now)) }
-    ensures order { IsYes result → AreAllInOrder (meanings default_options stream.now) }
-{
-    match table {
-        Table::Bounds => check_stream(alloc, stream),
     }
 }
 

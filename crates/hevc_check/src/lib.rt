@@ -7,7 +7,9 @@ mod beginning;
 mod begun;
 mod breach;
 mod check;
+mod filled;
 mod kept;
+mod late;
 mod lines;
 mod pictures;
 mod program;
@@ -19,5 +21,5 @@ mod unlike;
 mod words;
 
 pub use breach::Breach;
-pub use check::{CheckError, Checked, check_stream};
+pub use check::{CheckError, Checked, check_order, check_stream};
 pub use program::{INPUT_LIMIT, run_check};

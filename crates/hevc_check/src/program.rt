@@ -19,15 +19,15 @@ use std::alloc::Global;
 /// The longest input that is taken, in bytes.
 pub const INPUT_LIMIT: usize = 268_435_456;
 
-/// Reads the source's stream to its end, checks it as `check_stream` does, and writes one line.
-/// `words` are those of the command line after the program's name: there are none. Answers the status
-/// of the program:
+/// Reads the source's stream to its end, checks it, and writes one line. `words` are those of the
+/// command line after the program's name: none for the check of `check_stream`, `order` for that of
+/// `check_order`. Answers the status of the program:
 ///
 /// | status | where |
 /// |---|---|
 /// | 0 | `check yes sequences S pictures P` is written: nothing is broken |
 /// | 1 | `refused unit U CAUSE` is written, since the stream is refused |
-/// | 2 | there are words; nothing is read or written |
+/// | 2 | the words are others; nothing is read or written |
 /// | 3 | the source failed; nothing is written |
 /// | 4 | the sink failed |
 /// | 5 | there was no memory |

@@ -45,8 +45,10 @@ fn gives(
     writes(rt, alloc, texts, units, none, Vec::new(alloc), status, line)
 }
 
-/// The words by which the plainer bounds are checked.
+/// The words by which the plainer bounds are checked, and display order.
 const BOUNDS: &[&str] = &[];
+
+const ORDER: &[&str] = &["order"];
 
 #[test]
 fn bounds_that_are_kept_have_a_line(rt: HostRuntime) -> Result<(), Fail> {
@@ -88,6 +90,21 @@ fn each_breach_has_its_name(rt: HostRuntime) -> Result<(), Fail> {
 }
 
 #[test]
+fn order_is_checked_by_its_word(rt: HostRuntime) -> Result<(), Fail> {
+    let alloc = rt.alloc();
+    let units: &[&[u8]] = &[LATENCY_SPS, PPS, IDR, P4, P2];
+    let line = "check yes sequences 1 pictures 3\n";
+    gives(&rt, alloc, ORDER, units, 0, line)?;
+    let line = "check no picture 0 unit 2 Latency\n";
+    gives(&rt, alloc, BOUNDS, units, 7, line)?;
+    let units: &[&[u8]] = &[SPS, PPS, IDR, P4, P8, P2];
+    let line = "check no picture 3 unit 5 Reorder\n";
+    gives(&rt, alloc, ORDER, units, 7, line)?;
+    let line = "refused unit 3 TruncatedNalu\n";
+    gives(&rt, alloc, ORDER, &[SPS, PPS, IDR, TRUNCATED], 1, line)
+}
+
+#[test]
 fn a_refused_stream_has_a_line(rt: HostRuntime) -> Result<(), Fail> {
     let alloc = rt.alloc();
     let units: &[&[u8]] = &[SPS, PPS, IDR, T0, TRUNCATED];
@@ -108,7 +125,7 @@ fn a_refused_stream_has_a_line(rt: HostRuntime) -> Result<(), Fail> {
 fn other_words_are_refused(rt: HostRuntime) -> Result<(), Fail> {
     let alloc = rt.alloc();
     let units: &[&[u8]] = &[SPS, PPS, IDR];
-    for texts in [[""].as_slice(), &["bounds"], &["0"], &["check", "order"]] {
+    for texts in [[""].as_slice(), &["bounds"], &["0"], &["Order"], &["order", "order"]] {
         gives(&rt, alloc, texts, units, 2, "")?;
     }
     Ok(())
