@@ -10,7 +10,7 @@ mod window;
 
 pub use decoded::{Decoded, Refused, Shown};
 pub use hevc_stateless::{
-    DecodeError, DecoderEvent, Frame, Options, StatelessDecoder, StatelessH265DecoderBackend,
+    DecodeError, DecoderEvent, Frame, Head, Options, StatelessDecoder, StatelessH265DecoderBackend,
 };
 pub use source::decode_source_with;
 pub use stream::{decode_stream, decode_stream_with};

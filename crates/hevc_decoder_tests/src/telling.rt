@@ -1,5 +1,5 @@
 //! A backend that decodes nothing, and keeps all that comes with its calls.
-ghost use Rattle.std.specs.Prelude.{◌≡◌, false, None, Some, IfOk};
+ghost use Rattle.std.specs.Prelude.{◌≡◌, [], false, None, Some, IfOk};
 ghost use Rattle.hevc_backend.specs.Handed.{segment_of};
 ghost use Rattle.hevc_decoder_tests.specs.Telling.{all_handed, kept_segment};
 
@@ -63,7 +63,9 @@ pub struct TellingBackend {
 
 impl TellingBackend {
     /// A backend to which nothing came.
-    pub fn new(alloc: Global) -> TellingBackend {
+    pub fn new(alloc: Global) -> TellingBackend
+        ensures { all_handed result.came.items ≡ [] }
+    {
         TellingBackend {
             room: false,
             came: Vec::new(alloc),

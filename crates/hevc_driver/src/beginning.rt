@@ -22,7 +22,7 @@ use hevc_types_c::Sps;
 use hevc_types_d::Slice;
 
 /// MaxPicOrderCntLsb of a sequence set (7-8): 16 to 65536.
-pub(crate) fn max_pic_order_cnt_lsb(sps: &Sps) -> i32
+pub fn max_pic_order_cnt_lsb(sps: &Sps) -> i32
     ensures max { IsMaxPicOrderCntLsb result }
     ensures value { result ≡ pos (2 ^ ((plain_sps sps.now).log2_max_pic_order_cnt_lsb_minus4 + 4)) }
 {
@@ -32,7 +32,7 @@ pub(crate) fn max_pic_order_cnt_lsb(sps: &Sps) -> i32
 /// What a picture's first slice tells of it.
 ///
 /// Errors: its order count, or its most significant bits, isn't a 32-bit number.
-pub(crate) fn head_of_first(
+pub fn head_of_first(
     next: &Context,
     options: Options,
     slice: &Slice<'_>,

@@ -26,7 +26,7 @@ fn completes(kept: &SliceHeader, header: &SliceHeader, sps: &Sps) -> bool
 /// Completes the header of a dependent slice segment by that of the latest independent one. Whether the segment has its whole header
 /// then; one that has it already stays.
 #[tactic(auto, unfolding(crate::specs::Slices::slice_of, crate::specs::Slices::kept_of))]
-pub(crate) fn complete(kept: &Option<SliceHeader>, slice: &mut Slice<'_>, sps: &Sps) -> bool
+pub fn complete_header(kept: &Option<SliceHeader>, slice: &mut Slice<'_>, sps: &Sps) -> bool
     ensures whole { (o : Options) (pps : Pps) →
         whole_slice (option_map kept_of kept.now) (slice_of o slice.old sps.now pps)
         ≡ (if result then Some (slice_of o slice.new sps.now pps) else None) }
@@ -56,7 +56,7 @@ pub(crate) fn complete(kept: &Option<SliceHeader>, slice: &mut Slice<'_>, sps: &
 
 /// Keeps the header of an independent slice segment for the dependent ones after it.
 #[tactic(auto, unfolding(crate::specs::Slices::slice_of, crate::specs::Slices::kept_of))]
-pub(crate) fn keep(alloc: Global, kept: &mut Option<SliceHeader>, slice: &Slice<'_>)
+pub fn keep_header(alloc: Global, kept: &mut Option<SliceHeader>, slice: &Slice<'_>)
     ensures kept { (o : Options) (sps : Sps) (pps : Pps) → option_map kept_of kept.new
         ≡ kept_header (option_map kept_of kept.old) (slice_of o slice.now sps pps) }
     ensures latest { latest_of kept.new

@@ -17,6 +17,7 @@ mod room;
 mod slices;
 mod standing;
 
+pub use beginning::{head_of_first, max_pic_order_cnt_lsb};
 pub use current::{Current, Open};
 pub use decode_error::DecodeError;
 pub use driver::{Driver, MAX_OUTPUTS_OF_UNIT};
@@ -24,4 +25,6 @@ pub use head::{Context, Head};
 pub use hevc_backend::{BackendError, NegotiationInfo, StatelessH265DecoderBackend, StreamInfo};
 pub use hevc_bumping::Frame;
 pub use hevc_options::Options;
+pub use kept::{complete_header, keep_header};
+pub use references::reference_set;
 pub use standing::Standing;

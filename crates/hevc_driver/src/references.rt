@@ -38,7 +38,7 @@ fn short_term_set<'a>(header: &'a SliceHeader, sps: &'a Sps) -> &'a ShortTermRef
 }
 
 /// The reference picture set of a picture over what is stored, which is marked by it (8.3.2).
-pub(crate) fn reference_set<H: Copy>(
+pub fn reference_set<H: Copy>(
     dpb: &mut Dpb<H>,
     head: &Head,
     slice: &Slice<'_>,

@@ -21,7 +21,7 @@ ghost use Rattle.hevc_options.specs.declared.Options as code_options;
 use crate::current::Current;
 use crate::decode_error::DecodeError;
 use crate::driver::Driver;
-use crate::kept::{complete, keep};
+use crate::kept::{complete_header, keep_header};
 use crate::references::build_lists;
 use hevc_backend::{NegotiationInfo, StatelessH265DecoderBackend};
 use hevc_options::Options;
@@ -101,10 +101,10 @@ impl<B: StatelessH265DecoderBackend> Driver<B> {
             (slice_of options slice.old sps.now pps.now)
             (slice_of options slice.new sps.now pps.now) }
     {
-        if !complete(&self.standing.kept, slice, sps) {
+        if !complete_header(&self.standing.kept, slice, sps) {
             return Err(DecodeError::NoIndependentSlice);
         }
-        keep(self.alloc, &mut self.standing.kept, slice);
+        keep_header(self.alloc, &mut self.standing.kept, slice);
         if begins(&self.standing.current, slice) {
             self.change_picture(timestamp, options, slice, sps, pps)
         } else {

@@ -9,3 +9,4 @@ mod program;
 mod report;
 
 pub use program::{INPUT_LIMIT, run};
+pub use report::refusal_line;

@@ -12,6 +12,7 @@ mod list;
 mod summary;
 
 pub(crate) use backend::ReportBackend;
+pub use last::refusal_line;
 use hevc_decoder::{Refused, Shown};
 use last::push_last;
 use line::push_shown;

@@ -4,7 +4,9 @@ ghost use Rattle.hevc_spec.specs.Units.{units};
 ghost use Rattle.hevc_stream.specs.Kept.{none_kept};
 ghost use Rattle.hevc_stream.specs.Options.{default_options};
 ghost use Rattle.hevc_options.specs.Options.{options_of};
+ghost use Rattle.hevc_walk_units.specs.Units.{open_head};
 ghost use Rattle.hevc_driver.specs.Given.{Given};
+ghost use Rattle.hevc_driver.specs.Heads.{head_of};
 ghost use Rattle.hevc_driver.specs.Answers.{IsFair};
 ghost use Rattle.hevc_stateless.specs.declared.state.State.TheVariants.{AwaitingFormat, Decoding, Reset};
 ghost use Rattle.hevc_stateless.specs.States.{is_awaited};
@@ -20,7 +22,7 @@ use crate::event::DecoderEvent;
 use crate::session::Session;
 use hevc_backend::{Backend, StreamInfo};
 use hevc_bits::{Nalu, NaluHeader};
-use hevc_driver::{DecodeError, Options, StatelessH265DecoderBackend};
+use hevc_driver::{DecodeError, Head, Options, StatelessH265DecoderBackend};
 use hevc_kept_sets::KeptSets;
 use std::alloc::Global;
 
@@ -168,6 +170,15 @@ impl<B: StatelessH265DecoderBackend> StatelessDecoder<B> {
         ensures { result ≡ (view_of self.now).standing.next.number }
     {
         self.session.num_pictures()
+    }
+
+    /// The picture whose slice segments come: what its first one told of it (8.1.3, 8.3.1). `None` before the first picture, once a picture
+    /// is over or given up, and while the slices of a picture are passed over.
+    pub fn open_picture(&self) -> Option<&Head>
+        ensures { option_map (λ h. head_of h.now) result
+            ≡ open_head (view_of self.now).standing.current }
+    {
+        self.session.open_picture()
     }
 
     /// What the backend tells of the sequence.

@@ -11,6 +11,6 @@ mod units;
 pub use decoder::StatelessDecoder;
 pub use event::DecoderEvent;
 pub use hevc_driver::{
-    DecodeError, Frame, MAX_OUTPUTS_OF_UNIT, Options, StatelessH265DecoderBackend,
+    DecodeError, Frame, Head, MAX_OUTPUTS_OF_UNIT, Options, StatelessH265DecoderBackend,
 };
 pub use state::State;

@@ -1,12 +1,14 @@
 //! A stream that is being decoded.
-ghost use Rattle.std.specs.Prelude.{◌≡◌, true, OnOk, OnErr};
+ghost use Rattle.std.specs.Prelude.{◌≡◌, true, option_map, OnOk, OnErr};
 ghost use Rattle.hevc_spec.specs.UnitTypes.{is_idr};
 ghost use Rattle.hevc_bits.specs.NaluType.{nalu_type_number};
 ghost use Rattle.hevc_types_c.specs.Sps.{plain_sps};
 ghost use Rattle.hevc_walk_inputs.specs.Sequences.{format_of_set};
 ghost use Rattle.hevc_walk.specs.Meanings.{SequenceSet, CodedSlice, EndOfSequence, EndOfBitstream};
 ghost use Rattle.hevc_types_d.specs.SliceHeader.{plain_slice_header};
+ghost use Rattle.hevc_walk_units.specs.Units.{open_head};
 ghost use Rattle.hevc_driver.specs.Headers.{latest_behind, whole_segment};
+ghost use Rattle.hevc_driver.specs.Heads.{head_of};
 ghost use Rattle.hevc_driver.specs.Given.{Given, given_at};
 ghost use Rattle.hevc_driver.specs.Answers.{IsFair};
 ghost use Rattle.hevc_driver.specs.Moments.{step_part};
@@ -20,7 +22,7 @@ ghost use Rattle.hevc_stateless.specs.Views.{at_beginning, traces_of, moment_of,
 
 use crate::state::State;
 use hevc_bits::NaluType;
-use hevc_driver::{DecodeError, Driver, Frame, Options, StatelessH265DecoderBackend};
+use hevc_driver::{DecodeError, Driver, Frame, Head, Options, StatelessH265DecoderBackend};
 use hevc_types_c::Sps;
 use hevc_types_d::{Pps, Slice};
 use std::alloc::Global;
@@ -136,6 +138,13 @@ impl<B: StatelessH265DecoderBackend> Session<B> {
         ensures { result ≡ self.now.standing.next.number }
     {
         self.driver.standing.next.number
+    }
+
+    /// What is known of the picture whose slices come, where it is decoded.
+    pub(crate) fn open_picture(&self) -> Option<&Head>
+        ensures { option_map (λ h. head_of h.now) result ≡ open_head self.now.standing.current }
+    {
+        self.driver.open_picture()
     }
 
     /// The next picture that came out.

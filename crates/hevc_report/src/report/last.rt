@@ -1,10 +1,10 @@
 //! The last line of the report.
-ghost use Rattle.std.specs.Prelude.{◌≡◌, ◌++◌, OnOk};
+ghost use Rattle.std.specs.Prelude.{◌≡◌, ◌++◌, IfOk, OnOk};
 ghost use Rattle.std.specs.String.{string_bytes};
-ghost use Rattle.hevc_report.specs.Report.{last_line, cause_text};
+ghost use Rattle.hevc_report.specs.Report.{last_line, refusal_line, cause_text};
 
 use hevc_decoder::{DecodeError, Refused};
-use std::alloc::AllocError;
+use std::alloc::{AllocError, Global};
 
 /// Adds the last line: how many pictures there were and how many were output, or the cause of a
 /// refusal.
@@ -19,15 +19,33 @@ pub(crate) fn push_last(
 {
     match verdict {
         Ok(pictures) => writeln!(text, "end pictures {pictures} shown {shown}"),
-        Err(Refused { unit, error }) => {
-            write!(text, "refused unit {unit} ")?;
-            push_cause(text, error)?;
-            text.push_str("\n")?;
-            Ok(())
-        }
+        Err(refused) => push_refusal(text, refused),
     }
 }
 
+/// The line of a refusal: the number of its unit, and its cause.
+///
+/// Errors: no memory.
+pub fn refusal_line(alloc: Global, refused: Refused) -> Result<String, AllocError>
+    ensures { IfOk result (λ line. string_bytes line ≡ refusal_line refused) }
+{
+    let mut line = String::new(alloc);
+    push_refusal(&mut line, refused)?;
+    Ok(line)
+}
+
+/// Adds the line of a refusal.
+#[tactic(auto, using(std::proofs::Common::append_assoc))]
+fn push_refusal(text: &mut String, refused: Refused) -> Result<(), AllocError>
+    ensures { OnOk result (string_bytes text.new ≡ string_bytes text.old ++ refusal_line refused) }
+{
+    let unit = refused.unit;
+    write!(text, "refused unit {unit} ")?;
+    push_cause(text, refused.error)?;
+    text.push_str("\n")
+}
+
+/// Adds the cause of a refusal.
 #[tactic(auto, using(std::proofs::Common::append_assoc))]
 fn push_cause(text: &mut String, error: DecodeError) -> Result<(), AllocError>
     ensures { OnOk result (string_bytes text.new ≡ string_bytes text.old ++ cause_text error) }

@@ -4,7 +4,7 @@ use Rattle.hevc_types_d.specs.declared.slice_header.SliceHeader.{SliceHeader}
 use Rattle.hevc_walk.specs.DependentSlices.{whole_slice}
 use Rattle.hevc_driver.specs.Slices.{slice_of, kept_of}
 use Rattle.hevc_driver.proofs.SliceViews.{completes_as}
-use Rattle.hevc_driver.proofs.kept.complete.Goals as goal
+use Rattle.hevc_driver.proofs.kept.complete_header.Goals as goal
 
 pub returns-clause-whole : goal.returns-clause-whole
 returns-clause-whole c o pps =
