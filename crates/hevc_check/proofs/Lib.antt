@@ -5,6 +5,5 @@ pub mod Needing
 pub mod Lateness
 pub mod Follow
 pub mod Steps
-mod Texts
 pub mod Whole
 pub mod Answering

@@ -9,9 +9,10 @@ ghost use Rattle.hevc_check.specs.Answers.{checked_of, AreAllInOrder};
 ghost use Rattle.hevc_check.specs.Written.{checked_line, checked_status, status_of, written_of};
 
 use crate::check::{CheckError, Checked, check_by};
-use crate::lines::{checked_line, refusal_line};
+use crate::lines::checked_line;
 use crate::table::Table;
 use hevc_decoder::Refused;
+use hevc_report::refusal_line;
 use std::alloc::{AllocError, Global};
 
 /// What is written, and the status.
