@@ -29,7 +29,7 @@ use Rattle.hevc_check.specs.Filled.{is_up_to}
 use Rattle.hevc_check.specs.Late.{AreHighest, Fall, late_at, late_by}
 use Rattle.hevc_check.specs.Tables.{breaks_by, is_counted}
 use Rattle.hevc_check.proofs.Lateness.{late-is}
-use Rattle.hevc_check.specs.Sequences.{Follows, FollowsAll, FollowsLatest, FollowsTo, AreFilled, Tells, first_or, above, has_count, output_above}
+use Rattle.hevc_check.specs.Sequences.{Follows, FollowsAll, FollowsLatest, FollowsTo, AreFilled, KeepsHighest, Tells, first_or, above, has_count, output_above}
 
 -- ---- the first breach
 
@@ -285,18 +285,27 @@ counted_more t c k p es b same counted is = count_more c k p (filter (is_counted
 pub counted_same : (t : Table) (c : ℤ) (p : Picture) (es : List Picture) → is_counted t p ≡ false → has_count c (filter (is_counted t) es) ≡ has_count c (filter (is_counted t) (p ∷ es))
 counted_same t c p es counted = ap (λ (x : Bool). has_count c (cond x (p ∷ filter (is_counted t) es) (filter (is_counted t) es))) (sym counted)
 
+pub high_in : (q new : Sequence) (es : List Picture) → new.limits ≡ q.limits → ((c : ℤ) → min (q.limits.reorder + 1) (above c new.highest.items) ≡ min (q.limits.reorder + 1) (output_above c es)) → KeepsHighest es new
+high_in q new es limits highest c = subst (λ (l : Limits). min (l.reorder + 1) (above c new.highest.items) ≡ min (l.reorder + 1) (output_above c es)) (sym limits) (highest c)
+
+pub high_same : (q new : Sequence) (es : List Picture) → new.limits ≡ q.limits → new.highest.items ≡ q.highest.items → KeepsHighest es q → KeepsHighest es new
+high_same q new es limits same highest = high_in q new es limits (λ c. ap (λ (l : List ℤ). min (q.limits.reorder + 1) (above c l)) same ∙ highest c)
+
+pub highest_same : (es : List Picture) (h g : HighestCounts) → g ≡ h → AreHighest es h → AreHighest es g
+highest_same es h g same is = subst (AreHighest es) (sym same) is
+
 -- a skipped picture isn't decoded after others
 pub skipped_late : (p : Picture) (es : List Picture) (h : HighestCounts) → p.skipped ≡ true → AreHighest es h → AreHighest (p ∷ es) h
 skipped_late p es h skipped is c n = is c n ∙ ap (λ (b : Bool). if b then late_by c n es else late_at c n p (late_by c (n - 1) es)) (sym skipped)
 
 pub follows_more : (p next : Picture) (es : List Picture) (q new : Sequence) → Follows p es q → new.table ≡ q.table → new.limits ≡ q.limits → new.format ≡ q.format
     → ((c : ℤ) → contains int_cmp new.counts c ≡ has_count c (filter (is_counted q.table) (p ∷ es)))
-    → ((c : ℤ) → min (q.limits.reorder + 1) (above c new.highest.items) ≡ min (q.limits.reorder + 1) (output_above c (p ∷ es))) → AreHighest (p ∷ es) new.so_far → Follows next (p ∷ es) new
+    → KeepsHighest (p ∷ es) new → AreHighest (p ∷ es) new.so_far → Follows next (p ∷ es) new
 follows_more p next es q new f table limits format counts highest so_far = record {
   limits = ap limits_of limits ∙ f.limits ∙ ap (λ (x : Picture). x.limits) (first_same p next es);
   format = ap format_of format ∙ f.format ∙ ap (λ (x : Picture). x.format) (first_same p next es);
   counts = λ c. counts c ∙ ap (λ (t : Table). has_count c (filter (is_counted t) (p ∷ es))) (sym table);
-  highest = λ c. subst (λ (l : Limits). min (l.reorder + 1) (above c new.highest.items) ≡ min (l.reorder + 1) (output_above c (p ∷ es))) (sym limits) (highest c);
+  highest = highest;
   so_far = so_far;
 }
 

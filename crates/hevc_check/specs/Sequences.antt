@@ -36,15 +36,20 @@ output_above c es = count_by (λ b. int_lt c b.order_count) (filter is_for_outpu
 unfoldable pub has_count : ℤ → List Picture → Bool
 has_count c es = list_any (λ b. int_eq c b.order_count) es
 
+-- Of the order counts of these pictures that are to be output the highest are kept: how many are
+-- above a count is told as far as one more than may precede a picture in decoding order.
+abbrev pub KeepsHighest : List Picture → Sequence → Type 0
+KeepsHighest es q =
+    (c : ℤ) → min (q.limits.reorder + 1) (above c q.highest.items)
+    ≡ min (q.limits.reorder + 1) (output_above c es)
+
 -- Of the pictures of a sequence before one, latest first, this is kept.
 pub record Follows (p : Picture) (es : List Picture) (q : Sequence) : Type 0 where
   pub limits : limits_of q.limits ≡ (first_or p (earliest es)).limits
   pub format : format_of q.format ≡ (first_or p (earliest es)).format
   pub counts : (c : ℤ)
       → contains int_cmp q.counts c ≡ has_count c (filter (is_counted q.table) es)
-  -- of the order counts of those that are to be output the highest
-  pub highest : (c : ℤ) → min (q.limits.reorder + 1) (above c q.highest.items)
-      ≡ min (q.limits.reorder + 1) (output_above c es)
+  pub highest : KeepsHighest es q
   pub so_far : AreHighest es q.so_far
 
 -- What is told of a picture that begins, after those before it.

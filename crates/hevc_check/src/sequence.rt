@@ -16,7 +16,7 @@ ghost use Rattle.hevc_check_laws.specs.Checks.{first_breach};
 ghost use Rattle.hevc_check.specs.Breaches.{breach_of};
 ghost use Rattle.hevc_check.specs.Filled.{is_below};
 ghost use Rattle.hevc_check.specs.Late.{AreHighest, Fall, late_by};
-ghost use Rattle.hevc_check.specs.Sequences.{Follows, FollowsAll, FollowsTo, Tells, above, has_count, output_above};
+ghost use Rattle.hevc_check.specs.Sequences.{Follows, FollowsAll, FollowsTo, KeepsHighest, Tells, above, has_count, output_above};
 ghost use Rattle.hevc_check.specs.Tables.{breaks_by, is_counted};
 
 use crate::begun::Begun;
@@ -181,6 +181,18 @@ impl Sequence {
         !(is_same_limits(&head.limits, &self.limits) && is_same_format(&head.format, &self.format))
     }
 
+    /// Whether at least SpsMaxLatencyPictures are decoded between a picture that is output after this
+    /// one and this one.
+    fn is_long_preceded(&self, head: &Head) -> bool
+        ensures { (p : Picture) (es : List Picture) → head_of head.now ≡ p.head
+            → Follows p es self.now
+            → result ≡ late_by p.order_count (latency_pictures p.limits) es }
+    {
+        let least = latency_pictures(&head.limits);
+        self.so_far
+            .has_higher(head.picture.pic_order_cnt_val, least)
+    }
+
     /// Whether a picture comes too late after one that it is output before: at least
     /// SpsMaxLatencyPictures are decoded between them.
     fn comes_late(&self, head: &Head) -> bool
@@ -189,10 +201,7 @@ impl Sequence {
             && nat_lt 0 p.limits.max_latency_increase_plus1
             && late_by p.order_count (latency_pictures p.limits) es) }
     {
-        is_for_output(head) && head.limits.latency_plus1 > 0 && {
-            let most = latency_pictures(&head.limits);
-            self.so_far.has_higher(head.picture.pic_order_cnt_val, most)
-        }
+        is_for_output(head) && head.limits.latency_plus1 > 0 && self.is_long_preceded(head)
     }
 
     /// Whether a latency is declared, or, by display order, isn't kept.
@@ -339,9 +348,7 @@ impl Sequence {
     /// With the order count of one more picture among the highest, if it is to be output.
     fn add_highest(&mut self, head: &Head) -> Result<(), AllocError>
         ensures highest { OnOk result ((p : Picture) (es : List Picture) → head_of head.now ≡ p.head
-            → Follows p es self.old
-            → (c : ℤ) → min (self.old.limits.reorder + 1) (above c self.new.highest.items)
-            ≡ min (self.old.limits.reorder + 1) (output_above c (p ∷ es))) }
+            → KeepsHighest es self.old → KeepsHighest (p ∷ es) self.new) }
         ensures others { self.new ≡ record self.old { highest = self.new.highest } }
     {
         if is_for_output(head) {
@@ -372,7 +379,8 @@ impl Sequence {
     {
         self.add_count(head)?;
         self.add_highest(head)?;
-        self.add_decoded(head)
+        self.add_decoded(head)?;
+        Ok(())
     }
 
     /// Where the next picture begins a sequence, nothing of the one before is kept; else it is looked

@@ -12,4 +12,4 @@ pub returns-else-begun-clause-follows : goal.returns-else-begun-clause-follows
 returns-else-begun-clause-follows c set p before t all =
     let isnt = sym t.begins ∙ c.if-begun.false in
     let q = c.args.self.now in
-    record { earlier = with_filled p (earlier_in p before) q _ (follows_on p before q isnt all.latest); filled = filled_on set p before q _ c.args.begun.now isnt t c.higher_of.ensures.up_to all.filled }
+    record { earlier = with_filled p (earlier_in p before) q c.higher_of-self.result (follows_on p before q isnt all.latest); filled = filled_on set p before q (record q { filled = c.higher_of-self.result }) c.args.begun.now isnt t c.higher_of-self.ensures.up_to all.filled }
