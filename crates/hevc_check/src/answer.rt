@@ -1,11 +1,11 @@
 //! What is written of a stream, and the status.
-ghost use Rattle.std.specs.Prelude.{◌≡◌, ◌<◌, IfOk, length};
+ghost use Rattle.std.specs.Prelude.{◌≡◌, ◌<◌, IfOk, Ok, length};
 ghost use Rattle.hevc_bits.specs.declared.stream_limit.TheConstants.{STREAM_LIMIT};
 ghost use Rattle.std.specs.String.{string_bytes};
 ghost use Rattle.hevc_stream.specs.Options.{default_options};
 ghost use Rattle.hevc_stream.specs.Stream.{meanings};
 ghost use Rattle.hevc_report.specs.Report.{refusal_line};
-ghost use Rattle.hevc_check.specs.Answers.{checked_of, AreAllInOrder};
+ghost use Rattle.hevc_check.specs.Answers.{checked_of, AreAllInOrder, IsYes};
 ghost use Rattle.hevc_check.specs.Written.{checked_line, checked_status, status_of, written_of};
 
 use crate::check::{CheckError, Checked, check_by};
@@ -43,15 +43,23 @@ fn checked_answer(alloc: Global, checked: Checked) -> Result<Answer, AllocError>
     ensures written { IfOk result
         (λ answer. string_bytes answer.line ≡ checked_line (checked_of checked)) }
     ensures status { IfOk result (λ answer. answer.status ≡ checked_status (checked_of checked)) }
+    ensures yes { IfOk result (λ answer. answer.status ≡ 0 → IsYes (Ok checked)) }
 {
-    let status = match checked {
-        Checked::Yes { .. } => 0,
-        Checked::No { .. } => 7,
-    };
     Ok(Answer {
         line: checked_line(alloc, checked)?,
-        status,
+        status: checked_status(checked),
     })
+}
+
+/// The status of an answer.
+fn checked_status(checked: Checked) -> u8
+    ensures status { result ≡ checked_status (checked_of checked) }
+    ensures yes { result ≡ 0 → IsYes (Ok checked) }
+{
+    match checked {
+        Checked::Yes { .. } => 0,
+        Checked::No { .. } => 7,
+    }
 }
 
 /// The line of a refusal.
