@@ -42,7 +42,8 @@ fn push_refusal(text: &mut String, refused: Refused) -> Result<(), AllocError>
     let unit = refused.unit;
     write!(text, "refused unit {unit} ")?;
     push_cause(text, refused.error)?;
-    text.push_str("\n")
+    text.push_str("\n")?;
+    Ok(())
 }
 
 /// Adds the cause of a refusal.

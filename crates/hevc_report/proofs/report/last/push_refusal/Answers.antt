@@ -8,4 +8,4 @@ pub returns : goal.returns
 returns c =
     three_pieces (string_bytes c.args.text.now)
     (codes "refused unit " ++ decimal c.args.refused.unit ++ codes " ") (cause_text c.args.refused.error) (codes "\n")
-    c.in_ok-write.ensures.bytes c.in_ok-push_cause.ensures c.push_str.ensures.bytes
+    c.in_ok-write.ensures.bytes c.in_ok-push_cause.ensures c.in_ok-push_str.ensures.bytes
