@@ -1,7 +1,4 @@
-mod Judging
-mod Known
-mod Marks
+mod Steps
 mod Passing
-mod Reading
+mod Judging
 mod Spliced
-mod Texts

@@ -1,0 +1,95 @@
+-- One unit after another, whatever came out before.
+use Rattle.std.proofs.Common.{◌≡◌, ℕ, ◌+◌, ◌<◌, ◌^◌, List, [], ◌∷◌, ◌++◌, refl, sym, ap, subst, append-nil, Some, None, Result, Ok, Err}
+use Rattle.hevc_spec.specs.Units.{NalUnit}
+use Rattle.hevc_spec.specs.UnitHeader.{UnitHeader, unit_header}
+use Rattle.hevc_stream.specs.Options.{Options}
+use Rattle.hevc_bits.specs.declared.header.UnitError.{UnitError}
+use Rattle.hevc_bits.specs.ParsedHeader.{parsed_header}
+use Rattle.hevc_driver.specs.Errors.{unit_error}
+use Rattle.hevc_driver.specs.declared.decode_error.DecodeError.{DecodeError}
+use Rattle.hevc_stateless_laws.specs.Segments.{segments_of}
+use Rattle.hevc_stateless_laws.specs.Stands.{meant}
+use Rattle.hevc_decoder.specs.declared.decoded.Shown.{Shown}
+use Rattle.hevc_decoder.specs.declared.decoded.Refused.{Refused}
+use Rattle.hevc_decoder.specs.Scenes.{Scene, trail_of}
+use Rattle.hevc_decoder.specs.Gives.{GivesWhole, Closes}
+use Rattle.hevc_decoder.specs.Runs.{Reached, Ended, EndsHere, TakesNext}
+use Rattle.hevc_decoder.proofs.Gone.{Adds, adds_whole, adds_closed}
+use Rattle.hevc_decoder.proofs.Headers.{header_ended}
+use Rattle.hevc_decoder.proofs.Running.{reached_within}
+use Rattle.hevc_decoder.proofs.Walking.{next_is, refused_here, goes_on, ends_whole, ends_refused}
+
+module _ {B H : Type 0} where
+  abbrev at : Scene B H → List (Shown H) → Scene B H
+  at s gone = record { seen = s.seen; shown = gone }
+
+  -- ---- a unit
+
+  module _ {T U : Type 0} (o : Options) (k : ℕ) (u : NalUnit) (h : UnitHeader) (before after : List NalUnit) (old new : Scene B H) (is : before ≡ u ∷ after) (parsed : unit_header u.bytes ≡ Ok h) (few : k + 1 < 2 ^ 64) where
+    stands_at : (begin : Scene B H) (all later : List NalUnit) (gone : List (Shown H)) → Reached o all k begin (at old gone) (before ++ later) → Reached o all k begin (at old gone) (u ∷ after ++ later)
+    stands_at begin all later gone x = next_is o all k begin (at old gone) (before ++ later) (after ++ later) u (ap (λ (us : List NalUnit). us ++ later) is) x
+
+    pub taken_next : (v : T) (t : U) → GivesWhole (Ok v) k o h u.bytes old new → new.seen.view.queue ≡ [] → TakesNext (Ok (Some t)) o k before after old new
+    taken_next v t gives empty =
+        let a : Adds (GivesWhole (Ok v) k o h u.bytes) old new = adds_whole (Ok v) k o h u.bytes old new gives in
+        record {
+          out = a.out;
+          shown = a.shown;
+          steps = λ begin all later gone x. goes_on o all k begin (at old gone) (at new (gone ++ a.out)) u (after ++ later) h (stands_at begin all later gone x) parsed few v (a.holds gone) empty;
+        }
+
+    pub refused_next : (e : DecodeError) → GivesWhole {T = T} (Err e) k o h u.bytes old new → (rest : List NalUnit) → TakesNext {T = U} (Err (record { unit = k; error = e })) o k before rest old new
+    refused_next e gives rest =
+        let a : Adds (GivesWhole {T = T} (Err e) k o h u.bytes) old new = adds_whole {T = T} (Err e) k o h u.bytes old new gives in
+        record {
+          out = a.out;
+          shown = a.shown;
+          steps = λ begin all later gone x. (
+            refused_here o all k begin (at old gone) (at new (gone ++ a.out)) u (after ++ later) h (stands_at begin all later gone x) parsed few e (a.holds gone),
+            reached_within o all k begin (at old gone) (before ++ later) x,
+          );
+        }
+
+  -- its header is refused
+  pub header_next : {U : Type 0} (o : Options) (k : ℕ) (u : NalUnit) (before others : List NalUnit) (now : Scene B H) (e : UnitError) (named : DecodeError) → before ≡ u ∷ others → parsed_header u.bytes ≡ Err e → named ≡ unit_error e → TakesNext {T = U} (Err (record { unit = k; error = named })) o k before before now now
+  header_next o k u before others now e named is refused same = record {
+    out = [];
+    shown = sym (append-nil now.shown);
+    steps = λ begin all later gone x. (
+      subst (λ (l : List (Shown H)). Ended (Err (record { unit = k; error = named })) (meant o all) (segments_of o all) (trail_of begin) (trail_of (at now l))) (sym (append-nil gone))
+          (subst (λ (d : DecodeError). Ended (Err (record { unit = k; error = d })) (meant o all) (segments_of o all) (trail_of begin) (trail_of (at now gone))) (sym same)
+              (header_ended o all (before ++ later) (others ++ later) u k begin (at now gone) e x (ap (λ (us : List NalUnit). us ++ later) is) refused)),
+      reached_within o all k begin (at now gone) (before ++ later) x,
+    );
+  }
+
+  -- there is none
+  pub none_next : {U : Type 0} (o : Options) (k : ℕ) (before after : List NalUnit) (now : Scene B H) → before ≡ [] → TakesNext {T = U} (Ok None) o k before after now now
+  none_next o k before after now none = record { out = []; shown = sym (append-nil now.shown); steps = (none, refl, refl) }
+
+  -- ---- the end
+
+  pub ends_here : {T : Type 0} (o : Options) (k n : ℕ) (v : T) (old new : Scene B H) → n ≡ old.seen.view.standing.next.number → Closes (Ok v) k old new → EndsHere (Ok n) o k old new
+  ends_here o k n v old new number closes =
+      let a : Adds (Closes (Ok v) k) old new = adds_closed (Ok v) k old new closes in
+      record {
+        out = a.out;
+        shown = a.shown;
+        ends = λ begin all gone x. (
+          subst (λ (m : ℕ). Ended (Ok m) (meant o all) (segments_of o all) (trail_of begin) (trail_of (at new (gone ++ a.out)))) (sym number)
+              (ends_whole o all [] k begin (at old gone) (at new (gone ++ a.out)) x refl v (a.holds gone)),
+          tt,
+        );
+      }
+
+  pub refused_end : {T : Type 0} (o : Options) (k : ℕ) (e : DecodeError) (old new : Scene B H) → Closes {T = T} (Err e) k old new → EndsHere (Err (record { unit = k; error = e })) o k old new
+  refused_end {T} o k e old new closes =
+      let a : Adds (Closes {T = T} (Err e) k) old new = adds_closed {T = T} (Err e) k old new closes in
+      record {
+        out = a.out;
+        shown = a.shown;
+        ends = λ begin all gone x. (
+          ends_refused o all [] k begin (at old gone) (at new (gone ++ a.out)) x refl e (a.holds gone),
+          reached_within o all k begin (at old gone) [] x,
+        );
+      }
