@@ -1,12 +1,11 @@
-"""Makes what the code has of RECORDS.md (the fields of each record), and the examples of BACKENDS.md and CALLING.md; and checks the pages.
+"""Makes the examples of BACKENDS.md and CALLING.md, and checks the pages.
 
 pages.py          writes them
 pages.py --check  says what differs, and ends with 1 where anything does:
-                  those examples and fields; each bound of TABLES.md that is two numbers, beside the table's own
-                  in hevc_tables; the records of RECORDS.md, and the row of TABLES.md that each field names; that MAP.md has
-                  each crate of crates.txt, in its order and no other; that each definition listed in PROMISES.md stands in
-                  the file that its heading names; the numbers and the names of edits in STRENGTH.md; that files and headings
-                  which the pages name or link to are there
+                  those examples; each bound of TABLES.md that is two numbers, beside the table's own in hevc_tables; that
+                  each field of a record that TABLES.md names is an element of its table; that MAP.md has each crate of
+                  crates.txt, in its order and no other; the numbers of edits in STRENGTH.md; that files and headings which
+                  the pages name or link to are there
 """
 import re
 import sys
@@ -41,6 +40,31 @@ OTHER_NAMES = {
 }
 
 
+# Fields that follow from others (7.4), or count what was read.
+DERIVED = {
+    "chroma_array_type",
+    "chroma_log2_weight_denom",
+    "ctb_log2_size_y",
+    "ctb_size_y",
+    "curr_rps_idx",
+    "header_bit_size",
+    "max_tb_log2_size_y",
+    "min_cb_log2_size_y",
+    "n_emulation_prevention_bytes",
+    "num_delta_pocs",
+    "num_pic_total_curr",
+    "pic_height_in_ctbs_y",
+    "pic_size_in_ctbs_y",
+    "pic_size_in_samples_y",
+    "pic_width_in_ctbs_y",
+    "qp_bd_offset_y",
+    "st_rps_bits",
+    "temporal_id",
+    "wp_offset_half_range_c",
+    "wp_offset_half_range_y",
+}
+
+
 def crates():
     """The crates of crates.txt, in their order."""
     lines = (TOP / "crates.txt").read_text().splitlines()
@@ -67,33 +91,20 @@ def fields_of(crate, name):
     raise ValueError(f"no struct {name} in {crate}")
 
 
-def records_in(page):
-    """The records of RECORDS.md: record, crate, table, and each field with its row."""
-    found = []
-    for part in re.split(r"^## ", page, flags=re.M)[1:]:
-        heading = re.match(r"`(\w+)` of `(\w+)`.*table (\d+)\)", part)
-        if heading:
-            line = re.search(r"^Fields: (.*)\.$", part, re.M).group(1)
-            found.append((*heading.groups(), dict(re.findall(r"`(\w+)` (\S+?)(?:,|$)", line))))
-    return found
+def records():
+    """The record of each table, as TABLES.md has them: table, record and crate."""
+    page = (DOCS / "TABLES.md").read_text()
+    return re.findall(r"^\| (\d+) \|.*\| `(\w+)` of `(\w+)` \|$", page, re.M)
 
 
-def made_records(page):
-    """RECORDS.md with the fields that the code has; the row of a field stays as it is."""
-    for name, crate, _, rows in records_in(page):
-        fields = ", ".join(f"`{field}` {rows.get(field, '?')}" for field in fields_of(crate, name))
-        page = re.sub(rf"(^## `{name}` of `{crate}`.*?^Fields: )[^\n]*", lambda old: old.group(1) + fields + ".", page, count=1, flags=re.M | re.S)
-    return page
-
-
-def wrong_records(page):
-    """The records of three fields or more that RECORDS.md lacks."""
-    listed = {(name, crate) for name, crate, _, _ in records_in(page)}
+def wrong_records():
+    """The records of three fields or more that TABLES.md lacks."""
+    listed = {(name, crate) for _, name, crate in records()}
     for crate in crates():
         for path in sorted((CRATES / crate / "src").glob("*.rt")) if crate.startswith("hevc_types_") else []:
             for name in re.findall(r"^pub struct (\w+)", path.read_text(), re.M):
                 if (name, crate) not in listed and len(fields_of(crate, name)) > 2:
-                    yield f"RECORDS.md: {name} of {crate} is missing"
+                    yield f"TABLES.md: {name} of {crate} is missing"
 
 
 def rows_of_tables():
@@ -101,11 +112,9 @@ def rows_of_tables():
     rows = {}
     for part in re.split(r"^### ", (DOCS / "TABLES.md").read_text(), flags=re.M)[1:]:
         table = re.match(r"Table (\d+)", part)
-        for line in part.splitlines() if table else []:
-            cells = [cell.strip() for cell in line.strip("|").split("|")]
-            if cells[0].isdigit():
-                elements = [re.match(r"\w*", element.strip()).group() for element in cells[1].split(",")]
-                rows[table.group(1), cells[0]] = elements, cells[3] if len(cells) > 3 else ""
+        for row, names, bound in re.findall(r"^ {4} ?(\d+)  (.*?)(?: {3}(.*))?$", part, re.M) if table else []:
+            elements = [re.match(r"\w*", element.strip()).group() for element in names.split(",")]
+            rows[table.group(1), row] = elements, bound
     # Rows 9 to 14 of table 16 are rows 3 to 8 for list 1.
     for number in range(9, 15):
         elements, bound = rows["16", str(number - 6)]
@@ -141,17 +150,15 @@ def is_at(field, elements):
     return any(e == name or e.endswith("_" + name) or e.startswith(name + "_") for e in elements)
 
 
-def wrong_rows(page):
-    """The fields of RECORDS.md whose row in TABLES.md has another element."""
+def wrong_fields():
+    """The fields of records that are neither derived nor an element of the record's table."""
     rows = rows_of_tables()
-    for name, _, table, fields in records_in(page):
-        for field, row in fields.items():
+    for table, name, crate in records():
+        elements = [element for (of, _), (names, _) in rows.items() if of == table for element in names]
+        for field in fields_of(crate, name):
             general = re.sub("^sub_layer_", "general_", field)
-            # Row 30 of table 2 has the elements of rows 1 to 15 for a sub-layer.
-            places = [str(n) for n in range(1, 16)] if (table, row) == ("2", "30") else [row]
-            elements = [e for place in places for e in rows.get((table, place), ([], ""))[0]]
-            if row != "derived" and not is_at(general if row == "30" else field, elements):
-                yield f"RECORDS.md: {field} of {name} isn't at row {row} of table {table}"
+            if field not in DERIVED and not is_at(field, elements) and not is_at(general, elements):
+                yield f"TABLES.md: {field} of {name} isn't in table {table}"
 
 
 def wrong_crates(page):
@@ -163,20 +170,6 @@ def wrong_crates(page):
         yield "MAP.md: the crates stand in another order than in crates.txt"
 
 
-def wrong_definitions(page):
-    """Definitions that PROMISES.md lists under a file which hasn't got them."""
-    for part in re.split(r"^### ", page, flags=re.M)[1:]:
-        heading = re.match(r"(\w+) of `(\w+)`\n", part)
-        if not heading:
-            continue
-        path = CRATES / heading.group(2) / "specs" / f"{heading.group(1)}.antt"
-        text = path.read_text() if path.exists() else ""
-        for names in re.findall(r"^- (`[^:]*):", part, re.M):
-            for name in re.findall(r"`(\w+)`", names):
-                if not re.search(rf"^(?:(?:unfoldable|abbrev|pub|record|data) )*{name}\b", text, re.M):
-                    yield f"PROMISES.md: {name} isn't in {path.relative_to(TOP)}"
-
-
 def wrong_edits(page):
     """The crates whose number of edits in STRENGTH.md isn't that of their folder."""
     told = {}
@@ -186,19 +179,6 @@ def wrong_edits(page):
         edits = len(list((CRATES / crate / "must-fail").glob("*.edit")))
         if int(told.get(crate, 0)) != edits:
             yield f"STRENGTH.md: {crate} has {edits} edits"
-
-
-def wrong_edit_names(page):
-    """The edits that the table of STRENGTH.md doesn't name, or names and doesn't find."""
-    table = page.split("## What each edit breaks")[1].split("\n## ")[0]
-    told = {
-        (crate, name)
-        for crate, row in re.findall(r"^\| `(hevc_\w+)` \| (.*) \|$", table, re.M)
-        for name in re.findall(r"`(\w+)`: ", row)
-    }
-    edits = {(path.parts[-3], path.stem) for path in CRATES.glob("*/must-fail/*.edit")}
-    for crate, name in sorted(told ^ edits):
-        yield f"STRENGTH.md: the edit {name} of {crate}"
 
 
 def anchors(text):
@@ -227,21 +207,17 @@ def with_example(page, example):
 
 
 def complaints():
-    records = (DOCS / "RECORDS.md").read_text()
     yield from wrong_bounds()
-    yield from wrong_records(records)
-    yield from wrong_rows(records)
+    yield from wrong_records()
+    yield from wrong_fields()
     yield from wrong_crates((DOCS / "MAP.md").read_text())
-    yield from wrong_definitions((DOCS / "PROMISES.md").read_text())
     yield from wrong_edits((DOCS / "STRENGTH.md").read_text())
-    yield from wrong_edit_names((DOCS / "STRENGTH.md").read_text())
     for path in [TOP / "README.md", *sorted(DOCS.glob("*.md"))]:
         yield from wrong_files(path)
 
 
 def main():
-    records = DOCS / "RECORDS.md"
-    pages = {records: made_records(records.read_text())}
+    pages = {}
     for page, example in EXAMPLES.items():
         path = DOCS / page
         pages[path] = with_example(path.read_text(), CRATES / example)

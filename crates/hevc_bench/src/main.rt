@@ -11,18 +11,29 @@ mod work;
 
 use hevc_io::{StdSink, StdSource, StdWords, command_line};
 use program::run;
+use hevc_usage::explain;
 use std::io;
 use std::process::ExitCode;
 
+/// How the program is called.
+const USAGE: &str = "\
+usage: hevc_bench [cut | read] < STREAM\n\
+\n\
+Decodes an H.265 byte stream (Annex B) from standard input over a backend that\n\
+keeps nothing, and prints how many pictures it has.\n\
+\n\
+\x20 cut    cut the stream into units alone, and print how many there are\n\
+\x20 read   read the stream alone, and print how many bytes it has\n";
+
 fn main(rt: HostRuntime) -> ExitCode {
-    let given = StdWords { system: &rt };
-    let read = command_line(&given, rt.alloc());
-    let StdWords { system: _ } = given;
-    let words = match read {
-        Ok(words) => words,
-        Err(error) => return ExitCode::from(error.status()),
+    let status = match command_line(&StdWords { system: &rt }, rt.alloc()) {
+        Ok(words) => {
+            let mut source = StdSource::new(rt.reader());
+            let mut sink = StdSink::new(io::writer(&rt));
+            run(rt.alloc(), &words, &mut source, &mut sink)
+        }
+        Err(error) => error.status(),
     };
-    let mut source = StdSource::new(rt.reader());
-    let mut sink = StdSink::new(io::writer(&rt));
-    ExitCode::from(run(rt.alloc(), &words, &mut source, &mut sink))
+    explain(&rt, "hevc_bench", USAGE, status);
+    ExitCode::from(status)
 }

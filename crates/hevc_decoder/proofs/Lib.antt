@@ -5,6 +5,7 @@ pub mod Behind
 pub mod Numbers
 pub mod Beginnings
 pub mod Comings
+pub mod Pairing
 mod Running
 pub mod Closing
 pub mod Promises

@@ -41,9 +41,10 @@ use Rattle.std.specs.Prelude.{take}
 use Rattle.std.proofs.Math.Seq.{take-append_seam}
 use Rattle.std.proofs.lemmas.List.{length-map}
 use Rattle.hevc_backend.specs.Handed.{Segment}
-use Rattle.hevc_driver.specs.Given.{handed_by}
+use Rattle.hevc_driver.specs.Given.{AreOneToOne, handed_by, call_with, handing_call}
 use Rattle.hevc_stateless_laws.specs.Segments.{given_of, handed_over, segments}
 use Rattle.hevc_decoder.specs.Takes.{handed_at}
+use Rattle.hevc_decoder.proofs.Pairing.{one_to_one}
 use Rattle.hevc_decoder.specs.Scenes.{Trail}
 use Rattle.hevc_decoder.specs.Runs.{CallFollows, UpTo, EndsAt, Ends, Ended}
 use Rattle.hevc_decoder.specs.Headline.{Grew, Appended, IsFront, all_asked, AnswersError, AnswersVerdict, CutsCalls, NextIs, EndsCallsAt, EndsCalls, CutsOutputs, EndsOutputsAt, EndsOutputs, WantsFrame, AllSubmitted, SubmittedOnce, shown_numbers, ComeOutOnce, AreForOutput}
@@ -253,6 +254,26 @@ module _ {H : Type 0} (us : List Meaning) (ss : List (Option Segment)) (r : Resu
   pub handed_of : Grew old.handed new.handed (λ hs. Grew old.log new.log (λ l. hs ≡ handed_over us ss (take (length l) (calls us))))
   handed_of = (flat_map (handed_at (given_of us ss)) x.done, x.does.handed, (x.does.calls, x.does.log, handed_done x.done ∙ ap (handed_over us ss) (sym made_first)))
 
+  -- and one to one with them, where what comes with the first calls of all does
+  asked_calls : (cs : List (ℕ × walk.Call)) → flat_map handing_call (map asked cs) ≡ flat_map (λ c. handing_call c.1) cs
+  asked_calls [] = refl
+  asked_calls (c ∷ cs) = ap (λ l. handing_call c.1 ++ l) (asked_calls cs)
+
+  pub one_to_one_of : ((n : ℕ) → map call_with (handed_over us ss (take n (calls us))) ≡ flat_map (λ c. handing_call c.1) (take n (calls us)))
+      → Grew old.handed new.handed (λ hs. Grew old.log new.log (λ l. AreOneToOne hs (map call_of l)))
+  one_to_one_of paired = (
+    flat_map (handed_at (given_of us ss)) x.done,
+    x.does.handed,
+    (
+      x.does.calls,
+      x.does.log,
+      ap (λ hs. map call_with hs) (handed_done x.done ∙ ap (handed_over us ss) (sym made_first))
+          ∙ paired (length x.does.calls)
+          ∙ ap (λ (cs : List (ℕ × walk.Call)). flat_map (λ (c : ℕ × walk.Call). handing_call c.1) cs) made_first
+          ∙ sym (asked_calls (calls_in x.done)) ∙ ap (λ cs. flat_map handing_call cs) (sym x.does.made),
+    ),
+  )
+
   pub handles_of : old.tickets ≡ [] → Grew old.log new.log (λ l. Appended old.shown new.shown (λ o. AllSubmitted l o))
   handles_of empty = (
     x.does.calls,
@@ -398,6 +419,7 @@ module _ {H : Type 0} (before now : Told H) (r : Result ℕ Refused)
         whole_calls = whole_calls_of us ss r begin end x;
         whole_outputs = whole_outputs_of us ss r begin end x;
         handed = handed_of us ss r begin end x;
+        one_to_one = one_to_one_of us ss r begin end x (one_to_one o (units s));
         unit = within;
         frames = frames_of us ss r begin end x;
         fates = fates_of us ss r begin end x;

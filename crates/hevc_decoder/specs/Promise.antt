@@ -12,6 +12,7 @@ use Rattle.hevc_backend.specs.Handed.{Handed}
 use Rattle.hevc_backend.specs.Trait.{Counts}
 use Rattle.hevc_driver.specs.Answers.{CountsErrors, KeepsFaultless}
 use Rattle.hevc_driver.specs.Calls.{call_of, IsTimed}
+use Rattle.hevc_driver.specs.Given.{AreOneToOne}
 use Rattle.hevc_stateless_laws.specs.Segments.{handed_over, segments}
 use Rattle.hevc_decoder.specs.declared.decoded.Refused.{Refused}
 use Rattle.hevc_decoder.specs.declared.decoded.Shown.{Shown}
@@ -85,6 +86,10 @@ pub record Decodes {H : Type 0} (options : Options) (stream : List ℕ) (before 
   pub handed : Grew before.handed now.handed (λ hs. Grew before.log now.log
       (λ l. hs ≡ handed_over (meanings options stream) (segments options stream)
       (take (length l) (walk.calls (meanings options stream)))))
+  -- one to one, in order: a picture with each NewPicture, a picture and its first slice segment with
+  -- each BeginPicture, a slice segment with each DecodeSlice
+  pub one_to_one : Grew before.handed now.handed (λ hs. Grew before.log now.log
+      (λ l. AreOneToOne hs (map call_of l)))
   pub unit : IfErr result (λ refused. refused.unit ≤ length (units stream))
   -- a frame is wanted for a picture alone, and as it begins
   pub frames : IfErr result

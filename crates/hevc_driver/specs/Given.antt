@@ -1,5 +1,6 @@
 -- What comes with a unit, and what its calls hand over.
-use Rattle.std.specs.Prelude.{ℕ, List, [], ◌∷◌, Option, Some, None}
+use Rattle.std.specs.Prelude.{ℕ, ◌≡◌, List, [], ◌∷◌, map, Option, Some, None}
+use Rattle.std.specs.List.{flat_map}
 use Rattle.hevc_walk.specs.DependentSlices.{whole_slice}
 use Rattle.hevc_walk.specs.Meanings.{Slice}
 use Rattle.hevc_walk.specs.Walk as walk
@@ -63,3 +64,30 @@ handed_by given (walk.SubmitPicture number) = []
 abbrev pub handed_in : Given → Event → List Handed
 handed_in given (Called call) = handed_by given call
 handed_in given (Output number order_count) = []
+
+-- ---- what comes, and the calls that it comes with
+
+-- a call that hands something over, and its picture
+pub data HandingCall : Type 0 where
+  OfNewPicture : (number : ℕ) → HandingCall
+  OfBeginPicture : (number : ℕ) → HandingCall
+  OfDecodeSlice : (number : ℕ) → HandingCall
+
+-- the call that this came with
+abbrev pub call_with : Handed → HandingCall
+call_with (Announced number picture) = OfNewPicture number
+call_with (Begun number picture segment) = OfBeginPicture number
+call_with (Decoded number segment) = OfDecodeSlice number
+
+-- whether a call is one of these
+abbrev pub handing_call : walk.Call → List HandingCall
+handing_call (walk.NewSequence info) = []
+handing_call (walk.NewPicture number nal_unit_type order_count output timestamp) =
+    OfNewPicture number ∷ []
+handing_call (walk.BeginPicture number set) = OfBeginPicture number ∷ []
+handing_call (walk.DecodeSlice number address bytes list0 list1) = OfDecodeSlice number ∷ []
+handing_call (walk.SubmitPicture number) = []
+
+-- what came goes one to one with the calls that hand something over, in their order
+abbrev pub AreOneToOne : List Handed → List walk.Call → Type 0
+AreOneToOne hs calls = map call_with hs ≡ flat_map handing_call calls

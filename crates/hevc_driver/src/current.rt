@@ -1,9 +1,7 @@
 //! The picture whose slices come.
-ghost use Rattle.std.specs.Prelude.{◌≡◌, option_map, true};
+ghost use Rattle.std.specs.Prelude.{◌≡◌, true};
 ghost use Rattle.hevc_walk.specs.Walk.{is_decoded};
-ghost use Rattle.hevc_walk_units.specs.Units.{open_head};
 ghost use Rattle.hevc_driver.specs.Heads.{head_of};
-ghost use Rattle.hevc_driver.specs.Standings.{current_of};
 
 use crate::head::Head;
 use hevc_refs::RefPicSet;
@@ -26,16 +24,4 @@ pub enum Current<P> {
     /// Its slices are passed over.
     SkippedPicture,
     OpenPicture(Open<P>),
-}
-
-impl<P> Current<P> {
-    /// What is known of the picture, where it is decoded.
-    pub fn head(&self) -> Option<&Head>
-        ensures { option_map (λ h. head_of h.now) result ≡ open_head (current_of self.now) }
-    {
-        match self {
-            Current::OpenPicture(opened) => Some(&opened.head),
-            Current::SkippedPicture | Current::NoPicture => None,
-        }
-    }
 }

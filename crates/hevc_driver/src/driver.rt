@@ -1,15 +1,16 @@
 //! The driver, and what ends a stream.
-ghost use Rattle.std.specs.Prelude.{◌≡◌, [], None, OnOk};
-ghost use Rattle.hevc_walk_units.specs.Units.{at_first};
+ghost use Rattle.std.specs.Prelude.{◌≡◌, [], None, OnOk, option_map};
+ghost use Rattle.hevc_walk_units.specs.Units.{at_first, open_head};
 ghost use Rattle.hevc_driver.specs.Given.{Given};
 ghost use Rattle.hevc_driver.specs.Answers.{IsFair};
+ghost use Rattle.hevc_driver.specs.Heads.{head_of};
 ghost use Rattle.hevc_driver.specs.Standings.{standing, traces};
 ghost use Rattle.hevc_driver.specs.Sound.{IsSound, HasRoom, total, StaysSound};
 ghost use Rattle.hevc_driver.specs.Takes.{Closes};
 
 use crate::current::Current;
 use crate::decode_error::DecodeError;
-use crate::head::Context;
+use crate::head::{Context, Head};
 use crate::standing::Standing;
 use hevc_backend::StatelessH265DecoderBackend;
 use hevc_dpb::Dpb;
@@ -58,6 +59,18 @@ impl<B: StatelessH265DecoderBackend> Driver<B> {
                 queue: VecDeque::new(alloc),
             },
             lists: ReferencePicLists::new(),
+        }
+    }
+
+    /// What is known of the picture whose slices come, where it is decoded.
+    pub fn open_picture(&self) -> Option<&Head>
+        ensures { option_map (λ h. head_of h.now) result
+            ≡ open_head (standing self.now.standing).current }
+    {
+        match &self.standing.current {
+            Current::OpenPicture(opened) => Some(&opened.head),
+            Current::SkippedPicture => None,
+            Current::NoPicture => None,
         }
     }
 

@@ -62,6 +62,7 @@ pub trait Words {
 }
 
 /// The words that a system hands over. It tells none of them.
+#[derive(Drop)]
 pub struct StdWords<'a, E: Env> {
     pub system: &'a E,
 }

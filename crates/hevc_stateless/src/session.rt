@@ -144,7 +144,7 @@ impl<B: StatelessH265DecoderBackend> Session<B> {
     pub(crate) fn open_picture(&self) -> Option<&Head>
         ensures { option_map (λ h. head_of h.now) result ≡ open_head self.now.standing.current }
     {
-        self.driver.standing.current.head()
+        self.driver.open_picture()
     }
 
     /// The next picture that came out.
