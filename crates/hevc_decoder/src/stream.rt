@@ -94,7 +94,7 @@ fn judge_units<B: StatelessH265DecoderBackend>(
     let mut shown = Vec::new(alloc);
     let mut position = 0;
     let mut unit = 0;
-    while decode_next_unit(decoder, stream, &mut position, unit, &mut shown)?.is_some() {
+    while let Some(_nalu) = decode_next_unit(decoder, stream, &mut position, unit, &mut shown)? {
         shown.clear();
         unit += 1;
     }

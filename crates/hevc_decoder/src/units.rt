@@ -183,7 +183,7 @@ pub(crate) fn take_piece<B: StatelessH265DecoderBackend>(
 {
     let mut position = 0;
     let mut unit = first;
-    while take_next(decoder, piece, &mut position, unit, shown)?.is_some() {
+    while let Some(_nalu) = take_next(decoder, piece, &mut position, unit, shown)? {
         unit += 1;
     }
     Ok(unit)
