@@ -1,5 +1,5 @@
 -- One unit after another, whatever came out before.
-use Rattle.std.proofs.Common.{◌≡◌, ℕ, ◌+◌, ◌<◌, ◌≤◌, ◌^◌, List, [], ◌∷◌, ◌++◌, length, refl, sym, ap, ap₂, subst, ◌∙◌, append-nil, Some, None, Result, Ok, Err}
+use Rattle.std.proofs.Common.{◌≡◌, ℕ, ◌+◌, ◌<◌, ◌≤◌, ◌^◌, List, [], ◌∷◌, ◌++◌, length, refl, sym, ap, ap₂, subst, ◌∙◌, append-nil, Option, Some, None, Result, Ok, Err}
 use Rattle.std.specs.Prelude.{IfErr}
 use Rattle.hevc_spec.specs.Units.{NalUnit}
 use Rattle.hevc_spec.specs.UnitHeader.{UnitHeader, unit_header}
@@ -97,6 +97,9 @@ module _ {B H : Type 0} where
       }
 
   -- ---- units of a piece, one after another
+
+  pub with_options : {U : Type 0} (o p : Options) (k : ℕ) (before after : List NalUnit) (old new : Scene B H) (r : Result (Option U) Refused) → o ≡ p → TakesNext r o k before after old new → TakesNext r p k before after old new
+  with_options o p k before after old new r same x = subst (λ (q : Options). TakesNext r q k before after old new) same x
 
   -- the next unit was taken of a piece
   pub piece_more : {U : Type 0} (o : Options) (k : ℕ) (before after : List NalUnit) (old new : Scene B H) (t : U) → TakesNext (Ok (Some t)) o k before after old new → (begin : Scene B H) (all later : List NalUnit) → Reached o all k begin old (before ++ later) → Reached o all (k + 1) begin new (after ++ later)

@@ -19,7 +19,7 @@ use Rattle.hevc_decoder.specs.Answers.{without_unit}
 use Rattle.hevc_decoder.specs.Scenes.{Scene, Trail, scene, trail_of}
 use Rattle.hevc_decoder.specs.Runs.{Reached, Ended, EndsHere, StepsBy, TakesNext}
 use Rattle.hevc_decoder.specs.Promise.{Decodes, told}
-use Rattle.hevc_decoder.specs.Stepping.{first_trail, DecodesEnd, DecodesNext, GoesOn, StandsIn}
+use Rattle.hevc_decoder.specs.Stepping.{first_trail, ComesOut, DecodesEnd, DecodesNext, GoesOn, StandsIn}
 use Rattle.hevc_decoder.proofs.Promises.{decodes_of}
 use Rattle.hevc_decoder.proofs.Walking.{begins}
 
@@ -118,3 +118,22 @@ module _ {B H P : Type 0} (log : B → Option (List (Call H))) (handed : B → O
         decodes_with o stream k [] backend gone old new there r (gone ++ ends.out) blames
             (subst (λ (x : Options). Ended r (meant x (units stream)) (segments_of x (units stream)) (trail_of there.begin) (trail_of (scene log handed new (gone ++ ends.out)))) there.set ended.0) ended.1;
   }
+
+  -- ---- along a stream, where what came out was let go
+
+  pub record Along (o : Options) (stream : List ℕ) (k : ℕ) (left : List NalUnit) (backend : B) (decoder : StatelessDecoder B H P) : Type 0 where
+    pub gone : List (Shown H)
+    pub stands : StandsIn log handed counts is_faultless o stream k left backend gone decoder
+
+  module _ {T : Type 0} (o : Options) (stream : List ℕ) (k : ℕ) (before after : List NalUnit) (backend : B) (old new : StatelessDecoder B H P) (old_shown new_shown : List (Shown H)) (there : Along o stream k before backend old) where
+    pub along_more : (t : T) → DecodesNext log handed counts is_faultless (Ok (Some t)) stream k before after old new old_shown new_shown → Along o stream (k + 1) after backend new
+    along_more t x = record { gone = there.gone ++ x.out; stands = x.goes_on o backend there.gone there.stands }
+
+    pub along_end : DecodesNext {T = T} log handed counts is_faultless (Ok None) stream k before after old new old_shown new_shown → Along o stream k [] backend new
+    along_end x = record { gone = there.gone ++ x.out; stands = (x.goes_on o backend there.gone there.stands).1 }
+
+    pub along_refused : (r : Refused) → DecodesNext {T = T} log handed counts is_faultless (Err r) stream k before after old new old_shown new_shown → ComesOut log handed counts is_faultless (Err r) o stream backend new
+    along_refused r x = record { shown = there.gone ++ x.out; decodes = x.goes_on o backend there.gone there.stands }
+
+  pub along_ended : (o : Options) (stream : List ℕ) (k : ℕ) (backend : B) (old new : StatelessDecoder B H P) (old_shown new_shown : List (Shown H)) (r : Result ℕ Refused) → Along o stream k [] backend old → DecodesEnd log handed counts is_faultless r k old new old_shown new_shown → ComesOut log handed counts is_faultless r o stream backend new
+  along_ended o stream k backend old new old_shown new_shown r there x = record { shown = there.gone ++ x.out; decodes = x.decodes o stream backend there.gone there.stands }
