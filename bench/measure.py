@@ -16,14 +16,14 @@ class Run(NamedTuple):
     processor: float
 
 
-def once(command, path):
-    """A run of a command with a file as its standard input."""
+def once(command, path, statuses=(0,)):
+    """A run of a command with a file as its standard input, which has to end with one of these statuses."""
     with open(path, "rb") as source:
         start = time.perf_counter()
         child = subprocess.Popen(command, stdin=source, stdout=subprocess.DEVNULL)
         _, status, usage = os.wait4(child.pid, 0)
         seconds = time.perf_counter() - start
-    if status != 0:
+    if os.waitstatus_to_exitcode(status) not in statuses:
         sys.exit(f"{command} ended with {status}")
     return Run(seconds, usage.ru_utime + usage.ru_stime)
 

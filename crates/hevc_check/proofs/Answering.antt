@@ -6,10 +6,10 @@ use Rattle.hevc_walk.specs.Results.{outputs, verdict}
 use Rattle.hevc_walk_order.specs.Sequences.{Sequence, IsSequence, pictures_for_output, outputs_of}
 use Rattle.hevc_walk_order.specs.DisplayOrder.{AreInOrder}
 use Rattle.hevc_check_laws.specs.Checks as laws
-use Rattle.hevc_check_laws.specs.Checks.{checked_bounds}
 use Rattle.hevc_walk_order.proofs.Bounds.{order-by_bounds}
 use Rattle.hevc_walk_order.proofs.Law.{law_of_verdict}
 use Rattle.hevc_check_laws.proofs.Bounds.{bounds-kept_by}
+use Rattle.hevc_check_laws.proofs.Order.{order-kept_by}
 use Rattle.hevc_stream.specs.Options.{Options}
 use Rattle.hevc_stream.specs.Stream.{meanings}
 use Rattle.hevc_driver.specs.declared.decode_error.DecodeError.{DecodeError}
@@ -22,6 +22,9 @@ use Rattle.hevc_decoder.specs.Names.{answer_of}
 use Rattle.hevc_decoder.specs.Promise.{Decodes, Told}
 use Rattle.hevc_check.specs.declared.check.Checked.{Checked}
 use Rattle.hevc_check.specs.declared.check.Checked.TheVariants.{Yes, No}
+use Rattle.hevc_check.specs.declared.table.Table.{Table}
+use Rattle.hevc_check.specs.declared.table.Table.TheVariants.{Bounds, Order}
+use Rattle.hevc_check.specs.Tables.{checked_by}
 use Rattle.hevc_check.specs.Answers.{checked_of, error_by, AnswersCheck, IsYes}
 
 pub ok_verdict : (v : Result ℕ Refusal) (n : ℕ) → answer_of v ≡ Ok n → v ≡ Ok n
@@ -56,6 +59,7 @@ pub whole_verdict : {H : Type 0} (o : Options) (bytes : List ℕ) (before now : 
 whole_verdict o bytes before now r n d is = ok_verdict (verdict (meanings o bytes)) n (subst (λ (x : Result ℕ Refused). AnswersVerdict x (verdict (meanings o bytes))) is d.answer)
 
 -- what a stream that breaks nothing outputs
-pub in_order : (us : List Meaning) (k : ℕ) (checked : Checked) → verdict us ≡ Ok k → checked_of checked ≡ checked_bounds us → IsYes (Ok checked) → (q : Sequence) → IsSequence us q → AreInOrder (pictures_for_output q) (outputs_of q (outputs us))
-in_order us k (Yes sequences pictures) whole is passed q at = law_of_verdict us k whole q at (order-by_bounds us q (bounds-kept_by us sequences pictures (sym is) q at))
-in_order us k (No number unit breach) whole is passed q at = absurd passed
+pub in_order : (t : Table) (us : List Meaning) (k : ℕ) (checked : Checked) → verdict us ≡ Ok k → checked_of checked ≡ checked_by t us → IsYes (Ok checked) → (q : Sequence) → IsSequence us q → AreInOrder (pictures_for_output q) (outputs_of q (outputs us))
+in_order Order us k (Yes sequences pictures) whole is passed q at = law_of_verdict us k whole q at (order-kept_by us sequences pictures (sym is) q at)
+in_order Bounds us k (Yes sequences pictures) whole is passed q at = law_of_verdict us k whole q at (order-by_bounds us q (bounds-kept_by us sequences pictures (sym is) q at))
+in_order t us k (No number unit breach) whole is passed q at = absurd passed

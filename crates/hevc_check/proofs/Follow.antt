@@ -1,5 +1,5 @@
 -- What is kept of the pictures of a sequence tells what the next one breaks.
-use Rattle.std.proofs.Common.{◌≡◌, ℕ, ℤ, zero, suc, ◌+◌, ◌<◌, ◌≤◌, ◌≤ℤ◌, ◌<ℤ◌, Bool, true, false, not, cond, ◌&&◌, ◌||◌, List, [], ◌∷◌, ◌++◌, length, get_or, refl, sym, ap, ◌∙◌, subst, arith, Option, Some, None, if◌then◌else◌}
+use Rattle.std.proofs.Common.{◌≡◌, ℕ, ℤ, zero, suc, ◌-◌, ◌+◌, ◌<◌, ◌≤◌, ◌≤ℤ◌, ◌<ℤ◌, Bool, true, false, not, cond, ◌&&◌, ◌||◌, List, [], ◌∷◌, ◌++◌, length, get_or, refl, sym, ap, ◌∙◌, subst, arith, Option, Some, None, if◌then◌else◌}
 use Rattle.std.specs.Prelude.{min, nat_lt, nat_le, int_lt, count_by, filter, slice_set, ◌==◌}
 use Rattle.std.specs.Ordering.{int_cmp, int_eq, is_eq}
 use Rattle.std.specs.declared.cmp.Ordering.TheVariants.{Less, Equal, Greater}
@@ -11,7 +11,7 @@ use Rattle.std.proofs.lemmas.Int.{ints}
 use Rattle.hevc_walk.specs.Meanings.{Format}
 use Rattle.hevc_walk.specs.Pictures.{Head, Picture}
 use Rattle.hevc_walk_order.specs.Sequences.{begins, earliest, is_for_output}
-use Rattle.hevc_walk_order.specs.DisplayOrder.{entries_before}
+use Rattle.hevc_walk_order.specs.DisplayOrder.{entries_before, latency_pictures}
 use Rattle.hevc_pictures.specs.declared.limits.Limits.{Limits}
 use Rattle.hevc_pictures.specs.Limits.{limits_of}
 use Rattle.hevc_backend.specs.Negotiation.{format_of}
@@ -21,12 +21,26 @@ use Rattle.hevc_check_laws.specs.Breaches as laws
 use Rattle.hevc_check_laws.specs.Breaches.{Breach, Changed, Latency, SameCount, Full, Discards, Reorder, latest_sequence, earlier_in}
 use Rattle.hevc_check.specs.declared.begun.Begun.{Begun}
 use Rattle.hevc_check.specs.declared.sequence.Sequence.{Sequence}
-use Rattle.hevc_check.specs.Sequences.{Follows, FollowsAll, Tells, first_or, above, has_count, output_above}
+use Rattle.hevc_check_laws.specs.Orders.{fills, filled_for}
+use Rattle.hevc_check.specs.declared.table.Table.{Table}
+use Rattle.hevc_check.specs.declared.table.Table.TheVariants.{Bounds, Order}
+use Rattle.hevc_check.specs.declared.late.HighestCounts.{HighestCounts}
+use Rattle.hevc_check.specs.Filled.{is_up_to}
+use Rattle.hevc_check.specs.Late.{AreHighest, Fall, late_at, late_by}
+use Rattle.hevc_check.specs.Tables.{breaks_by, is_counted}
+use Rattle.hevc_check.proofs.Lateness.{late-is}
+use Rattle.hevc_check.specs.Sequences.{Follows, FollowsAll, FollowsLatest, FollowsTo, AreFilled, KeepsHighest, Tells, first_or, above, has_count, output_above}
 
 -- ---- the first breach
 
 abbrev chain : (a b c d e f : Bool) → Option Breach
 chain a b c d e f = if a then Some Changed else if b then Some Latency else if c then Some SameCount else if d then Some Full else if e then Some Discards else if f then Some Reorder else None
+
+pub first : (a b c d e f : Bool) → a ≡ true → Some Changed ≡ chain a b c d e f
+first a b c d e f ha = rw ha refl
+
+pub second : (a b c d e f : Bool) → a ≡ false → b ≡ true → Some Latency ≡ chain a b c d e f
+second a b c d e f ha hb = rw (ha, hb) refl
 
 pub third : (a b c d e f : Bool) → a ≡ false → b ≡ false → c ≡ true → Some SameCount ≡ chain a b c d e f
 third a b c d e f ha hb hc = rw (ha, hb, hc) refl
@@ -43,9 +57,50 @@ sixth a b c d e f ha hb hc hd he hf = rw (ha, hb, hc, hd, he, hf) refl
 pub none_of : (a b c d e f : Bool) → a ≡ false → b ≡ false → c ≡ false → d ≡ false → e ≡ false → f ≡ false → None ≡ chain a b c d e f
 none_of a b c d e f ha hb hc hd he hf = rw (ha, hb, hc, hd, he, hf) refl
 
--- whether a latency is declared
-pub no_latency : (b : Begun) (p : Picture) → head_of b.head ≡ p.head → b.head.limits.latency_plus1 ≡ 0 → not (p.limits.max_latency_increase_plus1 == 0) ≡ false
-no_latency b p same none = ap (λ (n : ℕ). not (n == 0)) (sym (ap (λ (h : Head). h.limits.max_latency_increase_plus1) same) ∙ none)
+-- ---- what a table says
+
+pub changed_by : (t : Table) (set : Option (ℕ × Format)) (p : Picture) (before : List Picture) → laws.is_changed p before ≡ breaks_by t set p before Changed
+changed_by Bounds set p before = refl
+changed_by Order set p before = refl
+
+pub discards_by : (t : Table) (set : Option (ℕ × Format)) (p : Picture) (before : List Picture) → laws.discards p ≡ breaks_by t set p before Discards
+discards_by Bounds set p before = refl
+discards_by Order set p before = refl
+
+pub reordered_by : (t : Table) (set : Option (ℕ × Format)) (p : Picture) (before : List Picture) → (is_for_output p && nat_lt p.limits.max_num_reorder_pics (output_above p.order_count (earlier_in p before))) ≡ breaks_by t set p before Reorder
+unfolding output_above
+reordered_by Bounds set p before = refl
+reordered_by Order set p before = refl
+
+pub latency_bounds : (t : Table) (set : Option (ℕ × Format)) (p : Picture) (before : List Picture) → t ≡ Bounds → not (p.limits.max_latency_increase_plus1 == 0) ≡ breaks_by t set p before Latency
+latency_bounds t set p before is = ap (λ (x : Table). breaks_by x set p before Latency) (sym is)
+
+-- the numbers of the earlier ones of a sequence fall
+fall_unless : (n : ℕ) (b : Bool) (es : List Picture) → Fall n es → Fall n (if b then [] else es)
+fall_unless n true es h = tt
+fall_unless n false es h = h
+
+fall_latest : (n : ℕ) (ps : List Picture) → Fall n ps → Fall n (latest_sequence ps)
+fall_latest n [] h = tt
+fall_latest n (p ∷ before) h = (h.0, fall_unless p.number (begins p before) (latest_sequence before) (fall_latest p.number before h.1))
+
+pub latency_order : (t : Table) (set : Option (ℕ × Format)) (p : Picture) (before : List Picture) → t ≡ Order → Fall p.number before
+    → (is_for_output p && nat_lt 0 p.limits.max_latency_increase_plus1 && late_by p.order_count (latency_pictures p.limits) (earlier_in p before)) ≡ breaks_by t set p before Latency
+latency_order t set p before is fall =
+    ap (λ (b : Bool). is_for_output p && nat_lt 0 p.limits.max_latency_increase_plus1 && b) (sym (late-is p.order_count (latency_pictures p.limits) p.number (earlier_in p before) (fall_unless p.number (begins p before) (latest_sequence before) (fall_latest p.number before fall))))
+    ∙ ap (λ (x : Table). breaks_by x set p before Latency) (sym is)
+
+filter_all : (es : List Picture) → filter (is_counted Bounds) es ≡ es
+filter_all [] = refl
+filter_all (p ∷ es) = ap (λ (l : List Picture). p ∷ l) (filter_all es)
+
+pub counts_by : (t : Table) (set : Option (ℕ × Format)) (p : Picture) (before : List Picture) → (is_counted t p && has_count p.order_count (filter (is_counted t) (earlier_in p before))) ≡ breaks_by t set p before SameCount
+unfolding has_count
+counts_by Bounds set p before = ap (λ (l : List Picture). list_any (λ q. int_eq p.order_count q.order_count) l) (filter_all (earlier_in p before))
+counts_by Order set p before = refl
+
+pub full_order : (t : Table) (set : Option (ℕ × Format)) (p : Picture) (before : List Picture) (full : Bool) → t ≡ Order → full ≡ filled_for set p.order_count (p ∷ before) → (is_for_output p && full) ≡ breaks_by t set p before Full
+full_order t set p before full is same = ap (λ (b : Bool). is_for_output p && b) same ∙ ap (λ (x : Table). breaks_by x set p before Full) (sym is)
 
 -- whether the buffer is full
 full_by : (s b : Bool) (m n k : ℕ) → (s ≡ false → n ≡ k) → (not s && not b && nat_le m n) ≡ (not s && not b && nat_le m k)
@@ -53,11 +108,11 @@ full_by true b m n k same = refl
 full_by false b m n k same = ap (λ (x : ℕ). not b && nat_le m x) (same refl)
 
 pub full_same : (set : Option (ℕ × Format)) (p : Picture) (before : List Picture) (b : Begun) → Tells set p before b
-    → (not b.head.skipped && not b.begins_sequence && nat_le (b.head.limits.buffering + 1) b.num_stored) ≡ (not p.skipped && not (begins p before) && nat_le (p.limits.max_dec_pic_buffering_minus1 + 1) (length (entries_before set p before)))
+    → (not b.head.skipped && not b.begins_sequence && nat_le (b.head.limits.buffering + 1) b.stored.num) ≡ (not p.skipped && not (begins p before) && nat_le (p.limits.max_dec_pic_buffering_minus1 + 1) (length (entries_before set p before)))
 full_same set p before b t =
-    ap (λ (h : Head). not h.skipped && not b.begins_sequence && nat_le (h.limits.max_dec_pic_buffering_minus1 + 1) b.num_stored) t.head
-    ∙ ap (λ (x : Bool). not p.skipped && not x && nat_le (p.limits.max_dec_pic_buffering_minus1 + 1) b.num_stored) t.begins
-    ∙ full_by p.skipped (begins p before) (p.limits.max_dec_pic_buffering_minus1 + 1) b.num_stored (length (entries_before set p before)) t.stored
+    ap (λ (h : Head). not h.skipped && not b.begins_sequence && nat_le (h.limits.max_dec_pic_buffering_minus1 + 1) b.stored.num) t.head
+    ∙ ap (λ (x : Bool). not p.skipped && not x && nat_le (p.limits.max_dec_pic_buffering_minus1 + 1) b.stored.num) t.begins
+    ∙ full_by p.skipped (begins p before) (p.limits.max_dec_pic_buffering_minus1 + 1) b.stored.num (length (entries_before set p before)) t.stored
 
 -- ---- how many are above a count
 
@@ -182,13 +237,8 @@ lower_so_far xs place low next so_far one other k d l = by (nat_lt k place) refl
 
 -- ---- what the definitions say
 
-pub same_count : {v : Bool} (p : Picture) (before : List Picture) → has_count p.order_count (earlier_in p before) ≡ v → list_any (λ q. int_eq p.order_count q.order_count) (earlier_in p before) ≡ v
-unfolding has_count
-same_count p before is = is
-
-pub reordered : {v : Bool} (p : Picture) (before : List Picture) → (is_for_output p && nat_lt p.limits.max_num_reorder_pics (output_above p.order_count (earlier_in p before))) ≡ v → laws.is_reordered p before ≡ v
-unfolding output_above
-reordered p before is = is
+pub full_bounds : (t : Table) (set : Option (ℕ × Format)) (p : Picture) (before : List Picture) (b : Begun) → t ≡ Bounds → Tells set p before b → (not b.head.skipped && not b.begins_sequence && nat_le (b.head.limits.buffering + 1) b.stored.num) ≡ breaks_by t set p before Full
+full_bounds t set p before b is tells = full_same set p before b tells ∙ ap (λ (x : Table). breaks_by x set p before Full) (sym is)
 
 -- ---- one picture more
 
@@ -228,19 +278,40 @@ pub output_same : (c : ℤ) (p : Picture) (es : List Picture) → is_for_output 
 unfolding output_above
 output_same c p es is = ap (λ (b : Bool). count_by (λ q. int_lt c q.order_count) (cond b (p ∷ filter is_for_output es) (filter is_for_output es))) is
 
-pub follows_more : (p next : Picture) (es : List Picture) (q new : Sequence) (k : ℤ) → Follows p es q → new.limits ≡ q.limits → new.format ≡ q.format → k ≡ p.order_count
-    → ((c : ℤ) → contains int_cmp new.counts c ≡ cond (is_eq (int_cmp k c)) true (contains int_cmp q.counts c))
-    → ((c : ℤ) → min (q.limits.reorder + 1) (above c new.highest.items) ≡ min (q.limits.reorder + 1) (output_above c (p ∷ es))) → Follows next (p ∷ es) new
-follows_more p next es q new k f limits format same counts highest = record {
+-- one that is looked at has its count among theirs
+pub counted_more : (t : Table) (c k : ℤ) (p : Picture) (es : List Picture) (b : Bool) → k ≡ p.order_count → is_counted t p ≡ true → b ≡ has_count c (filter (is_counted t) es) → cond (is_eq (int_cmp k c)) true b ≡ has_count c (filter (is_counted t) (p ∷ es))
+counted_more t c k p es b same counted is = count_more c k p (filter (is_counted t) es) b same is ∙ ap (λ (x : Bool). has_count c (cond x (p ∷ filter (is_counted t) es) (filter (is_counted t) es))) (sym counted)
+
+pub counted_same : (t : Table) (c : ℤ) (p : Picture) (es : List Picture) → is_counted t p ≡ false → has_count c (filter (is_counted t) es) ≡ has_count c (filter (is_counted t) (p ∷ es))
+counted_same t c p es counted = ap (λ (x : Bool). has_count c (cond x (p ∷ filter (is_counted t) es) (filter (is_counted t) es))) (sym counted)
+
+pub high_in : (q new : Sequence) (es : List Picture) → new.limits ≡ q.limits → ((c : ℤ) → min (q.limits.reorder + 1) (above c new.highest.items) ≡ min (q.limits.reorder + 1) (output_above c es)) → KeepsHighest es new
+high_in q new es limits highest c = subst (λ (l : Limits). min (l.reorder + 1) (above c new.highest.items) ≡ min (l.reorder + 1) (output_above c es)) (sym limits) (highest c)
+
+pub high_same : (q new : Sequence) (es : List Picture) → new.limits ≡ q.limits → new.highest.items ≡ q.highest.items → KeepsHighest es q → KeepsHighest es new
+high_same q new es limits same highest = high_in q new es limits (λ c. ap (λ (l : List ℤ). min (q.limits.reorder + 1) (above c l)) same ∙ highest c)
+
+pub highest_same : (es : List Picture) (h g : HighestCounts) → g ≡ h → AreHighest es h → AreHighest es g
+highest_same es h g same is = subst (AreHighest es) (sym same) is
+
+-- a skipped picture isn't decoded after others
+pub skipped_late : (p : Picture) (es : List Picture) (h : HighestCounts) → p.skipped ≡ true → AreHighest es h → AreHighest (p ∷ es) h
+skipped_late p es h skipped is c n = is c n ∙ ap (λ (b : Bool). if b then late_by c n es else late_at c n p (late_by c (n - 1) es)) (sym skipped)
+
+pub follows_more : (p next : Picture) (es : List Picture) (q new : Sequence) → Follows p es q → new.table ≡ q.table → new.limits ≡ q.limits → new.format ≡ q.format
+    → ((c : ℤ) → contains int_cmp new.counts c ≡ has_count c (filter (is_counted q.table) (p ∷ es)))
+    → KeepsHighest (p ∷ es) new → AreHighest (p ∷ es) new.so_far → Follows next (p ∷ es) new
+follows_more p next es q new f table limits format counts highest so_far = record {
   limits = ap limits_of limits ∙ f.limits ∙ ap (λ (x : Picture). x.limits) (first_same p next es);
   format = ap format_of format ∙ f.format ∙ ap (λ (x : Picture). x.format) (first_same p next es);
-  counts = λ c. counts c ∙ count_more c k p es (contains int_cmp q.counts c) same (f.counts c);
-  highest = λ c. subst (λ (l : Limits). min (l.reorder + 1) (above c new.highest.items) ≡ min (l.reorder + 1) (output_above c (p ∷ es))) (sym limits) (highest c);
+  counts = λ c. counts c ∙ ap (λ (t : Table). has_count c (filter (is_counted t) (p ∷ es))) (sym table);
+  highest = highest;
+  so_far = so_far;
 }
 
 -- ---- from picture to picture
 
-pub follows_on : (p : Picture) (before : List Picture) (q : Sequence) → begins p before ≡ false → FollowsAll before q → Follows p (earlier_in p before) q
+pub follows_on : (p : Picture) (before : List Picture) (q : Sequence) → begins p before ≡ false → FollowsLatest before q → Follows p (earlier_in p before) q
 follows_on p [] q isnt all = absurd (cc isnt)
 follows_on p (r ∷ before) q isnt all = subst (λ (b : Bool). Follows p (if b then [] else latest_sequence (r ∷ before)) q) (sym isnt) (all p)
 
@@ -256,10 +327,26 @@ unfolding has_count
 none_counted c ks none = ap (list_any (λ k. is_eq (int_cmp c k))) none
 
 -- a sequence begins
-pub follows_none : (p : Picture) (q : Sequence) (b : CodeHead) → head_of b ≡ p.head → q.limits ≡ b.limits → q.format ≡ b.format → q.counts.keys ≡ [] → q.highest.items ≡ [] → Follows p [] q
-follows_none p q b same limits format counts highest = record {
+pub follows_none : (p : Picture) (q : Sequence) (b : CodeHead) → head_of b ≡ p.head → q.limits ≡ b.limits → q.format ≡ b.format → q.counts.keys ≡ [] → q.highest.items ≡ [] → AreHighest [] q.so_far → Follows p [] q
+follows_none p q b same limits format counts highest so_far = record {
   limits = ap limits_of limits ∙ ap (λ (h : Head). h.limits) same;
   format = ap format_of format ∙ ap (λ (h : Head). h.format) same;
   counts = λ c. none_counted c q.counts.keys counts;
   highest = λ c. none_above (q.limits.reorder + 1) c q.highest.items highest;
+  so_far = so_far;
 }
+
+-- ---- up to which count the buffer was full
+
+pub with_filled : (p : Picture) (es : List Picture) (q : Sequence) (x : Option ℤ) → Follows p es q → Follows p es (record q { filled = x })
+with_filled p es q x f = record { limits = f.limits; format = f.format; counts = f.counts; highest = f.highest; so_far = f.so_far }
+
+pub filled_first : (set : Option (ℕ × Format)) (p : Picture) (before : List Picture) (q : Sequence) → begins p before ≡ true → q.filled ≡ None → AreFilled set (p ∷ before) q
+filled_first set p before q is none c fits = ap (is_up_to c) none ∙ ap (λ (b : Bool). not b && (fills set c p before || filled_for set c before)) (sym is)
+
+pub filled_on : (set : Option (ℕ × Format)) (p : Picture) (before : List Picture) (q new : Sequence) (b : Begun) → begins p before ≡ false → Tells set p before b → ((c : ℤ) → is_up_to c new.filled ≡ (is_up_to c b.stored.filled || is_up_to c q.filled)) → AreFilled set before q → AreFilled set (p ∷ before) new
+filled_on set p before q new b isnt t higher all c fits =
+    higher c
+    ∙ ap (λ (x : Bool). x || is_up_to c q.filled) (t.filled c fits)
+    ∙ ap (λ (x : Bool). fills set c p before || x) (all c fits)
+    ∙ ap (λ (x : Bool). not x && (fills set c p before || filled_for set c before)) (sym isnt)

@@ -1,6 +1,8 @@
 pub mod Places
 pub mod Sounds
 pub mod Meant
+pub mod Needing
+pub mod Lateness
 pub mod Follow
 pub mod Steps
 pub mod Whole

@@ -150,7 +150,7 @@ place_unit k (Refused cause) v = refl
 
 -- what is kept of headers tells nothing of a picture
 begun_kept : (s : Slice) (v : Place) (k : Option KeptHeader) (b : Begun) → IsBegun s (record v { kept = k }) b → IsBegun s v b
-begun_kept s v k b is = record { same_head = is.same_head; begins = is.begins; stored = is.stored }
+begun_kept s v k b is = record { same_head = is.same_head; begins = is.begins; stored = is.stored; filled = is.filled }
 
 -- a picture begins with a slice
 pub told_first : (v w new : Place) (s t : Slice) (b : Begun) → first_by (whole_slice v.kept s) v.latest ≡ Some t → w ≡ record v { kept = kept_header v.kept s } → IsBegun t w b → new ≡ begun t w → Takes (Ok (Some b)) (CodedSlice s) v new

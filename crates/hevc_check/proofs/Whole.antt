@@ -16,9 +16,8 @@ use Rattle.hevc_walk_fates.proofs.Numbers.{stream-numbered, numbered-length, cov
 use Rattle.hevc_walk_joined.specs.Standings.{full_by}
 use Rattle.hevc_walk_order.specs.Sequences.{begins, sequences, sequences_from}
 use Rattle.hevc_check_laws.specs.Breaches.{all_breaches}
-use Rattle.hevc_check_laws.specs.Bounds.{breaks_bounds}
 use Rattle.hevc_check_laws.specs.Checks as laws
-use Rattle.hevc_check_laws.specs.Checks.{BrokenAt, first_breach, broken_at as broken_by, earlier_broken, lowest_broken, checked_with, checked_bounds}
+use Rattle.hevc_check_laws.specs.Checks.{BrokenAt, first_breach, broken_at as broken_by, earlier_broken, lowest_broken, checked_with}
 use Rattle.hevc_stream.specs.Options.{Options}
 use Rattle.hevc_stream.specs.Kept.{Kept}
 use Rattle.hevc_stream.specs.Contents.{header_cause, content}
@@ -30,13 +29,16 @@ use Rattle.hevc_check.specs.Answers.{checked_of}
 use Rattle.hevc_check.specs.Places.{place, first_slice, first_by, CannotBeginBy}
 use Rattle.hevc_check.specs.declared.unlike.Unlike.{Unlike}
 use Rattle.hevc_check.specs.declared.unlike.Unlike.TheVariants as unlike
+use Rattle.hevc_check.specs.declared.table.Table.{Table}
+use Rattle.hevc_check.specs.declared.table.Table.TheVariants.{Bounds, Order}
+use Rattle.hevc_check.specs.Tables.{breaks_by, checked_by}
 use Rattle.hevc_check.specs.Steps.{IsAt, Steps, Tells, num_sequences, lowest}
 use Rattle.hevc_check.proofs.Steps.{still, unit_begins}
 
 -- A check is in front of these units of a stream, the first of which is the k-th.
-pub record Reached (o : Options) (bytes : List ℕ) (us : List NalUnit) (k : ℕ) (c : Check) : Type 0 where
+pub record Reached (t : Table) (o : Options) (bytes : List ℕ) (us : List NalUnit) (k : ℕ) (c : Check) : Type 0 where
   pub v : Stream
-  pub at : IsAt v c
+  pub at : IsAt t v c
   pub rest : stream_from k v (meanings_behind o (kept_of c.walk.sets) us) ≡ stream (meanings o bytes)
   pub stops : (n : ℕ) → verdict (meanings o bytes) ≡ Ok n → stop_from k v (meanings_behind o (kept_of c.walk.sets) us) ≡ None
 
@@ -61,8 +63,8 @@ full_none us n is =
 
 -- ---- at the beginning
 
-pub starts : (o : Options) (bytes : List ℕ) (us : List NalUnit) (c : Check) (kept : Kept) → IsAt nothing_yet c → kept_of c.walk.sets ≡ kept → meanings_behind o kept us ≡ meanings o bytes → Reached o bytes us 0 c
-starts o bytes us c kept at same is =
+pub starts : (t : Table) (o : Options) (bytes : List ℕ) (us : List NalUnit) (c : Check) (kept : Kept) → IsAt t nothing_yet c → kept_of c.walk.sets ≡ kept → meanings_behind o kept us ≡ meanings o bytes → Reached t o bytes us 0 c
+starts t o bytes us c kept at same is =
     let all = ap (λ (k : Kept). meanings_behind o k us) same ∙ is in
     record { v = nothing_yet; at = at; rest = ap (stream_from 0 nothing_yet) all; stops = λ n h. ap (stop_from 0 nothing_yet) all ∙ (verdict_parts (meanings o bytes) n h).1 }
 
@@ -72,9 +74,9 @@ further_none : (k : ℕ) (r : Option Cause) (x : Option Refusal) → first_refus
 further_none k None x e = e
 further_none k (Some cause) x e = absurd (cc e)
 
-pub reaches : (o : Options) (bytes : List ℕ) (u : NalUnit) (others : List NalUnit) (k : ℕ) (old new : Check) (r : Reached o bytes (u ∷ others) k old) → IsAt (with_unit k (meaning o (kept_of old.walk.sets) u.bytes) r.v) new
-    → kept_of new.walk.sets ≡ kept_behind o (kept_of old.walk.sets) u.bytes → Reached o bytes others (k + 1) new
-reaches o bytes u others k old new r at kept = record {
+pub reaches : (t : Table) (o : Options) (bytes : List ℕ) (u : NalUnit) (others : List NalUnit) (k : ℕ) (old new : Check) (r : Reached t o bytes (u ∷ others) k old) → IsAt t (with_unit k (meaning o (kept_of old.walk.sets) u.bytes) r.v) new
+    → kept_of new.walk.sets ≡ kept_behind o (kept_of old.walk.sets) u.bytes → Reached t o bytes others (k + 1) new
+reaches t o bytes u others k old new r at kept = record {
   v = with_unit k m r.v;
   at = at;
   rest = ap (λ (x : Kept). stream_from (k + 1) (with_unit k m r.v) (meanings_behind o x others)) kept ∙ r.rest;
@@ -105,30 +107,34 @@ stays_full : (k : ℕ) (v : Stream) (us : List Meaning) → is_some (full_by v) 
 stays_full k v [] e = e
 stays_full k v (u ∷ us) e = stays_full (k + 1) (with_unit k u v) us (full_step k u v e)
 
-broken_step : (k : ℕ) (u : Meaning) (v : Stream) (b : BrokenAt) → lowest v ≡ Some b → lowest (with_unit k u v) ≡ Some b
-broken_step k u v b e = by (first_slice u (place v)) refl
+broken_step : (t : Table) (k : ℕ) (u : Meaning) (v : Stream) (b : BrokenAt) → lowest t v ≡ Some b → lowest t (with_unit k u v) ≡ Some b
+broken_step t k u v b e = by (first_slice u (place v)) refl
   where
-    by : (f : Option Slice) → first_slice u (place v) ≡ f → lowest (with_unit k u v) ≡ Some b
-    by None is = (still k u v is).lowest_is ∙ e
+    by : (f : Option Slice) → first_slice u (place v) ≡ f → lowest t (with_unit k u v) ≡ Some b
+    by None is = (still k u v is).lowest_is t ∙ e
     by (Some s) is =
-        let t = unit_begins k u v s is in
+        let at = unit_begins k u v s is in
         let p = new_picture k s v.pictures in
-        ap (λ (set : Option (ℕ × Format)). lowest_broken (breaks_bounds set) (with_unit k u v).pictures) t.set
-        ∙ ap (lowest_broken (breaks_bounds v.first_set)) t.pictures
-        ∙ ap (λ (o : Option BrokenAt). earlier_broken o (broken_by p (first_breach (breaks_bounds v.first_set p v.pictures) all_breaches))) e
+        ap (λ (set : Option (ℕ × Format)). lowest_broken (breaks_by t set) (with_unit k u v).pictures) at.set
+        ∙ ap (lowest_broken (breaks_by t v.first_set)) at.pictures
+        ∙ ap (λ (o : Option BrokenAt). earlier_broken o (broken_by p (first_breach (breaks_by t v.first_set p v.pictures) all_breaches))) e
 
-stays_broken : (k : ℕ) (v : Stream) (us : List Meaning) (b : BrokenAt) → lowest v ≡ Some b → lowest (stream_from k v us) ≡ Some b
-stays_broken k v [] b e = e
-stays_broken k v (u ∷ us) b e = stays_broken (k + 1) (with_unit k u v) us b (broken_step k u v b e)
+stays_broken : (t : Table) (k : ℕ) (v : Stream) (us : List Meaning) (b : BrokenAt) → lowest t v ≡ Some b → lowest t (stream_from k v us) ≡ Some b
+stays_broken t k v [] b e = e
+stays_broken t k v (u ∷ us) b e = stays_broken t (k + 1) (with_unit k u v) us b (broken_step t k u v b e)
+
+checked_is : (t : Table) (us : List Meaning) → checked_by t us ≡ checked_with (lowest t (stream us)) us
+checked_is Bounds us = refl
+checked_is Order us = refl
 
 -- a broken picture is the answer to the stream
-pub breaks : (o : Options) (bytes : List ℕ) (u : NalUnit) (others : List NalUnit) (k : ℕ) (old : Check) (told : Checked) (r : Reached o bytes (u ∷ others) k old) → Tells (with_unit k (meaning o (kept_of old.walk.sets) u.bytes) r.v) told
-    → checked_of told ≡ checked_bounds (meanings o bytes)
-breaks o bytes u others k old told r t =
+pub breaks : (t : Table) (o : Options) (bytes : List ℕ) (u : NalUnit) (others : List NalUnit) (k : ℕ) (old : Check) (told : Checked) (r : Reached t o bytes (u ∷ others) k old) → Tells t (with_unit k (meaning o (kept_of old.walk.sets) u.bytes) r.v) told
+    → checked_of told ≡ checked_by t (meanings o bytes)
+breaks t o bytes u others k old told r tells =
     let m = meaning o (kept_of old.walk.sets) u.bytes in
     let later = meanings_behind o (kept_behind o (kept_of old.walk.sets) u.bytes) others in
-    let low = stays_broken (k + 1) (with_unit k m r.v) later t.broken t.lowest_is in
-    t.told_is ∙ sym (ap (λ (x : Option BrokenAt). checked_with x (meanings o bytes)) (sym (ap lowest r.rest) ∙ low))
+    let low = stays_broken t (k + 1) (with_unit k m r.v) later tells.broken tells.lowest_is in
+    tells.told_is ∙ sym (checked_is t (meanings o bytes) ∙ ap (λ (x : Option BrokenAt). checked_with x (meanings o bytes)) (sym (ap (lowest t) r.rest) ∙ low))
 
 -- ---- at the end
 
@@ -141,15 +147,15 @@ sequences_count later rest (p ∷ before) = by (begins p before) (sequences_coun
     by true more same = omega (arith, more)
     by false more same = same
 
-pub ends : (o : Options) (bytes : List ℕ) (us : List NalUnit) (k : ℕ) (c : Check) → us ≡ [] → Reached o bytes us k c → laws.Yes c.sequences c.walk.pictures.next.number ≡ checked_bounds (meanings o bytes)
-ends o bytes us k c none r =
+pub ends : (t : Table) (o : Options) (bytes : List ℕ) (us : List NalUnit) (k : ℕ) (c : Check) → us ≡ [] → Reached t o bytes us k c → laws.Yes c.sequences c.walk.pictures.next.number ≡ checked_by t (meanings o bytes)
+ends t o bytes us k c none r =
     let ms = meanings o bytes in
     let same : r.v ≡ stream ms = sym (ap (λ (x : List NalUnit). stream_from k r.v (meanings_behind o (kept_of c.walk.sets) x)) none) ∙ r.rest in
     let count : c.sequences ≡ length (sequences ms) = r.at.sequences ∙ ap (λ (v : Stream). num_sequences v.pictures) same ∙ sym (sequences_count [] [] (pictures ms)) in
     let number : c.walk.pictures.next.number ≡ length (pictures ms) = ap (λ w. w.next.number) r.at.place ∙ ap (λ (v : Stream). (context v.pictures).number) same ∙ numbered-length (pictures ms) (stream-numbered 0 nothing_yet ms tt) in
     ap (λ (m : ℕ). laws.Yes m c.walk.pictures.next.number) count
     ∙ ap (laws.Yes (length (sequences ms))) number
-    ∙ sym (ap (λ (x : Option BrokenAt). checked_with x ms) (sym (ap lowest same) ∙ r.at.unbroken))
+    ∙ sym (checked_is t ms ∙ ap (λ (x : Option BrokenAt). checked_with x ms) (sym (ap (lowest t) same) ∙ r.at.unbroken))
 
 -- ---- a unit that is refused
 
@@ -190,9 +196,9 @@ begins_full k u v s is e =
     ∙ later_full (full_by v) (is_full (latest_head v.pictures) (store v.first_set v.pictures)) k e
 
 -- a stream with a picture that can't begin isn't decoded whole
-pub cannot : (o : Options) (bytes : List ℕ) (u : NalUnit) (others : List NalUnit) (k : ℕ) (old : Check) (r : Reached o bytes (u ∷ others) k old) → CannotBeginBy (first_slice (meaning o (kept_of old.walk.sets) u.bytes) (place r.v)) (place r.v)
+pub cannot : (t : Table) (o : Options) (bytes : List ℕ) (u : NalUnit) (others : List NalUnit) (k : ℕ) (old : Check) (r : Reached t o bytes (u ∷ others) k old) → CannotBeginBy (first_slice (meaning o (kept_of old.walk.sets) u.bytes) (place r.v)) (place r.v)
     → (n : ℕ) → verdict (meanings o bytes) ≡ Ok n → ⊥
-cannot o bytes u others k old r refused n whole = by (first_slice m (place r.v)) refl refused
+cannot t o bytes u others k old r refused n whole = by (first_slice m (place r.v)) refl refused
   where
     m : Meaning
     m = meaning o (kept_of old.walk.sets) u.bytes
@@ -215,40 +221,40 @@ header_refused v o kept bytes e (Ok h) parsed is = absurd (cc is)
 header_refused v o kept bytes e (Err fault) parsed is = ap (λ (m : Meaning). is_some (refusal v m)) (header_means o kept bytes fault parsed)
 
 -- nor is one with a header that is refused
-pub header_stops : (o : Options) (bytes : List ℕ) (us others : List NalUnit) (u : NalUnit) (k : ℕ) (c : Check) (e : UnitError) → us ≡ u ∷ others → parsed_header u.bytes ≡ Err e → Reached o bytes us k c → (n : ℕ) → verdict (meanings o bytes) ≡ Ok n → ⊥
-header_stops o bytes us others u k c e is refused r n whole =
+pub header_stops : (t : Table) (o : Options) (bytes : List ℕ) (us others : List NalUnit) (u : NalUnit) (k : ℕ) (c : Check) (e : UnitError) → us ≡ u ∷ others → parsed_header u.bytes ≡ Err e → Reached t o bytes us k c → (n : ℕ) → verdict (meanings o bytes) ≡ Ok n → ⊥
+header_stops t o bytes us others u k c e is refused r n whole =
     let kept = kept_of c.walk.sets in
     let all = sym (ap (λ (x : List NalUnit). stop_from k r.v (meanings_behind o kept x)) is) ∙ r.stops n whole in
     stop_some k (refusal r.v (meaning o kept u.bytes)) (stop_from (k + 1) (with_unit k (meaning o kept u.bytes) r.v) (meanings_behind o (kept_behind o kept u.bytes) others)) (header_refused r.v o kept u.bytes e (unit_header u.bytes) refl refused) all
 
 -- ---- the answers to a unit
 
-reached_first : (o : Options) (bytes : List ℕ) (us others : List NalUnit) (u : NalUnit) (k : ℕ) (c : Check) → us ≡ u ∷ others → Reached o bytes us k c → Reached o bytes (u ∷ others) k c
-reached_first o bytes us others u k c is r = subst (λ (x : List NalUnit). Reached o bytes x k c) is r
+reached_first : (t : Table) (o : Options) (bytes : List ℕ) (us others : List NalUnit) (u : NalUnit) (k : ℕ) (c : Check) → us ≡ u ∷ others → Reached t o bytes us k c → Reached t o bytes (u ∷ others) k c
+reached_first t o bytes us others u k c is r = subst (λ (x : List NalUnit). Reached t o bytes x k c) is r
 
-steps_refused : (e : Unlike) (k : ℕ) (u : Meaning) (v : Stream) (new : Check) → Steps (Err e) k u v new → e ≡ unlike.Refused → CannotBeginBy (first_slice u (place v)) (place v)
-steps_refused unlike.Refused k u v new h is = h
-steps_refused unlike.NoMemory k u v new h is = absurd (cc is)
+steps_refused : (t : Table) (e : Unlike) (k : ℕ) (u : Meaning) (v : Stream) (new : Check) → Steps t (Err e) k u v new → e ≡ unlike.Refused → CannotBeginBy (first_slice u (place v)) (place v)
+steps_refused t unlike.Refused k u v new h is = h
+steps_refused t unlike.NoMemory k u v new h is = absurd (cc is)
 
-pub refused_at : (o p : Options) (bytes : List ℕ) (us others : List NalUnit) (u : NalUnit) (k : ℕ) (old new : Check) (e : Unlike) → us ≡ u ∷ others → p ≡ o → Reached o bytes us k old
-    → ((v : Stream) → IsAt v old → Steps (Err e) k (meaning p (kept_of old.walk.sets) u.bytes) v new) → e ≡ unlike.Refused → (n : ℕ) → verdict (meanings o bytes) ≡ Ok n → ⊥
-refused_at o p bytes us others u k old new e is same reached steps refused n whole =
-    let r = reached_first o bytes us others u k old is reached in
-    cannot o bytes u others k old r (steps_refused e k (meaning o (kept_of old.walk.sets) u.bytes) r.v new (subst (λ (x : Options). Steps (Err e) k (meaning x (kept_of old.walk.sets) u.bytes) r.v new) same (steps r.v r.at)) refused) n whole
+pub refused_at : (t : Table) (o p : Options) (bytes : List ℕ) (us others : List NalUnit) (u : NalUnit) (k : ℕ) (old new : Check) (e : Unlike) → us ≡ u ∷ others → p ≡ o → Reached t o bytes us k old
+    → ((v : Stream) → IsAt t v old → Steps t (Err e) k (meaning p (kept_of old.walk.sets) u.bytes) v new) → e ≡ unlike.Refused → (n : ℕ) → verdict (meanings o bytes) ≡ Ok n → ⊥
+refused_at t o p bytes us others u k old new e is same reached steps refused n whole =
+    let r = reached_first t o bytes us others u k old is reached in
+    cannot t o bytes u others k old r (steps_refused t e k (meaning o (kept_of old.walk.sets) u.bytes) r.v new (subst (λ (x : Options). Steps t (Err e) k (meaning x (kept_of old.walk.sets) u.bytes) r.v new) same (steps r.v r.at)) refused) n whole
 
-pub broken_at : (o p : Options) (bytes : List ℕ) (us others : List NalUnit) (u : NalUnit) (k : ℕ) (old new : Check) (told : Option Checked) (broken : Checked) → us ≡ u ∷ others → p ≡ o → Reached o bytes us k old
-    → ((v : Stream) → IsAt v old → Steps (Ok told) k (meaning p (kept_of old.walk.sets) u.bytes) v new) → told ≡ Some broken → checked_of broken ≡ checked_bounds (meanings o bytes)
-broken_at o p bytes us others u k old new told broken is same reached steps some =
-    let r = reached_first o bytes us others u k old is reached in
-    breaks o bytes u others k old broken r
-    (subst (λ (t : Option Checked). Steps (Ok t) k (meaning o (kept_of old.walk.sets) u.bytes) r.v new) some (subst (λ (x : Options). Steps (Ok told) k (meaning x (kept_of old.walk.sets) u.bytes) r.v new) same (steps r.v r.at)))
+pub broken_at : (t : Table) (o p : Options) (bytes : List ℕ) (us others : List NalUnit) (u : NalUnit) (k : ℕ) (old new : Check) (told : Option Checked) (broken : Checked) → us ≡ u ∷ others → p ≡ o → Reached t o bytes us k old
+    → ((v : Stream) → IsAt t v old → Steps t (Ok told) k (meaning p (kept_of old.walk.sets) u.bytes) v new) → told ≡ Some broken → checked_of broken ≡ checked_by t (meanings o bytes)
+broken_at t o p bytes us others u k old new told broken is same reached steps some =
+    let r = reached_first t o bytes us others u k old is reached in
+    breaks t o bytes u others k old broken r
+    (subst (λ (x : Option Checked). Steps t (Ok x) k (meaning o (kept_of old.walk.sets) u.bytes) r.v new) some (subst (λ (x : Options). Steps t (Ok told) k (meaning x (kept_of old.walk.sets) u.bytes) r.v new) same (steps r.v r.at)))
 
-pub next_at : (o p : Options) (bytes : List ℕ) (us others : List NalUnit) (u : NalUnit) (k : ℕ) (old new : Check) (told : Option Checked) → us ≡ u ∷ others → p ≡ o → Reached o bytes us k old
-    → ((v : Stream) → IsAt v old → Steps (Ok told) k (meaning p (kept_of old.walk.sets) u.bytes) v new) → told ≡ None → kept_of new.walk.sets ≡ kept_behind p (kept_of old.walk.sets) u.bytes → Reached o bytes others (k + 1) new
-next_at o p bytes us others u k old new told is same reached steps none kept =
-    let r = reached_first o bytes us others u k old is reached in
-    reaches o bytes u others k old new r
-    (subst (λ (t : Option Checked). Steps (Ok t) k (meaning o (kept_of old.walk.sets) u.bytes) r.v new) none (subst (λ (x : Options). Steps (Ok told) k (meaning x (kept_of old.walk.sets) u.bytes) r.v new) same (steps r.v r.at)))
+pub next_at : (t : Table) (o p : Options) (bytes : List ℕ) (us others : List NalUnit) (u : NalUnit) (k : ℕ) (old new : Check) (told : Option Checked) → us ≡ u ∷ others → p ≡ o → Reached t o bytes us k old
+    → ((v : Stream) → IsAt t v old → Steps t (Ok told) k (meaning p (kept_of old.walk.sets) u.bytes) v new) → told ≡ None → kept_of new.walk.sets ≡ kept_behind p (kept_of old.walk.sets) u.bytes → Reached t o bytes others (k + 1) new
+next_at t o p bytes us others u k old new told is same reached steps none kept =
+    let r = reached_first t o bytes us others u k old is reached in
+    reaches t o bytes u others k old new r
+    (subst (λ (x : Option Checked). Steps t (Ok x) k (meaning o (kept_of old.walk.sets) u.bytes) r.v new) none (subst (λ (x : Options). Steps t (Ok told) k (meaning x (kept_of old.walk.sets) u.bytes) r.v new) same (steps r.v r.at)))
     (kept ∙ ap (λ (x : Options). kept_behind x (kept_of old.walk.sets) u.bytes) same)
 
 pub is_err_of : {T E : Type 0} (r : Result T E) (x e : E) → IsErrAnd r (λ y. y ≡ x) → IsErrOf r e → x ≡ e

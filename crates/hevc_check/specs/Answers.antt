@@ -1,6 +1,10 @@
 -- The answers of a check.
-use Rattle.std.specs.Prelude.{◌≡◌, ℕ, Result, Ok, Err}
+use Rattle.std.specs.Prelude.{◌≡◌, ℕ, List, Result, Ok, Err}
+use Rattle.hevc_walk.specs.Meanings.{Meaning}
 use Rattle.hevc_walk.specs.Refusals.{Refusal}
+use Rattle.hevc_walk.specs.Results.{outputs}
+use Rattle.hevc_walk_order.specs.Sequences.{Sequence, IsSequence, pictures_for_output, outputs_of}
+use Rattle.hevc_walk_order.specs.DisplayOrder.{AreInOrder}
 use Rattle.hevc_decoder.specs.Names.{answer_of}
 use Rattle.hevc_driver.specs.declared.decode_error.DecodeError.{DecodeError}
 use Rattle.hevc_driver.specs.declared.decode_error.DecodeError.TheVariants as errors
@@ -28,6 +32,13 @@ AnswersCheck (Err NoMemory) verdict answer = Unit {0}
 abbrev pub IsYes : Result Checked CheckError → Type 0
 IsYes (Ok (Yes sequences pictures)) = Unit {0}
 IsYes result = ⊥
+
+-- The outputs of each sequence are exactly its pictures that are to be output, in strictly rising
+-- order count.
+abbrev pub AreAllInOrder : List Meaning → Type 0
+AreAllInOrder us =
+    (q : Sequence) → IsSequence us q
+    → AreInOrder (pictures_for_output q) (outputs_of q (outputs us))
 
 -- the error of a refusal for this cause
 abbrev pub error_by : DecodeError → decoder.Refused → CheckError

@@ -1,6 +1,11 @@
 pub mod Breaches
+pub mod Filled
+pub mod Late
 pub mod Places
+pub mod Tables
 pub mod Sequences
 pub mod Walks
 pub mod Answers
 pub mod Steps
+pub mod Requests
+pub mod Written

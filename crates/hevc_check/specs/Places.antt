@@ -1,5 +1,6 @@
 -- Where the walk over the pictures of a stream is.
-use Rattle.std.specs.Prelude.{◌≡◌, ◌⊎◌, ◌≤◌, ◌<◌, ◌+◌, Bool, true, false, [], length, if◌then◌else◌, Option, Some, None, IfSome, option_map, Result, Ok, Err}
+use Rattle.std.specs.Int.{w32}
+use Rattle.std.specs.Prelude.{FitsSigned, ◌&&◌, not, ℤ, ◌≡◌, ◌⊎◌, ◌≤◌, ◌<◌, ◌+◌, Bool, true, false, [], length, if◌then◌else◌, Option, Some, None, IfSome, option_map, Result, Ok, Err}
 use Rattle.std.specs.declared.collections.VecDeque.{VecDeque}
 use Rattle.std.specs.VecDeque.{deque_capacity}
 use Rattle.hevc_walk.specs.Meanings.{Format, Slice, Meaning, SequenceSet, CodedSlice, EndOfSequence, EndOfBitstream, Other, Refused}
@@ -22,6 +23,7 @@ use Rattle.hevc_driver.specs.declared.head.Context.{Context}
 use Rattle.hevc_driver.specs.Heads.{head_of}
 use Rattle.hevc_driver.specs.Sound.{AreBelow}
 use Rattle.hevc_check.specs.declared.begun.Begun.{Begun}
+use Rattle.hevc_check.specs.Filled.{fill_for, is_up_to}
 use Rattle.hevc_check.specs.declared.unlike.Unlike.{Unlike}
 use Rattle.hevc_check.specs.declared.unlike.Unlike.TheVariants as unlike
 
@@ -87,7 +89,11 @@ entries_at s w =
 pub record IsBegun (s : Slice) (w : Place) (b : Begun) : Type 0 where
   pub same_head : head_of b.head ≡ head w.next s
   pub begins : b.begins_sequence ≡ begins_at (head w.next s) w.latest
-  pub stored : (head w.next s).skipped ≡ false → b.num_stored ≡ length (entries_at s w)
+  pub stored : (head w.next s).skipped ≡ false → b.stored.num ≡ length (entries_at s w)
+  pub filled : (c : ℤ) → FitsSigned w32 c
+      → is_up_to c b.stored.filled
+      ≡ (not (head w.next s).skipped
+      && fill_for ((head w.next s).limits.max_dec_pic_buffering_minus1 + 1) c (entries_at s w))
 
 -- What holds between two calls.
 pub record IsSound {Z : Type 0} (accepted : Option NegotiationInfo) (dpb : Dpb (Unit {0}))

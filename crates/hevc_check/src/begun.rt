@@ -10,19 +10,29 @@ pub(crate) struct Begun {
     pub(crate) head: Head,
     /// It begins a coded video sequence.
     pub(crate) begins_sequence: bool,
-    /// How many pictures stay stored as it is to be decoded, before any is output for want of room
-    /// (C.5.2.2); says nothing of a skipped one.
-    pub(crate) num_stored: usize,
+    /// What stays stored as it is to be decoded.
+    pub(crate) stored: Stored,
+}
+
+/// What stays stored as a picture is to be decoded, before any is output for want of room (C.5.2.2);
+/// nothing where it is skipped.
+#[derive(Clone, Copy)]
+pub(crate) struct Stored {
+    /// How many pictures.
+    pub(crate) num: usize,
+    /// The highest order count such that those of them that are referred to, or wait and aren't
+    /// output before it, fill the buffer.
+    pub(crate) filled: Option<i32>,
 }
 
 impl Begun {
     /// Whether pictures fill the buffer as it is to be decoded, within a sequence.
     pub(crate) fn is_full(&self) -> bool
         ensures { result ≡ (not self.now.head.skipped && not self.now.begins_sequence
-            && nat_le (self.now.head.limits.buffering + 1) self.now.num_stored) }
+            && nat_le (self.now.head.limits.buffering + 1) self.now.stored.num) }
     {
         !self.head.skipped
             && !self.begins_sequence
-            && self.num_stored > self.head.limits.buffering as usize
+            && self.stored.num > self.head.limits.buffering as usize
     }
 }

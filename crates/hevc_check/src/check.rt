@@ -5,25 +5,25 @@ ghost use Rattle.hevc_bits.specs.FoundUnit.{bytes_of};
 ghost use Rattle.hevc_bits.specs.declared.stream_limit.TheConstants.{STREAM_LIMIT};
 ghost use Rattle.hevc_walk.specs.Meanings.{Format};
 ghost use Rattle.hevc_walk.specs.Pictures.{Picture, Stream, nothing_yet};
-ghost use Rattle.hevc_walk.specs.Results.{outputs, verdict};
-ghost use Rattle.hevc_walk_order.specs.Sequences.{Sequence as WalkSequence, IsSequence, pictures_for_output, outputs_of};
-ghost use Rattle.hevc_walk_order.specs.DisplayOrder.{AreInOrder};
+ghost use Rattle.hevc_walk.specs.Results.{verdict};
 ghost use Rattle.hevc_check_laws.specs.Breaches.{all_breaches};
-ghost use Rattle.hevc_check_laws.specs.Bounds.{breaks_bounds};
-ghost use Rattle.hevc_check_laws.specs.Checks.{Yes, checked_bounds, first_breach};
+ghost use Rattle.hevc_check_laws.specs.Checks.{Yes, checked_bounds, checked_order, first_breach};
 ghost use Rattle.hevc_check.specs.Breaches.{breach_of};
 ghost use Rattle.hevc_check.specs.Sequences.{FollowsAll, Tells};
 ghost use Rattle.hevc_stream.specs.Kept.{none_kept};
 ghost use Rattle.hevc_stream.specs.Options.{default_options};
 ghost use Rattle.hevc_stream.specs.Stream.{meaning, meanings};
 ghost use Rattle.hevc_kept_sets.specs.Kept.{kept_of, options_in};
-ghost use Rattle.hevc_check.specs.Answers.{checked_of, error_by, AnswersCheck, IsYes};
+ghost use Rattle.hevc_check.specs.Answers.{checked_of, error_by, AnswersCheck, AreAllInOrder, IsYes};
 ghost use Rattle.hevc_check.specs.Steps.{IsAt, Steps};
+ghost use Rattle.hevc_check.specs.declared.table.Table.{Table as CheckTable};
+ghost use Rattle.hevc_check.specs.Tables.{breaks_by, checked_by};
 ghost use Rattle.hevc_check.specs.Walks.{HasStarted, KeepsBehind};
 
 use crate::begun::Begun;
 use crate::breach::Breach;
 use crate::sequence::Sequence;
+use crate::table::Table;
 use crate::units::Walk;
 use crate::unlike::Unlike;
 use hevc_backend::SilentBackend;
@@ -73,15 +73,15 @@ impl Check {
     /// Before the first unit.
     ///
     /// Errors: no memory.
-    fn new(alloc: Global) -> Result<Check, AllocError>
-        ensures at { IfOk result (λ c. IsAt nothing_yet c) }
+    fn new(alloc: Global, table: Table) -> Result<Check, AllocError>
+        ensures at { IfOk result (λ c. IsAt table nothing_yet c) }
         ensures kept { IfOk result (λ c. kept_of c.walk.sets ≡ none_kept) }
         ensures options { IfOk result (λ c. options_in c.walk.sets ≡ default_options) }
         ensures started { IfOk result (λ c. HasStarted c.walk) }
     {
         Ok(Check {
             walk: Walk::new(alloc)?,
-            sequence: Sequence::new(alloc),
+            sequence: Sequence::new(alloc, table),
             sequences: 0,
         })
     }
@@ -102,12 +102,13 @@ impl Check {
         requires few { self.old.sequences < 2 ^ 64 - 1 }
         ensures breach { IfOk result (λ breach. (set : Option (ℕ × Format)) (p : Picture)
             (before : List Picture) → Tells set p before begun.now
-            → FollowsAll before self.old.sequence
-            → option_map breach_of breach ≡ first_breach (breaks_bounds set p before) all_breaches) }
+            → FollowsAll set before self.old.sequence → option_map breach_of breach
+            ≡ first_breach (breaks_by self.old.sequence.table set p before) all_breaches) }
         ensures follows { OnOk result ((set : Option (ℕ × Format)) (p : Picture)
             (before : List Picture) → Tells set p before begun.now
-            → FollowsAll before self.old.sequence
-            → FollowsAll (p ∷ before) self.new.sequence) }
+            → FollowsAll set before self.old.sequence
+            → FollowsAll set (p ∷ before) self.new.sequence) }
+        ensures table { self.new.sequence.table ≡ self.old.sequence.table }
         ensures sequences { self.new.sequences ≡ self.old.sequences
             + (if begun.now.begins_sequence then 1 else 0) }
         ensures walk { self.new.walk ≡ self.old.walk }
@@ -130,7 +131,7 @@ impl Check {
         requires started { HasStarted self.old.walk }
         requires few { self.old.walk.pictures.next.number < 2 ^ 64 - 1 }
         requires few_sequences { self.old.sequences < 2 ^ 64 - 1 }
-        ensures steps { (v : Stream) → IsAt v self.old → Steps result unit
+        ensures steps { (t : CheckTable) (v : Stream) → IsAt t v self.old → Steps t result unit
             (meaning (options_in self.old.walk.sets) (kept_of self.old.walk.sets)
             (bytes_of nalu.entry)) v self.new }
         ensures kept { KeepsBehind result (bytes_of nalu.entry) self.old.walk self.new.walk }
@@ -154,15 +155,15 @@ impl Check {
     }
 }
 
-/// Looks for the first picture that breaks something, in a stream that is decoded whole.
-fn find_breach(alloc: Global, stream: &[u8]) -> Result<Checked, Unlike>
+/// Looks for the first picture that breaks something by a table, in a stream that is decoded whole.
+fn find_breach(alloc: Global, table: Table, stream: &[u8]) -> Result<Checked, Unlike>
     requires short { length stream.now < STREAM_LIMIT }
     ensures checked { IfOk result
-        (λ c. checked_of c ≡ checked_bounds (meanings default_options stream.now)) }
+        (λ c. checked_of c ≡ checked_by table (meanings default_options stream.now)) }
     ensures refused { IsErrOf result Unlike.Refused
         → (n : ℕ) → verdict (meanings default_options stream.now) ≡ Ok n → ⊥ }
 {
-    let mut check = Check::new(alloc)?;
+    let mut check = Check::new(alloc, table)?;
     let mut position = 0;
     let mut unit = 0;
     loop {
@@ -193,17 +194,47 @@ pub fn check_stream(alloc: Global, stream: &[u8]) -> Result<Checked, CheckError>
     requires { length stream.now < STREAM_LIMIT }
     ensures answer { AnswersCheck result (verdict (meanings default_options stream.now))
         (checked_bounds (meanings default_options stream.now)) }
-    ensures order { IsYes result → (q : WalkSequence)
-        → IsSequence (meanings default_options stream.now) q
-        → AreInOrder (pictures_for_output q)
-        (outputs_of q (outputs (meanings default_options stream.now))) }
+    ensures order { IsYes result → AreAllInOrder (meanings default_options stream.now) }
+{
+    check_by(alloc, Table::Bounds, stream)
+}
+
+/// Checks a byte stream (Annex B) of less than 2^60 bytes for display order alone: whether each of its
+/// coded video sequences has one format and one set of limits, has no two pictures of one order count
+/// that are to be output, isn't discarded by the next one, and has at most sps_max_num_reorder_pics
+/// pictures before one in decoding order and after it in output order; whether less than
+/// SpsMaxLatencyPictures are decoded between one and a later one that is output before it, where a
+/// latency is declared (7.4.3.2.1); and whether no picture is output for want of room that a later one
+/// is output before. Where the answer is `Yes` the outputs of each sequence are exactly its pictures
+/// that are to be output, in strictly rising order count.
+///
+/// Errors: `Refused` exactly where the stream can't be decoded; `NoMemory`.
+pub fn check_order(alloc: Global, stream: &[u8]) -> Result<Checked, CheckError>
+    requires { length stream.now < STREAM_LIMIT }
+    ensures answer { AnswersCheck result (verdict (meanings default_options stream.now))
+        (checked_order (meanings default_options stream.now)) }
+    ensures order { IsYes result → AreAllInOrder (meanings default_options stream.now) }
+{
+    check_by(alloc, Table::Order, stream)
+}
+
+/// Checks a byte stream by a table.
+pub(crate) fn check_by(
+    alloc: Global,
+    table: Table,
+    stream: &[u8],
+) -> Result<Checked, CheckError>
+    requires { length stream.now < STREAM_LIMIT }
+    ensures answer { AnswersCheck result (verdict (meanings default_options stream.now))
+        (checked_by table (meanings default_options stream.now)) }
+    ensures order { IsYes result → AreAllInOrder (meanings default_options stream.now) }
 {
     let mut shown = Vec::new(alloc);
     let decoded = decode_stream(alloc, SilentBackend::new(), stream, &mut shown);
     if let Err(refused) = decoded.result {
         return Err(error_of(refused));
     }
-    match find_breach(alloc, stream) {
+    match find_breach(alloc, table, stream) {
         Ok(checked) => Ok(checked),
         Err(Unlike::NoMemory) => Err(CheckError::NoMemory),
         Err(Unlike::Refused) => unreachable!(),

@@ -2,16 +2,24 @@
 //! pictures (7.4.3.2.1), and if not, which picture breaks what.
 #![tactic(auto)]
 
+mod answer;
 mod beginning;
 mod begun;
 mod breach;
 mod check;
+mod filled;
 mod kept;
+mod late;
+mod lines;
 mod pictures;
+mod program;
 mod references;
 mod sequence;
+mod table;
 mod units;
 mod unlike;
+mod words;
 
 pub use breach::Breach;
-pub use check::{CheckError, Checked, check_stream};
+pub use check::{CheckError, Checked, check_order, check_stream};
+pub use program::{INPUT_LIMIT, run_check};

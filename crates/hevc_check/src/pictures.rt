@@ -1,5 +1,6 @@
 //! The pictures of a stream as they begin, and what is stored then (8.1.3, 8.3.2, C.5.2).
-ghost use Rattle.std.specs.Prelude.{◌≡◌, ◌<◌, ◌-◌, ◌^◌, ◌||◌, length, true, false, is_some, option_map, IfOk, IfErr, OnOk, OnErr};
+ghost use Rattle.std.specs.Prelude.{FitsSigned, ◌≡◌, ◌<◌, ◌+◌, ◌-◌, ◌^◌, ◌&&◌, ◌||◌, ℤ, not, length, true, false, is_some, option_map, IfOk, IfErr, OnOk, OnErr};
+ghost use Rattle.std.specs.Int.{w32};
 ghost use Rattle.hevc_types_c.specs.Sps.{plain_sps};
 ghost use Rattle.hevc_types_c.specs.declared.sps.Sps as code_sps;
 ghost use Rattle.hevc_types_d.specs.declared.pps.Pps as code_pps;
@@ -11,10 +12,12 @@ ghost use Rattle.hevc_walk.specs.Walk.{change_format, begin_picture, is_accepted
 ghost use Rattle.hevc_backend.specs.Negotiation.{format_of};
 ghost use Rattle.hevc_driver.specs.Heads.{head_of};
 ghost use Rattle.hevc_driver.specs.Slices.{slice_of};
+ghost use Rattle.hevc_check.specs.Filled.{fill_for, is_up_to};
 ghost use Rattle.hevc_check.specs.Places.{place, finished, begun, begins_picture, meant, room_left, IsBegun, CannotBegin, Takes};
 
 use crate::beginning::{after, head_of_first};
-use crate::begun::Begun;
+use crate::begun::{Begun, Stored};
+use crate::filled::filled_up_to;
 use crate::kept::{complete, keep};
 use crate::references::mark;
 use crate::unlike::Unlike;
@@ -53,7 +56,8 @@ impl Model for Pictures {
     ghost use Rattle.hevc_backend.specs.Negotiation.{format_of};
     ghost use Rattle.hevc_driver.specs.Heads.{head_of, context_of};
     ghost use Rattle.hevc_driver.specs.Slices.{kept_of};
-    ghost use Rattle.hevc_check.specs.Places.{Place, IsSound};
+    ghost use Rattle.hevc_check.specs.Filled.{fill_for, is_up_to};
+ghost use Rattle.hevc_check.specs.Places.{Place, IsSound};
 
     ghost Value = { Place };
 
@@ -153,25 +157,35 @@ impl Pictures {
         bump_for_room(&mut self.dpb, &head.limits, &mut self.out);
     }
 
-    /// Entries are marked for a picture that is decoded (8.3.2), and leave. Gives how many stay before
+    /// Entries are marked for a picture that is decoded (8.3.2), and leave. Gives what stays before
     /// any is output for want of room; nothing is done for a skipped picture.
-    fn enter(&mut self, head: &Head, slice: &Slice<'_>, sps: &Sps) -> usize
+    fn enter(&mut self, head: &Head, slice: &Slice<'_>, sps: &Sps) -> Stored
         ensures left { (o : Options) (pps : code_pps.Pps)
             → order_count_in_range (head_of head.now) ≡ true → self.new ≡ record self.old {
               store = (begin_picture (head_of head.now) (slice_of o slice.now sps.now pps)
                   self.old.store).next;
             } }
         ensures stored { (o : Options) (pps : code_pps.Pps) → (head_of head.now).skipped ≡ false
-            → result ≡ length (needed_entries (with_marks (head_of head.now)
+            → result.num ≡ length (needed_entries (with_marks (head_of head.now)
             (slice_of o slice.now sps.now pps) self.old.store.buffer)) }
+        ensures filled { (o : Options) (pps : code_pps.Pps) (c : ℤ) → FitsSigned w32 c
+            → is_up_to c result.filled ≡ (not (head_of head.now).skipped
+            && fill_for (head.now.limits.buffering + 1) c (needed_entries (with_marks
+            (head_of head.now) (slice_of o slice.now sps.now pps) self.old.store.buffer))) }
         ensures others { self.new ≡ record self.old { store = self.new.store } }
     {
         if head.skipped {
-            return 0;
+            return Stored {
+                num: 0,
+                filled: None,
+            };
         }
         mark(&mut self.dpb, head, slice, sps);
         self.dpb.remove_unused();
-        let stored = self.dpb.len();
+        let stored = Stored {
+            num: self.dpb.len(),
+            filled: filled_up_to(self.dpb.entries(), head.limits.buffering),
+        };
         self.make_room(head);
         stored
     }
@@ -193,13 +207,13 @@ impl Pictures {
         self.finish()?;
         self.change_format(sps);
         let head = head_of_first(&self.next, options, slice, sps)?;
-        let num_stored = self.enter(&head, slice, sps);
+        let stored = self.enter(&head, slice, sps);
         self.next = after(&self.next, &head);
         self.latest = Some(head);
         Ok(Begun {
             head,
             begins_sequence: begins_sequence(is_first, &head),
-            num_stored,
+            stored,
         })
     }
 

@@ -4,4 +4,8 @@
 #[cfg(test)]
 mod checks;
 #[cfg(test)]
+mod orders;
+#[cfg(test)]
+mod program;
+#[cfg(test)]
 mod streams;

@@ -14,13 +14,13 @@ use Rattle.hevc_walk.specs.Pictures.{Head, Stream, stream, with_unit, nothing_ye
 use Rattle.hevc_walk.specs.Refusals.{Cause, refusal, first_refusal, stop}
 use Rattle.hevc_walk.specs.Results.{calls, calls_in, events}
 use Rattle.hevc_walk.specs.Walk as walk
-use Rattle.hevc_walk.specs.Walk.{Event, Called, Output, Store, at_unit, closing, finish, output_by, output_of, draining, store_picture}
+use Rattle.hevc_walk.specs.Walk.{Event, Called, Output, Store, at_unit, closing, finish, output_of, store_picture}
 use Rattle.hevc_walk_units.specs.Units.{Standing, unit_part, refusal_at, events_from, closing_part, sequence_part, open_head}
 use Rattle.hevc_walk_joined.proofs.Cuts.{events-cut}
 use Rattle.hevc_walk_joined.proofs.Ends.{stop-last}
 use Rattle.hevc_walk_joined.proofs.Joined.{refusal-same}
 use Rattle.hevc_walk_joined.proofs.Moment.{moment, stream-last}
-use Rattle.hevc_stream.specs.Contents.{Content, refused, video_set, sequence_set, picture_set, unread_picture_set, slice, end_of_sequence, end_of_bitstream, nothing, content}
+use Rattle.hevc_stream.specs.Contents.{Content, refused, video_set, sequence_set, picture_set, unread_picture_set, slice, end_of_sequence, end_of_bitstream, nothing, content, header_cause}
 use Rattle.hevc_stream.specs.Kept.{Kept, none_kept}
 use Rattle.hevc_stream.specs.Options.{Options}
 use Rattle.hevc_stream.specs.Slices.{coded_slice, slice_segment_meaning}
@@ -102,50 +102,51 @@ record IsRead (o : Options) (k : Kept) (bytes : List ℕ) (w : Slice) : Type 0 w
   sets : ActiveSets
   active : active_sets k.sequence_sets k.picture_sets own.pic_parameter_set_id ≡ Some sets
 
-is_read : (o : Options) (k : Kept) (bytes : List ℕ) (w : Slice) → meaning o k bytes ≡ CodedSlice w → IsRead o k bytes w
-is_read o k bytes w m = by_content (content o k bytes) refl (means m)
-  where
-    means : meaning o k bytes ≡ CodedSlice w → meaning_of o k bytes (content o k bytes) ≡ CodedSlice w
-    unfolding meaning
-    means e = e
+coded_content : (o : Options) (k : Kept) (bytes : List ℕ) (w : Slice) → meaning o k bytes ≡ CodedSlice w → meaning_of o k bytes (content o k bytes) ≡ CodedSlice w
+unfolding meaning
+coded_content o k bytes w m = m
 
-    refused_isnt : (fault : HeaderFault) → unit_header bytes ≡ Err fault → ⊥
-    unfolding meaning content
-    refused_isnt fault e = let no : Path Meaning (Refused _) (CodedSlice w) = rw e at m in absurd (cc no)
+refused_isnt : (o : Options) (k : Kept) (bytes : List ℕ) (w : Slice) → meaning o k bytes ≡ CodedSlice w → (fault : HeaderFault) → unit_header bytes ≡ Err fault → ⊥
+unfolding meaning content
+refused_isnt o k bytes w m fault e = let no : Path Meaning (Refused (header_cause fault)) (CodedSlice w) = rw e at m in absurd (cc no)
 
-    has_by : (b : Bool) → k.has_sequence_set ≡ b → (r : Result UnitHeader HeaderFault) → unit_header bytes ≡ r → k.has_sequence_set ≡ true
-    has_by true e r parsed = e
-    has_by false e (Ok h) parsed = let coded : is_coded (meaning o k bytes) ≡ true = ap is_coded m in absurd (cc (sym (none_coded o k bytes h parsed e) ∙ coded))
-    has_by false e (Err fault) parsed = absurd (refused_isnt fault parsed)
+module _ (o : Options) (k : Kept) (bytes : List ℕ) (w : Slice) (m : meaning o k bytes ≡ CodedSlice w) where
+  has_by : (b : Bool) → k.has_sequence_set ≡ b → (r : Result UnitHeader HeaderFault) → unit_header bytes ≡ r → k.has_sequence_set ≡ true
+  has_by true e r parsed = e
+  has_by false e (Ok h) parsed = let coded : is_coded (meaning o k bytes) ≡ true = ap is_coded m in absurd (cc (sym (none_coded o k bytes h parsed e) ∙ coded))
+  has_by false e (Err fault) parsed = absurd (refused_isnt o k bytes w m fault parsed)
 
-    has : k.has_sequence_set ≡ true
-    has = has_by k.has_sequence_set refl (unit_header bytes) refl
+  has : k.has_sequence_set ≡ true
+  has = has_by k.has_sequence_set refl (unit_header bytes) refl
 
-    own_is : own_header o k bytes ≡ header_in (content o k bytes)
-    own_is = ap (λ (b : Bool). header_in (content o (record k { has_sequence_set = b }) bytes)) (sym has)
+  own_is : own_header o k bytes ≡ header_in (content o k bytes)
+  own_is = ap (λ (b : Bool). header_in (content o (record k { has_sequence_set = b }) bytes)) (sym has)
 
-    by_sets : (h : UnitHeader) (own : PlainSliceSegmentHeader) → content o k bytes ≡ slice h own → (s : Option ActiveSets) → active_sets k.sequence_sets k.picture_sets own.pic_parameter_set_id ≡ s → slice_segment_meaning o h bytes own s ≡ CodedSlice w → IsRead o k bytes w
-    by_sets h own c (Some sets) active e =
-        let coded : coded_slice o h bytes own sets ≡ w = cc e in
-        record {
-          own = own;
-          is = own_is ∙ ap header_in c;
-          same = ap (λ (s : Slice). s.dependent_slice_segment_flag) coded;
-          sets = sets;
-          active = active;
-        }
-    by_sets h own c None active e = absurd (cc e)
+  by_sets : (h : UnitHeader) (own : PlainSliceSegmentHeader) → content o k bytes ≡ slice h own → (s : Option ActiveSets) → active_sets k.sequence_sets k.picture_sets own.pic_parameter_set_id ≡ s → slice_segment_meaning o h bytes own s ≡ CodedSlice w → IsRead o k bytes w
+  by_sets h own c (Some sets) active e =
+      let coded : coded_slice o h bytes own sets ≡ w = cc e in
+      record {
+        own = own;
+        is = own_is ∙ ap header_in c;
+        same = ap (λ (s : Slice). s.dependent_slice_segment_flag) coded;
+        sets = sets;
+        active = active;
+      }
+  by_sets h own c None active e = absurd (cc e)
 
-    by_content : (c : Content) → content o k bytes ≡ c → meaning_of o k bytes c ≡ CodedSlice w → IsRead o k bytes w
-    by_content (slice h own) c e = by_sets h own c (active_sets k.sequence_sets k.picture_sets own.pic_parameter_set_id) refl e
-    by_content (refused cause) c e = absurd (cc e)
-    by_content (video_set set) c e = absurd (cc e)
-    by_content (sequence_set set) c e = absurd (cc e)
-    by_content (picture_set set) c e = absurd (cc e)
-    by_content unread_picture_set c e = absurd (cc e)
-    by_content end_of_sequence c e = absurd (cc e)
-    by_content end_of_bitstream c e = absurd (cc e)
-    by_content nothing c e = absurd (cc e)
+  by_content : (c : Content) → content o k bytes ≡ c → meaning_of o k bytes c ≡ CodedSlice w → IsRead o k bytes w
+  by_content (slice h own) c e = by_sets h own c (active_sets k.sequence_sets k.picture_sets own.pic_parameter_set_id) refl e
+  by_content (refused cause) c e = absurd (cc e)
+  by_content (video_set set) c e = absurd (cc e)
+  by_content (sequence_set set) c e = absurd (cc e)
+  by_content (picture_set set) c e = absurd (cc e)
+  by_content unread_picture_set c e = absurd (cc e)
+  by_content end_of_sequence c e = absurd (cc e)
+  by_content end_of_bitstream c e = absurd (cc e)
+  by_content nothing c e = absurd (cc e)
+
+  is_read : IsRead o k bytes w
+  is_read = by_content (content o k bytes) refl (coded_content o k bytes w m)
 
 -- where the slice is whole its header is
 header_whole : (l : Option PlainSliceSegmentHeader) (own : PlainSliceSegmentHeader) (kept : Option KeptHeader) (w x : Slice) → own.dependent_slice_segment_flag ≡ w.dependent_slice_segment_flag → is_some l ≡ is_some kept → whole_slice kept w ≡ Some x

@@ -15,7 +15,7 @@ invariant-loop-nalu l = record {
   sequences : l.check.sequences ≤ l.unit;
   options : options_in l.check.walk.sets ≡ default_options;
   started : HasStarted l.check.walk;
-  reached : Reached default_options l.stream (units_from kept_bytes l.position l.stream) l.unit l.check;
+  reached : Reached l.fn.table default_options l.stream (units_from kept_bytes l.position l.stream) l.unit l.check;
 }
 
 abbrev pub decreases-loop-nalu : goal.decreases-loop-nalu

@@ -7,29 +7,29 @@ use Rattle.hevc_walk.specs.Pictures.{new_picture}
 use Rattle.hevc_check.specs.Breaches.{breach_of}
 use Rattle.hevc_check.specs.Places.{Place, first_slice}
 use Rattle.hevc_check.specs.declared.units.Walk.{Walk}
-use Rattle.hevc_check.proofs.Steps.{at_still, at_begun, at_broken, told_none, told_some, number_after, tells_at}
+use Rattle.hevc_check.proofs.Steps.{at_still, at_begun, at_broken, told_none, told_some, number_after, tells_at, by_table}
 use Rattle.hevc_check.proofs.check.Check.take_unit.Goals as goal
 
 pub returns-in_default-clause-steps : goal.returns-in_default-clause-steps
-returns-in_default-clause-steps c v at =
+returns-in_default-clause-steps c t v at =
     let w = c.args.self.now.walk in
     let m = meaning (options_in w.sets) (kept_of w.sets) (bytes_of c.args.nalu) in
-    let t = c.in_ok-begun.ensures.takes.takes in
-    at_still c.args.unit m v c.args.self.now _ at (told_none (first_slice m w.pictures) w.pictures c.in_ok-begun.field-0 t.0 c.in_default.is) t.1 refl refl
+    let d = c.in_ok-begun.ensures.takes.takes in
+    at_still t c.args.unit m v c.args.self.now _ at (told_none (first_slice m w.pictures) w.pictures c.in_ok-begun.field-0 d.0 c.in_default.is) d.1 refl refl
 
 pub returns-in_default-2-clause-steps : goal.returns-in_default-2-clause-steps
-returns-in_default-2-clause-steps c v at =
+returns-in_default-2-clause-steps c t v at =
     let w = c.args.self.now.walk in
     let k = c.args.unit in
     let b = c.in-Some.begun in
     let m = meaning (options_in w.sets) (kept_of w.sets) (bytes_of c.args.nalu) in
-    let t = c.in_ok-begun.ensures.takes.takes in
-    let s = told_some (first_slice m w.pictures) w.pictures c.in_ok-begun.field-0 b t.0 c.in-Some.is in
-    let told = tells_at k s.0 v c.args.self.now b at s.2 in
+    let d = c.in_ok-begun.ensures.takes.takes in
+    let s = told_some (first_slice m w.pictures) w.pictures c.in_ok-begun.field-0 b d.0 c.in-Some.is in
+    let told = tells_at t k s.0 v c.args.self.now b at s.2 in
     let p = new_picture k s.0 v.pictures in
     let e = c.in_ok-breach.ensures in
-    at_begun k m v s.0 c.args.self.now c.take_picture.new.self b at s.1 s.2 (ap (λ (x : Walk). x.pictures) e.walk ∙ t.1) (e.follows v.first_set p v.pictures told at.follows) e.sequences
-    (sym (e.breach v.first_set p v.pictures told at.follows) ∙ ap (option_map breach_of) c.in_default-2.is)
+    at_begun t k m v s.0 c.args.self.now c.take_picture.new.self b at s.1 s.2 (ap (λ (x : Walk). x.pictures) e.walk ∙ d.1) e.table (e.follows v.first_set p v.pictures told at.follows) e.sequences
+    (sym (by_table t v c.args.self.now _ v.first_set p v.pictures at (e.breach v.first_set p v.pictures told at.follows)) ∙ ap (option_map breach_of) c.in_default-2.is)
 
 pub returns-in_default-2-clause-number : goal.returns-in_default-2-clause-number
 returns-in_default-2-clause-number c =
@@ -40,16 +40,16 @@ returns-in_default-2-clause-number c =
     omega (arith, n, same)
 
 pub returns-clause-steps : goal.returns-clause-steps
-returns-clause-steps c v at =
+returns-clause-steps c t v at =
     let w = c.args.self.now.walk in
     let k = c.args.unit in
     let b = c.in-Some.begun in
     let m = meaning (options_in w.sets) (kept_of w.sets) (bytes_of c.args.nalu) in
-    let t = c.in_ok-begun.ensures.takes.takes in
-    let s = told_some (first_slice m w.pictures) w.pictures c.in_ok-begun.field-0 b t.0 c.in-Some.is in
-    let told = tells_at k s.0 v c.args.self.now b at s.2 in
+    let d = c.in_ok-begun.ensures.takes.takes in
+    let s = told_some (first_slice m w.pictures) w.pictures c.in_ok-begun.field-0 b d.0 c.in-Some.is in
+    let told = tells_at t k s.0 v c.args.self.now b at s.2 in
     let p = new_picture k s.0 v.pictures in
-    at_broken k m v s.0 c.args.self.now b c.in-Some-2.breach at s.1 s.2 (sym (c.in_ok-breach.ensures.breach v.first_set p v.pictures told at.follows) ∙ ap (option_map breach_of) c.in-Some-2.is)
+    at_broken t k m v s.0 c.args.self.now b c.in-Some-2.breach at s.1 s.2 (sym (by_table t v c.args.self.now _ v.first_set p v.pictures at (c.in_ok-breach.ensures.breach v.first_set p v.pictures told at.follows)) ∙ ap (option_map breach_of) c.in-Some-2.is)
 
 pub returns-clause-number : goal.returns-clause-number
 returns-clause-number c =

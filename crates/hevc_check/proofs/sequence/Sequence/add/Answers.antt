@@ -1,31 +1,24 @@
-use Rattle.std.proofs.Common.{◌≡◌, ℤ, ◌+◌, [], ◌∷◌, to_z, of_z, w32, ap, sym, refl, ◌∙◌, rules}
-use Rattle.std.specs.Prelude.{min}
+use Rattle.std.proofs.Common.{◌≡◌, ◌∷◌, ap, ◌∙◌}
 use Rattle.std.specs.Ordering.{int_cmp}
 use Rattle.std.specs.BTreeSet.{contains}
-use Rattle.hevc_walk.specs.Pictures.{Head}
-use Rattle.hevc_check.specs.Sequences.{above, output_above}
 use Rattle.hevc_check.specs.declared.sequence.Sequence.{Sequence}
-use Rattle.hevc_check.proofs.Follow.{follows_more, output_more, output_same}
+use Rattle.hevc_check.proofs.Follow.{follows_more, high_same, highest_same}
 use Rattle.hevc_check.proofs.sequence.Sequence.add.Goals as goal
 
-pub returns-in_ok-keep_if_high : goal.returns-in_ok-keep_if_high
-returns-in_ok-keep_if_high c p next es same f =
+pub returns-clause-follows : goal.returns-clause-follows
+returns-clause-follows c p next es same f =
     let q = c.args.self.now in
-    let x = c.args.head.now.picture.pic_order_cnt_val in
-    let is : to_z w32 (of_z w32 x) ≡ x = search rules in
-    let count : x ≡ p.order_count = ap (λ (h : Head). h.order_count) same in
-    let others = c.in_ok-keep_if_high.ensures.others in
-    let shown = sym (c.is_for_output.ensures p same) ∙ c.if-is_for_output.true in
-    follows_more p next es q c.keep_if_high.new.self _ f (ap (λ (s : Sequence). s.limits) others) (ap (λ (s : Sequence). s.format) others) (is ∙ count)
-    (λ t. ap (λ (s : Sequence). contains int_cmp s.counts t) others ∙ c.in_ok-insert.ensures.updates.0 t)
-    (λ t. c.in_ok-keep_if_high.ensures.highest t (output_above t es) (f.highest t) ∙ ap (λ (y : ℤ). min (q.limits.reorder + 1) (above t (y ∷ []) + output_above t es)) (is ∙ count) ∙ ap (min (q.limits.reorder + 1)) (sym (output_more t p es shown)))
-
-pub returns-else-is_for_output : goal.returns-else-is_for_output
-returns-else-is_for_output c p next es same f =
-    let q = c.args.self.now in
-    let x = c.args.head.now.picture.pic_order_cnt_val in
-    let is : to_z w32 (of_z w32 x) ≡ x = search rules in
-    let count : x ≡ p.order_count = ap (λ (h : Head). h.order_count) same in
-    let hidden = sym (c.is_for_output.ensures p same) ∙ c.if-is_for_output.false in
-    follows_more p next es q _ _ f refl refl (is ∙ count) c.in_ok-insert.ensures.updates.0
-    (λ t. f.highest t ∙ ap (min (q.limits.reorder + 1)) (sym (output_same t p es hidden)))
+    let one = c.add_count.new.self in
+    let two = c.add_highest.new.self in
+    let all = c.add_decoded.new.self in
+    let a = c.in_ok-add_count.ensures.others in
+    let b = c.in_ok-add_highest.ensures.others in
+    let d = c.in_ok-add_decoded.ensures.others in
+    let high = c.in_ok-add_highest.ensures.highest p es same (high_same q one es (ap (λ (s : Sequence). s.limits) a) (ap (λ (s : Sequence). s.highest.items) a) f.highest) in
+    follows_more p next es q all f
+    (ap (λ (s : Sequence). s.table) d ∙ ap (λ (s : Sequence). s.table) b ∙ ap (λ (s : Sequence). s.table) a)
+    (ap (λ (s : Sequence). s.limits) d ∙ ap (λ (s : Sequence). s.limits) b ∙ ap (λ (s : Sequence). s.limits) a)
+    (ap (λ (s : Sequence). s.format) d ∙ ap (λ (s : Sequence). s.format) b ∙ ap (λ (s : Sequence). s.format) a)
+    (λ k. ap (λ (s : Sequence). contains int_cmp s.counts k) d ∙ ap (λ (s : Sequence). contains int_cmp s.counts k) b ∙ c.in_ok-add_count.ensures.counts p es same f k)
+    (high_same two all (p ∷ es) (ap (λ (s : Sequence). s.limits) d) (ap (λ (s : Sequence). s.highest.items) d) high)
+    (c.in_ok-add_decoded.ensures.so_far p es same (highest_same es q.so_far two.so_far (ap (λ (s : Sequence). s.so_far) b ∙ ap (λ (s : Sequence). s.so_far) a) f.so_far))
