@@ -79,7 +79,7 @@ pub judged_refused : {H : Type 0} (stream : List ℕ) (before now : Told H) (r :
 judged_refused stream before now r d faultless = judged_error r.error r (verdict (meanings default_options stream)) d.answer (d.honest.faultless faultless).1
 
 pub judged_ok : {H : Type 0} (stream : List ℕ) (before now : Told H) (n : ℕ) → Decodes default_options stream before now (Ok n) → IsOk (ending stream)
-judged_ok stream before now n d = subst IsOk (sym d.answer) tt
+judged_ok stream before now n d = subst IsOk (sym d.answer) refl
 
 -- never for want of a point
 pub isnt_number : (e : DecodeError) (r : Refused) → ¬ (error_for e r ≡ errors.NoSuchPoint)

@@ -1,4 +1,4 @@
 mod Steps
-mod Passing
 mod Judging
+mod Passing
 mod Spliced

@@ -1,6 +1,6 @@
 -- The points of the units that a decoder has taken.
-use Rattle.std.proofs.Common.{◌≡◌, ℕ, zero, suc, ◌+◌, List, [], ◌∷◌, ◌++◌, length, map, take, refl, sym, ap, ap₂, subst, ◌∙◌, arith, append_assoc, append-nil, length-append, zero-add, Option}
-use Rattle.std.specs.Prelude.{option_to_list, slice_index_or}
+use Rattle.std.proofs.Common.{◌≡◌, ℕ, zero, suc, ◌+◌, List, [], ◌∷◌, ◌++◌, length, map, take, refl, sym, ap, ap₂, subst, ◌∙◌, arith, append_assoc, append-nil, length-append, zero-add, Option, Some, None, Result, Ok, Err}
+use Rattle.std.specs.Prelude.{option_to_list, slice_index_or, IsOk}
 use Rattle.hevc_spec.specs.Units.{NalUnit, kept_bytes, units, units_from}
 use Rattle.hevc_walk.specs.Meanings.{Meaning}
 use Rattle.hevc_walk.specs.Pictures.{Picture, Stream, nothing_yet, pictures, stream, with_unit}
@@ -17,12 +17,16 @@ use Rattle.hevc_stateless.specs.declared.decoder.StatelessDecoder.{StatelessDeco
 use Rattle.hevc_stateless.specs.Decoders.{view_of}
 use Rattle.hevc_stateless_laws.proofs.Keeping.{length_meant, meant_last}
 use Rattle.hevc_stateless_laws.specs.Stands.{kept_after, meant, standing_after}
+use Rattle.hevc_decoder.specs.declared.decoded.Refused.{Refused}
 use Rattle.hevc_decoder.specs.declared.decoded.Shown.{Shown}
+use Rattle.hevc_decoder.specs.Promise.{told}
 use Rattle.hevc_decoder.specs.Runs.{Reached}
 use Rattle.hevc_decoder.specs.Scenes.{Scene}
-use Rattle.hevc_decoder.specs.Stepping.{StandsIn}
+use Rattle.hevc_decoder.specs.Stepping.{DecodesEnd, DecodesNext, StandsIn}
 use Rattle.hevc_index_laws.specs.Points.{points_of, PlainPoint}
 use Rattle.hevc_index.specs.Finding.{point_begun, StandsFirst}
+use Rattle.hevc_index.specs.Indexing.{ending, error_for, JudgesError}
+use Rattle.hevc_index.proofs.Judging.{judged_ok, judged_refused}
 use Rattle.hevc_index.proofs.Steps.{points_more, told_of}
 
 -- the place of unit k of a stream
@@ -80,6 +84,14 @@ module _ {B H P : Type 0} (log : B → Option (List (Call H))) (handed : B → O
     pub faultless : is_faultless backend
     pub told : points ≡ told_points bytes (take k (units bytes))
 
+  -- all points were told
+  pub record CollectedAll (bytes : List ℕ) (k : ℕ) (points : List PlainPoint) (decoder : StatelessDecoder B H P) : Type 0 where
+    pub backend : B
+    pub shown : List (Shown H)
+    pub stands : StandsIn log handed counts is_faultless default_options bytes k [] backend shown decoder
+    pub faultless : is_faultless backend
+    pub told : points ≡ points_of default_options bytes
+
   pub collected_first : (bytes : List ℕ) (decoder : StatelessDecoder B H P) → StandsFirst log handed counts is_faultless bytes decoder → Collected bytes 0 0 [] decoder
   collected_first bytes decoder first = record { backend = first.0; shown = []; stands = first.1; faultless = first.2; told = refl }
 
@@ -110,3 +122,51 @@ module _ {B H P : Type 0} (log : B → Option (List (Call H))) (handed : B → O
   told_all bytes k backend shown decoder here =
       let whole : units bytes ≡ here.reached.front = here.reached.whole ∙ append-nil here.reached.front in
       ap (told_points bytes) (sym (front_is (units bytes) k here.begin _ [] here.reached) ∙ sym whole)
+
+  -- ---- step by step
+
+  module _ {T : Type 0} (bytes : List ℕ) (position next k : ℕ) (points : List PlainPoint) (old new : StatelessDecoder B H P) (old_shown new_shown : List (Shown H)) (there : Collected bytes position k points old) where
+    abbrev Next : Result (Option T) Refused → Type 0
+    Next r = DecodesNext log handed counts is_faultless r bytes k (units_from kept_bytes position bytes) (units_from kept_bytes next bytes) old new old_shown new_shown
+
+    -- a unit, and the point that begins with it
+    pub collected_more : (t : T) (u : NalUnit) (more : List PlainPoint) → Next (Ok (Some t)) → units_from kept_bytes position bytes ≡ u ∷ units_from kept_bytes next bytes
+        → more ≡ points ++ option_to_list (point_begun (view_of old).standing.next.number k u.offset (view_of new).standing) → Collected bytes next (k + 1) more new
+    collected_more t u more x first is =
+        let stands = x.goes_on default_options there.backend there.shown there.stands in
+        record {
+          backend = there.backend;
+          shown = there.shown ++ x.out;
+          stands = stands;
+          faultless = there.faultless;
+          told =
+              is
+              ∙ ap (λ (ps : List PlainPoint). ps ++ option_to_list (point_begun (view_of old).standing.next.number k u.offset (view_of new).standing)) there.told
+              ∙ sym (told_more bytes k (units_from kept_bytes position bytes) (units_from kept_bytes next bytes) u there.backend there.shown (there.shown ++ x.out) old new there.stands stands first);
+        }
+
+    -- it is refused
+    pub collected_refused : (r : Refused) → Next (Err r) → JudgesError (error_for r.error r) (ending bytes)
+    collected_refused r x =
+        judged_refused bytes (told log handed counts is_faultless there.backend []) (told log handed counts is_faultless (view_of new).backend (there.shown ++ x.out)) r (x.goes_on default_options there.backend there.shown there.stands) there.faultless
+
+    -- there is none
+    pub collected_end : Next (Ok None) → CollectedAll bytes k points new
+    collected_end x =
+        let none = x.goes_on default_options there.backend there.shown there.stands in
+        record {
+          backend = there.backend;
+          shown = there.shown ++ x.out;
+          stands = none.1;
+          faultless = there.faultless;
+          told = there.told ∙ told_all bytes k there.backend (there.shown ++ x.out) new none.1;
+        }
+
+  module _ (bytes : List ℕ) (k : ℕ) (points : List PlainPoint) (old new : StatelessDecoder B H P) (old_shown new_shown : List (Shown H)) (there : CollectedAll bytes k points old) where
+    pub ended_refused : (r : Refused) → DecodesEnd log handed counts is_faultless (Err r) k old new old_shown new_shown → JudgesError (error_for r.error r) (ending bytes)
+    ended_refused r x =
+        judged_refused bytes (told log handed counts is_faultless there.backend []) (told log handed counts is_faultless (view_of new).backend (there.shown ++ x.out)) r (x.decodes default_options bytes there.backend there.shown there.stands) there.faultless
+
+    pub ended_ok : (n : ℕ) → DecodesEnd log handed counts is_faultless (Ok n) k old new old_shown new_shown → IsOk (ending bytes)
+    ended_ok n x =
+        judged_ok bytes (told log handed counts is_faultless there.backend []) (told log handed counts is_faultless (view_of new).backend (there.shown ++ x.out)) n (x.decodes default_options bytes there.backend there.shown there.stands)

@@ -163,7 +163,7 @@ found_unit number stream qs found told is = sym (is ∙ ap (numbered_unit number
 
 pub there_is : (o : Option Picture) (v : ℕ) → option_map (λ (p : Picture). p.unit) o ≡ Some v → IsSome o
 there_is None v e = absurd (cc e)
-there_is (Some p) v e = tt
+there_is (Some p) v e = refl
 
 pub there_isnt : (o : Option Picture) → option_map (λ (p : Picture). p.unit) o ≡ None → o ≡ None
 there_isnt None e = refl
