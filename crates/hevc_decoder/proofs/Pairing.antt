@@ -8,13 +8,13 @@ use Rattle.hevc_spec.specs.UnitHeader.{UnitHeader, HeaderFault, unit_header}
 use Rattle.hevc_records.specs.SliceHeader.{PlainSliceSegmentHeader, completed_header}
 use Rattle.hevc_tables.specs.SliceHeaderTable.{ActiveSets, active_sets}
 use Rattle.hevc_walk.specs.Buffer.{Entry}
-use Rattle.hevc_walk.specs.DependentSlices.{KeptHeader, whole_slice, with_kept, kept_header}
+use Rattle.hevc_walk.specs.DependentSlices.{KeptHeader, whole_slice, with_kept}
 use Rattle.hevc_walk.specs.Meanings.{Format, Slice, Meaning, SequenceSet, CodedSlice, EndOfSequence, EndOfBitstream, Other, Refused}
 use Rattle.hevc_walk.specs.Pictures.{Head, Stream, stream, with_unit, nothing_yet}
-use Rattle.hevc_walk.specs.Refusals.{Cause, refusal, first_refusal, stop}
+use Rattle.hevc_walk.specs.Refusals.{Cause, first_refusal, stop}
 use Rattle.hevc_walk.specs.Results.{calls, calls_in, events}
 use Rattle.hevc_walk.specs.Walk as walk
-use Rattle.hevc_walk.specs.Walk.{Event, Called, Output, Store, at_unit, closing, finish, output_of, store_picture}
+use Rattle.hevc_walk.specs.Walk.{Event, Called, Output, Store, at_unit, finish, output_of, store_picture}
 use Rattle.hevc_walk_units.specs.Units.{Standing, unit_part, refusal_at, events_from, closing_part, sequence_part, open_head}
 use Rattle.hevc_walk_joined.proofs.Cuts.{events-cut}
 use Rattle.hevc_walk_joined.proofs.Ends.{stop-last}
@@ -25,14 +25,14 @@ use Rattle.hevc_stream.specs.Kept.{Kept, none_kept}
 use Rattle.hevc_stream.specs.Options.{Options}
 use Rattle.hevc_stream.specs.Slices.{coded_slice, slice_segment_meaning}
 use Rattle.hevc_stream.specs.Stream.{meaning, meaning_of, meanings_behind, kept_behind}
-use Rattle.hevc_backend.specs.Handed.{Segment, Handed}
+use Rattle.hevc_backend.specs.Handed.{Segment}
 use Rattle.hevc_driver.specs.Given.{Given, HandingCall, handed_by, begun_with, decoded_with, call_with, handing_call}
-use Rattle.hevc_driver.specs.Headers.{latest_behind, shared_header, whole_header}
-use Rattle.hevc_stateless.specs.Segments.{header_in, own_header, latest_at, with_sets, segment_with, segment_at, segment_if, given_with}
+use Rattle.hevc_driver.specs.Headers.{shared_header, whole_header}
+use Rattle.hevc_stateless.specs.Segments.{header_in, own_header, latest_at, with_sets, segment_with, segment_at, segment_if}
 use Rattle.hevc_stateless_laws.specs.Segments.{given_of, segments_of, handed_over, latest_after}
-use Rattle.hevc_stateless_laws.specs.Stands.{meant, kept_after, standing_after, given_next}
+use Rattle.hevc_stateless_laws.specs.Stands.{meant, kept_after, standing_after}
 use Rattle.hevc_stateless_laws.proofs.Given.{latest_last}
-use Rattle.hevc_stateless_laws.proofs.Keeping.{meant_last, kept_last, length_meant, is_coded, none_coded}
+use Rattle.hevc_stateless_laws.proofs.Keeping.{meant_last, kept_last, is_coded, none_coded}
 use Rattle.hevc_decoder.proofs.Comings.{given_here}
 
 -- ---- a call and what comes with it

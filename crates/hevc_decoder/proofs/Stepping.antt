@@ -7,7 +7,7 @@ use Rattle.hevc_stream.specs.Options.{Options}
 use Rattle.hevc_backend.specs.declared.call.Call.{Call}
 use Rattle.hevc_backend.specs.Handed.{Handed}
 use Rattle.hevc_backend.specs.Trait.{Counts}
-use Rattle.hevc_driver.specs.Answers.{BlamesFairly, CountsErrors, KeepsFaultless}
+use Rattle.hevc_driver.specs.Answers.{BlamesFairly, CountsErrors}
 use Rattle.hevc_stateless.specs.declared.decoder.StatelessDecoder.{StatelessDecoder}
 use Rattle.hevc_stateless.specs.Decoders.{kept_in, set_for, view_of}
 use Rattle.hevc_stateless.specs.Views.{View, at_beginning}
@@ -19,7 +19,7 @@ use Rattle.hevc_decoder.specs.Answers.{without_unit}
 use Rattle.hevc_decoder.specs.Scenes.{Scene, Trail, scene, trail_of}
 use Rattle.hevc_decoder.specs.Runs.{Reached, Ended, EndsHere, StepsBy, TakesNext}
 use Rattle.hevc_decoder.specs.Promise.{Decodes, told}
-use Rattle.hevc_decoder.specs.Stepping.{first_trail, ComesOut, DecodesEnd, DecodesNext, GoesOn, StandsIn}
+use Rattle.hevc_decoder.specs.Stepping.{ComesOut, DecodesEnd, DecodesNext, GoesOn, StandsIn}
 use Rattle.hevc_decoder.proofs.Promises.{decodes_of}
 use Rattle.hevc_decoder.proofs.Walking.{begins}
 

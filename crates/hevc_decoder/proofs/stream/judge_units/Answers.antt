@@ -1,4 +1,4 @@
-use Rattle.std.proofs.Common.{◌≡◌, [], ◌<◌, arith, ap, subst, sym, Ok, Err, Some, None, Result}
+use Rattle.std.proofs.Common.{[], ◌<◌, arith}
 use Rattle.std.proofs.lemmas.Result.{err_from_is_err_and}
 use Rattle.hevc_spec.specs.Units.{kept_bytes, units_from}
 use Rattle.hevc_decoder.proofs.Stepping.{along_end, along_ended, along_more, along_refused}

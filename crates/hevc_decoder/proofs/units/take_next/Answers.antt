@@ -1,4 +1,4 @@
-use Rattle.std.proofs.Common.{◌+◌, refl, sym, ap, subst, ◌∙◌, arith, rules, Ok, Err, Result}
+use Rattle.std.proofs.Common.{◌+◌, refl, sym, subst, arith, rules, Result}
 use Rattle.hevc_spec.specs.Units.{kept_bytes, units_from}
 use Rattle.hevc_spec.specs.UnitHeader.{unit_header}
 use Rattle.hevc_bits.specs.FoundUnit.{bytes_of, unit_of}

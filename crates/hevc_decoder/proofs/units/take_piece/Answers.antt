@@ -1,11 +1,8 @@
-use Rattle.std.proofs.Common.{◌≡◌, ◌<◌, ◌+◌, List, ◌++◌, refl, sym, ◌∙◌, ap, subst, arith, rules, Result, Ok, Err, Some, None}
+use Rattle.std.proofs.Common.{◌<◌, refl, ◌∙◌, arith}
 use Rattle.std.proofs.lemmas.Result.{err_from_is_err_and}
 use Rattle.hevc_spec.specs.Units.{kept_bytes, units_from}
-use Rattle.hevc_bits.specs.FoundUnit.{FoundUnit}
-use Rattle.hevc_stream.specs.Options.{Options}
 use Rattle.hevc_stateless.specs.Decoders.{set_for}
 use Rattle.hevc_decoder.specs.Scenes.{scene}
-use Rattle.hevc_decoder.specs.Runs.{TakesNext}
 use Rattle.hevc_decoder.proofs.Nexts.{piece_ends, piece_more, piece_refused, with_options}
 use Rattle.hevc_decoder.proofs.units.take_piece.Goals as goal
 
