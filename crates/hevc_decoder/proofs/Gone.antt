@@ -1,5 +1,5 @@
 -- What came out before a unit, or before the end, is no matter to it.
-use Rattle.std.proofs.Common.{◌≡◌, ◌⊎◌, inl, inr, ℕ, List, [], ◌++◌, map, refl, sym, ap, subst, ◌∙◌, append_assoc, append-nil, Result, Err}
+use Rattle.std.proofs.Common.{◌≡◌, inl, inr, ℕ, List, [], ◌++◌, map, refl, sym, ap, subst, ◌∙◌, append_assoc, append-nil, Result, Err}
 use Rattle.hevc_spec.specs.UnitHeader.{UnitHeader}
 use Rattle.hevc_stream.specs.Options.{Options}
 use Rattle.hevc_driver.specs.declared.decode_error.DecodeError.{DecodeError}

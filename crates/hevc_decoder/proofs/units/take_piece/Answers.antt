@@ -1,11 +1,8 @@
-use Rattle.std.proofs.Common.{◌≡◌, ◌<◌, ◌+◌, List, ◌++◌, refl, sym, ◌∙◌, ap, subst, arith, rules, Result, Ok, Err, Some, None}
+use Rattle.std.proofs.Common.{◌<◌, refl, ◌∙◌, arith}
 use Rattle.std.proofs.lemmas.Result.{err_from_is_err_and}
 use Rattle.hevc_spec.specs.Units.{kept_bytes, units_from}
-use Rattle.hevc_bits.specs.FoundUnit.{FoundUnit}
-use Rattle.hevc_stream.specs.Options.{Options}
 use Rattle.hevc_stateless.specs.Decoders.{set_for}
 use Rattle.hevc_decoder.specs.Scenes.{scene}
-use Rattle.hevc_decoder.specs.Runs.{TakesNext}
 use Rattle.hevc_decoder.proofs.Nexts.{piece_ends, piece_more, piece_refused, with_options}
 use Rattle.hevc_decoder.proofs.units.take_piece.Goals as goal
 
@@ -28,7 +25,7 @@ returns-in_err-_nalu-clause-takes g c =
     let p = err_from_is_err_and c.from_residual.result c.from_residual.ensures.1 in
     rw (p.1, p.2)
     (λ begin all later x. piece_refused (set_for c.args.decoder.now) c.loop-nalu.unit (units_from kept_bytes c.loop-nalu.position piece) (units_from kept_bytes c.take_next.new.position piece) old new _
-      (with_options (set_for c.loop-nalu.decoder) (set_for c.args.decoder.now) c.loop-nalu.unit (units_from kept_bytes c.loop-nalu.position piece) (units_from kept_bytes c.take_next.new.position piece) old new _ c.loop-nalu.invariant.options c.in_err-_nalu.ensures.takes) begin all later (c.loop-nalu.invariant.reached begin all later x))
+    (with_options (set_for c.loop-nalu.decoder) (set_for c.args.decoder.now) c.loop-nalu.unit (units_from kept_bytes c.loop-nalu.position piece) (units_from kept_bytes c.take_next.new.position piece) old new _ c.loop-nalu.invariant.options c.in_err-_nalu.ensures.takes) begin all later (c.loop-nalu.invariant.reached begin all later x))
 
 pub loop-nalu-preserved : goal.loop-nalu-preserved
 loop-nalu-preserved g c =

@@ -1,4 +1,4 @@
-use Rattle.std.proofs.Common.{◌≡◌, ◌<◌, ◌++◌, [], ◌∷◌, List, ℕ, map, arith, refl, sym, ap, ap₂, ◌∙◌, append-nil, Some, None, Ok, Err, Option}
+use Rattle.std.proofs.Common.{◌≡◌, ◌<◌, ◌++◌, [], ◌∷◌, List, ℕ, map, arith, refl, sym, ap, ap₂, ◌∙◌, append-nil, Option}
 use Rattle.std.specs.Prelude.{option_map, option_to_list}
 use Rattle.std.proofs.lemmas.List.{map-append}
 use Rattle.std.proofs.lemmas.Result.{err_from_is_err_and}
@@ -59,31 +59,31 @@ returns-in_err-next-clause-refused g c =
     let p = err_from_is_err_and c.from_residual.result c.from_residual.ensures.1 in
     rw (p.1, p.2)
     (collected_refused g.B.StatelessH265DecoderBackend.log g.B.StatelessH265DecoderBackend.handed g.B.StatelessH265DecoderBackend.counts g.B.StatelessH265DecoderBackend.is_faultless
-      c.args.stream.now c.loop-shown.position c.decode_next_unit.new.position c.loop-shown.unit (map plain_point c.loop-shown.points) c.loop-shown.decoder c.decode_next_unit.new.decoder c.loop-shown.shown.items c.decode_next_unit.new.shown.items c.loop-shown.invariant.collected
-      _ c.in_err-next.ensures.decodes)
+    c.args.stream.now c.loop-shown.position c.decode_next_unit.new.position c.loop-shown.unit (map plain_point c.loop-shown.points) c.loop-shown.decoder c.decode_next_unit.new.decoder c.loop-shown.shown.items c.decode_next_unit.new.shown.items c.loop-shown.invariant.collected
+    _ c.in_err-next.ensures.decodes)
 
 pub returns-in_err-end_stream-clause-refused : goal.returns-in_err-end_stream-clause-refused
 returns-in_err-end_stream-clause-refused g c =
     let p = err_from_is_err_and c.from_residual-in_err-end_stream.result c.from_residual-in_err-end_stream.ensures.1 in
     rw (p.1, p.2)
     (ended_refused g.B.StatelessH265DecoderBackend.log g.B.StatelessH265DecoderBackend.handed g.B.StatelessH265DecoderBackend.counts g.B.StatelessH265DecoderBackend.is_faultless
-      c.args.stream.now c.loop-shown.unit (map plain_point c.loop-shown.points) c.decode_next_unit.new.decoder c.end_stream.new.decoder c.decode_next_unit.new.shown.items c.end_stream.new.shown.items
-      (collected_end g.B.StatelessH265DecoderBackend.log g.B.StatelessH265DecoderBackend.handed g.B.StatelessH265DecoderBackend.counts g.B.StatelessH265DecoderBackend.is_faultless
-        c.args.stream.now c.loop-shown.position c.decode_next_unit.new.position c.loop-shown.unit (map plain_point c.loop-shown.points) c.loop-shown.decoder c.decode_next_unit.new.decoder c.loop-shown.shown.items c.decode_next_unit.new.shown.items c.loop-shown.invariant.collected
-        (rw c.in_default.is at c.in_ok-next.ensures.decodes))
-      _ c.in_err-end_stream.ensures.decodes)
+    c.args.stream.now c.loop-shown.unit (map plain_point c.loop-shown.points) c.decode_next_unit.new.decoder c.end_stream.new.decoder c.decode_next_unit.new.shown.items c.end_stream.new.shown.items
+    (collected_end g.B.StatelessH265DecoderBackend.log g.B.StatelessH265DecoderBackend.handed g.B.StatelessH265DecoderBackend.counts g.B.StatelessH265DecoderBackend.is_faultless
+    c.args.stream.now c.loop-shown.position c.decode_next_unit.new.position c.loop-shown.unit (map plain_point c.loop-shown.points) c.loop-shown.decoder c.decode_next_unit.new.decoder c.loop-shown.shown.items c.decode_next_unit.new.shown.items c.loop-shown.invariant.collected
+    (rw c.in_default.is at c.in_ok-next.ensures.decodes))
+    _ c.in_err-end_stream.ensures.decodes)
 
 pub returns-in_default-clause-points : goal.returns-in_default-clause-points
 returns-in_default-clause-points g c =
     (collected_end g.B.StatelessH265DecoderBackend.log g.B.StatelessH265DecoderBackend.handed g.B.StatelessH265DecoderBackend.counts g.B.StatelessH265DecoderBackend.is_faultless
-      c.args.stream.now c.loop-shown.position c.decode_next_unit.new.position c.loop-shown.unit (map plain_point c.loop-shown.points) c.loop-shown.decoder c.decode_next_unit.new.decoder c.loop-shown.shown.items c.decode_next_unit.new.shown.items c.loop-shown.invariant.collected
-      (rw c.in_default.is at c.in_ok-next.ensures.decodes)).told
+    c.args.stream.now c.loop-shown.position c.decode_next_unit.new.position c.loop-shown.unit (map plain_point c.loop-shown.points) c.loop-shown.decoder c.decode_next_unit.new.decoder c.loop-shown.shown.items c.decode_next_unit.new.shown.items c.loop-shown.invariant.collected
+    (rw c.in_default.is at c.in_ok-next.ensures.decodes)).told
 
 pub returns-in_default-clause-refused : goal.returns-in_default-clause-refused
 returns-in_default-clause-refused g c =
     ended_ok g.B.StatelessH265DecoderBackend.log g.B.StatelessH265DecoderBackend.handed g.B.StatelessH265DecoderBackend.counts g.B.StatelessH265DecoderBackend.is_faultless
     c.args.stream.now c.loop-shown.unit (map plain_point c.loop-shown.points) c.decode_next_unit.new.decoder c.end_stream.new.decoder c.decode_next_unit.new.shown.items c.end_stream.new.shown.items
     (collected_end g.B.StatelessH265DecoderBackend.log g.B.StatelessH265DecoderBackend.handed g.B.StatelessH265DecoderBackend.counts g.B.StatelessH265DecoderBackend.is_faultless
-      c.args.stream.now c.loop-shown.position c.decode_next_unit.new.position c.loop-shown.unit (map plain_point c.loop-shown.points) c.loop-shown.decoder c.decode_next_unit.new.decoder c.loop-shown.shown.items c.decode_next_unit.new.shown.items c.loop-shown.invariant.collected
-      (rw c.in_default.is at c.in_ok-next.ensures.decodes))
+    c.args.stream.now c.loop-shown.position c.decode_next_unit.new.position c.loop-shown.unit (map plain_point c.loop-shown.points) c.loop-shown.decoder c.decode_next_unit.new.decoder c.loop-shown.shown.items c.decode_next_unit.new.shown.items c.loop-shown.invariant.collected
+    (rw c.in_default.is at c.in_ok-next.ensures.decodes))
     _ c.in_ok-end_stream.ensures.decodes

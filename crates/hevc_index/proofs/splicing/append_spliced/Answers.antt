@@ -1,7 +1,7 @@
 use Rattle.std.proofs.Common.{◌≡◌, ◌<◌, ◌≤◌, ◌+◌, ◌++◌, ◌||◌, [], ◌∷◌, ℕ, List, Bool, true, false, length, cond, rules, arith, sym, ap, ◌∙◌, append-nil, Err}
 use Rattle.std.specs.Prelude.{nat_le}
 use Rattle.hevc_spec.specs.UnitHeader.{unit_header}
-use Rattle.hevc_spec.specs.Units.{NalUnit, kept_bytes, units_from}
+use Rattle.hevc_spec.specs.Units.{kept_bytes, units_from}
 use Rattle.hevc_bits.specs.FoundUnit.{bytes_of, unit_of}
 use Rattle.hevc_bit_writer.specs.WrittenUnits.{started}
 use Rattle.hevc_stream_laws.specs.UnitMeans.{is_parameter_set}

@@ -1,6 +1,4 @@
-use Rattle.std.proofs.Common.{◌≡◌, ℕ, ap, sym, ◌∙◌, map, Option}
-use Rattle.std.specs.Option.{option_map}
-use Rattle.hevc_walk.specs.Pictures.{Picture}
+use Rattle.std.proofs.Common.{ap, sym, ◌∙◌, map}
 use Rattle.hevc_index.specs.Indexing.{plain_point, point_at}
 use Rattle.hevc_index.proofs.Judging.{all_headed}
 use Rattle.hevc_index.proofs.Spliced.{begins_as, found_unit, of_unit, ok_holds, there_is, there_isnt}
