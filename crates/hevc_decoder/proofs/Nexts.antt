@@ -60,7 +60,7 @@ module _ {B H : Type 0} where
     steps = λ begin all later gone x. (
       subst (λ (l : List (Shown H)). Ended (Err (record { unit = k; error = named })) (meant o all) (segments_of o all) (trail_of begin) (trail_of (at now l))) (sym (append-nil gone))
           (subst (λ (d : DecodeError). Ended (Err (record { unit = k; error = d })) (meant o all) (segments_of o all) (trail_of begin) (trail_of (at now gone))) (sym same)
-              (header_ended o all (before ++ later) (others ++ later) u k begin (at now gone) e x (ap (λ (us : List NalUnit). us ++ later) is) refused)),
+          (header_ended o all (before ++ later) (others ++ later) u k begin (at now gone) e x (ap (λ (us : List NalUnit). us ++ later) is) refused)),
       reached_within o all k begin (at now gone) (before ++ later) x,
     );
   }

@@ -168,9 +168,10 @@ header_whole l own kept w x same some whole = by_flag own.dependent_slice_segmen
 segment_whole : (o : Options) (k : Kept) (l : Option PlainSliceSegmentHeader) (bytes : List ℕ) (kept : Option KeptHeader) (w x : Slice) → meaning o k bytes ≡ CodedSlice w → is_some l ≡ is_some kept → whole_slice kept w ≡ Some x → (s : Segment) × (segment_at o k l bytes ≡ Some s)
 segment_whole o k l bytes kept w x m some whole =
     let r = is_read o k bytes w m in
-    let h = header_whole l r.own kept w x r.same some whole in
-    (record { sps = r.sets.sps; pps = r.sets.pps; header = h.0 },
-        ap (segment_with k l) r.is ∙ ap (λ (s : Option ActiveSets). with_sets s (whole_header l r.own)) r.active ∙ ap (with_sets (Some r.sets)) h.1)
+    let h = header_whole l r.own kept w x r.same some whole in (
+      record { sps = r.sets.sps; pps = r.sets.pps; header = h.0 },
+      ap (segment_with k l) r.is ∙ ap (λ (s : Option ActiveSets). with_sets s (whole_header l r.own)) r.active ∙ ap (with_sets (Some r.sets)) h.1,
+    )
 
 -- the latest independent header is known to both after one more unit
 known_after_unit : (o : Options) (k : Kept) (l : Option PlainSliceSegmentHeader) (bytes : List ℕ) (n : ℕ) (v : Stream) (y : Meaning) → meaning o k bytes ≡ y → is_some l ≡ is_some v.kept → is_some (latest_at y (own_header o k bytes) l) ≡ is_some (with_unit n y v).kept

@@ -50,8 +50,8 @@ module _ {B H P : Type 0} (log : B → Option (List (Call H))) (handed : B → O
         → Decodes o stream (told log handed counts is_faultless backend []) (told log handed counts is_faultless (view_of new).backend shown) r
     decodes_with r shown blames ended within =
         decodes_of (told log handed counts is_faultless backend []) (told log handed counts is_faultless (view_of new).backend shown) r
-            (counts_as r blames.cause) (λ h. blames.faultless (there.faultless h)) o stream (view_of new).tickets
-            (subst (λ (t : Trail H). Ended r (meant o (units stream)) (segments_of o (units stream)) t (trail_of (scene log handed new shown))) there.begins ended) within
+        (counts_as r blames.cause) (λ h. blames.faultless (there.faultless h)) o stream (view_of new).tickets
+        (subst (λ (t : Trail H). Ended r (meant o (units stream)) (segments_of o (units stream)) t (trail_of (scene log handed new shown))) there.begins ended) within
 
     -- with all units there are
     reached_all : (before : List NalUnit) → left ≡ before → Reached o (units stream) k there.begin (scene log handed old gone) (before ++ [])
@@ -80,9 +80,9 @@ module _ {B H P : Type 0} (log : B → Option (List (Call H))) (handed : B → O
         begins = there.begins;
         reached = subst (λ (us : List NalUnit). Reached o (units stream) k there.begin (scene log handed new (gone ++ out)) us) none
             (subst (λ (s : Scene B H). Reached o (units stream) k there.begin s before)
-                (ap (λ (l : List (Shown H)). record { seen = (scene log handed old []).seen; shown = l }) (sym (append-nil gone) ∙ ap (λ (l : List (Shown H)). gone ++ l) (sym nothing))
-                  ∙ ap (λ x. record { seen = x; shown = gone ++ out }) (sym same))
-                there.reached);
+            (ap (λ (l : List (Shown H)). record { seen = (scene log handed old []).seen; shown = l }) (sym (append-nil gone) ∙ ap (λ (l : List (Shown H)). gone ++ l) (sym nothing))
+            ∙ ap (λ x. record { seen = x; shown = gone ++ out }) (sym same))
+            there.reached);
         counted = blames.cause ∙ there.counted;
         faultless = λ h. (blames.faultless (there.faultless h)).0;
         set = same_set ∙ there.set;
@@ -116,7 +116,7 @@ module _ {B H P : Type 0} (log : B → Option (List (Call H))) (handed : B → O
         let there_reached : Reached (set_for old) (units stream) k there.begin (scene log handed old gone) [] = subst (λ (x : Options). Reached x (units stream) k there.begin (scene log handed old gone) []) (sym there.set) there.reached in
         let ended = ends.ends there.begin (units stream) gone there_reached in
         decodes_with o stream k [] backend gone old new there r (gone ++ ends.out) blames
-            (subst (λ (x : Options). Ended r (meant x (units stream)) (segments_of x (units stream)) (trail_of there.begin) (trail_of (scene log handed new (gone ++ ends.out)))) there.set ended.0) ended.1;
+        (subst (λ (x : Options). Ended r (meant x (units stream)) (segments_of x (units stream)) (trail_of there.begin) (trail_of (scene log handed new (gone ++ ends.out)))) there.set ended.0) ended.1;
   }
 
   -- ---- along a stream, where what came out was let go

@@ -148,12 +148,11 @@ pub(crate) fn take_next<'a, B: StatelessH265DecoderBackend>(
         Ok(nalu) => nalu,
         Err(error) => match error {
             UnitError::NoNal => return Ok(None),
-            UnitError::TruncatedNalu
-            | UnitError::InvalidNaluType(_)
-            | UnitError::TemporalIdZero => {
-                let error = error.into();
-                return Err(Refused { unit, error });
-            }
+            UnitError::TruncatedNalu | UnitError::InvalidNaluType(_) | UnitError::TemporalIdZero =>
+                {
+                    let error = error.into();
+                    return Err(Refused { unit, error });
+                }
         },
     };
     if let Err(error) = take_unit(decoder, &nalu, unit, shown) {

@@ -1,9 +1,9 @@
 -- The points of the units that a decoder has taken.
-use Rattle.std.proofs.Common.{◌≡◌, ℕ, zero, suc, ◌+◌, List, [], ◌∷◌, ◌++◌, length, map, take, refl, sym, ap, ap₂, subst, ◌∙◌, arith, append_assoc, append-nil, length-append, zero-add, Option, Some, None, Result, Ok, Err}
+use Rattle.std.proofs.Common.{◌≡◌, ℕ, ◌+◌, List, [], ◌∷◌, ◌++◌, length, map, take, refl, sym, ap, ap₂, ◌∙◌, append_assoc, append-nil, length-append, zero-add, Option, Some, None, Result, Ok, Err}
 use Rattle.std.specs.Prelude.{option_to_list, slice_index_or, IsOk}
 use Rattle.hevc_spec.specs.Units.{NalUnit, kept_bytes, units, units_from}
 use Rattle.hevc_walk.specs.Meanings.{Meaning}
-use Rattle.hevc_walk.specs.Pictures.{Picture, Stream, nothing_yet, pictures, stream, with_unit}
+use Rattle.hevc_walk.specs.Pictures.{Stream, nothing_yet, pictures, stream, with_unit}
 use Rattle.hevc_walk_units.specs.Units.{Standing}
 use Rattle.hevc_walk_joined.proofs.Moment.{stream-last}
 use Rattle.hevc_walk_joined.specs.Standings.{standing}

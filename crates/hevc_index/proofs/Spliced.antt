@@ -1,6 +1,6 @@
 -- How the stream from a point on is put together.
 use Rattle.std.proofs.Common.{◌≡◌, ◌≢◌, ℕ, zero, suc, ◌+◌, ◌<◌, ◌≤◌, Bool, true, false, cond, ◌||◌, List, [], ◌∷◌, ◌++◌, length, map, filter, take, drop, refl, sym, ap, subst, ◌∙◌, arith, append_assoc, append-nil, length-append, Option, Some, None, Result, Ok, Err}
-use Rattle.std.specs.Prelude.{All, IfOk, IfSome, OnOk, IsSome, find, nat_le, ◌==◌}
+use Rattle.std.specs.Prelude.{All, IfOk, IfSome, OnOk, IsSome, find, is_err, nat_le, ◌==◌}
 use Rattle.std.specs.Option.{option_map}
 use Rattle.std.proofs.lemmas.Bool.Decides.{nat_tests}
 use Rattle.std.proofs.lemmas.List.{map-append}
@@ -189,3 +189,7 @@ begins_as number stream = by_point (point_at number stream) (numbered_is_point m
     by_point : (o : Option Picture) → IfSome o (λ p. IsPoint ms p × (p.number ≡ number)) → IfSome o (λ p. BeginsAtPoint p stream (spliced_bytes p.unit stream))
     by_point None is = tt
     by_point (Some p) is = by_verdict p is.0 (verdict ms) refl
+
+pub ok_holds : {T E : Type 0} (r : Result T E) (P : Type 0) → OnOk r P → is_err r ≡ false → P
+ok_holds (Ok value) P holds e = holds
+ok_holds (Err error) P holds e = absurd (cc e)

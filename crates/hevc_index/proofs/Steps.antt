@@ -152,9 +152,9 @@ module _ (offset_at : ℕ → ℕ) where
       let p = new_picture k f old in
       told_more p old
       ∙ ap (λ (l : List PlainPoint). told old ++ l)
-          (sym (new_told k f old)
-            ∙ ap (λ (o : Option Head). option_to_list (point_by k (offset_at k) o)) (sym (open_of p.head (reference_set_of set p old) p.skipped))
-            ∙ ap (λ (b : Bool). option_to_list (cond b None (point_by k (offset_at k) (open_head (current_by set (p ∷ old)))))) (sym (is_next k f old)))
+      (sym (new_told k f old)
+      ∙ ap (λ (o : Option Head). option_to_list (point_by k (offset_at k) o)) (sym (open_of p.head (reference_set_of set p old) p.skipped))
+      ∙ ap (λ (b : Bool). option_to_list (cond b None (point_by k (offset_at k) (open_head (current_by set (p ∷ old)))))) (sym (is_next k f old)))
 
   pub points_more : (k : ℕ) (m : Meaning) (v : Stream) → told (with_unit k m v).pictures ≡ told v.pictures ++ option_to_list (point_begun (standing v).next.number k (offset_at k) (standing (with_unit k m v)))
   points_more k m v = by_step k (with_unit k m v).first_set v.pictures (with_unit k m v).pictures (unit_step k m v)

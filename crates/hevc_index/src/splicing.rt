@@ -1,5 +1,5 @@
 //! A stream that begins at a point of another.
-ghost use Rattle.std.specs.Prelude.{◌≡◌, ◌<◌, ◌++◌, ℕ, List, All, IfSome, OnErr, OnOk, length, map};
+ghost use Rattle.std.specs.Prelude.{◌≡◌, ◌<◌, ◌||◌, ◌++◌, ℕ, nat_le, List, All, IfSome, OnErr, OnOk, length, map};
 ghost use Rattle.hevc_bits.specs.declared.stream_limit.TheConstants.{STREAM_LIMIT};
 ghost use Rattle.hevc_spec.specs.Units.{units};
 ghost use Rattle.hevc_bit_writer.specs.WrittenUnits.{started};
@@ -71,7 +71,7 @@ fn append_spliced(stream: &[u8], first: u64, out: &mut Vec<u8>) -> Result<(), Al
     let mut position = 0;
     let mut unit = 0;
     while let Ok(nalu) = Nalu::<NaluHeader>::next(stream, &mut position) {
-        if unit >= first || is_set(nalu.header()) {
+        if is_spliced(nalu.header(), unit, first) {
             append_unit(nalu.as_ref(), out)?;
         }
         position = nalu.offset() + nalu.size();
@@ -87,6 +87,14 @@ fn append_unit(unit: &[u8], out: &mut Vec<u8>) -> Result<(), AllocError>
 {
     out.extend_from_slice(&[0, 0, 1])?;
     out.extend_from_slice(unit)
+}
+
+/// Whether a unit of this header is added: it doesn't come before unit `first`, or it is a parameter
+/// set's.
+fn is_spliced(header: &NaluHeader, unit: u64, first: u64) -> bool
+    ensures { result ≡ (nat_le first unit || is_parameter_set header.now.nal_unit_type) }
+{
+    unit >= first || is_set(header)
 }
 
 /// Whether this is the header of a parameter set's unit.

@@ -18,8 +18,8 @@ returns-in_err-_nalu g c o backend there =
     let p = err_from_is_err_and c.from_residual.result c.from_residual.ensures.1 in
     rw (p.1, p.2)
     (along_refused g.B.StatelessH265DecoderBackend.log g.B.StatelessH265DecoderBackend.handed g.B.StatelessH265DecoderBackend.counts g.B.StatelessH265DecoderBackend.is_faultless
-      o stream c.loop-shown.unit (units_from kept_bytes c.loop-shown.position stream) (units_from kept_bytes c.decode_next_unit.new.position stream) backend c.loop-shown.decoder c.decode_next_unit.new.decoder
-      c.loop-shown.shown.items c.decode_next_unit.new.shown.items (c.loop-shown.invariant.along o backend there) _ c.in_err-_nalu.ensures.decodes)
+    o stream c.loop-shown.unit (units_from kept_bytes c.loop-shown.position stream) (units_from kept_bytes c.decode_next_unit.new.position stream) backend c.loop-shown.decoder c.decode_next_unit.new.decoder
+    c.loop-shown.shown.items c.decode_next_unit.new.shown.items (c.loop-shown.invariant.along o backend there) _ c.in_err-_nalu.ensures.decodes)
 
 pub loop-shown-preserved : goal.loop-shown-preserved
 loop-shown-preserved g c =
@@ -42,6 +42,6 @@ returns g c o backend there =
     along_ended g.B.StatelessH265DecoderBackend.log g.B.StatelessH265DecoderBackend.handed g.B.StatelessH265DecoderBackend.counts g.B.StatelessH265DecoderBackend.is_faultless
     o stream c.loop-shown.unit backend c.decode_next_unit.new.decoder c.end_stream.new.decoder c.decode_next_unit.new.shown.items c.end_stream.new.shown.items c.end_stream.result
     (along_end g.B.StatelessH265DecoderBackend.log g.B.StatelessH265DecoderBackend.handed g.B.StatelessH265DecoderBackend.counts g.B.StatelessH265DecoderBackend.is_faultless
-      o stream c.loop-shown.unit (units_from kept_bytes c.loop-shown.position stream) (units_from kept_bytes c.decode_next_unit.new.position stream) backend c.loop-shown.decoder c.decode_next_unit.new.decoder
-      c.loop-shown.shown.items c.decode_next_unit.new.shown.items (c.loop-shown.invariant.along o backend there) (rw c.in_default.is at c.in_ok-_nalu.ensures.decodes))
+    o stream c.loop-shown.unit (units_from kept_bytes c.loop-shown.position stream) (units_from kept_bytes c.decode_next_unit.new.position stream) backend c.loop-shown.decoder c.decode_next_unit.new.decoder
+    c.loop-shown.shown.items c.decode_next_unit.new.shown.items (c.loop-shown.invariant.along o backend there) (rw c.in_default.is at c.in_ok-_nalu.ensures.decodes))
     c.end_stream.ensures.decodes

@@ -39,9 +39,9 @@ returns-in-Err-take_unit-clause-takes g c =
     let nalu = c.in-Ok.nalu in
     let piece = c.args.piece.now in
     refused_next {T = Unit {0}} (set_for c.args.decoder.now) c.args.unit (unit_of nalu) nalu.header (units_from kept_bytes c.args.position.now piece) (units_from kept_bytes (nalu.offset + nalu.size) piece)
-        (scene logs handeds c.args.decoder.now c.args.shown.now.items) (scene logs handeds c.take_unit.new.decoder c.take_unit.new.shown.items)
-        c.in-Ok.ensures.first (header_is (unit_header (bytes_of nalu)) nalu.header c.in-Ok.ensures.header) (omega (arith, c.requires.few)) c.in-Err-take_unit.error c.in-Err-take_unit.ensures.gives
-        (units_from kept_bytes c.next.new.position piece)
+    (scene logs handeds c.args.decoder.now c.args.shown.now.items) (scene logs handeds c.take_unit.new.decoder c.take_unit.new.shown.items)
+    c.in-Ok.ensures.first (header_is (unit_header (bytes_of nalu)) nalu.header c.in-Ok.ensures.header) (omega (arith, c.requires.few)) c.in-Err-take_unit.error c.in-Err-take_unit.ensures.gives
+    (units_from kept_bytes c.next.new.position piece)
 
 pub returns-clause-takes : goal.returns-clause-takes
 returns-clause-takes g c =
@@ -53,6 +53,6 @@ returns-clause-takes g c =
     let new = scene logs handeds c.take_unit.new.decoder c.take_unit.new.shown.items in
     rw (c.offset.ensures.value, c.size.ensures.value)
     (taken_next (set_for c.args.decoder.now) c.args.unit (unit_of nalu) nalu.header (units_from kept_bytes c.args.position.now piece) (units_from kept_bytes (nalu.offset + nalu.size) piece) old new
-        c.in-Ok.ensures.first (header_is (unit_header (bytes_of nalu)) nalu.header c.in-Ok.ensures.header) (omega (arith, c.requires.few)) c.in_default.field-0 nalu
-        (subst (λ (r : Result (Unit {0}) DecodeError). GivesWhole r c.args.unit (set_for c.args.decoder.now) nalu.header (bytes_of nalu) old new) c.in_default.is c.take_unit.ensures.gives)
-        c.in_default.ensures.empty)
+    c.in-Ok.ensures.first (header_is (unit_header (bytes_of nalu)) nalu.header c.in-Ok.ensures.header) (omega (arith, c.requires.few)) c.in_default.field-0 nalu
+    (subst (λ (r : Result (Unit {0}) DecodeError). GivesWhole r c.args.unit (set_for c.args.decoder.now) nalu.header (bytes_of nalu) old new) c.in_default.is c.take_unit.ensures.gives)
+    c.in_default.ensures.empty)

@@ -25,7 +25,7 @@ returns-in_err-_nalu-clause-takes g c =
     let p = err_from_is_err_and c.from_residual.result c.from_residual.ensures.1 in
     rw (p.1, p.2)
     (λ begin all later x. piece_refused (set_for c.args.decoder.now) c.loop-nalu.unit (units_from kept_bytes c.loop-nalu.position piece) (units_from kept_bytes c.take_next.new.position piece) old new _
-      (with_options (set_for c.loop-nalu.decoder) (set_for c.args.decoder.now) c.loop-nalu.unit (units_from kept_bytes c.loop-nalu.position piece) (units_from kept_bytes c.take_next.new.position piece) old new _ c.loop-nalu.invariant.options c.in_err-_nalu.ensures.takes) begin all later (c.loop-nalu.invariant.reached begin all later x))
+    (with_options (set_for c.loop-nalu.decoder) (set_for c.args.decoder.now) c.loop-nalu.unit (units_from kept_bytes c.loop-nalu.position piece) (units_from kept_bytes c.take_next.new.position piece) old new _ c.loop-nalu.invariant.options c.in_err-_nalu.ensures.takes) begin all later (c.loop-nalu.invariant.reached begin all later x))
 
 pub loop-nalu-preserved : goal.loop-nalu-preserved
 loop-nalu-preserved g c =
