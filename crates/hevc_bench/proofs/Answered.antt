@@ -28,7 +28,7 @@ refused_at (Err refusal) refused answers =
 inside : (a b : Count) → Some a ≡ Some b → a ≡ b
 inside a b e = cc e
 
--- a refusal that isn't of the backend, nor for want of memory, is that of the units
+-- a refusal that isn't of the backend, nor for a failed allocation, is that of the units
 told : (verdict : Result ℕ Refusal) (unit : ℕ) (error : DecodeError) (count : Count) → AnswersError error (record { unit = unit; error = error }) verdict → ¬ IsOfBackend error
     → count_of_refusal error unit ≡ Some count → count ≡ count_of_pictures verdict
 told verdict unit errors.NoNal count a b e = sym (inside _ _ e) ∙ refused_at verdict _ a

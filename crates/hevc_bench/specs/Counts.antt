@@ -28,7 +28,7 @@ abbrev pub count_of_answer : Result ℕ decoded.Refused → Option Count
 count_of_answer (Ok pictures) = Some (Pictures pictures)
 count_of_answer (Err refused) = count_of_refusal refused.error refused.unit
 
--- the units behind so many, or the first of them that has no header (7.3.1.2)
+-- the units after so many, or the first of them that has no header (7.3.1.2)
 abbrev pub count_of_units : ℕ → List NalUnit → Count
 count_of_units number [] = Units number
 count_of_units number (unit ∷ units) =

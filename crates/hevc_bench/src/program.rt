@@ -16,7 +16,7 @@ use std::alloc::Global;
 /// The longest input that is taken, in bytes.
 pub const INPUT_LIMIT: usize = 268_435_456;
 
-/// Counts what the source's stream has, and writes one line. `words` are those of the command line behind the program's
+/// Counts what the source's stream has, and writes one line. `words` are those of the command line after the program's
 /// name: by none the stream is decoded and its pictures are counted, by `cut` it is cut into units and these are counted, by `read`
 /// its bytes are counted.
 /// Answers the status of the program:
@@ -41,7 +41,7 @@ pub fn run<S: Source, K: Sink>(alloc: Global, words: &[Word], source: &mut S, si
     // That is so for no longer input than may be.
     ensures limit { IfSome (asked_work words.now) (λ _. result ≤ 1
         → IfSome (S.left source.old) (λ s. length s ≤ INPUT_LIMIT)) }
-    // Whatever the status, what was written is a front of that line; on any but 0 and 1 not the whole.
+    // Whatever the status, what was written is a prefix of that line; on any but 0 and 1 not the whole.
     ensures part { IfSome (asked_work words.now) (λ work. IfSome (S.left source.old) (λ s.
         AppendsPrefix (K.written sink.old) (K.written sink.new) (line_of (count_of work s)))) }
     ensures less { IfSome (asked_work words.now) (λ work. 1 < result

@@ -5,7 +5,7 @@ use std::alloc::Global;
 use std::process::Abort;
 use std::test::Fail;
 
-/// A sequence set of 16 by 16 luma samples, a picture set, an IDR picture, and a P picture that refers to it, each behind
+/// A sequence set of 16 by 16 luma samples, a picture set, an IDR picture, and a P picture that refers to it, each after
 /// 00 00 01.
 const STREAM: &[u8] = &[
     0x00, 0x00, 0x01, 0x42, 0x01, 0x01, 0x01, 0x60, 0x00, 0x00, 0x03, 0x00, 0x90, 0x00, 0x00, 0x03,

@@ -1,30 +1,20 @@
 //! What a first slice tells of its picture (8.1.3, 8.3.1).
-ghost use Rattle.std.specs.Prelude.{◌≡◌, ◌&&◌, ◌<◌, ◌+◌, ◌-◌, ◌^◌, pos, true, false, Some, IfOk, OnOk, OnErr, if◌then◌else◌};
+ghost use Rattle.std.specs.Prelude.{◌≡◌, ◌&&◌, ◌<◌, ◌+◌, ◌-◌, ◌^◌, true, false, Some, IfOk, OnOk, OnErr, if◌then◌else◌};
 ghost use Rattle.hevc_spec.specs.UnitTypes.{is_rasl};
 ghost use Rattle.hevc_bits.specs.NaluType.{nalu_type_number};
-ghost use Rattle.hevc_types_c.specs.Sps.{plain_sps};
 ghost use Rattle.hevc_types_d.specs.declared.pps.Pps.{Pps};
 ghost use Rattle.hevc_walk.specs.Pictures.{head, order_count_in_range};
 ghost use Rattle.hevc_walk_units.specs.Units.{tid0_behind};
-ghost use Rattle.hevc_pictures.specs.OrderCounts.{IsMaxPicOrderCntLsb};
 ghost use Rattle.hevc_driver.specs.Heads.{head_of, context_of};
 ghost use Rattle.hevc_driver.specs.Slices.{slice_of};
 ghost use Rattle.hevc_check.specs.Places.{context_after};
 
 use hevc_bits::NaluType;
-use hevc_driver::{Context, Head};
+use hevc_driver::{Context, Head, max_pic_order_cnt_lsb};
 use hevc_options::Options;
 use hevc_pictures::{Limits, PictureData, PocOutOfRange};
 use hevc_types_c::Sps;
 use hevc_types_d::Slice;
-
-/// MaxPicOrderCntLsb of a sequence set (7-8): 16 to 65536.
-pub(crate) fn max_pic_order_cnt_lsb(sps: &Sps) -> i32
-    ensures max { IsMaxPicOrderCntLsb result }
-    ensures value { result ≡ pos (2 ^ ((plain_sps sps.now).log2_max_pic_order_cnt_lsb_minus4 + 4)) }
-{
-    1 << (sps.log2_max_pic_order_cnt_lsb_minus4 + 4)
-}
 
 /// What a picture's first slice tells of it.
 ///

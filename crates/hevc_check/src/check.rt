@@ -28,7 +28,7 @@ use crate::units::Walk;
 use crate::unlike::Unlike;
 use hevc_backend::SilentBackend;
 use hevc_bits::{Nalu, NaluHeader, UnitError};
-use hevc_decoder::{DecodeError, Refused, decode_stream};
+use hevc_decoder::{DecodeError, Options, Refused, judge_stream};
 use std::alloc::{AllocError, Global};
 use thiserror::Error;
 
@@ -225,8 +225,7 @@ pub(crate) fn check_by(alloc: Global, table: Table, stream: &[u8]) -> Result<Che
         (checked_by table (meanings default_options stream.now)) }
     ensures order { IsYes result → AreAllInOrder (meanings default_options stream.now) }
 {
-    let mut shown = Vec::new(alloc);
-    let decoded = decode_stream(alloc, SilentBackend::new(), stream, &mut shown);
+    let decoded = judge_stream(alloc, SilentBackend::new(), Options::new(), stream);
     if let Err(refused) = decoded.result {
         return Err(error_of(refused));
     }

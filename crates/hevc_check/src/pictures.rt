@@ -18,13 +18,11 @@ ghost use Rattle.hevc_check.specs.Places.{place, finished, begun, begins_picture
 use crate::beginning::{after, head_of_first};
 use crate::begun::{Begun, Stored};
 use crate::filled::filled_up_to;
-use crate::kept::{complete, keep};
-use crate::references::mark;
 use crate::unlike::Unlike;
 use hevc_backend::NegotiationInfo;
 use hevc_bumping::{Frame, bump_additionally, bump_for_room};
 use hevc_dpb::{Dpb, DpbFull};
-use hevc_driver::{Context, Head};
+use hevc_driver::{Context, Head, complete_header, keep_header, reference_set};
 use hevc_options::Options;
 use hevc_types_c::Sps;
 use hevc_types_d::{Slice, SliceHeader};
@@ -180,7 +178,7 @@ impl Pictures {
                 filled: None,
             };
         }
-        mark(&mut self.dpb, head, slice, sps);
+        let _set = reference_set(&mut self.dpb, head, slice, sps);
         self.dpb.remove_unused();
         let stored = Stored {
             num: self.dpb.len(),
@@ -242,10 +240,10 @@ impl Pictures {
             (CodedSlice (slice_of options slice.old sps.now pps)) self.old self.new }
         ensures cause { IfErr result (λ e. e ≡ Unlike.Refused) }
     {
-        if !complete(&self.kept, slice, sps) {
+        if !complete_header(&self.kept, slice, sps) {
             return Ok(None);
         }
-        keep(self.alloc, &mut self.kept, slice);
+        keep_header(self.alloc, &mut self.kept, slice);
         if !self.begins_picture(slice) {
             return Ok(None);
         }

@@ -13,6 +13,9 @@ pub mod Delivering
 pub mod Accepted
 pub mod Headers
 pub mod Walking
+pub mod Gone
+pub mod Nexts
+pub mod Stepping
 pub mod Cutting
 pub mod Feeding
 pub mod Windows

@@ -8,13 +8,13 @@ use Rattle.hevc_spec.specs.UnitHeader.{UnitHeader, HeaderFault, unit_header}
 use Rattle.hevc_records.specs.SliceHeader.{PlainSliceSegmentHeader, completed_header}
 use Rattle.hevc_tables.specs.SliceHeaderTable.{ActiveSets, active_sets}
 use Rattle.hevc_walk.specs.Buffer.{Entry}
-use Rattle.hevc_walk.specs.DependentSlices.{KeptHeader, whole_slice, with_kept, kept_header}
+use Rattle.hevc_walk.specs.DependentSlices.{KeptHeader, whole_slice, with_kept}
 use Rattle.hevc_walk.specs.Meanings.{Format, Slice, Meaning, SequenceSet, CodedSlice, EndOfSequence, EndOfBitstream, Other, Refused}
 use Rattle.hevc_walk.specs.Pictures.{Head, Stream, stream, with_unit, nothing_yet}
-use Rattle.hevc_walk.specs.Refusals.{Cause, refusal, first_refusal, stop}
+use Rattle.hevc_walk.specs.Refusals.{Cause, first_refusal, stop}
 use Rattle.hevc_walk.specs.Results.{calls, calls_in, events}
 use Rattle.hevc_walk.specs.Walk as walk
-use Rattle.hevc_walk.specs.Walk.{Event, Called, Output, Store, at_unit, closing, finish, output_of, store_picture}
+use Rattle.hevc_walk.specs.Walk.{Event, Called, Output, Store, at_unit, finish, output_of, store_picture}
 use Rattle.hevc_walk_units.specs.Units.{Standing, unit_part, refusal_at, events_from, closing_part, sequence_part, open_head}
 use Rattle.hevc_walk_joined.proofs.Cuts.{events-cut}
 use Rattle.hevc_walk_joined.proofs.Ends.{stop-last}
@@ -25,14 +25,14 @@ use Rattle.hevc_stream.specs.Kept.{Kept, none_kept}
 use Rattle.hevc_stream.specs.Options.{Options}
 use Rattle.hevc_stream.specs.Slices.{coded_slice, slice_segment_meaning}
 use Rattle.hevc_stream.specs.Stream.{meaning, meaning_of, meanings_behind, kept_behind}
-use Rattle.hevc_backend.specs.Handed.{Segment, Handed}
+use Rattle.hevc_backend.specs.Handed.{Segment}
 use Rattle.hevc_driver.specs.Given.{Given, HandingCall, handed_by, begun_with, decoded_with, call_with, handing_call}
-use Rattle.hevc_driver.specs.Headers.{latest_behind, shared_header, whole_header}
-use Rattle.hevc_stateless.specs.Segments.{header_in, own_header, latest_at, with_sets, segment_with, segment_at, segment_if, given_with}
+use Rattle.hevc_driver.specs.Headers.{shared_header, whole_header}
+use Rattle.hevc_stateless.specs.Segments.{header_in, own_header, latest_at, with_sets, segment_with, segment_at, segment_if}
 use Rattle.hevc_stateless_laws.specs.Segments.{given_of, segments_of, handed_over, latest_after}
-use Rattle.hevc_stateless_laws.specs.Stands.{meant, kept_after, standing_after, given_next}
+use Rattle.hevc_stateless_laws.specs.Stands.{meant, kept_after, standing_after}
 use Rattle.hevc_stateless_laws.proofs.Given.{latest_last}
-use Rattle.hevc_stateless_laws.proofs.Keeping.{meant_last, kept_last, length_meant, is_coded, none_coded}
+use Rattle.hevc_stateless_laws.proofs.Keeping.{meant_last, kept_last, is_coded, none_coded}
 use Rattle.hevc_decoder.proofs.Comings.{given_here}
 
 -- ---- a call and what comes with it
@@ -168,9 +168,10 @@ header_whole l own kept w x same some whole = by_flag own.dependent_slice_segmen
 segment_whole : (o : Options) (k : Kept) (l : Option PlainSliceSegmentHeader) (bytes : List ℕ) (kept : Option KeptHeader) (w x : Slice) → meaning o k bytes ≡ CodedSlice w → is_some l ≡ is_some kept → whole_slice kept w ≡ Some x → (s : Segment) × (segment_at o k l bytes ≡ Some s)
 segment_whole o k l bytes kept w x m some whole =
     let r = is_read o k bytes w m in
-    let h = header_whole l r.own kept w x r.same some whole in
-    (record { sps = r.sets.sps; pps = r.sets.pps; header = h.0 },
-        ap (segment_with k l) r.is ∙ ap (λ (s : Option ActiveSets). with_sets s (whole_header l r.own)) r.active ∙ ap (with_sets (Some r.sets)) h.1)
+    let h = header_whole l r.own kept w x r.same some whole in (
+      record { sps = r.sets.sps; pps = r.sets.pps; header = h.0 },
+      ap (segment_with k l) r.is ∙ ap (λ (s : Option ActiveSets). with_sets s (whole_header l r.own)) r.active ∙ ap (with_sets (Some r.sets)) h.1,
+    )
 
 -- the latest independent header is known to both after one more unit
 known_after_unit : (o : Options) (k : Kept) (l : Option PlainSliceSegmentHeader) (bytes : List ℕ) (n : ℕ) (v : Stream) (y : Meaning) → meaning o k bytes ≡ y → is_some l ≡ is_some v.kept → is_some (latest_at y (own_header o k bytes) l) ≡ is_some (with_unit n y v).kept

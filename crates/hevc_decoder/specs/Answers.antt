@@ -5,8 +5,8 @@ use Rattle.hevc_driver.specs.declared.decode_error.DecodeError.TheVariants as er
 use Rattle.hevc_decoder.specs.declared.decoded.Refused.{Refused}
 
 -- an answer without its unit
-abbrev pub without_unit : Result ℕ Refused → Result ℕ DecodeError
-without_unit (Ok pictures) = Ok pictures
+abbrev pub without_unit : {T : Type 0} → Result T Refused → Result T DecodeError
+without_unit (Ok value) = Ok value
 without_unit (Err refused) = Err refused.error
 
 -- A stream has no unit that isn't there, a format is accepted as it is negotiated, and numbers

@@ -8,3 +8,4 @@ pub mod Runs
 pub mod Sources
 pub mod Windows
 pub mod Promise
+pub mod Stepping

@@ -1,5 +1,5 @@
 -- What a whole run did of the events that the units of a stream ask for.
-use Rattle.std.specs.Prelude.{◌≡◌, ℕ, ◌≤◌, List, [], ◌∷◌, ◌++◌, length, Option, Result, Ok, Err, IfErr}
+use Rattle.std.specs.Prelude.{◌≡◌, ℕ, ◌+◌, ◌≤◌, List, [], ◌∷◌, ◌++◌, length, Option, Some, None, Result, Ok, Err, IfErr}
 use Rattle.std.specs.List.{AllByRecursion}
 use Rattle.hevc_spec.specs.Units.{NalUnit}
 use Rattle.hevc_walk.specs.Meanings.{Meaning}
@@ -11,9 +11,11 @@ use Rattle.hevc_stream.specs.Options.{Options}
 use Rattle.hevc_driver.specs.declared.decode_error.DecodeError.{DecodeError}
 use Rattle.hevc_driver.specs.declared.decode_error.DecodeError.TheVariants as errors
 use Rattle.hevc_backend.specs.Handed.{Segment}
+use Rattle.hevc_stateless.specs.Steps.{Seen}
 use Rattle.hevc_stateless_laws.specs.Segments.{given_of, segments_of}
 use Rattle.hevc_stateless_laws.specs.Stands.{meant, StandsAfter}
 use Rattle.hevc_decoder.specs.declared.decoded.Refused.{Refused}
+use Rattle.hevc_decoder.specs.declared.decoded.Shown.{Shown}
 use Rattle.hevc_decoder.specs.Names.{answer_of}
 use Rattle.hevc_decoder.specs.Headline.{BeginsPicture}
 use Rattle.hevc_decoder.specs.Scenes.{Scene, Trail, trail_of}
@@ -80,6 +82,41 @@ pub record Ended {H : Type 0} (result : Result ℕ Refused) (us : List Meaning)
   pub whole : events us ≡ done ++ rest
   pub does : DoesAll (given_of us segments) old new done
   pub ends : Ends result us done rest
+
+-- Unit k was taken, the first of `before`, and `after` are left; there is none; or it is refused. So
+-- much more came out, whatever came out before.
+abbrev pub StepsBy : {B H T : Type 0} → Result (Option T) Refused → Options → (k : ℕ)
+    → (before after : List NalUnit) → (out : List (Shown H)) → (old new : Seen B H) → Type 0
+StepsBy {B} {H} (Ok (Some taken)) options k before after out old new =
+    (begin : Scene B H) (all later : List NalUnit) (gone : List (Shown H))
+    → Reached options all k begin (record { seen = old; shown = gone }) (before ++ later)
+    → Reached options all (k + 1) begin (record { seen = new; shown = gone ++ out })
+    (after ++ later)
+StepsBy (Ok None) options k before after out old new = (before ≡ []) × (out ≡ []) × (new ≡ old)
+StepsBy {B} {H} (Err refused) options k before after out old new =
+    (begin : Scene B H) (all later : List NalUnit) (gone : List (Shown H))
+    → Reached options all k begin (record { seen = old; shown = gone }) (before ++ later)
+    → Ended (Err refused) (meant options all) (segments_of options all) (trail_of begin)
+    (trail_of (record { seen = new; shown = gone ++ out }))
+    × (refused.unit ≤ length all)
+
+pub record TakesNext {B H T : Type 0} (result : Result (Option T) Refused) (options : Options)
+    (k : ℕ) (before after : List NalUnit) (old new : Scene B H) : Type 0 where
+  pub out : List (Shown H)
+  pub shown : new.shown ≡ old.shown ++ out
+  pub steps : StepsBy result options k before after out old.seen new.seen
+
+-- No unit is left: a run that stood there, in front of unit k, has ended. So much more came out,
+-- whatever came out before.
+pub record EndsHere {B H : Type 0} (result : Result ℕ Refused) (options : Options) (k : ℕ)
+    (old new : Scene B H) : Type 0 where
+  pub out : List (Shown H)
+  pub shown : new.shown ≡ old.shown ++ out
+  pub ends : (begin : Scene B H) (all : List NalUnit) (gone : List (Shown H))
+      → Reached options all k begin (record { seen = old.seen; shown = gone }) []
+      → Ended result (meant options all) (segments_of options all) (trail_of begin)
+      (trail_of (record { seen = new.seen; shown = gone ++ out }))
+      × IfErr result (λ refused. refused.unit ≤ length all)
 
 -- Units were taken, from unit `first` on: a run that stood in front of them stands behind them, at
 -- the next unit, or has ended.

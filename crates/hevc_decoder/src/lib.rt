@@ -4,6 +4,7 @@
 mod decoded;
 mod feed;
 mod source;
+mod steps;
 mod stream;
 mod units;
 mod window;
@@ -13,4 +14,5 @@ pub use hevc_stateless::{
     DecodeError, DecoderEvent, Frame, Head, Options, StatelessDecoder, StatelessH265DecoderBackend,
 };
 pub use source::decode_source_with;
-pub use stream::{decode_stream, decode_stream_with};
+pub use steps::{begin_stream, decode_next_unit, end_stream};
+pub use stream::{decode_stream, decode_stream_with, judge_stream};

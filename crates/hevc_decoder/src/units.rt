@@ -1,6 +1,6 @@
 //! The units of a stream, one by one.
-ghost use Rattle.std.specs.Prelude.{◌≡◌, ◌+◌, ◌≤◌, ◌<◌, ◌++◌, [], length, map, vec_len, vec_capacity, IfOk, IfErr, OnOk};
-ghost use Rattle.hevc_spec.specs.Units.{units};
+ghost use Rattle.std.specs.Prelude.{◌≡◌, ◌+◌, ◌≤◌, ◌<◌, ◌++◌, [], length, map, vec_len, vec_capacity, IfOk, IfErr, OnOk, OnSome};
+ghost use Rattle.hevc_spec.specs.Units.{kept_bytes, units, units_from};
 ghost use Rattle.hevc_bits.specs.FoundUnit.{bytes_of};
 ghost use Rattle.hevc_stream.specs.Kept.{none_kept};
 ghost use Rattle.hevc_stream.specs.Stream.{meanings};
@@ -10,9 +10,10 @@ ghost use Rattle.hevc_stateless.specs.Decoders.{view_of, kept_in, set_for};
 ghost use Rattle.hevc_stateless.specs.Views.{at_beginning};
 ghost use Rattle.hevc_decoder.specs.Answers.{without_unit};
 ghost use Rattle.hevc_decoder.specs.Names.{shown_at};
+ghost use Rattle.hevc_decoder.specs.Stepping.{IsNextUnit};
 ghost use Rattle.hevc_decoder.specs.Scenes.{scene, trail_of};
 ghost use Rattle.hevc_decoder.specs.Gives.{Gives, GivesWhole, Closes, is_check_events};
-ghost use Rattle.hevc_decoder.specs.Runs.{TakesPiece, EndsRun, Ended};
+ghost use Rattle.hevc_decoder.specs.Runs.{TakesNext, TakesPiece, EndsHere, EndsRun, Ended};
 ghost use Rattle.hevc_bits.specs.declared.stream_limit.TheConstants.{STREAM_LIMIT};
 
 use crate::decoded::{Refused, Shown};
@@ -115,6 +116,52 @@ fn close<B: StatelessH265DecoderBackend>(
     flushed
 }
 
+/// Takes the next unit of a piece of a stream from a position on, as unit `unit`, and moves the position to the place after it. `None`
+/// where no unit is left.
+pub(crate) fn take_next<'a, B: StatelessH265DecoderBackend>(
+    decoder: &mut StatelessDecoder<B>,
+    piece: &'a [u8],
+    position: &mut usize,
+    unit: u64,
+    shown: &mut Vec<Shown<B::Handle>>,
+) -> Result<Option<Nalu<'a, NaluHeader>>, Refused>
+    requires short { length piece.now < STREAM_LIMIT }
+    requires few { unit < STREAM_LIMIT }
+    requires within { position.old ≤ length piece.now }
+    requires empty { (view_of decoder.old).queue ≡ [] }
+    ensures empty { OnOk result ((view_of decoder.new).queue ≡ []) }
+    ensures next { IfOk result (λ found. IsNextUnit found
+        (units_from kept_bytes position.old piece.now)
+        (units_from kept_bytes position.new piece.now)) }
+    ensures moves { IfOk result (λ found. OnSome found (position.old < position.new)) }
+    ensures within { position.new ≤ length piece.now }
+    ensures blames { BlamesFairly B.counts B.is_faultless (view_of decoder.old).backend
+        (view_of decoder.new).backend (without_unit result) }
+    ensures takes { TakesNext result (set_for decoder.old) unit
+        (units_from kept_bytes position.old piece.now)
+        (units_from kept_bytes position.new piece.now)
+        (scene B.log B.handed decoder.old shown.old.items)
+        (scene B.log B.handed decoder.new shown.new.items) }
+    ensures options { set_for decoder.new ≡ set_for decoder.old }
+{
+    let nalu = match Nalu::next(piece, position) {
+        Ok(nalu) => nalu,
+        Err(error) => match error {
+            UnitError::NoNal => return Ok(None),
+            UnitError::TruncatedNalu | UnitError::InvalidNaluType(_) | UnitError::TemporalIdZero =>
+                {
+                    let error = error.into();
+                    return Err(Refused { unit, error });
+                }
+        },
+    };
+    if let Err(error) = take_unit(decoder, &nalu, unit, shown) {
+        return Err(Refused { unit, error });
+    }
+    *position = nalu.offset() + nalu.size();
+    Ok(Some(nalu))
+}
+
 /// Takes the units of a piece of a stream, the first of which is unit `first`, and gives the number of the next one.
 pub(crate) fn take_piece<B: StatelessH265DecoderBackend>(
     decoder: &mut StatelessDecoder<B>,
@@ -135,29 +182,14 @@ pub(crate) fn take_piece<B: StatelessH265DecoderBackend>(
 {
     let mut position = 0;
     let mut unit = first;
-    loop {
-        let nalu = match Nalu::next(piece, &mut position) {
-            Ok(nalu) => nalu,
-            Err(error) => match error {
-                UnitError::NoNal => return Ok(unit),
-                UnitError::TruncatedNalu
-                | UnitError::InvalidNaluType(_)
-                | UnitError::TemporalIdZero => {
-                    let error = error.into();
-                    return Err(Refused { unit, error });
-                }
-            },
-        };
-        if let Err(error) = take_unit(decoder, &nalu, unit, shown) {
-            return Err(Refused { unit, error });
-        }
-        position = nalu.offset() + nalu.size();
+    while let Some(_nalu) = take_next(decoder, piece, &mut position, unit, shown)? {
         unit += 1;
     }
+    Ok(unit)
 }
 
 /// Behind the last of so many units. Gives the number of pictures.
-fn finish<B: StatelessH265DecoderBackend>(
+pub(crate) fn finish<B: StatelessH265DecoderBackend>(
     decoder: &mut StatelessDecoder<B>,
     unit: u64,
     shown: &mut Vec<Shown<B::Handle>>,
@@ -165,7 +197,7 @@ fn finish<B: StatelessH265DecoderBackend>(
     requires empty { (view_of decoder.old).queue ≡ [] }
     ensures blames { BlamesFairly B.counts B.is_faultless (view_of decoder.old).backend
         (view_of decoder.new).backend (without_unit result) }
-    ensures ends { EndsRun result (set_for decoder.old) unit []
+    ensures ends { EndsHere result (set_for decoder.old) unit
         (scene B.log B.handed decoder.old shown.old.items)
         (scene B.log B.handed decoder.new shown.new.items) }
 {

@@ -33,7 +33,7 @@ whole_pieces t l (u ∷ us) all = by_test (is_kept t l u) refl (whole_pieces t l
         All-cons IsWholePiece u.bytes (bytes_of_all (kept_units t l us)) (All-head WholeIfHeaded u us all p.0 p.1) more
     by_test false e more = more
 
--- units mean the same wherever they stand
+-- units mean the same wherever they are
 meant_placed : (options : Options) (kept : Kept) (place : ℕ) (us : List NalUnit) → meanings_behind options kept (placed place (bytes_of_all us)) ≡ meanings_behind options kept us
 meant_placed options kept place [] = refl
 meant_placed options kept place (u ∷ us) = ap (λ (ms : List Meaning). meaning options kept u.bytes ∷ ms) (meant_placed options (kept_behind options kept u.bytes) (place + 3 + length u.bytes) us)

@@ -49,7 +49,7 @@ first_refused number [] = None
 first_refused number (u ∷ us) =
     refused_or number (first_refused (number + 1) us) (parsed_header u.bytes)
 
--- the answer names that unit, and there is one exactly then, unless memory is wanted
+-- the answer names that unit, and there is one exactly then, unless an allocation fails
 abbrev pub TellsRefusal : Result Kept ExtractError → Option (ℕ × UnitError) → Type 0
 TellsRefusal (Ok kept) first = first ≡ None
 TellsRefusal (Err (Refused unit error)) first = first ≡ Some (unit, error)

@@ -92,7 +92,7 @@ pub fn extract_layer(
     kept
 }
 
-/// Adds the units that are kept. After a refusal some of them stand in `out`.
+/// Adds the units that are kept. After a refusal some of them are in `out`.
 fn append_kept(
     stream: &[u8],
     highest_tid: u8,

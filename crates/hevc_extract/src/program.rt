@@ -58,7 +58,7 @@ pub fn run_extract<S: Source, K: Sink>(
     // That is so for no longer input than may be.
     ensures limit { IfSome (asked_targets words.now) (λ _. result ≤ 1
         → IfSome (S.left source.old) (λ s. length s ≤ INPUT_LIMIT)) }
-    // Whatever the status, what was written is a front of that; on 4 not the whole.
+    // Whatever the status, what was written is a prefix of that; on 4 not the whole.
     ensures part { IfSome (asked_targets words.now) (λ targets. IfSome (S.left source.old) (λ s.
         AppendsPrefix (K.written sink.old) (K.written sink.new) (written_of targets s))) }
     ensures less { IfSome (asked_targets words.now) (λ targets. result ≡ 4

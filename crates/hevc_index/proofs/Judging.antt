@@ -1,5 +1,5 @@
--- No unit of a stream that isn't refused is refused by its header.
-use Rattle.std.proofs.Common.{◌≡◌, ℕ, ◌+◌, List, [], ◌∷◌, length, refl, Option, Some, None, Result, Ok, Err}
+-- What a stream's verdict tells: no unit of one that isn't refused is refused by its header.
+use Rattle.std.proofs.Common.{◌≡◌, ℕ, ◌+◌, List, [], ◌∷◌, length, refl, sym, subst, Option, Some, None, Result, Ok, Err}
 use Rattle.std.specs.Prelude.{All, IsOk}
 use Rattle.std.proofs.lemmas.List.Elements.{All-cons, All-nil}
 use Rattle.hevc_spec.specs.UnitHeader.{UnitHeader, HeaderFault, unit_header}
@@ -12,9 +12,16 @@ use Rattle.hevc_stream.specs.Contents.{content, headed_content}
 use Rattle.hevc_stream.specs.Kept.{Kept, none_kept}
 use Rattle.hevc_stream.specs.Options.{Options, default_options}
 use Rattle.hevc_stream.specs.Stream.{kept_behind, meaning, meaning_of, meanings, meanings_behind}
+use Rattle.hevc_driver.specs.Answers.{IsOfBackend}
+use Rattle.hevc_driver.specs.declared.decode_error.DecodeError.{DecodeError}
+use Rattle.hevc_driver.specs.declared.decode_error.DecodeError.TheVariants as decode
+use Rattle.hevc_decoder.specs.declared.decoded.Refused.{Refused}
+use Rattle.hevc_decoder.specs.Headline.{AnswersError}
 use Rattle.hevc_decoder.specs.Names.{answer_of}
+use Rattle.hevc_decoder.specs.Promise.{Decodes, Told}
+use Rattle.hevc_index.specs.declared.point.IndexError.TheVariants as errors
 use Rattle.hevc_index.specs.Finding.{IsHeaded}
-use Rattle.hevc_index.specs.Indexing.{ending}
+use Rattle.hevc_index.specs.Indexing.{ending, error_for, JudgesError}
 
 not_stopped : (us : List Meaning) → IsOk (answer_of (verdict us)) → stop us ≡ None
 not_stopped us ok = by_both (full us) (stop us) ok
@@ -48,3 +55,33 @@ headed_from o k kept v (u ∷ us) none = by_refusal (refusal v m) refl (headed_f
 
 pub all_headed : (stream : List ℕ) → IsOk (ending stream) → All IsHeaded (units stream)
 all_headed stream ok = headed_from default_options 0 none_kept nothing_yet (units stream) (not_stopped (meanings default_options stream) ok)
+
+-- ---- how decoding ends, over a backend that never fails
+
+judged_error : (e : DecodeError) (r : Refused) (v : Result ℕ Refusal) → AnswersError e r v → ¬ IsOfBackend e → JudgesError (error_for e r) (answer_of v)
+judged_error decode.NoNal r v a n = a
+judged_error decode.TruncatedNalu r v a n = a
+judged_error (decode.InvalidNaluType t) r v a n = a
+judged_error decode.OutOfBits r v a n = a
+judged_error (decode.OutOfRange table row) r v a n = a
+judged_error (decode.MissingPps id) r v a n = a
+judged_error decode.NoIndependentSlice r v a n = a
+judged_error (decode.ChangedMidPicture accepted named) r v a n = a
+judged_error decode.PocOutOfRange r v a n = a
+judged_error decode.DpbFull r v a n = a
+judged_error (decode.NotEnoughOutputBuffers frames) r v a n = absurd (n tt)
+judged_error decode.CheckEvents r v a n = a
+judged_error decode.PictureNumbersSpent r v a n = a
+judged_error decode.Backend r v a n = absurd (n tt)
+judged_error decode.NoMemory r v a n = tt
+
+pub judged_refused : {H : Type 0} (stream : List ℕ) (before now : Told H) (r : Refused) → Decodes default_options stream before now (Err r) → before.is_faultless → JudgesError (error_for r.error r) (ending stream)
+judged_refused stream before now r d faultless = judged_error r.error r (verdict (meanings default_options stream)) d.answer (d.honest.faultless faultless).1
+
+pub judged_ok : {H : Type 0} (stream : List ℕ) (before now : Told H) (n : ℕ) → Decodes default_options stream before now (Ok n) → IsOk (ending stream)
+judged_ok stream before now n d = subst IsOk (sym d.answer) refl
+
+-- never for want of a point
+pub isnt_number : (e : DecodeError) (r : Refused) → ¬ (error_for e r ≡ errors.NoSuchPoint)
+isnt_number decode.NoMemory r is = cc is
+isnt_number e r is = cc is

@@ -1,7 +1,4 @@
+mod Steps
 mod Judging
-mod Known
-mod Marks
 mod Passing
-mod Reading
 mod Spliced
-mod Texts

@@ -1,73 +1,172 @@
--- Where a pass over the units of a stream stands.
-use Rattle.std.proofs.Common.{◌≡◌, ◌≢◌, ℕ, ◌+◌, ◌<◌, ◌≤◌, List, [], ◌∷◌, ◌++◌, length, refl, sym, ap, subst, ◌∙◌, arith, append_assoc, append-nil, length-append, Option, Result, Ok, Err}
-use Rattle.std.specs.Prelude.{All, option_to_list}
-use Rattle.std.proofs.lemmas.List.Elements.{All-head, All-tail}
-use Rattle.hevc_spec.specs.UnitHeader.{UnitHeader}
+-- The points of the units that a decoder has taken.
+use Rattle.std.proofs.Common.{◌≡◌, ℕ, ◌+◌, List, [], ◌∷◌, ◌++◌, length, map, take, refl, sym, ap, ap₂, ◌∙◌, append_assoc, append-nil, length-append, zero-add, Option, Some, None, Result, Ok, Err}
+use Rattle.std.specs.Prelude.{option_to_list, slice_index_or, IsOk}
 use Rattle.hevc_spec.specs.Units.{NalUnit, kept_bytes, units, units_from}
-use Rattle.hevc_bits.specs.declared.header.UnitError.{UnitError}
-use Rattle.hevc_bits.specs.declared.header.UnitError.TheVariants as errors
-use Rattle.hevc_bits.specs.ParsedHeader.{answer_of, parsed_header}
-use Rattle.hevc_index_laws.specs.Points.{PlainPoint}
-use Rattle.hevc_index.specs.Finding.{Known, content_at, known_after, known_behind, point_begun, points_in, IsHeaded}
-use Rattle.hevc_index.proofs.Known.{known_more, points_more}
+use Rattle.hevc_walk.specs.Meanings.{Meaning}
+use Rattle.hevc_walk.specs.Pictures.{Stream, nothing_yet, pictures, stream, with_unit}
+use Rattle.hevc_walk_units.specs.Units.{Standing}
+use Rattle.hevc_walk_joined.proofs.Moment.{stream-last}
+use Rattle.hevc_walk_joined.specs.Standings.{standing}
+use Rattle.hevc_stream.specs.Kept.{none_kept}
+use Rattle.hevc_stream.specs.Options.{default_options}
+use Rattle.hevc_stream.specs.Stream.{meaning}
+use Rattle.hevc_backend.specs.declared.call.Call.{Call}
+use Rattle.hevc_backend.specs.Handed.{Handed}
+use Rattle.hevc_backend.specs.Trait.{Counts}
+use Rattle.hevc_stateless.specs.declared.decoder.StatelessDecoder.{StatelessDecoder}
+use Rattle.hevc_stateless.specs.Decoders.{view_of}
+use Rattle.hevc_stateless_laws.proofs.Keeping.{length_meant, meant_last}
+use Rattle.hevc_stateless_laws.specs.Stands.{kept_after, meant, standing_after}
+use Rattle.hevc_decoder.specs.declared.decoded.Refused.{Refused}
+use Rattle.hevc_decoder.specs.declared.decoded.Shown.{Shown}
+use Rattle.hevc_decoder.specs.Promise.{told}
+use Rattle.hevc_decoder.specs.Runs.{Reached}
+use Rattle.hevc_decoder.specs.Scenes.{Scene}
+use Rattle.hevc_decoder.specs.Stepping.{DecodesEnd, DecodesNext, StandsIn}
+use Rattle.hevc_index_laws.specs.Points.{points_of, PlainPoint}
+use Rattle.hevc_index.specs.Finding.{point_begun, StandsFirst}
+use Rattle.hevc_index.specs.Indexing.{ending, error_for, JudgesError}
+use Rattle.hevc_index.proofs.Judging.{judged_ok, judged_refused}
+use Rattle.hevc_index.proofs.Steps.{points_more, told_of}
 
--- after these units of a stream, the others being left
-pub record At (stream : List ℕ) (position : ℕ) (known : Known) (front : List NalUnit) : Type 0 where
-  pub whole : units stream ≡ front ++ units_from kept_bytes position stream
-  pub is_known : known ≡ known_after front
-  pub few : length front ≤ position
-  pub within : position ≤ length stream
+-- the place of unit k of a stream
+abbrev pub offset_in : List ℕ → ℕ → ℕ
+offset_in bytes k = slice_index_or (map (λ (u : NalUnit). u.offset) (units bytes)) k 0
 
-module _ (stream : List ℕ) (position next : ℕ) (known new : Known) (front : List NalUnit) (u : NalUnit) (at : At stream position known front) (first : units_from kept_bytes position stream ≡ u ∷ units_from kept_bytes next stream) (behind : new ≡ known_behind known u) (ahead : position < next) (within : next ≤ length stream) where
-  pub next_at : At stream next new (front ++ u ∷ [])
-  next_at = record {
-    whole = at.whole ∙ ap (λ (l : List NalUnit). front ++ l) first ∙ sym (append_assoc front (u ∷ []) (units_from kept_bytes next stream));
-    is_known = behind ∙ ap (λ (k : Known). known_behind k u) at.is_known ∙ known_more front u;
-    few = let long : length (front ++ u ∷ []) ≡ length front + 1 = length-append front (u ∷ []) in let few = at.few in omega (arith, long, few, ahead);
-    within = within;
-  }
+-- the points of its first units
+abbrev pub told_points : List ℕ → List NalUnit → List PlainPoint
+told_points bytes us = told_of (offset_in bytes) (pictures (meant default_options us))
 
--- the points so far, and those of one more unit
-pub more_points : (known : Known) (front : List NalUnit) (u : NalUnit) (point : Option PlainPoint) → known ≡ known_after front → point ≡ point_begun known u (content_at known u)
-    → points_in (front ++ u ∷ []) ≡ points_in front ++ option_to_list point
-more_points known front u point is begun =
-    points_more front u
-    ∙ ap (λ (o : Option PlainPoint). points_in front ++ option_to_list o) (sym (begun ∙ ap (λ (k : Known). point_begun k u (content_at k u)) is))
+pub take_front : (front us : List NalUnit) → take (length front) (front ++ us) ≡ front
+take_front [] us = refl
+take_front (u ∷ front) us = ap (λ (l : List NalUnit). u ∷ l) (take_front front us)
 
--- ---- the end
+-- ---- one more unit
 
-later_headed : (front us : List NalUnit) → All IsHeaded (front ++ us) → All IsHeaded us
-later_headed [] us all = all
-later_headed (u ∷ front) us all = later_headed front us (All-tail IsHeaded u (front ++ us) all)
+at_place : (front after : List NalUnit) (u : NalUnit) → slice_index_or (map (λ (w : NalUnit). w.offset) (front ++ u ∷ after)) (length front) 0 ≡ u.offset
+at_place [] after u = refl
+at_place (x ∷ front) after u = at_place front after u
 
-pub left_headed : (stream : List ℕ) (position : ℕ) (known : Known) (front : List NalUnit) → At stream position known front → All IsHeaded (units stream) → All IsHeaded (units_from kept_bytes position stream)
-left_headed stream position known front at all = later_headed front (units_from kept_bytes position stream) (subst (All IsHeaded) at.whole all)
+stream_last : (front : List NalUnit) (u : NalUnit)
+    → stream (meant default_options (front ++ u ∷ [])) ≡ with_unit (length front) (meaning default_options (kept_after default_options front) u.bytes) (stream (meant default_options front))
+stream_last front u =
+    let m : Meaning = meaning default_options (kept_after default_options front) u.bytes in
+    let ms : List Meaning = meant default_options front in
+    ap stream (meant_last default_options none_kept front u)
+    ∙ stream-last 0 nothing_yet ms m
+    ∙ ap (λ (k : ℕ). with_unit k m (stream ms)) (zero-add (length ms) ∙ length_meant default_options none_kept front)
 
-not_headed : (u : NalUnit) (e : UnitError) → IsHeaded u → parsed_header u.bytes ≡ Err e → ⊥
-not_headed u e headed parsed = let all : Path (Result UnitHeader UnitError) (Ok headed.0) (Err e) = sym (ap answer_of headed.1) ∙ parsed in cc all
+told_last : (bytes : List ℕ) (front after : List NalUnit) (u : NalUnit) → units bytes ≡ front ++ u ∷ after
+    → told_points bytes (front ++ u ∷ []) ≡ told_points bytes front ++ option_to_list (point_begun (standing_after (meant default_options front)).next.number (length front) u.offset (standing_after (meant default_options (front ++ u ∷ []))))
+told_last bytes front after u whole =
+    let m : Meaning = meaning default_options (kept_after default_options front) u.bytes in
+    let v : Stream = stream (meant default_options front) in
+    let place : offset_in bytes (length front) ≡ u.offset = ap (λ (us : List NalUnit). slice_index_or (map (λ (w : NalUnit). w.offset) us) (length front) 0) whole ∙ at_place front after u in
+    let last = stream_last front u in
+    ap (λ (w : Stream). told_of (offset_in bytes) w.pictures) last
+    ∙ points_more (offset_in bytes) (length front) m v
+    ∙ ap₂ (λ (n : ℕ) (w : Stream). told_of (offset_in bytes) v.pictures ++ option_to_list (point_begun (standing v).next.number (length front) n (standing w))) place (sym last)
 
--- where a search for the next unit ends, none is left
-pub none_left : (us : List NalUnit) (e : UnitError) → All IsHeaded us → (e ≡ errors.NoNal → us ≡ [])
-    → (e ≢ errors.NoNal → (u : NalUnit) × (others : List NalUnit) × (us ≡ u ∷ others) × (parsed_header u.bytes ≡ Err e))
-    → us ≡ []
-none_left us e all none refused = by_error e refl
-  where
-    absurdly : e ≢ errors.NoNal → us ≡ []
-    absurdly isnt =
-        let why = refused isnt in
-        absurd (not_headed why.0 e (All-head IsHeaded why.0 why.1 (subst (All IsHeaded) why.2 all)) why.3)
+-- ---- the units that were taken
 
-    by_error : (f : UnitError) → e ≡ f → us ≡ []
-    by_error errors.NoNal is = none is
-    by_error errors.TruncatedNalu is = absurdly (λ other. absurd (cc (sym is ∙ other)))
-    by_error (errors.InvalidNaluType n) is = absurdly (λ other. absurd (cc (sym is ∙ other)))
-    by_error errors.TemporalIdZero is = absurdly (λ other. absurd (cc (sym is ∙ other)))
+front_is : {B H : Type 0} (all : List NalUnit) (k : ℕ) (begin now : Scene B H) (left : List NalUnit) (x : Reached default_options all k begin now left) → x.front ≡ take k all
+front_is all k begin now left x = sym (ap₂ (λ (n : ℕ) (us : List NalUnit). take n us) (sym x.place) x.whole ∙ take_front x.front left)
 
-pub at_end : (stream : List ℕ) (position : ℕ) (known : Known) (front : List NalUnit) → At stream position known front → units_from kept_bytes position stream ≡ [] → units stream ≡ front
-at_end stream position known front at none = at.whole ∙ ap (λ (l : List NalUnit). front ++ l) none ∙ append-nil front
+module _ {B H P : Type 0} (log : B → Option (List (Call H))) (handed : B → Option (List Handed)) (counts : B → Counts) (is_faultless : B → Type 0) where
+  abbrev Stands : (bytes : List ℕ) (k : ℕ) (left : List NalUnit) (backend : B) (shown : List (Shown H)) (decoder : StatelessDecoder B H P) → Type 0
+  Stands bytes k left backend shown decoder = StandsIn log handed counts is_faultless default_options bytes k left backend shown decoder
 
--- the points of the units so far, of a stream
-pub record Collected (stream : List ℕ) (position : ℕ) (known : Known) (points : List PlainPoint) : Type 0 where
-  pub front : List NalUnit
-  pub at : At stream position known front
-  pub told : points ≡ points_in front
+  -- the points so far were told
+  pub record Collected (bytes : List ℕ) (position k : ℕ) (points : List PlainPoint) (decoder : StatelessDecoder B H P) : Type 0 where
+    pub backend : B
+    pub shown : List (Shown H)
+    pub stands : StandsIn log handed counts is_faultless default_options bytes k (units_from kept_bytes position bytes) backend shown decoder
+    pub faultless : is_faultless backend
+    pub told : points ≡ told_points bytes (take k (units bytes))
+
+  -- all points were told
+  pub record CollectedAll (bytes : List ℕ) (k : ℕ) (points : List PlainPoint) (decoder : StatelessDecoder B H P) : Type 0 where
+    pub backend : B
+    pub shown : List (Shown H)
+    pub stands : StandsIn log handed counts is_faultless default_options bytes k [] backend shown decoder
+    pub faultless : is_faultless backend
+    pub told : points ≡ points_of default_options bytes
+
+  pub collected_first : (bytes : List ℕ) (decoder : StatelessDecoder B H P) → StandsFirst log handed counts is_faultless bytes decoder → Collected bytes 0 0 [] decoder
+  collected_first bytes decoder first = record { backend = first.0; shown = []; stands = first.1; faultless = first.2; told = refl }
+
+  module _ (bytes : List ℕ) (k : ℕ) (before after : List NalUnit) (u : NalUnit) (backend : B) (gone shown : List (Shown H)) (old new : StatelessDecoder B H P) (here : Stands bytes k before backend gone old) (next : Stands bytes (k + 1) after backend shown new) (is : before ≡ u ∷ after) where
+    abbrev front : List NalUnit
+    front = here.reached.front
+
+    whole : units bytes ≡ front ++ u ∷ after
+    whole = here.reached.whole ∙ ap (λ (us : List NalUnit). front ++ us) is
+
+    next_front : next.reached.front ≡ front ++ u ∷ []
+    next_front =
+        let long : k + 1 ≡ length (front ++ u ∷ []) = ap (λ (n : ℕ). n + 1) (sym here.reached.place) ∙ sym (length-append front (u ∷ [])) in
+        front_is (units bytes) (k + 1) next.begin _ after next.reached
+        ∙ ap₂ (λ (n : ℕ) (us : List NalUnit). take n us) long (whole ∙ sym (append_assoc front (u ∷ []) after))
+        ∙ take_front (front ++ u ∷ []) after
+
+    pub told_more : told_points bytes (take (k + 1) (units bytes)) ≡ told_points bytes (take k (units bytes)) ++ option_to_list (point_begun (view_of old).standing.next.number k u.offset (view_of new).standing)
+    told_more =
+        ap (told_points bytes) (sym (front_is (units bytes) (k + 1) next.begin _ after next.reached) ∙ next_front)
+        ∙ told_last bytes front after u whole
+        ∙ ap (λ (us : List NalUnit). told_points bytes us ++ option_to_list (point_begun (standing_after (meant default_options front)).next.number (length front) u.offset (standing_after (meant default_options (front ++ u ∷ []))))) (front_is (units bytes) k here.begin _ before here.reached)
+        ∙ ap (λ (n : ℕ). told_points bytes (take k (units bytes)) ++ option_to_list (point_begun (standing_after (meant default_options front)).next.number n u.offset (standing_after (meant default_options (front ++ u ∷ []))))) here.reached.place
+        ∙ ap₂ (λ (s t : Standing). told_points bytes (take k (units bytes)) ++ option_to_list (point_begun s.next.number k u.offset t)) (sym here.reached.stands.stands) (sym (next.reached.stands.stands ∙ ap (λ (us : List NalUnit). standing_after (meant default_options us)) next_front))
+
+  -- where none is left, all points were told
+  pub told_all : (bytes : List ℕ) (k : ℕ) (backend : B) (shown : List (Shown H)) (decoder : StatelessDecoder B H P) → Stands bytes k [] backend shown decoder → told_points bytes (take k (units bytes)) ≡ points_of default_options bytes
+  told_all bytes k backend shown decoder here =
+      let whole : units bytes ≡ here.reached.front = here.reached.whole ∙ append-nil here.reached.front in
+      ap (told_points bytes) (sym (front_is (units bytes) k here.begin _ [] here.reached) ∙ sym whole)
+
+  -- ---- step by step
+
+  module _ {T : Type 0} (bytes : List ℕ) (position next k : ℕ) (points : List PlainPoint) (old new : StatelessDecoder B H P) (old_shown new_shown : List (Shown H)) (there : Collected bytes position k points old) where
+    abbrev Next : Result (Option T) Refused → Type 0
+    Next r = DecodesNext log handed counts is_faultless r bytes k (units_from kept_bytes position bytes) (units_from kept_bytes next bytes) old new old_shown new_shown
+
+    -- a unit, and the point that begins with it
+    pub collected_more : (t : T) (u : NalUnit) (more : List PlainPoint) → Next (Ok (Some t)) → units_from kept_bytes position bytes ≡ u ∷ units_from kept_bytes next bytes
+        → more ≡ points ++ option_to_list (point_begun (view_of old).standing.next.number k u.offset (view_of new).standing) → Collected bytes next (k + 1) more new
+    collected_more t u more x first is =
+        let stands = x.goes_on default_options there.backend there.shown there.stands in
+        record {
+          backend = there.backend;
+          shown = there.shown ++ x.out;
+          stands = stands;
+          faultless = there.faultless;
+          told =
+              is
+              ∙ ap (λ (ps : List PlainPoint). ps ++ option_to_list (point_begun (view_of old).standing.next.number k u.offset (view_of new).standing)) there.told
+              ∙ sym (told_more bytes k (units_from kept_bytes position bytes) (units_from kept_bytes next bytes) u there.backend there.shown (there.shown ++ x.out) old new there.stands stands first);
+        }
+
+    -- it is refused
+    pub collected_refused : (r : Refused) → Next (Err r) → JudgesError (error_for r.error r) (ending bytes)
+    collected_refused r x =
+        judged_refused bytes (told log handed counts is_faultless there.backend []) (told log handed counts is_faultless (view_of new).backend (there.shown ++ x.out)) r (x.goes_on default_options there.backend there.shown there.stands) there.faultless
+
+    -- there is none
+    pub collected_end : Next (Ok None) → CollectedAll bytes k points new
+    collected_end x =
+        let none = x.goes_on default_options there.backend there.shown there.stands in
+        record {
+          backend = there.backend;
+          shown = there.shown ++ x.out;
+          stands = none.1;
+          faultless = there.faultless;
+          told = there.told ∙ told_all bytes k there.backend (there.shown ++ x.out) new none.1;
+        }
+
+  module _ (bytes : List ℕ) (k : ℕ) (points : List PlainPoint) (old new : StatelessDecoder B H P) (old_shown new_shown : List (Shown H)) (there : CollectedAll bytes k points old) where
+    pub ended_refused : (r : Refused) → DecodesEnd log handed counts is_faultless (Err r) k old new old_shown new_shown → JudgesError (error_for r.error r) (ending bytes)
+    ended_refused r x =
+        judged_refused bytes (told log handed counts is_faultless there.backend []) (told log handed counts is_faultless (view_of new).backend (there.shown ++ x.out)) r (x.decodes default_options bytes there.backend there.shown there.stands) there.faultless
+
+    pub ended_ok : (n : ℕ) → DecodesEnd log handed counts is_faultless (Ok n) k old new old_shown new_shown → IsOk (ending bytes)
+    ended_ok n x =
+        judged_ok bytes (told log handed counts is_faultless there.backend []) (told log handed counts is_faultless (view_of new).backend (there.shown ++ x.out)) n (x.decodes default_options bytes there.backend there.shown there.stands)

@@ -5,12 +5,13 @@ ghost use Rattle.hevc_report.specs.Report.{refusal_line};
 ghost use Rattle.hevc_index.specs.declared.words.Request.TheVariants.{Points, Splice};
 ghost use Rattle.hevc_index.specs.Written.{status_of, written_of, BeginsAsAsked};
 
-use crate::lines::{no_point_line, points_text, refusal_line};
+use crate::lines::{no_point_line, points_text};
 use crate::point::IndexError;
 use crate::points::index;
 use crate::splicing::splice;
 use crate::words::Request;
 use hevc_decoder::Refused;
+use hevc_report::refusal_line;
 use std::alloc::{AllocError, Global};
 
 /// What is written, and the status.

@@ -2,7 +2,6 @@
 #![tactic(auto)]
 
 mod answer;
-mod finder;
 mod lines;
 mod point;
 mod points;

@@ -1,12 +1,10 @@
 //! The lines that are written.
 ghost use Rattle.std.specs.Prelude.{◌≡◌, ◌++◌, IfOk, OnOk, map};
 ghost use Rattle.std.specs.String.{string_bytes};
-ghost use Rattle.hevc_report.specs.Report.{cause_text, refusal_line};
 ghost use Rattle.hevc_index.specs.Indexing.{plain_point};
 ghost use Rattle.hevc_index.specs.Written.{no_point_line, point_line, points_text};
 
 use crate::point::Point;
-use hevc_decoder::{DecodeError, Refused};
 use std::alloc::{AllocError, Global};
 
 /// A line for each point, and a last one with their number.
@@ -48,40 +46,4 @@ pub(crate) fn no_point_line(alloc: Global, number: u64) -> Result<String, AllocE
     let mut line = String::new(alloc);
     writeln!(line, "no point {number}")?;
     Ok(line)
-}
-
-/// The line of a stream that is refused.
-#[tactic(auto, using(std::proofs::Common::append_assoc))]
-pub(crate) fn refusal_line(alloc: Global, refused: Refused) -> Result<String, AllocError>
-    ensures { IfOk result (λ line. string_bytes line ≡ refusal_line refused) }
-{
-    let unit = refused.unit;
-    let mut line = format!(in alloc; "refused unit {unit} ")?;
-    push_cause(&mut line, refused.error)?;
-    line.push_str("\n")?;
-    Ok(line)
-}
-
-/// Adds why it is refused.
-#[tactic(auto, using(std::proofs::Common::append_assoc))]
-fn push_cause(text: &mut String, error: DecodeError) -> Result<(), AllocError>
-    ensures { OnOk result (string_bytes text.new ≡ string_bytes text.old ++ cause_text error) }
-{
-    match error {
-        DecodeError::NoNal => text.push_str("NoNal"),
-        DecodeError::TruncatedNalu => text.push_str("TruncatedNalu"),
-        DecodeError::InvalidNaluType(number) => write!(text, "InvalidNaluType {number}"),
-        DecodeError::OutOfBits => text.push_str("OutOfBits"),
-        DecodeError::OutOfRange { table, row } => write!(text, "OutOfRange {table} {row}"),
-        DecodeError::MissingPps(id) => write!(text, "MissingPps {id}"),
-        DecodeError::NoIndependentSlice => text.push_str("NoIndependentSlice"),
-        DecodeError::ChangedMidPicture { .. } => text.push_str("ChangedMidPicture"),
-        DecodeError::PocOutOfRange => text.push_str("PocOutOfRange"),
-        DecodeError::DpbFull => text.push_str("DpbFull"),
-        DecodeError::NotEnoughOutputBuffers(_) => text.push_str("NotEnoughOutputBuffers"),
-        DecodeError::CheckEvents => text.push_str("CheckEvents"),
-        DecodeError::PictureNumbersSpent => text.push_str("PictureNumbersSpent"),
-        DecodeError::Backend => text.push_str("Backend"),
-        DecodeError::NoMemory => text.push_str("NoMemory"),
-    }
 }

@@ -2,7 +2,7 @@
 ghost use Rattle.std.specs.Prelude.{◌≡◌};
 
 use hevc_bits::NaluType;
-use hevc_decoder::Refused;
+use hevc_decoder::{DecodeError, Refused};
 use std::alloc::AllocError;
 use thiserror::Error;
 
@@ -41,5 +41,18 @@ impl From<AllocError> for IndexError {
 
     fn from(_error: AllocError) -> IndexError {
         IndexError::NoMemory
+    }
+}
+
+impl From<Refused> for IndexError {
+    ghost use Rattle.hevc_index.specs.Indexing.{error_for};
+
+    ghost from_gives = { λ refused e. e ≡ error_for refused.error refused };
+
+    fn from(refused: Refused) -> IndexError {
+        match refused.error {
+            DecodeError::NoMemory => IndexError::NoMemory,
+            _ => IndexError::Refused(refused),
+        }
     }
 }

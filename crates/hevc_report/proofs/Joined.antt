@@ -107,7 +107,7 @@ whole_error us log shown k errors.NoMemory b m c o a = absurd (m tt)
 whole_error us log shown k errors.DpbFull b m c o a = record { calls_are = submission_first k _ _ c; outputs_are = o; answer_is = a }
 whole_error us log shown k error b m c o a = record { calls_are = c; outputs_are = o; answer_is = a }
 
--- an answer that is neither a failed backend nor want of memory
+-- an answer that is neither a failed backend nor a failed allocation
 whole : (us : List Meaning) (log : List (Call ℕ)) (shown : List (Shown ℕ)) (result : Result ℕ Refused) → IsNotOfBackend (without_unit result) → ¬ WantsMemory result
     → EndsCalls result (map call_of log) (calls us) → EndsOutputs result (map output_picture shown) (outputs us) → AnswersVerdict result (verdict us) → IsWhole us log shown result
 whole us log shown (Ok n) b m c o a = record { calls_are = c; outputs_are = o; answer_is = a }
@@ -183,7 +183,7 @@ summary_is options stream empty after log none given shown result o p q r s b m 
 
 -- ---- what a report tells
 
--- what is decoded, or wants memory, and doesn't, is decoded
+-- what is decoded unless an allocation fails, and none does, is decoded
 pub decoded_whole : (result : Result ℕ Refused) → IsOkOrNoMemory result → ¬ WantsMemory result → is_ok result ≡ true
 decoded_whole (Ok n) h m = refl
 decoded_whole (Err refused) h m = absurd (m h)

@@ -8,7 +8,7 @@ use Rattle.hevc_backend.specs.declared.call.Call.TheVariants.{NewSequence, NewPi
 use Rattle.hevc_backend.specs.Handles.{handle_of, handles}
 use Rattle.hevc_report.specs.Lines.{log_line}
 
--- one more call, and its line behind the text
+-- one more call, and its line after the text
 pub lines_more : (log : List (Call ℕ)) (call : Call ℕ) {text line longer : List ℕ} → text ≡ flat_map log_line log → line ≡ log_line call → longer ≡ text ++ line → longer ≡ flat_map log_line (log ++ call ∷ [])
 lines_more log call {text} {line} so_far is more =
     let last : log_line call ++ [] ≡ line = append-nil (log_line call) ∙ sym is in

@@ -15,7 +15,7 @@ pub record IsWithin (n : ℕ) : Type 0 where
   pub some : 1 ≤ n
   pub few : n ≤ 100000
 
--- digits behind a number make it no smaller, and up to 100000
+-- digits after a number make it no smaller, and up to 100000
 within : (n : ℕ) (digits : List ℕ) (m : ℕ) → IsWithin n → digits_behind n digits ≡ Some m → IsWithin m
 within n [] m is e =
     let same : n ≡ m = cc in

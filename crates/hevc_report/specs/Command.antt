@@ -30,7 +30,7 @@ command (layer ∷ digit ∷ []) = with_layer layer digit
 command (layer ∷ digit ∷ cra ∷ []) = option_and_then (with_cra cra) (with_layer layer digit)
 command words = None
 
--- the number up to 100000 that decimal digits spell behind a number; 48 is the code of 0
+-- the number up to 100000 that decimal digits spell after a number; 48 is the code of 0
 abbrev pub digits_behind : ℕ → List ℕ → Option ℕ
 digits_behind n [] = Some n
 digits_behind n (code ∷ codes) =

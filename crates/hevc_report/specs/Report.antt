@@ -41,7 +41,7 @@ place_text None = codes "x"
 place_text (Some CurrentPicture) = codes "c"
 place_text (Some (DpbEntry number)) = decimal number
 
--- places, each behind a comma
+-- places, each after a comma
 abbrev pub more_places : List (Option RefPicListEntry) → List ℕ
 more_places places = flat_map (λ place. codes "," ++ place_text place) places
 
@@ -75,7 +75,7 @@ call_line handle (DecodeSlice number address bytes list0 list1) =
     slice_line number address (length bytes) list0 list1
 call_line handle (SubmitPicture number) = submission_line number handle
 
--- the next handle behind a call; a submission takes one
+-- the next handle after a call; a submission takes one
 abbrev pub handle_behind : ℕ → Call → ℕ
 handle_behind handle (NewSequence format) = handle
 handle_behind handle (NewPicture number nal_unit_type order_count output timestamp) = handle
@@ -83,7 +83,7 @@ handle_behind handle (BeginPicture number set) = handle
 handle_behind handle (DecodeSlice number address bytes list0 list1) = handle
 handle_behind handle (SubmitPicture number) = handle + 1
 
--- the lines of these calls, whose submissions get this handle and those behind it, in order
+-- the lines of these calls, whose submissions get this handle and those after it, in order
 abbrev pub calls_text : ℕ → List Call → List ℕ
 calls_text handle [] = []
 calls_text handle (call ∷ calls) =

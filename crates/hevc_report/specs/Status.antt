@@ -16,7 +16,7 @@ IsDone status = (status ≡ 0) ⊎ (status ≡ 1) ⊎ (status ≡ 5)
 abbrev pub IsMade : ℕ → Type 0
 IsMade status = (status ≡ 0) ⊎ (status ≡ 1) ⊎ (status ≡ 4) ⊎ (status ≡ 5)
 
--- the decoding ended for want of memory
+-- the decoding ended since an allocation failed
 abbrev pub WantsMemory : Result ℕ Refused → Type 0
 WantsMemory (Ok pictures) = ⊥
 WantsMemory (Err refused) = IsNoMemory refused.error

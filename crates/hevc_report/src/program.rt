@@ -35,7 +35,7 @@ pub(crate) struct Report {
 }
 
 /// Decodes the source's stream as it comes, over a backend that reports its calls, and writes the report. `words`
-/// are those of the command line behind the program's name; they are a command, which tells the options
+/// are those of the command line after the program's name; they are a command, which tells the options
 /// that the stream is decoded with, or are refused. By `make N` a made stream of N pictures, from 1 to 100000,
 /// takes the place of the source's, and one line that of the report. Answers the status of the program:
 ///
@@ -57,7 +57,7 @@ pub fn run<S: Source, K: Sink>(alloc: Global, words: &[Word], source: &mut S, si
         Appends (K.written sink.old) (K.written sink.new) (report_of options s)
         × (result ≡ status_of (ending_of options s))
         × Tells INPUT_LIMIT options s (result == 0))) }
-    // Whatever the status, what was written is a front of that report; on any but 0 and 1 not the whole.
+    // Whatever the status, what was written is a prefix of that report; on any but 0 and 1 not the whole.
     ensures part { IfSome (command words.now) (λ options. IfSome (S.left source.old) (λ s.
         AppendsPrefix (K.written sink.old) (K.written sink.new) (report_of options s))) }
     ensures less { IfSome (command words.now) (λ options. 1 < result
@@ -80,7 +80,7 @@ pub fn run<S: Source, K: Sink>(alloc: Global, words: &[Word], source: &mut S, si
         (s : List ℕ) → S.left source.old ≡ Some s → length s ≤ INPUT_LIMIT
         → ¬ (Rose (S.faults source.old) (S.faults source.new))
         → ¬ (Rose (K.faults sink.old) (K.faults sink.new)) → IsDone result) }
-    // Of a clean stream, then, nothing but memory is wanted.
+    // A clean stream, then, is decoded unless an allocation fails.
     ensures clean { IfSome (command words.now) (λ options.
         (s : List ℕ) → S.left source.old ≡ Some s → length s ≤ INPUT_LIMIT
         → IsClean (meanings options s)
@@ -94,12 +94,12 @@ pub fn run<S: Source, K: Sink>(alloc: Global, words: &[Word], source: &mut S, si
     ensures make_whole { IfSome (pictures_to_make words.now) (λ n. result ≤ 1
         → Appends (K.written sink.old) (K.written sink.new) (summary_of (made n))
         × (result ≡ status_of (ending_of default_options (made n)))) }
-    // Whatever the status, a front of that line was written; on any but 0 and 1 not the whole.
+    // Whatever the status, a prefix of that line was written; on any but 0 and 1 not the whole.
     ensures make_part { IfSome (pictures_to_make words.now) (λ n.
         AppendsPrefix (K.written sink.old) (K.written sink.new) (summary_of (made n))) }
     ensures make_less { IfSome (pictures_to_make words.now) (λ n. 1 < result
         → AppendsLess (K.written sink.old) (K.written sink.new) (summary_of (made n))) }
-    // Of a clean one, where the sink doesn't fail, nothing but memory is wanted.
+    // A clean one, where the sink doesn't fail, is decoded unless an allocation fails.
     ensures make_clean { IfSome (pictures_to_make words.now) (λ n.
         IsClean (meanings default_options (made n))
         → ¬ (Rose (K.faults sink.old) (K.faults sink.new)) → (result ≡ 0) ⊎ (result ≡ 5)) }
@@ -172,7 +172,7 @@ fn report_on<S: Source>(alloc: Global, options: Options, source: &mut S) -> Resu
     })
 }
 
-/// Whether the decoding ended for want of memory.
+/// Whether the decoding ended since an allocation failed.
 pub(crate) fn wants_memory(answer: Result<u64, Refused>) -> bool
     ensures { IsTrue result ↔ WantsMemory answer }
 {

@@ -19,7 +19,7 @@ use line::push_shown;
 use std::alloc::AllocError;
 pub(crate) use summary::summary_text;
 
-/// Adds what stands behind the lines of the calls: those of these outputs, and the last one for this result.
+/// Adds what comes after the lines of the calls: those of these outputs, and the last one for this result.
 #[tactic(auto, using(std::proofs::Common::append_assoc))]
 pub(crate) fn push_rest(
     text: &mut String,

@@ -16,16 +16,16 @@ use hevc_types_d::{Pps, Slice};
 use std::alloc::Global;
 use std::marker::Model;
 
-/// A backend that decodes nothing, and writes the line of each call as it comes. It fails for want of memory alone,
+/// A backend that decodes nothing, and writes the line of each call as it comes. It fails only where an allocation does,
 /// and always has 16 free frames.
 ///
-/// It keeps no call: its log stands in proofs alone. Its pictures are their numbers, and its handles are 0, 1, 2
+/// It keeps no call: its log is there in proofs alone. Its pictures are their numbers, and its handles are 0, 1, 2
 /// and so on, in the order of submission.
 #[derive(Drop)]
 pub(crate) struct ReportBackend {
     /// The lines of the calls.
     text: String,
-    /// The line of one call, before it stands in the text.
+    /// The line of one call, before it is in the text.
     line: String,
     /// How many pictures were submitted: the next handle.
     submitted: u64,

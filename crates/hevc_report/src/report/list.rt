@@ -26,7 +26,7 @@ pub(crate) fn push_list(
     }
 }
 
-/// Adds places, each behind a comma.
+/// Adds places, each after a comma.
 fn push_more(text: &mut String, places: &[Option<RefPicListEntry>]) -> Result<(), AllocError>
     ensures { OnOk result
         (string_bytes text.new ≡ string_bytes text.old ++ more_places (plain_places places.now)) }

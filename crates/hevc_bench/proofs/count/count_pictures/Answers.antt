@@ -4,7 +4,7 @@ use Rattle.hevc_stream.specs.Stream.{meanings}
 use Rattle.hevc_bench.proofs.Answered.{answered_if}
 use Rattle.hevc_bench.proofs.count.count_pictures.Goals as goal
 
--- the backend keeps nothing and never fails, so the answer is the verdict, unless memory is wanted
+-- the backend keeps nothing and never fails, so the answer is the verdict, unless an allocation fails
 pub returns : goal.returns
 returns c =
     let decoded = c.decode_stream-decoded in

@@ -3,7 +3,7 @@ use Rattle.hevc_spec.specs.Units.{units, units_from, kept_bytes}
 use Rattle.hevc_bench.specs.Counts.{count_of_units}
 use Rattle.hevc_bench.proofs.count.count_units.Given as goal
 
--- so many units were counted, and the rest stands from the position on
+-- so many units were counted, and the rest is from the position on
 abbrev pub invariant-loop-unit : goal.invariant-loop-unit
 invariant-loop-unit l = record {
   within : l.position ≤ length l.stream;

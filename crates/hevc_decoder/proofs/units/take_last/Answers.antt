@@ -5,6 +5,7 @@ use Rattle.hevc_stream.specs.Options.{Options}
 use Rattle.hevc_stateless.specs.Decoders.{set_for}
 use Rattle.hevc_decoder.specs.Scenes.{scene}
 use Rattle.hevc_decoder.specs.Runs.{Reached, EndsRun}
+use Rattle.hevc_decoder.proofs.Nexts.{ended_here}
 use Rattle.hevc_decoder.proofs.units.take_last.Goals as goal
 
 pub returns-in_err-unit-clause-ends : goal.returns-in_err-unit-clause-ends
@@ -20,5 +21,5 @@ returns-clause-ends g c begin all x =
     let before = scene logs handeds c.args.decoder.now c.args.shown.now.items in
     let mid = scene logs handeds c.take_piece.new.decoder c.take_piece.new.shown.items in
     let there : Reached (set_for c.args.decoder.now) all c.in_ok-unit.unit begin mid [] = c.in_ok-unit.ensures.takes begin all [] (subst (λ us. Reached (set_for c.args.decoder.now) all c.args.first begin before us) (sym (append-nil (units c.args.piece.now))) x) in
-    let ended : EndsRun c.finish.result (set_for c.args.decoder.now) c.in_ok-unit.unit [] mid (scene logs handeds c.finish.new.decoder c.finish.new.shown.items) = subst (λ (o : Options). EndsRun c.finish.result o c.in_ok-unit.unit [] mid (scene logs handeds c.finish.new.decoder c.finish.new.shown.items)) c.take_piece.ensures.options c.finish.ensures.ends in
+    let ended : EndsRun c.finish.result (set_for c.args.decoder.now) c.in_ok-unit.unit [] mid (scene logs handeds c.finish.new.decoder c.finish.new.shown.items) = subst (λ (o : Options). EndsRun c.finish.result o c.in_ok-unit.unit [] mid (scene logs handeds c.finish.new.decoder c.finish.new.shown.items)) c.take_piece.ensures.options (ended_here (set_for c.take_piece.new.decoder) c.in_ok-unit.unit c.finish.result mid (scene logs handeds c.finish.new.decoder c.finish.new.shown.items) c.finish.ensures.ends) in
     ended begin all there

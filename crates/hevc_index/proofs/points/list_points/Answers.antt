@@ -1,47 +1,89 @@
-use Rattle.std.proofs.Common.{◌≡◌, ◌<◌, ◌≤◌, ◌+◌, ◌++◌, [], ◌∷◌, List, map, rules, arith, refl, sym, ap, ◌∙◌, append-nil, length, Err, Option}
+use Rattle.std.proofs.Common.{◌≡◌, ◌<◌, ◌++◌, [], ◌∷◌, List, ℕ, map, arith, refl, sym, ap, ap₂, ◌∙◌, append-nil, Option}
 use Rattle.std.specs.Prelude.{option_map, option_to_list}
 use Rattle.std.proofs.lemmas.List.{map-append}
+use Rattle.std.proofs.lemmas.Result.{err_from_is_err_and}
 use Rattle.hevc_spec.specs.Units.{kept_bytes, units_from}
 use Rattle.hevc_bits.specs.FoundUnit.{unit_of}
+use Rattle.hevc_stateless.specs.Decoders.{view_of}
 use Rattle.hevc_index_laws.specs.Points.{PlainPoint}
-use Rattle.hevc_index.specs.Finding.{known_by, points_in}
+use Rattle.hevc_index.specs.Finding.{point_begun}
 use Rattle.hevc_index.specs.Indexing.{plain_point}
 use Rattle.hevc_index.specs.declared.point.Point.{Point}
-use Rattle.hevc_index.proofs.Passing.{at_end, left_headed, more_points, next_at, none_left}
-use Rattle.hevc_index.proofs.points.list_points.Goals.{in-Some+in_ok-push, in_default-2}
+use Rattle.hevc_index.proofs.Passing.{collected_end, collected_first, collected_more, collected_refused, ended_ok, ended_refused}
+use Rattle.hevc_index.proofs.points.list_points.Goals.{in-Some-point_begun+in_ok-push, in_default-point_begun}
 use Rattle.hevc_index.proofs.points.list_points.Goals as goal
 
-pub loop-nalu-preserved : goal.loop-nalu-preserved
-loop-nalu-preserved c =
+pub loop-shown-init : goal.loop-shown-init
+loop-shown-init g c = record {
+  within = omega arith;
+  few = omega arith;
+  empty = c.requires.empty;
+  collected = rw c.new-points.ensures (collected_first g.B.StatelessH265DecoderBackend.log g.B.StatelessH265DecoderBackend.handed g.B.StatelessH265DecoderBackend.counts g.B.StatelessH265DecoderBackend.is_faultless c.args.stream.now c.args.decoder.now c.requires.first);
+}
+
+pub loop-shown-preserved : goal.loop-shown-preserved
+loop-shown-preserved g c =
     let stream = c.args.stream.now in
-    let before = c.loop-nalu.invariant in
-    let u = unit_of c.in-Ok.nalu in
-    let point = c.in_ok-point.field-0 in
-    let first : units_from kept_bytes c.loop-nalu.position stream ≡ u ∷ units_from kept_bytes (c.offset.result + c.size.result) stream = rw (c.offset.ensures.value, c.size.ensures.value) c.in-Ok.ensures.first in
-    let ahead : c.loop-nalu.position < c.offset.result + c.size.result = (let far = c.in-Ok.ensures.ahead in let at = c.offset.ensures.value in omega (arith, far, at)) in
-    let within : c.offset.result + c.size.result ≤ length stream = search rules in
-    let added : map plain_point c.match-branch-2.points ≡ map plain_point c.loop-nalu.points ++ option_to_list (option_map plain_point point) =
-    (elim c.match-branch-2.branch [
-      | in-Some+in_ok-push w ↦
+    let nalu = c.in-Some.nalu in
+    let k = c.loop-shown.unit in
+    let new = c.decode_next_unit.new.decoder in
+    let before : List PlainPoint = map plain_point c.loop-shown.points in
+    let first : units_from kept_bytes c.loop-shown.position stream ≡ unit_of nalu ∷ units_from kept_bytes c.decode_next_unit.new.position stream = rw c.in-Some.is at c.in_ok-next.ensures.next in
+    let moves : c.loop-shown.position < c.decode_next_unit.new.position = rw c.in-Some.is at c.in_ok-next.ensures.moves in
+    let few = c.loop-shown.invariant.few in
+    let added : map plain_point c.match-point_begun.points ≡ before ++ option_to_list (option_map plain_point c.point_begun.result) =
+    (elim c.match-point_begun.branch [
+      | in-Some-point_begun+in_ok-push w ↦
           ap (map plain_point) (rw w.points-is w.in_ok-push.ensures.pushed)
-          ∙ map-append plain_point c.loop-nalu.points (w.in-Some.point ∷ [])
-          ∙ ap (λ (o : Option Point). map plain_point c.loop-nalu.points ++ option_to_list (option_map plain_point o)) (sym w.in-Some.is)
-      | in_default-2 w ↦
+          ∙ map-append plain_point c.loop-shown.points (w.in-Some-point_begun.point ∷ [])
+          ∙ ap (λ (o : Option Point). before ++ option_to_list (option_map plain_point o)) (sym w.in-Some-point_begun.is)
+      | in_default-point_begun w ↦
           ap (map plain_point) (rw w.points-is refl)
-          ∙ sym (append-nil (map plain_point c.loop-nalu.points))
-          ∙ ap (λ (o : Option Point). map plain_point c.loop-nalu.points ++ option_to_list (option_map plain_point o)) (sym w.in_default-2.is)
+          ∙ sym (append-nil before)
+          ∙ ap (λ (o : Option Point). before ++ option_to_list (option_map plain_point o)) (sym w.in_default-point_begun.is)
     ]) in
+    let begun : option_map plain_point c.point_begun.result ≡ point_begun (view_of c.loop-shown.decoder).standing.next.number k nalu.offset (view_of new).standing =
+    c.point_begun.ensures ∙ ap₂ (λ (n offset : ℕ). point_begun n k offset (view_of new).standing) c.num_pictures-pictures.ensures c.offset.ensures.value in
     record {
-      front = before.front ++ u ∷ [];
-      at = next_at stream c.loop-nalu.position (c.offset.result + c.size.result) (known_by c.loop-nalu.finder) (known_by c.take.new.self) before.front u before.at first c.in_ok-point.ensures.behind ahead within;
-      told = added ∙ ap (λ (l : List PlainPoint). l ++ option_to_list (option_map plain_point point)) before.told ∙ sym (more_points (known_by c.loop-nalu.finder) before.front u (option_map plain_point point) before.at.is_known c.in_ok-point.ensures.point);
+      within = c.in_ok-next.ensures.within;
+      few = omega (arith, few, moves);
+      empty = c.in_ok-next.ensures.empty;
+      collected =
+          collected_more g.B.StatelessH265DecoderBackend.log g.B.StatelessH265DecoderBackend.handed g.B.StatelessH265DecoderBackend.counts g.B.StatelessH265DecoderBackend.is_faultless
+          stream c.loop-shown.position c.decode_next_unit.new.position k before c.loop-shown.decoder new c.loop-shown.shown.items c.decode_next_unit.new.shown.items c.loop-shown.invariant.collected
+          nalu (unit_of nalu) (map plain_point c.match-point_begun.points) (rw c.in-Some.is at c.in_ok-next.ensures.decodes) first (added ∙ ap (λ (o : Option PlainPoint). before ++ option_to_list o) begun);
     }
 
-pub returns : goal.returns
-returns c =
-    let stream = c.args.stream.now in
-    let before = c.loop-nalu.invariant in
-    let left = left_headed stream c.loop-nalu.position (known_by c.loop-nalu.finder) before.front before.at c.requires.headed in
-    let e = c.in_default.field-0 in
-    let none = none_left (units_from kept_bytes c.loop-nalu.position stream) e left (λ is. c.in_default.ensures.none.0 (ap Err is)) c.in_default.ensures.refused in
-    before.told ∙ ap points_in (sym (at_end stream c.loop-nalu.position (known_by c.loop-nalu.finder) before.front before.at none))
+pub returns-in_err-next-clause-refused : goal.returns-in_err-next-clause-refused
+returns-in_err-next-clause-refused g c =
+    let p = err_from_is_err_and c.from_residual.result c.from_residual.ensures.1 in
+    rw (p.1, p.2)
+    (collected_refused g.B.StatelessH265DecoderBackend.log g.B.StatelessH265DecoderBackend.handed g.B.StatelessH265DecoderBackend.counts g.B.StatelessH265DecoderBackend.is_faultless
+    c.args.stream.now c.loop-shown.position c.decode_next_unit.new.position c.loop-shown.unit (map plain_point c.loop-shown.points) c.loop-shown.decoder c.decode_next_unit.new.decoder c.loop-shown.shown.items c.decode_next_unit.new.shown.items c.loop-shown.invariant.collected
+    _ c.in_err-next.ensures.decodes)
+
+pub returns-in_err-end_stream-clause-refused : goal.returns-in_err-end_stream-clause-refused
+returns-in_err-end_stream-clause-refused g c =
+    let p = err_from_is_err_and c.from_residual-in_err-end_stream.result c.from_residual-in_err-end_stream.ensures.1 in
+    rw (p.1, p.2)
+    (ended_refused g.B.StatelessH265DecoderBackend.log g.B.StatelessH265DecoderBackend.handed g.B.StatelessH265DecoderBackend.counts g.B.StatelessH265DecoderBackend.is_faultless
+    c.args.stream.now c.loop-shown.unit (map plain_point c.loop-shown.points) c.decode_next_unit.new.decoder c.end_stream.new.decoder c.decode_next_unit.new.shown.items c.end_stream.new.shown.items
+    (collected_end g.B.StatelessH265DecoderBackend.log g.B.StatelessH265DecoderBackend.handed g.B.StatelessH265DecoderBackend.counts g.B.StatelessH265DecoderBackend.is_faultless
+    c.args.stream.now c.loop-shown.position c.decode_next_unit.new.position c.loop-shown.unit (map plain_point c.loop-shown.points) c.loop-shown.decoder c.decode_next_unit.new.decoder c.loop-shown.shown.items c.decode_next_unit.new.shown.items c.loop-shown.invariant.collected
+    (rw c.in_default.is at c.in_ok-next.ensures.decodes))
+    _ c.in_err-end_stream.ensures.decodes)
+
+pub returns-in_default-clause-points : goal.returns-in_default-clause-points
+returns-in_default-clause-points g c =
+    (collected_end g.B.StatelessH265DecoderBackend.log g.B.StatelessH265DecoderBackend.handed g.B.StatelessH265DecoderBackend.counts g.B.StatelessH265DecoderBackend.is_faultless
+    c.args.stream.now c.loop-shown.position c.decode_next_unit.new.position c.loop-shown.unit (map plain_point c.loop-shown.points) c.loop-shown.decoder c.decode_next_unit.new.decoder c.loop-shown.shown.items c.decode_next_unit.new.shown.items c.loop-shown.invariant.collected
+    (rw c.in_default.is at c.in_ok-next.ensures.decodes)).told
+
+pub returns-in_default-clause-refused : goal.returns-in_default-clause-refused
+returns-in_default-clause-refused g c =
+    ended_ok g.B.StatelessH265DecoderBackend.log g.B.StatelessH265DecoderBackend.handed g.B.StatelessH265DecoderBackend.counts g.B.StatelessH265DecoderBackend.is_faultless
+    c.args.stream.now c.loop-shown.unit (map plain_point c.loop-shown.points) c.decode_next_unit.new.decoder c.end_stream.new.decoder c.decode_next_unit.new.shown.items c.end_stream.new.shown.items
+    (collected_end g.B.StatelessH265DecoderBackend.log g.B.StatelessH265DecoderBackend.handed g.B.StatelessH265DecoderBackend.counts g.B.StatelessH265DecoderBackend.is_faultless
+    c.args.stream.now c.loop-shown.position c.decode_next_unit.new.position c.loop-shown.unit (map plain_point c.loop-shown.points) c.loop-shown.decoder c.decode_next_unit.new.decoder c.loop-shown.shown.items c.decode_next_unit.new.shown.items c.loop-shown.invariant.collected
+    (rw c.in_default.is at c.in_ok-next.ensures.decodes))
+    _ c.in_ok-end_stream.ensures.decodes

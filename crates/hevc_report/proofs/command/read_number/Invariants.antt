@@ -2,7 +2,7 @@ use Rattle.std.proofs.Common.{◌≡◌, ◌≤◌, drop}
 use Rattle.hevc_report.specs.Command.{digits_behind, number_of_pictures}
 use Rattle.hevc_report.proofs.command.read_number.Given as goal
 
--- the digits that are left stand behind the number
+-- the digits that are left come after the number
 abbrev pub invariant-loop-digit : goal.invariant-loop-digit
 invariant-loop-digit l = record {
   few : l.number ≤ 100000;

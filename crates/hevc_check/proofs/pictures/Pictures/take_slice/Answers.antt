@@ -11,12 +11,12 @@ returns-clause-takes c pps =
     let v = c.args.self.now in
     let o = c.args.options in
     let s = slice_of o c.args.slice.now c.args.sps.now pps in
-    let t = slice_of o c.complete.new.slice c.args.sps.now pps in
+    let t = slice_of o c.complete_header.new.slice c.args.sps.now pps in
     let kept = ap (λ (w : Place). w.kept) c.self.view_is in
     let latest = ap (λ (w : Place). w.latest) c.self.view_is in
-    let whole = ap (λ (k : Option KeptHeader). whole_slice k s) (sym kept) ∙ c.complete.ensures.whole o pps in
+    let whole = ap (λ (k : Option KeptHeader). whole_slice k s) (sym kept) ∙ c.complete_header.ensures.whole o pps in
     let begins = c.begins_picture.ensures o c.args.sps.now pps ∙ ap (begins_picture t) latest in
-    let keeps = c.keep.ensures o c.args.sps.now pps ∙ c.complete.ensures.kept o pps (option_map kept_of c.self.inside.kept) ∙ ap (λ (k : Option KeptHeader). kept_header k s) kept in
+    let keeps = c.keep_header.ensures.kept o c.args.sps.now pps ∙ c.complete_header.ensures.kept o pps (option_map kept_of c.self.inside.kept) ∙ ap (λ (k : Option KeptHeader). kept_header k s) kept in
     let told = c.in_ok-begun.ensures.begun pps in
-    told_first v _ c.begin.new.self s t c.in_ok-begun.begun (first_is s t v.kept v.latest c.complete.result c.begins_picture.result whole c.if-not-complete.false begins c.if-not-begins_picture.false)
-    (ap (λ (w : Place). record w { kept = option_map kept_of c.keep.new.kept }) c.self.view_is ∙ ap (λ (k : Option KeptHeader). record v { kept = k }) keeps) told.0 told.1
+    told_first v _ c.begin.new.self s t c.in_ok-begun.begun (first_is s t v.kept v.latest c.complete_header.result c.begins_picture.result whole c.if-not-complete_header.false begins c.if-not-begins_picture.false)
+    (ap (λ (w : Place). record w { kept = option_map kept_of c.keep_header.new.kept }) c.self.view_is ∙ ap (λ (k : Option KeptHeader). record v { kept = k }) keeps) told.0 told.1
