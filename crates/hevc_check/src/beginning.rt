@@ -52,7 +52,8 @@ pub(crate) fn head_of_first(
     })
 }
 
-/// Whether a picture isn't decoded: RASL, where the latest IRAP picture has NoRaslOutputFlag (8.1.3).
+/// Whether a picture isn't decoded: RASL, where the latest IRAP picture has NoRaslOutputFlag
+/// (8.1.3).
 fn is_skipped(nalu_type: NaluType, latest_irap_no_rasl: bool) -> bool
     ensures { result ≡ (is_rasl (nalu_type_number nalu_type) && latest_irap_no_rasl) }
 {

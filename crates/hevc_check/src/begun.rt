@@ -14,8 +14,8 @@ pub(crate) struct Begun {
     pub(crate) stored: Stored,
 }
 
-/// What stays stored as a picture is to be decoded, before any is output for want of room (C.5.2.2);
-/// nothing where it is skipped.
+/// What stays stored as a picture is to be decoded, before any is output for want of room
+/// (C.5.2.2); nothing where it is skipped.
 #[derive(Clone, Copy)]
 pub(crate) struct Stored {
     /// How many pictures.

@@ -8,8 +8,8 @@ ghost use Rattle.hevc_check.specs.Late.{back, late_by, AreHighest};
 use crate::filled::higher_of;
 use std::alloc::{AllocError, Global};
 
-/// For each decoded picture of a sequence the highest order count, up to it, of those that are to be
-/// output.
+/// For each decoded picture of a sequence the highest order count, up to it, of those that are to
+/// be output.
 #[derive(Drop)]
 pub(crate) struct HighestCounts {
     counts: Vec<Option<i32>>,
@@ -56,8 +56,8 @@ impl HighestCounts {
         Ok(())
     }
 
-    /// Whether an order count is lower than that of a picture which is to be output, and after which
-    /// at least so many are decoded.
+    /// Whether an order count is lower than that of a picture which is to be output, and after
+    /// which at least so many are decoded.
     pub(crate) fn has_higher(&self, count: i32, decoded: usize) -> bool
         ensures { (es : List Picture) → AreHighest es self.now
             → result ≡ late_by count decoded es }

@@ -29,15 +29,16 @@ pub(crate) fn checked_line(alloc: Global, checked: Checked) -> Result<String, Al
 
 /// The line where nothing is broken: how many sequences and pictures there are.
 fn yes_line(alloc: Global, sequences: u64, pictures: u64) -> Result<String, AllocError>
-    ensures { IfOk result (λ line. string_bytes line ≡ checked_line (laws.Yes sequences pictures)) }
+    ensures { IfOk result
+        (λ line. string_bytes line ≡ checked_line (laws.Yes sequences pictures)) }
 {
     let mut line = String::new(alloc);
     writeln!(line, "check yes sequences {sequences} pictures {pictures}")?;
     Ok(line)
 }
 
-/// The line of a picture that breaks something: its number, the unit of its first slice, and what it
-/// breaks.
+/// The line of a picture that breaks something: its number, the unit of its first slice, and what
+/// it breaks.
 fn no_line(alloc: Global, number: u64, unit: u64, breach: Breach) -> Result<String, AllocError>
     ensures { IfOk result (λ line. string_bytes line ≡ checked_line
         (laws.No (record { number = number; unit = unit; breach = breach_of breach }))) }

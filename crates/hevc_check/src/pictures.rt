@@ -190,8 +190,8 @@ impl Pictures {
 
     /// The picture of a first slice begins.
     ///
-    /// Errors: the buffer is full as the picture before is to be stored, or the order count isn't in
-    /// range (8.3.1).
+    /// Errors: the buffer is full as the picture before is to be stored, or the order count isn't
+    /// in range (8.3.1).
     fn begin(&mut self, options: Options, slice: &Slice<'_>, sps: &Sps) -> Result<Begun, Unlike>
         requires few { self.old.next.number < 2 ^ 64 - 1 }
         ensures begun { (pps : code_pps.Pps) → IfOk result (λ b.
@@ -224,11 +224,11 @@ impl Pictures {
         self.latest.is_none() || slice.header().first_slice_segment_in_pic_flag
     }
 
-    /// Takes a slice segment, which is completed where it is a dependent one (7.4.7.1), and gives the
-    /// picture that begins with it, if one does.
+    /// Takes a slice segment, which is completed where it is a dependent one (7.4.7.1), and gives
+    /// the picture that begins with it, if one does.
     ///
-    /// Errors: the buffer is full as the picture before is to be stored, or the order count isn't in
-    /// range (8.3.1).
+    /// Errors: the buffer is full as the picture before is to be stored, or the order count isn't
+    /// in range (8.3.1).
     pub(crate) fn take_slice(
         &mut self,
         options: Options,

@@ -181,8 +181,8 @@ impl Sequence {
         !(is_same_limits(&head.limits, &self.limits) && is_same_format(&head.format, &self.format))
     }
 
-    /// Whether at least SpsMaxLatencyPictures are decoded between a picture that is output after this
-    /// one and this one.
+    /// Whether at least SpsMaxLatencyPictures are decoded between a picture that is output after
+    /// this one and this one.
     fn is_long_preceded(&self, head: &Head) -> bool
         ensures { (p : Picture) (es : List Picture) → head_of head.now ≡ p.head
             → Follows p es self.now
@@ -246,8 +246,8 @@ impl Sequence {
         self.is_counted(head) && self.has_count(head)
     }
 
-    /// Whether the buffer is full as a picture is to be decoded; by display order, whether it was so
-    /// up to it that one is output for want of room no earlier than it.
+    /// Whether the buffer is full as a picture is to be decoded; by display order, whether it was
+    /// so up to it that one is output for want of room no earlier than it.
     fn is_full(&self, begun: &Begun) -> bool
         ensures { (set : Option (ℕ × Format)) (p : Picture) (before : List Picture)
             → Tells set p before begun.now → FollowsTo set p before self.now
@@ -383,8 +383,8 @@ impl Sequence {
         Ok(())
     }
 
-    /// Where the next picture begins a sequence, nothing of the one before is kept; else it is looked
-    /// at whether it finds the buffer full.
+    /// Where the next picture begins a sequence, nothing of the one before is kept; else it is
+    /// looked at whether it finds the buffer full.
     fn turn_to(&mut self, begun: &Begun)
         ensures follows { (set : Option (ℕ × Format)) (p : Picture) (before : List Picture)
             → Tells set p before begun.now → FollowsAll set before self.old
@@ -398,8 +398,8 @@ impl Sequence {
         }
     }
 
-    /// Takes the next picture, which goes on with the sequence or begins another one, and gives what
-    /// it breaks first, if anything.
+    /// Takes the next picture, which goes on with the sequence or begins another one, and gives
+    /// what it breaks first, if anything.
     pub(crate) fn take(&mut self, begun: &Begun) -> Result<Option<Breach>, AllocError>
         ensures breach { IfOk result (λ breach. (set : Option (ℕ × Format)) (p : Picture)
             (before : List Picture) → Tells set p before begun.now

@@ -6,6 +6,7 @@ pub enum Table {
     /// Bounds by which the outputs are in order since nothing is output for want of room, nor for a
     /// latency.
     Bounds,
-    /// What the order of the outputs needs, where a latency is declared and the buffer may be filled.
+    /// What the order of the outputs needs, where a latency is declared and the buffer may be
+    /// filled.
     Order,
 }

@@ -69,7 +69,8 @@ impl Walk {
         }
     }
 
-    /// Takes the unit of a sequence set: the first one is negotiated, and the units that wait are read.
+    /// Takes the unit of a sequence set: the first one is negotiated, and the units that wait are
+    /// read.
     fn take_sequence_set(&mut self, nalu: &Nalu<'_, NaluHeader>) -> Result<(), AllocError>
         requires short { length nalu.now.stream < STREAM_LIMIT }
         requires parsed { unit_header (bytes_of nalu.now) ≡ Ok nalu.now.header }
