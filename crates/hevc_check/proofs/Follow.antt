@@ -29,7 +29,7 @@ use Rattle.hevc_check.specs.Filled.{is_up_to}
 use Rattle.hevc_check.specs.Late.{AreHighest, Fall, late_at, late_by}
 use Rattle.hevc_check.specs.Tables.{breaks_by, is_counted}
 use Rattle.hevc_check.proofs.Lateness.{late-is}
-use Rattle.hevc_check.specs.Sequences.{Follows, FollowsAll, FollowsLatest, FollowsTo, AreFilled, KeepsHighest, Tells, first_or, above, has_count, output_above}
+use Rattle.hevc_check.specs.Sequences.{Follows, FollowsLatest, AreFilled, KeepsHighest, Tells, first_or, above, has_count, output_above}
 
 -- ---- the first breach
 

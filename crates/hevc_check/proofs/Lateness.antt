@@ -6,7 +6,7 @@ use Rattle.std.proofs.lemmas.Bool.Decides.{nat_tests}
 use Rattle.std.proofs.lemmas.List.Sums.{sum_by-cons}
 use Rattle.std.proofs.Math.Seq.{get_or-append_seam}
 use Rattle.std.proofs.lemmas.List.{get_or_append_left}
-use Rattle.hevc_walk.specs.Pictures.{Picture, context}
+use Rattle.hevc_walk.specs.Pictures.{Picture}
 use Rattle.hevc_walk_order.specs.Sequences.{is_for_output}
 use Rattle.hevc_walk_order.specs.DisplayOrder.{decoded_between}
 use Rattle.hevc_check.specs.Late.{Fall, back, late_at, late_by}

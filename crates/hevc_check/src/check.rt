@@ -219,11 +219,7 @@ pub fn check_order(alloc: Global, stream: &[u8]) -> Result<Checked, CheckError>
 }
 
 /// Checks a byte stream by a table.
-pub(crate) fn check_by(
-    alloc: Global,
-    table: Table,
-    stream: &[u8],
-) -> Result<Checked, CheckError>
+pub(crate) fn check_by(alloc: Global, table: Table, stream: &[u8]) -> Result<Checked, CheckError>
     requires { length stream.now < STREAM_LIMIT }
     ensures answer { AnswersCheck result (verdict (meanings default_options stream.now))
         (checked_by table (meanings default_options stream.now)) }

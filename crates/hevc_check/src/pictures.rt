@@ -55,7 +55,7 @@ impl Model for Pictures {
     ghost use Rattle.hevc_driver.specs.Heads.{head_of, context_of};
     ghost use Rattle.hevc_driver.specs.Slices.{kept_of};
     ghost use Rattle.hevc_check.specs.Filled.{fill_for, is_up_to};
-ghost use Rattle.hevc_check.specs.Places.{Place, IsSound};
+    ghost use Rattle.hevc_check.specs.Places.{Place, IsSound};
 
     ghost Value = { Place };
 

@@ -125,7 +125,13 @@ fn a_refused_stream_has_a_line(rt: HostRuntime) -> Result<(), Fail> {
 fn other_words_are_refused(rt: HostRuntime) -> Result<(), Fail> {
     let alloc = rt.alloc();
     let units: &[&[u8]] = &[SPS, PPS, IDR];
-    for texts in [[""].as_slice(), &["bounds"], &["0"], &["Order"], &["order", "order"]] {
+    for texts in [
+        [""].as_slice(),
+        &["bounds"],
+        &["0"],
+        &["Order"],
+        &["order", "order"],
+    ] {
         gives(&rt, alloc, texts, units, 2, "")?;
     }
     Ok(())

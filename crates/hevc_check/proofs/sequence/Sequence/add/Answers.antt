@@ -1,4 +1,4 @@
-use Rattle.std.proofs.Common.{◌≡◌, ◌∷◌, ap, ◌∙◌}
+use Rattle.std.proofs.Common.{◌∷◌, ap, ◌∙◌}
 use Rattle.std.specs.Ordering.{int_cmp}
 use Rattle.std.specs.BTreeSet.{contains}
 use Rattle.hevc_check.specs.declared.sequence.Sequence.{Sequence}

@@ -1,4 +1,4 @@
-use Rattle.std.proofs.Common.{◌≡◌, ℕ, ap, ◌∙◌, sym}
+use Rattle.std.proofs.Common.{ap, ◌∙◌}
 use Rattle.std.specs.Prelude.{◌==◌, not}
 use Rattle.hevc_walk.specs.Pictures.{Head}
 use Rattle.hevc_check_laws.specs.Breaches.{earlier_in}

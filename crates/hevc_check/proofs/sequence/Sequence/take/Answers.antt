@@ -1,4 +1,4 @@
-use Rattle.std.proofs.Common.{◌≡◌, ap, ◌∙◌}
+use Rattle.std.proofs.Common.{ap, ◌∙◌}
 use Rattle.hevc_check_laws.specs.Breaches.{all_breaches, earlier_in}
 use Rattle.hevc_check_laws.specs.Checks.{first_breach}
 use Rattle.hevc_check.specs.declared.table.Table.{Table}
