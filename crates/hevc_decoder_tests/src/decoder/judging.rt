@@ -18,9 +18,13 @@ fn count_by_steps(alloc: Global, stream: &[u8]) -> Result<(u64, u64), Refused>
     let mut shown = Vec::new(alloc);
     let mut position = 0;
     let mut units = 0;
-    while let Some(_unit) =
-        decode_next_unit(&mut decoder, stream, &mut position, units, &mut shown)?
-    {
+    while let Some(_unit) = decode_next_unit(
+        &mut decoder,
+        stream,
+        &mut position,
+        units,
+        &mut shown,
+    )? {
         units += 1;
     }
     let pictures = end_stream(&mut decoder, units, &mut shown)?;
@@ -43,7 +47,7 @@ fn a_judged_stream_is_refused_at_its_unit(rt: HostRuntime) -> Result<(), Fail> {
         unit: 0,
         error: DecodeError::OutOfRange { table: 0, row: 1 },
     };
-    let stream = &[0x00, 0x00, 0x01, 0x48, 0x00];
+    let stream = &[0x00, 0x00, 0x01, 0x48, 0x00, 0x05];
     let decoded = judge_stream(alloc, SilentBackend::new(), Options::new(), stream);
     assert!(rt; decoded.result == Err(refused));
     Ok(())
