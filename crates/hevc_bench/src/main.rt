@@ -10,8 +10,8 @@ mod tests;
 mod work;
 
 use hevc_io::{StdSink, StdSource, StdWords, command_line};
-use program::run;
 use hevc_usage::explain;
+use program::run;
 use std::io;
 use std::process::ExitCode;
 

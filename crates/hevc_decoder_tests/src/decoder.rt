@@ -1,5 +1,6 @@
 //! Whole streams over backends that fail at a planned call, or have no frame.
 mod calling;
+mod judging;
 mod pieces;
 mod plans;
 mod states;

@@ -12,9 +12,9 @@ mod list;
 mod summary;
 
 pub(crate) use backend::ReportBackend;
-pub use last::refusal_line;
 use hevc_decoder::{Refused, Shown};
 use last::push_last;
+pub use last::refusal_line;
 use line::push_shown;
 use std::alloc::AllocError;
 pub(crate) use summary::summary_text;
