@@ -1,6 +1,6 @@
 #!/usr/bin/env bash
-# Each allocation of a run over three pictures of order counts 0, 4 and 2 is refused in turn: the status is 5 and what was written is a front of
-# the report, or the status is 0 and it is the whole. Ends behind 20 runs in a row that want no more. Each run is compiled anew, in half a
+# Each allocation of a run over three pictures of order counts 0, 4 and 2 is refused in turn: the status is 5 and what was written is a prefix of
+# the report, or the status is 0 and it is the whole. Ends after 20 runs in a row that want no more. Each run is compiled anew, in half a
 # minute. Nothing of it is in the gate: bench/allocations.sh [LAST]
 set -u
 top=$(cd "$(dirname "$0")/.." && pwd)

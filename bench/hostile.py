@@ -20,7 +20,7 @@ BROKEN_PICTURE_SET = bytes.fromhex("4401c0")
 IDR = bytes.fromhex("2601af80")
 LATER_SLICE = bytes.fromhex("26012f80")
 CRA = bytes.fromhex("2a01ae1e80")
-# RASL_R of order count 6: behind a CRA picture that begins the stream it is skipped.
+# RASL_R of order count 6: after a CRA picture that begins the stream it is skipped.
 SKIPPED = bytes.fromhex("1201db3c80")
 END_OF_BITSTREAM = bytes.fromhex("4a01")
 MESSAGE = bytes.fromhex("4e01")
@@ -96,7 +96,7 @@ def repeated(piece, front=b""):
 RUN_OF_03 = b"\0\0\3" * 100
 OTHER_SETS = START + sequence_set(64, 64, 0) + START + sequence_set(64, 64, 1)
 
-# What each kind is made of: a front, and what is repeated behind it.
+# What each kind is made of: a front, and what is repeated after it.
 KINDS = {
     PLAIN[1]: repeated(START + IDR + data(676), behind_sets()),
     "plain, smallest pictures": repeated(b"".join(START + each for each in small_pictures()), behind_sets(IDR)),

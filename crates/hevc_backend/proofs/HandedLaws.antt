@@ -62,7 +62,7 @@ module _ {T : Type 0} where
   abbrev stored_picture : DpbEntry T → ℕ × PlainPicture
   stored_picture e = numbered e.number e.picture
 
-  -- but for whether they wait they are some of these
+  -- but for whether they are needed for output they are some of these
   pub stored_part : (new old : List (DpbEntry T)) → IsPartOf (map as_output new) (map as_output old) → IsPartOf (stored_pictures new) (stored_pictures old)
   stored_part new old part = λ x h. subst (λ l. Contains l x) (map_twice stored_picture as_output old (λ e. refl)) (part_map stored_picture (map as_output new) (map as_output old) part x (subst (λ l. Contains l x) (sym (map_twice stored_picture as_output new (λ e. refl))) h))
 

@@ -64,7 +64,7 @@ module _ {T : Type 0} where
       (subst (λ b. ((eqb e.number n && b) || has_reference n (plain_entries es)) ≡ true) (same_mark (reference_of e.picture)) h)
       (reference_is_stored n es)
 
-  -- behind the marks that a set leaves
+  -- after the marks that a set leaves
   pub set_among : (set : RefPicSet) (es : List (DpbEntry T)) → ((n : ℕ) → names n (all_members (plain_set set)) ≡ true → has_reference n (plain_entries es) ≡ true) → SetNamesAmong (reference_numbers es) set
   set_among set es are n h = reference_is_stored n es (are n h)
 

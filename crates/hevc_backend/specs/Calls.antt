@@ -1,4 +1,4 @@
--- The calls that stand in a log, by what is handed over.
+-- The calls that are in a log, by what is handed over.
 use Rattle.std.specs.Prelude.{ℕ}
 use Rattle.hevc_bits.specs.FoundUnit.{bytes_of}
 use Rattle.hevc_types_c.specs.declared.sps.Sps.{Sps}

@@ -123,14 +123,15 @@ abbrev pub EndsWithPicture : (number : ℕ) → PlainPicture → List Handed →
 EndsWithPicture number picture hs =
     (earlier : List Handed) × (hs ≡ earlier ++ Announced number picture ∷ [])
 
--- so it is, where a backend tells what came
+-- so it is, where a backend exposes what came
 pub record IsAnnounced (handed : Option (List Handed)) (number : ℕ) (picture : PlainPicture)
     : Type 0 where
   pub latest : IfSome handed (EndsWithPicture number picture)
 
 -- ---- what is stored
 
--- a picture but for what the buffer changes of it: its mark, its latency count, whether it waits
+-- a picture but for what the buffer changes of it: its mark, its latency count, whether it is
+-- needed for output
 abbrev pub unstored : PlainPicture → PlainPicture
 unstored p = record p { latency_count = pos 0; needed_for_output = false; mark = Unused }
 
@@ -146,7 +147,7 @@ announced_in (Decoded number segment) = []
 abbrev pub announced : List Handed → List (ℕ × PlainPicture)
 announced hs = flat_map announced_in hs
 
--- a picture of this number was announced, where a backend tells what came
+-- a picture of this number was announced, where a backend exposes what came
 pub record IsAmong (handed : Option (List Handed)) (number : ℕ) (picture : PictureData)
     : Type 0 where
   pub of_handed : IfSome handed (λ hs. Contains (announced hs) (numbered number picture))
@@ -155,7 +156,7 @@ pub record IsAmong (handed : Option (List Handed)) (number : ℕ) (picture : Pic
 abbrev pub stored_pictures : {T : Type 0} → List (DpbEntry T) → List (ℕ × PlainPicture)
 stored_pictures es = map (λ e. numbered e.number e.picture) es
 
--- each of these entries is a picture as it was announced, where a backend tells what came
+-- each of these entries is a picture as it was announced, where a backend exposes what came
 pub record AreAnnounced {T : Type 0} (handed : Option (List Handed)) (es : List (DpbEntry T))
     : Type 0 where
   pub of_handed : IfSome handed (λ hs. IsPartOf (stored_pictures es) (announced hs))

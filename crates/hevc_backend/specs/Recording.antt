@@ -16,7 +16,7 @@ pub record Recording : Type 0 where
   pub failing : List ℕ
   -- how many calls were made, failed ones included, up to 2 ^ 64 - 1
   pub made : ℕ
-  -- the next numbers of free frames; 16 behind them
+  -- the next numbers of free frames; 16 after them
   pub free : List ℕ
   pub counts : Counts
   pub room : Bool
@@ -49,7 +49,7 @@ abbrev pub with_fault : Recording → Recording
 with_fault r =
     record (with_call_made r) { counts = record r.counts { faults = one_more r.counts.faults } }
 
--- behind a call that gave this answer: a call that succeeds is recorded,
+-- after a call that gave this answer: a call that succeeds is recorded,
 -- and one that fails is counted
 abbrev pub behind : {T : Type 0} → (T → Call ℕ) → Recording → Result T BackendError → Recording
 behind call r (Ok value) = record (with_call_made r) { log = r.log ++ call value ∷ [] }
@@ -80,7 +80,7 @@ abbrev pub with_answer : (frames : ℕ) → Counts → Counts
 with_answer frames counts =
     if frames == 0 then record counts { empty_answers = one_more counts.empty_answers } else counts
 
--- behind a question for free frames
+-- after a question for free frames
 abbrev pub asked : Recording → Recording
 asked r = record r {
   free = drop 1 r.free;

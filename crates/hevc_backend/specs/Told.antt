@@ -60,7 +60,7 @@ told_from t (call ∷ calls) = told_from (told_too t call) calls
 abbrev pub told : {H : Type 0} → List (Call H) → Told H
 told log = told_from nothing_told log
 
--- it holds of what a backend was told, where the backend tells its log
+-- it holds of what a backend was told, where the backend exposes its log
 pub record WhereTold {H : Type 0} (log : Option (List (Call H))) (holds : Told H → Type 0)
     : Type 0 where
   pub of_log : IfSome log (λ calls. holds (told calls))

@@ -9,12 +9,12 @@ pub record Counts : Type 0 where
   pub faults : ℕ
   pub empty_answers : ℕ
 
--- the log behind some more calls, where it is told
+-- the log after some more calls, where it is exposed
 abbrev pub logged : {X : Type 0} → Option (List X) → List X → Option (List X)
 logged None calls = None
 logged (Some log) calls = Some (log ++ calls)
 
--- a call that succeeds stands behind the log, and no other does
+-- a call that succeeds comes after the log, and no other does
 abbrev pub Logs : {T X : Type 0} → Option (List X) → Option (List X) → Result T BackendError
     → (T → X) → Type 0
 Logs before now (Ok value) call = now ≡ logged before (call value ∷ [])

@@ -24,24 +24,24 @@ use hevc_types_d::{Pps, Slice};
 
 /// What decodes the samples of pictures.
 ///
-/// Each of the first five calls that succeeds stands in the log, and no other call does. `Failed` has a cause: a fault was
+/// Each of the first five calls that succeeds is in the log, and no other call does. `Failed` has a cause: a fault was
 /// counted, or no more can be; the log stays. `NoMemory` leaves the log and both counts. A backend that is faultless never
 /// answers `Failed` and always has a free frame, now and later.
 pub trait StatelessH265DecoderBackend {
-    /// What stands for a decoded picture.
+    /// The handle of a decoded picture.
     type Handle: Copy;
 
     /// A picture whose slices come. One that is given up is dropped.
     type Picture: Drop;
 
-    /// The calls that succeeded, in order, where the backend tells them.
+    /// The calls that succeeded, in order, where the backend exposes them.
     ghost log: { Self → Option (List (Call Self.Handle)) };
 
-    /// What came with these calls, in order, where the backend tells it: each picture, parameter set and header, whole.
+    /// What came with these calls, in order, where the backend exposes it: each picture, parameter set and header, whole.
     ghost handed: { Self → Option (List Handed) };
 
     /// How many calls failed, and how many questions for free frames were answered by 0, so far. Neither count falls, and
-    /// both stand still at 2^64 - 1.
+    /// both stay at 2^64 - 1.
     ghost counts: { Self → Counts };
 
     /// The last question for free frames found one, and no picture has begun since.
@@ -102,7 +102,7 @@ pub trait StatelessH265DecoderBackend {
             (IsTold number (format_of_set (plain_sps sps.now)) (stored_entries dpb.now)) }
         requires begun { WhereTold (log self.old) (IsBegun (begun_picture number picture_data.now)) }
         requires announced { IsAnnounced (handed self.old) number (plain_picture picture_data.now) }
-        // What is stored is as it was announced, but for mark, latency count and whether it waits.
+        // What is stored is as it was announced, but for mark, latency count and whether it is needed for output.
         requires stored { AreAnnounced (handed self.old) (stored_entries dpb.now) }
         ensures log { Logs (log self.old) (log self.new) result
             (λ _. begin_picture_call number rps.now) }
@@ -142,7 +142,7 @@ pub trait StatelessH265DecoderBackend {
         ensures room { room self.new ≡ room self.old }
         ensures info { info self.new ≡ info self.old };
 
-    /// A picture is whole. Its handle stands for it from here on.
+    /// A picture is whole. Its handle names it from here on.
     fn submit_picture(
         &mut self,
         number: u64,

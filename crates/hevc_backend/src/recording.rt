@@ -21,7 +21,7 @@ use hevc_types_d::{Pps, Slice};
 use std::alloc::Global;
 use std::marker::Model;
 
-/// A backend that decodes nothing, and records its calls. It fails by a plan, and for want of memory.
+/// A backend that decodes nothing, and records its calls. It fails by a plan, and where an allocation fails.
 ///
 /// Its pictures are their numbers, and its handles are 0, 1, 2 and so on, in the order of submission.
 #[derive(Drop)]
@@ -72,8 +72,8 @@ impl Backend {
     }
 
     /// A backend with an empty log that fails by a plan. Of the calls that a log tells of, whether they fail or not, the first
-    /// is number 1, and those whose number stands in `failing` fail. Questions for free frames are answered by the numbers of
-    /// `free`, in order, and by 16 behind them.
+    /// is number 1, and those whose number is in `failing` fail. Questions for free frames are answered by the numbers of
+    /// `free`, in order, and by 16 after them.
     pub fn with_plan(alloc: Global, failing: Vec<u64>, free: Vec<usize>) -> Backend
         ensures { result ≡ planned failing.items free.items }
     {

@@ -10,7 +10,7 @@ use hevc_refs::{RefPicList, RefPicSet};
 use hevc_types_c::Sps;
 use hevc_types_d::{Pps, Slice};
 
-/// A backend that decodes nothing, keeps nothing and tells no log. No call fails, and there is always a free frame.
+/// A backend that decodes nothing, keeps nothing and exposes no log. No call fails, and there is always a free frame.
 #[derive(Drop)]
 pub struct SilentBackend {
     room: bool,

@@ -19,7 +19,7 @@ abbrev pub count_of_pictures : Result ℕ Refusal → Count
 count_of_pictures (Ok pictures) = Pictures pictures
 count_of_pictures (Err refusal) = Refused refusal.unit
 
--- what an answer to decoding tells of, unless memory was wanted
+-- what an answer to decoding tells of, unless an allocation failed
 abbrev pub count_of_refusal : DecodeError → ℕ → Option Count
 count_of_refusal errors.NoMemory unit = None
 count_of_refusal error unit = Some (Refused unit)

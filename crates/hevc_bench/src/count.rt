@@ -46,7 +46,7 @@ fn count_pictures(alloc: Global, stream: &[u8]) -> Result<Count, AllocError>
     count_answered(decoded.result)
 }
 
-/// What an answer tells of, unless memory was wanted.
+/// What an answer tells of, unless an allocation failed.
 fn count_answered(answer: Result<u64, Refused>) -> Result<Count, AllocError>
     ensures { IfOk result (λ found. count_of_answer answer ≡ Some found) }
 {

@@ -1,4 +1,4 @@
--- Payload bytes with 03 bytes: they are read back, and no start code stands in them.
+-- Payload bytes with 03 bytes: they are read back, and no start code is in them.
 use Rattle.std.proofs.Common.{◌≡◌, ◌≢◌, ℕ, ◌+◌, ◌%◌, ◌≤◌, Bool, true, false, cond, eqb, List, [], ◌∷◌, length, refl, ap, ◌∙◌, arith}
 use Rattle.std.specs.Prelude.{nat_le, min, ◌&&◌}
 use Rattle.hevc_spec.specs.Payload.{run_behind, payload_after, payload_bits, payload, bits_of}

@@ -7,7 +7,7 @@ use Rattle.hevc_spec.specs.Payload.{run_behind}
 use Rattle.hevc_spec.specs.Units.{NalUnit, begins_with_start_code, before_start_code, is_empty, without_trailing_zeros, units_at, units_from, units, kept_bytes}
 use Rattle.hevc_bit_writer.specs.WrittenUnits.{IsUnit, placed, stays_whole, stream_of}
 
--- behind any run of zeros, two more are two at least
+-- after any run of zeros, two more are two at least
 two_zeros : (run : ℕ) → run_behind (run_behind run 0) 0 ≡ 2
 two_zeros run = omega arith
 

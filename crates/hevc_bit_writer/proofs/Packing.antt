@@ -69,7 +69,7 @@ pub length-bits_of : (bytes : List ℕ) → length (bits_of bytes) ≡ 8 * lengt
 length-bits_of [] = refl
 length-bits_of (byte ∷ bytes) = omega (arith, length-bits_of bytes)
 
--- the bytes of a writer that has no bits behind them
+-- the bytes of a writer that has no bits after them
 pub whole_bytes : (written : List Bool) (lent bytes : List ℕ) (filled partial : ℕ) → lent ≡ bytes → ((k : ℕ) → get_or lent k 0 < 256) → bits_of bytes ++ low_bits filled partial ≡ written → filled < 8
     → length written % 8 ≡ 0 → lent ≡ packed written
 whole_bytes written lent bytes filled partial same small is few whole =

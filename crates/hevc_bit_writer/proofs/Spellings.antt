@@ -27,7 +27,7 @@ twice v n a r =
     let p : v * (2 ^ n * 2) ≡ v * 2 ^ n * 2 = sym (mul_assoc v (2 ^ n) 2) in
     rw e (omega (arith, p))
 
--- what the low bits of a number spell behind another
+-- what the low bits of a number spell after another
 pub number_after-low_bits : (v n c : ℕ) → number_after v (low_bits n c) ≡ v * 2 ^ n + c % 2 ^ n
 number_after-low_bits v zero c = omega arith
 number_after-low_bits v (suc n) c =

@@ -82,7 +82,7 @@ one_and_zeros m =
     let below : low_bits m (2 ^ m) ≡ low_bits m 0 = sym (low_bits-mod m m (2 ^ m) (omega arith)) ∙ ap (low_bits m) (mod_self (2 ^ m)) in
     rw (one, same, bit_at-pow_same m) (ap (λ (x : List Bool). true ∷ x) (below ∙ zeros_below m))
 
--- how many bits stand behind the last whole byte
+-- how many bits come after the last whole byte
 pub left_over : (written : List Bool) (bytes : List ℕ) (filled partial : ℕ) → bits_of bytes ++ low_bits filled partial ≡ written → filled < 8 → length written % 8 ≡ filled
 left_over written bytes filled partial is few =
     let long : length written ≡ 8 * length bytes + filled = ap length (sym is) ∙ length-append (bits_of bytes) (low_bits filled partial) ∙ omega (arith, length-bits_of bytes, low_bits_length filled partial) in

@@ -8,12 +8,12 @@ abbrev pub exponent_within : ℕ → ℕ → ℕ
 exponent_within zero n = 0
 exponent_within (suc most) n = if nat_le (2 ^ suc most) n then suc most else exponent_within most n
 
--- leadingZeroBits (9.2): how many bits stand behind the first one of codeNum plus 1
+-- leadingZeroBits (9.2): how many bits come after the first one of codeNum plus 1
 unfoldable pub leading_zero_bits : ℕ → ℕ
 leading_zero_bits value = exponent_within 31 (value + 1)
 
 -- The bits of an element. An Exp-Golomb number (9.2) is codeNum plus 1 with as many zeros before
--- its first one as bits stand behind that.
+-- its first one as bits come after that.
 abbrev pub spelled : Form → ℕ → List Bool
 spelled (u n) value = low_bits n value
 spelled ue value = low_bits (2 * leading_zero_bits value + 1) (value + 1)
@@ -34,7 +34,7 @@ abbrev pub code_number : ℤ → ℕ
 code_number (pos n) = 2 * n - 1
 code_number (negsuc n) = 2 * (n + 1)
 
--- rbsp_trailing_bits (7.3.2.11), or byte_alignment (7.3.2.12), behind so many bits: a one, and
+-- rbsp_trailing_bits (7.3.2.11), or byte_alignment (7.3.2.12), after so many bits: a one, and
 -- zeros up to the end of its byte
 abbrev pub trailing_bits : ℕ → List Bool
 trailing_bits count = true ∷ replicate (7 - count % 8) false

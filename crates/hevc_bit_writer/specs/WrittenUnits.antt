@@ -3,23 +3,23 @@ use Rattle.std.specs.Prelude.{◌≡◌, ℕ, ◌+◌, Bool, true, not, ◌&&◌
 use Rattle.hevc_spec.specs.Payload.{run_behind}
 use Rattle.hevc_spec.specs.Units.{NalUnit, kept_bytes}
 
--- Payload bytes that stand behind a run of zeros, with emulation_prevention_three_byte (7.4.2): a
--- 03 before each byte of at most 3 that would stand directly behind two zero bytes.
+-- Payload bytes that come after a run of zeros, with emulation_prevention_three_byte (7.4.2): a
+-- 03 before each byte of at most 3 that would come directly after two zero bytes.
 abbrev pub escaped_after : ℕ → List ℕ → List ℕ
 escaped_after run [] = []
 escaped_after run (byte ∷ bytes) =
     if run == 2 && nat_le byte 3 then 3 ∷ byte ∷ escaped_after (run_behind 0 byte) bytes
     else byte ∷ escaped_after (run_behind run byte) bytes
 
--- the bytes of a unit behind its header, of these payload bytes
+-- the bytes of a unit after its header, of these payload bytes
 abbrev pub escaped : List ℕ → List ℕ
 escaped payload = escaped_after 0 payload
 
--- a unit behind its start code (B.2.1)
+-- a unit after its start code (B.2.1)
 abbrev pub started : List ℕ → List ℕ
 started unit = 0 ∷ 0 ∷ 1 ∷ unit
 
--- units one after another, each behind its start code
+-- units one after another, each after its start code
 abbrev pub stream_of : List (List ℕ) → List ℕ
 stream_of [] = []
 stream_of (unit ∷ units) = started unit ++ stream_of units
@@ -30,7 +30,7 @@ placed place [] = []
 placed place (unit ∷ units) =
     record { offset = place + 3; bytes = unit } ∷ placed (place + 3 + length unit) units
 
--- None of 00 00 00, 00 00 01 and 00 00 02 stands in bytes that stand behind a run of zeros, and
+-- None of 00 00 00, 00 00 01 and 00 00 02 is in bytes that come after a run of zeros, and
 -- they don't end in 00 (7.4.2).
 abbrev pub stays_whole : ℕ → List ℕ → Bool
 stays_whole run [] = run == 0

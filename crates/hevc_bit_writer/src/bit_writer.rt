@@ -8,11 +8,11 @@ use std::alloc::{AllocError, Global};
 use std::marker::Model;
 
 /// Bits that are written one element after another (7.2), packed into bytes, the most significant bit of
-/// each byte first. After a refusal some first bits of the element may stand at the end.
+/// each byte first. After a refusal some first bits of the element may be at the end.
 #[derive(Drop)]
 pub struct BitWriter {
     bytes: Vec<u8>,
-    /// The number of the bits behind the last whole byte, and how many they are.
+    /// The number of the bits after the last whole byte, and how many they are.
     partial: u8,
     filled: u32,
 }

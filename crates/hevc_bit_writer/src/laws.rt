@@ -6,7 +6,7 @@ ghost use Rattle.hevc_spec.specs.Units.{units, without_trailing_zeros};
 ghost use Rattle.hevc_bit_writer.specs.Writing.{CanSpell, code_number, packed, spelled};
 ghost use Rattle.hevc_bit_writer.specs.WrittenUnits.{IsUnit, escaped, placed, stays_whole, stream_of};
 
-/// The bits of an element spell its value, and in front of any bits they are read as it.
+/// The bits of an element spell its value, and before any bits they are read as it.
 #[tactic(auto, using(crate::proofs::Spellings::is_spelled, crate::proofs::Spellings::is_read))]
 pub fn elements_are_read_back()
     ensures spells { (form : Form) (value : ℕ) → CanSpell form value
@@ -42,7 +42,7 @@ pub fn units_are_found()
 {}
 
 /// A header whose second byte isn't 0, as no temporal id plus 1 is, and a payload that doesn't end in 00 make up bytes in which no
-/// start code stands and which don't end in 00.
+/// start code is and which don't end in 00.
 #[tactic(auto, using(crate::proofs::Escapes::stays_whole_escaped))]
 pub fn written_units_stay_whole()
     ensures { (first second : ℕ) (bytes : List ℕ) → second ≢ 0

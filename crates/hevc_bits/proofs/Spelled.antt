@@ -1,4 +1,4 @@
--- What was read is the number whose spelling stands at the front.
+-- What was read is the number whose spelling is at the front.
 use Rattle.std.proofs.Common.{◌≡◌, ℕ, ◌≤◌, Bool, List, Result, Ok, Err}
 use Rattle.std.specs.Prelude.{IfOk}
 use Rattle.hevc_spec.specs.Payload.{Place, bits}

@@ -51,7 +51,7 @@ none_begins stream from to none k low high = by_test (begins_with_start_code (dr
 pub whole : (stream : List ℕ) (n : ℕ) → take (length stream - n) (drop n stream) ≡ drop n stream
 whole stream n = take_all (length stream - n) (drop n stream) (omega (arith, length-drop n stream))
 
--- none stands where no third byte is 1
+-- there is none where no third byte is 1
 pub none_ends : (stream : List ℕ) (from count : ℕ) → Nowhere (Passes (is_byte 1) (drop (from + 2) stream)) 0 count → NoneStands stream from (from + count)
 none_ends stream from count none k low high stands =
     let third : get_or (drop (from + 2) stream) (k - from) 0 ≡ 1 = get_or-drop (from + 2) stream (k - from) 0 ∙ grind (arith, stands.3, low) in

@@ -60,7 +60,7 @@ unfolding bits_at
 front_bound (Ok v) old new n e = spelled-bound n v (bits old) (bits new) (bits_at-front n (bits old) v (bits new) e)
 front_bound (Err e) old new n f = tt
 
--- bits that stand at the front of some that are left
+-- bits that are at the front of some that are left
 record Stand (m v : ℕ) (here rest : List Bool) : Type 0 where
   pub enough : m ≤ length here
   pub behind : rest ≡ drop m here
@@ -75,7 +75,7 @@ stand m v here rest e = by_order (cases_lt (length here) m)
         let same : drop m here ≡ rest = cc in
         record { enough = enough; behind = sym same }
 
--- so many bits are passed over, behind others that were
+-- so many bits are passed over, after others that were
 pub skip_more : (i m : ℕ) (all here : List Bool) (v : ℕ) (rest : List Bool) → i ≤ length all → here ≡ drop i all → bits_at m here ≡ found v rest → (i + m ≤ length all) × (rest ≡ drop (i + m) all)
 skip_more i m all here v rest before same e =
     let k = stand m v here rest e in

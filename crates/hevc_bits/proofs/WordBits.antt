@@ -44,7 +44,7 @@ bits-stands left ahead filled c marks base end s =
 pub stands : (w : Word) → IsFilled w → Stands w.left w.ahead w.filled w.cache w.marks (base_of w) (end_of w)
 stands w f = record { unread = f.unread; whole = f.whole; among = f.among; holds = f.holds }
 
--- the unread bits of a word and those behind it
+-- the unread bits of a word and those after it
 pub bits-word : (w : Word) → IsFilled w → bits (place_of w) ≡ low_bits w.left w.cache ++ payload_bits w.zeros w.rest.now
 bits-word w f = bits-stands w.left w.ahead w.filled w.cache w.marks (base_of w) (end_of w) (stands w f)
 
@@ -117,7 +117,7 @@ none_to_load p few = by_loading (with_bits p) refl
         let long : length (bits q) ≡ length q.loaded + length (payload_bits q.zero_run q.behind) = ap length (bits-parts q) ∙ length-append q.loaded (payload_bits q.zero_run q.behind) in
         absurd (omega (arith, k.2, long, ap length k.0))
 
--- how many bits of the byte that is reached are unread is told by where the word stands
+-- how many bits of the byte that is reached are unread is told by where the word is
 pub same_unread : (v w : Word) → place_of v ≡ place_of w → v.left - 8 * v.ahead ≡ w.left - 8 * w.ahead
 same_unread v w e =
     let long = ap (λ (p : Place). length p.loaded) e in

@@ -44,7 +44,7 @@ counts (suc n) c marks p end h =
 pub counted : (w : Word) → IsFilled w → (length (place_of w).behind ≡ length w.rest.now + w.ahead + marked w) × (w.dropped ≡ (place_of w).dropped + marked w)
 counted w f = let k = counts w.ahead w.cache w.marks (bytes_on (w.filled - w.ahead) (base_of w)) (end_of w) f.holds in (k.long, k.dropped)
 
--- ---- the bytes behind a place are the last ones of all
+-- ---- the bytes after a place are the last ones of all
 
 loading-part : (run d : ℕ) (bytes : List ℕ) (q : Place) → loading run d bytes ≡ Some q → (m : ℕ) × (q.behind ≡ drop m bytes)
 loading-part run d [] q e = absurd cc

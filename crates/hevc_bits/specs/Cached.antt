@@ -1,4 +1,4 @@
--- Payload bits that stand ahead of a place in a word.
+-- Payload bits that are ahead of a place in a word.
 use Rattle.std.specs.Prelude.{◌≡◌, ℕ, zero, suc, ◌+◌, ◌-◌, ◌*◌, ◌/◌, ◌^◌, ◌<◌, ◌≤◌, Bool, true, false, List, [], length, Some, unwrap_or, ◌%◌, count_ones}
 use Rattle.std.specs.Int.{bit_at}
 use Rattle.hevc_spec.specs.Payload.{Place, bits, low_bits, loading, place_behind, IsAhead, IsReached}
@@ -7,7 +7,7 @@ use Rattle.hevc_bits.specs.declared.load.Loaded.{Loaded}
 use Rattle.hevc_bits.specs.declared.word.Word.{Word}
 use Rattle.hevc_bits.specs.declared.stream_limit.TheConstants.{STREAM_LIMIT}
 
--- the place behind a payload byte, none of whose bits is read
+-- the place after a payload byte, none of whose bits is read
 abbrev pub loaded_place : Loaded → Place
 loaded_place l = record {
   loaded = low_bits 8 l.byte;
@@ -29,7 +29,7 @@ bytes_on (suc n) p = byte_on (bytes_on n p)
 abbrev pub loaded_with : ℕ → ℕ → Place → Place
 loaded_with unread number p = record p { loaded = low_bits unread number }
 
--- where a word stands with so many unread bits, of which so many whole bytes aren't reached
+-- where a word is with so many unread bits, of which so many whole bytes aren't reached
 abbrev pub place_in : ℕ → ℕ → ℕ → ℕ → Place → Place
 place_in left ahead filled cache base =
     loaded_with (left - 8 * ahead) (cache / 2 ^ (8 * ahead)) (bytes_on (filled - ahead) base)
@@ -37,12 +37,12 @@ place_in left ahead filled cache base =
 abbrev pub base_of : Word → Place
 base_of w = record { loaded = []; zero_run = 0; behind = w.bytes.now; dropped = w.before }
 
--- the place behind all bytes in a word
+-- the place after all bytes in a word
 abbrev pub end_of : Word → Place
 end_of w = record { loaded = []; zero_run = w.zeros; behind = w.rest.now; dropped = w.dropped }
 
--- where a word stands: at the byte that holds the next bit or that is read up,
--- whatever bytes it holds behind that
+-- where a word is: at the byte that holds the next bit or that is read up,
+-- whatever bytes it holds after that
 abbrev pub place_of : Word → Place
 place_of w = place_in w.left w.ahead w.filled w.cache (base_of w)
 
@@ -77,14 +77,14 @@ pub record IsFilled (w : Word) : Type 0 where
   pub few : w.dropped + length w.rest.now < STREAM_LIMIT
   pub holds : Holds w.ahead w.cache w.marks (bytes_on (w.filled - w.ahead) (base_of w)) (end_of w)
 
--- The word stands where it stood, with bits put in: so many, unless the payload has fewer.
+-- The word is where it was, with bits put in: so many, unless the payload has fewer.
 pub record Fills (num_bits : ℕ) (enough : Bool) (old new : Word) : Type 0 where
   pub filled : IsFilled new
   pub same : place_of new ≡ place_of old
   pub held : enough ≡ true → num_bits ≤ new.left
   pub ends : enough ≡ false → length (bits (place_of old)) < num_bits
 
--- The word stands so many bits on, which spell the value behind any number.
+-- The word is so many bits on, which spell the value after any number.
 pub record Takes (num_bits value : ℕ) (old new : Word) : Type 0 where
   pub filled : IsFilled new
   pub passes : place_behind num_bits (place_of old) ≡ Some (place_of new)
@@ -92,7 +92,7 @@ pub record Takes (num_bits value : ℕ) (old new : Word) : Type 0 where
       → bits_after front num_bits (bits (place_of old))
       ≡ found (front * 2 ^ num_bits + value) (bits (place_of new))
 
--- The word stands behind an Exp-Golomb number of the value.
+-- The word is after an Exp-Golomb number of the value.
 pub record TakesGolomb (value : ℕ) (old new : Word) : Type 0 where
   pub filled : IsFilled new
   pub ahead : IsAhead (place_of old) (place_of new)

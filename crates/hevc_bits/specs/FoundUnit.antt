@@ -2,7 +2,7 @@
 use Rattle.std.specs.Prelude.{◌≡◌, ℕ, ◌-◌, List, ◌∷◌, take, drop, slice_index, ◌==◌, ◌&&◌, nat_le, if◌then◌else◌}
 use Rattle.hevc_spec.specs.Units.{NalUnit, units_from}
 
--- its header, the stream in which it stands, the place of its first byte, and how many bytes it has
+-- its header, the stream in which it is, the place of its first byte, and how many bytes it has
 pub record FoundUnit (H : Type 0) : Type 0 where
   pub header : H
   pub stream : List ℕ

@@ -5,14 +5,14 @@ use Rattle.hevc_spec.specs.Bits.{Found, found, out_of_bounds, ended, bits_after,
 use Rattle.hevc_bits.specs.declared.bit_error.BitError.{BitError}
 use Rattle.hevc_bits.specs.declared.bit_error.BitError.TheVariants.{OutOfBits, OutOfRange}
 
--- The result is the next bit, and the reader stands behind it.
+-- The result is the next bit, and the reader is after it.
 -- Where there is none it stays as it was.
 abbrev pub TakesBit : Result Bool BitError → Place → Place → Type 0
 TakesBit (Ok b) old new = bits old ≡ b ∷ bits new
 TakesBit (Err OutOfBits) old new = (bits old ≡ []) × (new ≡ old)
 TakesBit (Err OutOfRange) old new = ⊥
 
--- The result is what was found, and the reader stands behind it;
+-- The result is what was found, and the reader is after it;
 -- on a refusal the reader hasn't moved.
 abbrev pub Finds : {X : Type 0} → (X → ℕ) → Result X BitError → Place → Place → Found → Type 0
 Finds value (Ok x) old new f = f ≡ found (value x) (bits new)
@@ -25,14 +25,14 @@ FindsSigned (Ok x) old new f = (n : ℕ) × (f ≡ found n (bits new)) × (signe
 FindsSigned (Err OutOfBits) old new f = (f ≡ ended) × (new ≡ old)
 FindsSigned (Err OutOfRange) old new f = (f ≡ out_of_bounds) × (new ≡ old)
 
--- A number was found, and the reader stands behind it; or none was looked for,
--- and the reader stands where it stood.
+-- A number was found, and the reader is after it; or none was looked for,
+-- and the reader is where it was.
 abbrev pub MayFind : Option ℕ → Place → Place → Found → Type 0
 MayFind (Some n) old new f = (f ≡ found n (bits new)) × IsAhead old new × IsReached old new
 MayFind None old new f = new ≡ old
 
 -- The answer to whether there is more, by the place with a byte loaded: where there is more the
--- reader stands there, and where not, behind all bytes.
+-- reader is there, and where not, after all bytes.
 abbrev pub LooksForMore : Bool → Place → Place → Option Place → Type 0
 LooksForMore more old new None = (more ≡ false) × (new ≡ old)
 LooksForMore true old new (Some p) = (has_more p ≡ true) × (new ≡ p)

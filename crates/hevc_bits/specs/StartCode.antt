@@ -1,8 +1,8 @@
--- Where start codes stand in a stream, place by place.
+-- Where start codes are in a stream, place by place.
 use Rattle.std.specs.Prelude.{◌≡◌, ℕ, ◌+◌, ◌<◌, ◌≤◌, List, ◌∷◌, Option, length, slice_index, MatchOption}
 use Rattle.hevc_spec.specs.Units.{units_from}
 
--- 00 00 01 stands at a place
+-- 00 00 01 is at a place
 abbrev pub StandsAt : List ℕ → ℕ → Type 0
 StandsAt stream k =
     (k + 2 < length stream)
@@ -10,17 +10,17 @@ StandsAt stream k =
     × (slice_index stream (k + 1) ≡ 0)
     × (slice_index stream (k + 2) ≡ 1)
 
--- it stands at no place from one up to another
+-- it is at no place from one up to another
 abbrev pub NoneStands : List ℕ → ℕ → ℕ → Type 0
 NoneStands stream from to = (k : ℕ) → from ≤ k → k < to → ¬ StandsAt stream k
 
--- the first place from one on at which it stands
+-- the first place from one on at which it is
 abbrev pub IsFirstStart : List ℕ → ℕ → Option ℕ → Type 0
 IsFirstStart stream from found =
     MatchOption found (NoneStands stream from (length stream))
     (λ k. (from ≤ k) × StandsAt stream k × NoneStands stream from k)
 
--- the first place from one on whose third byte is 1; a start code stands at none before it
+-- the first place from one on whose third byte is 1; a start code is at none before it
 abbrev pub EndsFirst : List ℕ → ℕ → Option ℕ → Type 0
 EndsFirst stream from found = MatchOption found (NoneStands stream from (length stream))
     (λ k. (from ≤ k)
@@ -29,7 +29,7 @@ EndsFirst stream from found = MatchOption found (NoneStands stream from (length 
     × NoneStands stream from k)
 
 -- The first unit from a place on has these bytes, of which any are kept,
--- and the other units stand behind any part of them.
+-- and the other units come after any part of them.
 abbrev pub IsFirstCut : ℕ → List ℕ → ℕ → List ℕ → Type 0
 IsFirstCut from stream offset bytes = (kept : List ℕ → List ℕ) (size : ℕ) → size ≤ length bytes
     → units_from kept from stream

@@ -5,7 +5,7 @@ ghost use Rattle.hevc_spec.specs.Payload.{loading, run_behind};
 ghost use Rattle.hevc_bits.specs.Cached.{loaded_place};
 ghost use Rattle.hevc_bits.specs.declared.stream_limit.TheConstants.{STREAM_LIMIT};
 
-/// A payload byte and what stands behind it.
+/// A payload byte and what follows it.
 #[derive(Drop)]
 pub struct Loaded<'a> {
     pub byte: u8,
@@ -24,7 +24,7 @@ fn zeros_behind(zeros: u8, byte: u8) -> u8
     if byte == 0 { (zeros + 1).min(2) } else { 0 }
 }
 
-/// The next payload byte behind `zeros` zero bytes, with `dropped` 03 bytes dropped before them.
+/// The next payload byte after `zeros` zero bytes, with `dropped` 03 bytes dropped before them.
 pub fn next_byte(zeros: u8, dropped: usize, bytes: &[u8]) -> Option<Loaded<'_>>
     requires few { zeros ≤ 2 }
     requires short { dropped + length bytes.now < STREAM_LIMIT }

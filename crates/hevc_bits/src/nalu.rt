@@ -17,7 +17,7 @@ struct Cut<'a> {
     bytes: &'a [u8],
 }
 
-/// The first unit whose start code stands at `from` or behind it.
+/// The first unit whose start code is at `from` or after it.
 fn first_cut(stream: &[u8], from: usize) -> Option<Cut<'_>>
     requires { from ≤ length stream.now }
     ensures none { IfNone result ((kept : List ℕ → List ℕ) → units_from kept from stream.now ≡ []) }
@@ -55,14 +55,14 @@ impl<'a, U: Header> Model for Nalu<'a, U> {
 }
 
 impl<'a, U: Header> Nalu<'a, U> {
-    /// The first unit of `stream` whose start code stands at `position` or behind it. A unit begins behind 00 00 01 and
+    /// The first unit of `stream` whose start code is at `position` or after it. A unit begins after 00 00 01 and
     /// ends before the next one or at the end of the stream, without the zeros there (B.2); an end unit is its header alone.
     ///
-    /// On `Ok`, `position` stands at the unit's first byte. `NoNal` tells that there is no start code from `position` on;
+    /// On `Ok`, `position` is at the unit's first byte. `NoNal` tells that there is no start code from `position` on;
     /// the other refusals are those of the header. After a refusal `position` is unchanged.
     pub fn next(stream: &'a [u8], position: &mut usize) -> Result<Nalu<'a, U>, UnitError>
         requires { position.old ≤ length stream.now }
-        // The unit is the first one, and the others are those behind it.
+        // The unit is the first one, and the others are those after it.
         ensures first { IfOk result
             (λ n. units_from U.kept position.old stream.now
             ≡ unit_of n ∷ units_from U.kept (n.offset + n.size) stream.now) }
@@ -76,7 +76,7 @@ impl<'a, U: Header> Nalu<'a, U> {
             → (u : NalUnit) × (others : List NalUnit)
             × (units_from U.kept position.old stream.now ≡ u ∷ others)
             × (U.parsed u.bytes ≡ Err e)) }
-        // It stands behind the position and within the stream, so a search from its end goes on.
+        // It is after the position and within the stream, so a search from its end goes on.
         ensures ahead { IfOk result (λ n. position.old + 3 ≤ n.offset) }
         ensures inside { IfOk result (λ n. n.offset + n.size ≤ length stream.now) }
         ensures moves { IfOk result (λ n. position.new ≡ n.offset) }
@@ -155,7 +155,7 @@ impl<'a, U: Header> Nalu<'a, U> {
         &self.stream[self.offset..self.offset + self.size]
     }
 
-    /// The unit's bytes behind its header, a part of the stream.
+    /// The unit's bytes after its header, a part of the stream.
     pub fn payload(&self) -> &'a [u8]
         ensures value { result.now ≡ drop (U.header_len self.now.header) (bytes_of self.now) }
         ensures shorter { length result.now < length self.now.stream }

@@ -86,7 +86,7 @@ pub enum NaluType {
     FdNut = 38,
     /// A supplemental enhancement information message before its picture.
     PrefixSeiNut = 39,
-    /// A supplemental enhancement information message behind its picture.
+    /// A supplemental enhancement information message after its picture.
     SuffixSeiNut = 40,
     /// Reserved.
     RsvNvcl41 = 41,

@@ -11,8 +11,8 @@ use crate::bit_error::BitError;
 use crate::word::Word;
 use std::marker::Model;
 
-/// A reader of the payload bits of a byte slice: its bits, most significant first, without each 03 that stands directly
-/// behind two zero bytes (7.3.1.1). A read that is refused doesn't move the reader.
+/// A reader of the payload bits of a byte slice: its bits, most significant first, without each 03 that is directly
+/// after two zero bytes (7.3.1.1). A read that is refused doesn't move the reader.
 #[derive(Drop)]
 pub struct NaluReader<'a> {
     word: Word<'a>,
@@ -30,7 +30,7 @@ impl<'a> Model for NaluReader<'a> {
 }
 
 impl<'a> NaluReader<'a> {
-    /// A reader at the first payload bit of the bytes behind a unit's header.
+    /// A reader at the first payload bit of the bytes after a unit's header.
     pub fn new(bytes: &'a [u8]) -> NaluReader<'a>
         requires { length bytes.now < STREAM_LIMIT }
         ensures place { result ≡ first_place bytes.now }
@@ -48,7 +48,7 @@ impl<'a> NaluReader<'a> {
         NaluReader { word: self.word }
     }
 
-    /// How many bits are left: eight for each byte behind the one being read, a 03 that isn't passed yet among them, and the unread bits of that one.
+    /// How many bits are left: eight for each byte after the one being read, a 03 that isn't passed yet among them, and the unread bits of that one.
     #[tactic(auto, unfolding(hevc_spec::specs::Payload::bits_left))]
     pub fn num_bits_left(&self) -> usize
         ensures value { result ≡ bits_left self.now }
@@ -129,7 +129,7 @@ impl<'a> NaluReader<'a> {
         ensures moves { IsAhead self.old self.new }
         ensures place { IsReached self.old self.new }
         ensures bound { IfOk result (λ n. n ≤ 2147483647) }
-        // The number that is read is the one whose spelling stands there, and such a number is read.
+        // The number that is read is the one whose spelling is there, and such a number is read.
         ensures spelled { IfOk result (λ n. IsAtFront ue n (bits self.old) (bits self.new)) }
         ensures only { (n : ℕ) (rest : List Bool) → IsAtFront ue n (bits self.old) rest
             → n ≤ 2147483647 → (result ≡ Ok n) × (bits self.new ≡ rest) }
@@ -168,7 +168,7 @@ impl<'a> NaluReader<'a> {
         Ok(value)
     }
 
-    /// The next signed Exp-Golomb number, se(v) (9.2.2): that of the Exp-Golomb number at which it stands, refused as that is.
+    /// The next signed Exp-Golomb number, se(v) (9.2.2): that of the Exp-Golomb number at which it is, refused as that is.
     pub fn read_se(&mut self) -> Result<i32, BitError>
         ensures read { FindsSigned result self.old self.new (ue_at (bits self.old)) }
         ensures moves { IsAhead self.old self.new }
@@ -194,9 +194,9 @@ impl<'a> NaluReader<'a> {
         Ok(value)
     }
 
-    /// Whether more payload stands behind the next bit (7.2, `more_rbsp_data`): a one behind it in its byte, or any byte behind that
+    /// Whether more payload comes after the next bit (7.2, `more_rbsp_data`): a one after it in its byte, or any byte after that
     /// which isn't 0, a 03 too. Where no bit of a loaded byte is left, the next byte is loaded first; with none to load
-    /// the answer is false and nothing changes. Where no more stands there, the reader passes the zero bytes.
+    /// the answer is false and nothing changes. Where no more is there, the reader passes the zero bytes.
     pub fn has_more_rsbp_data(&mut self) -> bool
         ensures { LooksForMore result self.old self.new (with_bits self.old) }
     {
@@ -218,7 +218,7 @@ impl<'a> NaluReader<'a> {
         holds_one(self.word.reached(), self.word.unread() - 1) || holds_nonzero(self.word.behind())
     }
 
-    /// So many bits behind the number `front`, which is 0 or the first one of an Exp-Golomb number.
+    /// So many bits after the number `front`, which is 0 or the first one of an Exp-Golomb number.
     fn read_behind(&mut self, front: u32, num_bits: usize) -> Result<u32, BitError>
         requires front { front ≤ 1 }
         requires fits { num_bits ≤ 31 }

@@ -1,4 +1,4 @@
-//! The search for the start code 00 00 01, and what stands behind a unit.
+//! The search for the start code 00 00 01, and what follows a unit.
 
 ghost use Rattle.std.specs.Prelude.{◌≤◌, ◌<◌, ◌≡◌, ◌+◌, length, take};
 ghost use Rattle.hevc_spec.specs.Units.{without_trailing_zeros};
@@ -6,7 +6,7 @@ ghost use Rattle.hevc_bits.specs.StartCode.{EndsFirst, IsFirstStart, NoneStands,
 
 use memchr::memchr;
 
-/// The first place at `from` or behind it whose third byte is 1, as that of a start code is.
+/// The first place at `from` or after it whose third byte is 1, as that of a start code is.
 fn find_end(stream: &[u8], from: usize) -> Option<usize>
     requires { from + 2 ≤ length stream.now }
     ensures { EndsFirst stream.now from result }
@@ -17,7 +17,7 @@ fn find_end(stream: &[u8], from: usize) -> Option<usize>
     }
 }
 
-/// The place of the first start code at `from` or behind it. Behind a place whose third byte is 1 but that is none, two more
+/// The place of the first start code at `from` or after it. After a place whose third byte is 1 but that is none, two more
 /// are ruled out.
 pub fn find_start_code(stream: &[u8], from: usize) -> Option<usize>
     requires { from ≤ length stream.now }
@@ -34,7 +34,7 @@ pub fn find_start_code(stream: &[u8], from: usize) -> Option<usize>
     None
 }
 
-/// The place of the next start code behind a unit's first byte, or the end of the stream.
+/// The place of the next start code after a unit's first byte, or the end of the stream.
 pub fn end_of_unit(stream: &[u8], offset: usize) -> usize
     requires { offset ≤ length stream.now }
     ensures behind { offset ≤ result }

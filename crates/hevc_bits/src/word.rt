@@ -16,7 +16,7 @@ pub struct Word<'a> {
     pub bytes: &'a [u8],
     pub before: usize,
     pub filled: usize,
-    /// The bytes behind those, the zero bytes directly before them, counted up to 2, and the 03 dropped so far.
+    /// The bytes after those, the zero bytes directly before them, counted up to 2, and the 03 dropped so far.
     pub rest: &'a [u8],
     pub zeros: u8,
     pub dropped: usize,
@@ -61,7 +61,7 @@ impl<'a> Word<'a> {
         num_bits <= self.left
     }
 
-    /// Puts payload bytes in until 32 bits are unread or the bytes end. It stands apart, so that the reads stay short.
+    /// Puts payload bytes in until 32 bits are unread or the bytes end. It is a function of its own, so that the reads stay short.
     #[cold]
     #[inline(never)]
     fn fill(&mut self)
@@ -116,7 +116,7 @@ impl<'a> Word<'a> {
         }
     }
 
-    /// Puts a byte in that isn't 0 nor stands behind two zero bytes.
+    /// Puts a byte in that isn't 0 nor comes after two zero bytes.
     fn push_plain(&mut self, byte: u8, behind: &'a [u8])
         requires filled { IsFilled self.old }
         requires fits { self.old.left < 56 }
@@ -187,7 +187,7 @@ impl<'a> Word<'a> {
         Some((self.take(2 * zeros + 1) - 1) as u32)
     }
 
-    /// How many zeros stand before the first one of the unread bits, all where they hold none.
+    /// How many zeros are before the first one of the unread bits, all where they hold none.
     fn zeros(&self) -> usize
         requires { IsFilled self.now }
         ensures within { result ≤ self.now.left }
@@ -242,7 +242,7 @@ impl<'a> Word<'a> {
         self.dropped - self.marked()
     }
 
-    /// The bytes behind the one that is reached.
+    /// The bytes after the one that is reached.
     pub fn behind(&self) -> &'a [u8]
         requires { IsFilled self.now }
         ensures value { result.now ≡ (place_of self.now).behind }
@@ -260,7 +260,7 @@ impl<'a> Word<'a> {
         self.cache >> (8 * self.ahead)
     }
 
-    /// Passes all bytes behind the one that is reached.
+    /// Passes all bytes after the one that is reached.
     pub fn pass_bytes(&mut self)
         requires { IsFilled self.old }
         ensures filled { IsFilled self.new }

@@ -52,7 +52,7 @@ step_by rule es x distinct holds (e ∷ rest) order is =
 pub step : (rule : Buffer → Bool) (es left : Buffer) (x : Entry) → steps.Distinct es → rule es ≡ true → Some x ≡ option_map plain_output (first_in (in_output_order es)) → left ≡ after_one es → Step rule es left x
 step rule es left x distinct holds is same = subst (λ (b : Buffer). Step rule es b x) (sym same) (step_by rule es x distinct holds (in_output_order es) refl is)
 
--- nothing waits
+-- nothing is needed for output
 none_in : (os : List Entry) → None ≡ option_map plain_output (first_in os) → os ≡ []
 none_in [] is = refl
 none_in (e ∷ os) is = absurd (cc is)
@@ -107,7 +107,7 @@ pub record LeavesRest {H : Type 0} (mid now : Dpb H) : Type 0 where
   pub room : room_of now ≡ room_of mid
   pub latency : HaveLatency (stored_entries now)
 
--- an entry that is output leaves, or waits no longer; the others stay
+-- an entry that is output leaves, or is no longer needed for output; the others stay
 left_by : {H : Type 0} (e : DpbEntry H) (es ys : List (DpbEntry H)) (is stays : Bool) → IsSublist (map as_output es) ys → IsSublist (map as_output ((if is then (if stays then as_output e ∷ [] else []) else e ∷ []) ++ es)) (as_output e ∷ ys)
 left_by e es ys true true s = kept (as_output e) (map as_output es) ys s
 left_by e es ys true false s = left_out (as_output e) (map as_output es) ys s
@@ -183,13 +183,13 @@ module _ {H Z : Type 0} (rule : Buffer → Bool) where
     fewer = ap (λ (b : Buffer). length p.out + num_waiting b) same ∙ p.fewer;
   }
 
--- ---- all that waits
+-- ---- all that is needed for output
 
 all_due : (xs : List Entry) → shortest_front (λ (outputs : List Entry). false) xs ≡ xs
 all_due [] = refl
 all_due (x ∷ xs) = ap (λ (l : List Entry). x ∷ l) (all_due xs)
 
--- bumping that always goes on outputs all that waits
+-- bumping that always goes on outputs all that is needed for output
 pub all_output : (es : Buffer) → (bumping (λ (b : Buffer). true) es).outputs ≡ (draining es).outputs
 unfolding due_outputs
 all_output es = all_due (in_output_order es)

@@ -24,11 +24,11 @@ pub record Bumps {H Z : Type 0} (bumped : Bumped) (old new : Dpb H)
   pub left : buffer_of new ≡ bumped.left
   pub out_handles : IsPartOf (map frame_ticket out) (tickets (stored_entries old))
   pub handles : IsPartOf (tickets (stored_entries new)) (tickets (stored_entries old))
-  -- nothing of those that are left has changed but whether they wait
+  -- nothing of those that are left has changed but whether they are needed for output
   pub entries : IsPartOf (map as_output (stored_entries new)) (map as_output (stored_entries old))
   pub size : max_num_pics_of new ≡ max_num_pics_of old
   pub room : room_of new ≡ room_of old
   pub latency : HaveLatency (stored_entries new)
   pub capacity : deque_capacity now ≡ deque_capacity before
-  -- each output waits no longer
+  -- each output is no longer needed for output
   pub fewer : length out + num_waiting (buffer_of new) ≡ num_waiting (buffer_of old)

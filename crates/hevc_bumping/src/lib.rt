@@ -19,7 +19,7 @@ use hevc_dpb::Dpb;
 pub use hevc_dpb::Limits;
 use std::collections::VecDeque;
 
-/// Additional bumping, once a picture is stored (C.5.2.3): what is due goes behind the queue.
+/// Additional bumping, once a picture is stored (C.5.2.3): what is due is appended to the queue.
 pub fn bump_additionally<H: Copy>(dpb: &mut Dpb<H>, limits: &Limits, queue: &mut VecDeque<Frame<H>>)
     requires latency { HaveLatency (stored_entries dpb.old) }
     requires room { deque_len queue.old + num_waiting (buffer_of dpb.old)
@@ -30,7 +30,7 @@ pub fn bump_additionally<H: Copy>(dpb: &mut Dpb<H>, limits: &Limits, queue: &mut
     bump_while(Rule::Additional(*limits), dpb, queue);
 }
 
-/// Bumping before a picture is decoded (C.5.2.2): what is due goes behind the queue.
+/// Bumping before a picture is decoded (C.5.2.2): what is due is appended to the queue.
 pub fn bump_for_room<H: Copy>(dpb: &mut Dpb<H>, limits: &Limits, queue: &mut VecDeque<Frame<H>>)
     requires latency { HaveLatency (stored_entries dpb.old) }
     requires room { deque_len queue.old + num_waiting (buffer_of dpb.old)
@@ -41,7 +41,7 @@ pub fn bump_for_room<H: Copy>(dpb: &mut Dpb<H>, limits: &Limits, queue: &mut Vec
     bump_while(Rule::ForRoom(*limits), dpb, queue);
 }
 
-/// All pictures that wait go behind the queue, in output order, and the buffer is emptied (C.5.2.2).
+/// All pictures that are needed for output are appended to the queue, in output order, and the buffer is emptied (C.5.2.2).
 pub fn output_all<H: Copy>(dpb: &mut Dpb<H>, queue: &mut VecDeque<Frame<H>>)
     requires latency { HaveLatency (stored_entries dpb.old) }
     requires room { deque_len queue.old + num_waiting (buffer_of dpb.old)

@@ -13,7 +13,7 @@ pub(crate) enum Rule {
     Additional(Limits),
     /// As before a picture is decoded (C.5.2.2).
     ForRoom(Limits),
-    /// As long as a picture waits.
+    /// As long as a picture is needed for output.
     Always,
 }
 

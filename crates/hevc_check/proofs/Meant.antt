@@ -161,7 +161,7 @@ module _ (o : Options) (k : Kept) (bytes : List ℕ) (h : UnitHeader) (parsed : 
     pub segment_means : (segment : PlainSliceSegmentHeader) (rest : List Bool) (sets : Option ActiveSets) → reading ≡ gives segment rest → active_sets k.sequence_sets k.picture_sets segment.pic_parameter_set_id ≡ sets → meaning o k bytes ≡ slice_segment_meaning o h bytes segment sets
     segment_means segment rest sets is active = slice_means (gives segment rest) is ∙ ap (slice_segment_meaning o h bytes segment) active
 
-    -- it is refused, but for want of memory
+    -- it is refused, unless an allocation fails
     pub segment_refused : (e : ParseError) → (e ≡ parse.NoMemory → ⊥) → RefusesSet e reading → NamesNoSequenceSet e → (cause : UnitCause) × (meaning o k bytes ≡ Refused cause)
     segment_refused parse.WrongNaluType isnt why names = absurd why
     segment_refused parse.OutOfBits isnt why names = (causes.OutOfBits, slice_means (refuses out_of_bits why.0) why.1)

@@ -79,7 +79,7 @@ pub head_format : (c : Context) (s : Slice) → (head c s).format ≡ s.format
 unfolding head
 head_format c s = refl
 
--- what stands as the picture of a slice of this format is to begin
+-- the standing as the picture of a slice of this format is to begin
 pub prepared : (v : Place) (s : Slice) (f : Format) → s.format ≡ f → (change_format f (finish v.latest v.store).next).next ≡ (prepare v.latest (head v.next s) v.store).next
 prepared v s f is = ap (λ (x : Format). (change_format x (finish v.latest v.store).next).next) (sym (head_format v.next s ∙ is))
 

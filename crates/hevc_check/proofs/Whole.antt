@@ -35,7 +35,7 @@ use Rattle.hevc_check.specs.Tables.{breaks_by, checked_by}
 use Rattle.hevc_check.specs.Steps.{IsAt, Steps, Tells, num_sequences, lowest}
 use Rattle.hevc_check.proofs.Steps.{still, unit_begins}
 
--- A check is in front of these units of a stream, the first of which is the k-th.
+-- A check is before these units of a stream, the first of which is the k-th.
 pub record Reached (t : Table) (o : Options) (bytes : List ℕ) (us : List NalUnit) (k : ℕ) (c : Check) : Type 0 where
   pub v : Stream
   pub at : IsAt t v c

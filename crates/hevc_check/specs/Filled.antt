@@ -13,10 +13,11 @@ abbrev pub is_below : ℤ → Option ℤ → Bool
 is_below c None = false
 is_below c (Some k) = int_lt c k
 
--- an entry is referred to, or waits and isn't output before an order count
+-- an entry is referred to, or is needed for output and isn't output before an order count
 abbrev pub needs : ℤ → Entry → Bool
 needs c e = is_reference e.mark || (e.needed_for_output && int_le c e.order_count)
 
--- the entries that are referred to, or wait and aren't output before an order count, fill a buffer
+-- the entries that are referred to, or are needed for output and aren't output before an order
+-- count, fill a buffer
 abbrev pub fill_for : ℕ → ℤ → Buffer → Bool
 fill_for size c es = nat_le size (length (needed_behind c es))

@@ -157,7 +157,7 @@ abbrev pub CannotBeginBy : Option Slice → Place → Type 0
 CannotBeginBy None w = ⊥
 CannotBeginBy (Some s) w = CannotBegin s w
 
--- a unit was taken; or it wasn't, since its picture can't begin, or for want of memory
+-- a unit was taken; or it wasn't, since its picture can't begin, or where an allocation fails
 abbrev pub Takes : Result (Option Begun) Unlike → Meaning → Place → Place → Type 0
 Takes (Ok told) u old new = TellsFirst (first_slice u old) old told × (new ≡ meant u old)
 Takes (Err unlike.Refused) u old new = CannotBeginBy (first_slice u old) old

@@ -1,76 +1,10 @@
-//! What a first slice tells of its picture (8.1.3, 8.3.1).
-ghost use Rattle.std.specs.Prelude.{◌≡◌, ◌&&◌, ◌<◌, ◌+◌, ◌-◌, ◌^◌, true, false, Some, IfOk, OnOk, OnErr, if◌then◌else◌};
-ghost use Rattle.hevc_spec.specs.UnitTypes.{is_rasl};
-ghost use Rattle.hevc_bits.specs.NaluType.{nalu_type_number};
-ghost use Rattle.hevc_types_d.specs.declared.pps.Pps.{Pps};
-ghost use Rattle.hevc_walk.specs.Pictures.{head, order_count_in_range};
+//! What a picture means for the next one (8.1.3, 8.3.1).
+ghost use Rattle.std.specs.Prelude.{◌≡◌, ◌<◌, ◌+◌, ◌-◌, ◌^◌, Some};
 ghost use Rattle.hevc_walk_units.specs.Units.{tid0_behind};
 ghost use Rattle.hevc_driver.specs.Heads.{head_of, context_of};
-ghost use Rattle.hevc_driver.specs.Slices.{slice_of};
 ghost use Rattle.hevc_check.specs.Places.{context_after};
 
-use hevc_bits::NaluType;
-use hevc_driver::{Context, Head, max_pic_order_cnt_lsb};
-use hevc_options::Options;
-use hevc_pictures::{Limits, PictureData, PocOutOfRange};
-use hevc_types_c::Sps;
-use hevc_types_d::Slice;
-
-/// What a picture's first slice tells of it.
-///
-/// Errors: its order count, or its most significant bits, isn't a 32-bit number.
-pub(crate) fn head_of_first(
-    next: &Context,
-    options: Options,
-    slice: &Slice<'_>,
-    sps: &Sps,
-) -> Result<Head, PocOutOfRange>
-    ensures head { (pps : Pps) → IfOk result (λ h. head_of h
-        ≡ head (context_of next.now) (slice_of options slice.now sps.now pps)) }
-    ensures number { IfOk result (λ h. h.number ≡ next.now.number) }
-    ensures within { (pps : Pps) → OnOk result (order_count_in_range
-        (head (context_of next.now) (slice_of options slice.now sps.now pps)) ≡ true) }
-    ensures outside { (pps : Pps) → OnErr result (order_count_in_range
-        (head (context_of next.now) (slice_of options slice.now sps.now pps)) ≡ false) }
-{
-    let nalu_type = slice.nalu().header().nalu_type();
-    let picture = PictureData::new_after(
-        slice,
-        next.first_picture_in_bitstream,
-        next.first_picture_after_eos,
-        next.prev_tid0_count,
-        max_pic_order_cnt_lsb(sps),
-        options.handle_cra_as_bla,
-    )?;
-    Ok(Head {
-        number: next.number,
-        picture,
-        skipped: is_skipped(nalu_type, next.latest_irap_no_rasl),
-        latest_irap_no_rasl: latest_irap_no_rasl(&picture, next.latest_irap_no_rasl),
-        format: sps.into(),
-        limits: Limits::of(sps, options.highest_tid),
-    })
-}
-
-/// Whether a picture isn't decoded: RASL, where the latest IRAP picture has NoRaslOutputFlag
-/// (8.1.3).
-fn is_skipped(nalu_type: NaluType, latest_irap_no_rasl: bool) -> bool
-    ensures { result ≡ (is_rasl (nalu_type_number nalu_type) && latest_irap_no_rasl) }
-{
-    nalu_type.is_rasl() && latest_irap_no_rasl
-}
-
-/// NoRaslOutputFlag of the latest IRAP picture, up to this one.
-fn latest_irap_no_rasl(picture: &PictureData, earlier: bool) -> bool
-    ensures { result
-        ≡ (if picture.now.is_irap then picture.now.no_rasl_output_flag else earlier) }
-{
-    if picture.is_irap {
-        picture.no_rasl_output_flag
-    } else {
-        earlier
-    }
-}
+use hevc_driver::{Context, Head};
 
 /// What the pictures with this one mean for the next.
 pub(crate) fn after(next: &Context, head: &Head) -> Context

@@ -14,14 +14,14 @@ pub(crate) struct Begun {
     pub(crate) stored: Stored,
 }
 
-/// What stays stored as a picture is to be decoded, before any is output for want of room
+/// What stays stored as a picture is to be decoded, before any is output because the buffer is full
 /// (C.5.2.2); nothing where it is skipped.
 #[derive(Clone, Copy)]
 pub(crate) struct Stored {
     /// How many pictures.
     pub(crate) num: usize,
-    /// The highest order count such that those of them that are referred to, or wait and aren't
-    /// output before it, fill the buffer.
+    /// The highest order count such that those of them that are referred to, or are needed for
+    /// output and aren't output before it, fill the buffer.
     pub(crate) filled: Option<i32>,
 }
 

@@ -12,7 +12,7 @@ pub enum Breach {
     SameCount,
     /// As it is to be decoded the buffer is full.
     Full,
-    /// What waits for output is discarded at it.
+    /// What is needed for output is discarded at it.
     Discards,
     /// More pictures than sps_max_num_reorder_pics are decoded before it and output after it.
     Reorder,

@@ -204,8 +204,8 @@ pub fn check_stream(alloc: Global, stream: &[u8]) -> Result<Checked, CheckError>
 /// count that are to be output, isn't discarded by the next one, and has at most
 /// sps_max_num_reorder_pics pictures before one in decoding order and after it in output order;
 /// whether less than SpsMaxLatencyPictures are decoded between one and a later one that is output
-/// before it, where a latency is declared (7.4.3.2.1); and whether no picture is output for want of
-/// room that a later one is output before. Where the answer is `Yes` the outputs of each sequence
+/// before it, where a latency is declared (7.4.3.2.1); and whether no picture is output because the
+/// buffer is full that a later one is output before. Where the answer is `Yes` the outputs of each sequence
 /// are exactly its pictures that are to be output, in strictly rising order count.
 ///
 /// Errors: `Refused` exactly where the stream can't be decoded; `NoMemory`.

@@ -36,7 +36,7 @@ pub(crate) fn is_up_to(count: i32, highest: Option<i32>) -> bool
     }
 }
 
-/// Whether a picture is referred to, or waits and isn't output before an order count.
+/// Whether a picture is referred to, or is needed for output and isn't output before an order count.
 fn is_needed(entry: &DpbEntry<()>, count: i32) -> bool
     ensures { result ≡ needs count (plain_entry entry.now) }
 {
@@ -73,8 +73,9 @@ fn filled_at(entries: &[DpbEntry<()>], count: i32, buffering: u8) -> Option<i32>
     }
 }
 
-/// The highest order count such that the pictures which are referred to, or wait and aren't output
-/// before it, are more than `buffering`: the greatest of all where those that are referred to are.
+/// The highest order count such that the pictures which are referred to, or are needed for output and
+/// aren't output before it, are more than `buffering`: the greatest of all where those that are
+/// referred to are.
 pub(crate) fn filled_up_to(entries: &[DpbEntry<()>], buffering: u8) -> Option<i32>
     ensures { (c : ℤ) → FitsSigned w32 c
         → is_up_to c result ≡ fill_for (buffering + 1) c (plain_entries entries.now) }

@@ -15,14 +15,14 @@ ghost use Rattle.hevc_driver.specs.Slices.{slice_of};
 ghost use Rattle.hevc_check.specs.Filled.{fill_for, is_up_to};
 ghost use Rattle.hevc_check.specs.Places.{place, finished, begun, begins_picture, meant, room_left, IsBegun, CannotBegin, Takes};
 
-use crate::beginning::{after, head_of_first};
+use crate::beginning::after;
 use crate::begun::{Begun, Stored};
 use crate::filled::filled_up_to;
 use crate::unlike::Unlike;
 use hevc_backend::NegotiationInfo;
 use hevc_bumping::{Frame, bump_additionally, bump_for_room};
 use hevc_dpb::{Dpb, DpbFull};
-use hevc_driver::{Context, Head, complete_header, keep_header, reference_set};
+use hevc_driver::{Context, Head, complete_header, head_of_first, keep_header, reference_set};
 use hevc_options::Options;
 use hevc_types_c::Sps;
 use hevc_types_d::{Slice, SliceHeader};
@@ -124,7 +124,7 @@ impl Pictures {
         Ok(())
     }
 
-    /// Where another format is negotiated, all that waits is output before.
+    /// Where another format is negotiated, all that is needed for output is output before.
     fn change_format(&mut self, sps: &Sps)
         ensures { self.new ≡ record self.old {
           store = (change_format (format_of_set (plain_sps sps.now)) self.old.store).next;
@@ -156,7 +156,7 @@ impl Pictures {
     }
 
     /// Entries are marked for a picture that is decoded (8.3.2), and leave. Gives what stays before
-    /// any is output for want of room; nothing is done for a skipped picture.
+    /// any is output because the buffer is full; nothing is done for a skipped picture.
     fn enter(&mut self, head: &Head, slice: &Slice<'_>, sps: &Sps) -> Stored
         ensures left { (o : Options) (pps : code_pps.Pps)
             → order_count_in_range (head_of head.now) ≡ true → self.new ≡ record self.old {

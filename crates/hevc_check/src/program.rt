@@ -52,7 +52,7 @@ pub fn run_check<S: Source, K: Sink>(
     // That is so for no longer input than may be.
     ensures limit { IfSome (asked_table words.now) (λ _. IsAnswer result
         → IfSome (S.left source.old) (λ s. length s ≤ INPUT_LIMIT)) }
-    // Whatever the status, what was written is a front of that; on 4 not the whole.
+    // Whatever the status, what was written is a prefix of that; on 4 not the whole.
     ensures part { IfSome (asked_table words.now) (λ table. IfSome (S.left source.old) (λ s.
         AppendsPrefix (K.written sink.old) (K.written sink.new) (written_of table s))) }
     ensures less { IfSome (asked_table words.now) (λ table. result ≡ 4

@@ -79,7 +79,7 @@ fn latency_pictures(limits: &Limits) -> usize
     (limits.reorder as usize + limits.latency_plus1 as usize).saturating_sub(1)
 }
 
-/// Whether what waits for output is discarded at a picture, which isn't the first (C.5.2.2).
+/// Whether what is needed for output is discarded at a picture, which isn't the first (C.5.2.2).
 fn discards(head: &Head) -> bool
     ensures { (p : Picture) → head_of head.now ≡ p.head → result ≡ discards p }
 {
@@ -247,7 +247,7 @@ impl Sequence {
     }
 
     /// Whether the buffer is full as a picture is to be decoded; by display order, whether it was
-    /// so up to it that one is output for want of room no earlier than it.
+    /// so up to it that one is output because the buffer is full no earlier than it.
     fn is_full(&self, begun: &Begun) -> bool
         ensures { (set : Option (ℕ × Format)) (p : Picture) (before : List Picture)
             → Tells set p before begun.now → FollowsTo set p before self.now

@@ -12,7 +12,7 @@ use Rattle.hevc_check_laws.specs.Checks.{BrokenAt, BreaksNothing, IsLowest, firs
 use Rattle.hevc_check_laws.proofs.Places.{Sound, sound-back}
 use Rattle.hevc_check_laws.proofs.Lowest.{Unbroken, lowest-none, none-lowest}
 
--- Where the first one that holds stands in a list.
+-- The place of the first one in a list that holds.
 record FirstAt (f : Breach → Bool) (bs : List Breach) (b : Breach) : Type 0 where
   front : List Breach
   back : List Breach

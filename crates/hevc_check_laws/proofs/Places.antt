@@ -1,4 +1,4 @@
--- Where pictures stand in their sequences.
+-- The places of pictures in their sequences.
 use Rattle.std.proofs.Common.{◌≡◌, Bool, true, false, cond, List, [], ◌∷◌, ◌++◌, refl, sym, ◌∙◌, ap, subst, Some}
 use Rattle.std.specs.List.{AllByRecursion as Each}
 use Rattle.hevc_walk.specs.Pictures.{Picture}
@@ -27,7 +27,7 @@ earlier-is p rest first before b s w = ap (λ (t : Bool). cond t [] (latest_sequ
 pub earlier-first : (first : Picture) (before : List Picture) → begins first before ≡ true → earlier_in first before ≡ []
 earlier-first first before b = ap (λ (t : Bool). cond t [] (latest_sequence before)) b
 
--- what holds of each of some pictures behind those before it
+-- what holds of each of some pictures after those before it
 abbrev pub Sound : (Picture → List Picture → Type 0) → List Picture → Type 0
 Sound P [] = Unit {0}
 Sound P (p ∷ before) = P p before × Sound P before

@@ -1,5 +1,5 @@
--- The breaches of plainer bounds: a latency is declared, a picture is output for want of room, or
--- two have one order count.
+-- The breaches of plainer bounds: a latency is declared, a picture is output because the buffer is
+-- full, or two have one order count.
 use Rattle.std.specs.Prelude.{ℕ, ◌+◌, Bool, not, ◌&&◌, ◌==◌, nat_le, List, length, Option}
 use Rattle.std.specs.Ordering.{int_eq}
 use Rattle.std.specs.List.{list_any}
@@ -23,7 +23,7 @@ breaks_bounds set p before Full =
     not p.skipped
     && not (begins p before)
     && nat_le (p.limits.max_dec_pic_buffering_minus1 + 1) (length (entries_before set p before))
--- what waits for output is discarded at it (C.5.2.2)
+-- what is needed for output is discarded at it (C.5.2.2)
 breaks_bounds set p before Discards = discards p
 -- more pictures than declared are before it and are output after it
 breaks_bounds set p before Reorder = is_reordered p before

@@ -34,8 +34,8 @@ differs_from p (Some first) =
 abbrev pub is_changed : Picture → List Picture → Bool
 is_changed p before = differs_from p (earliest (earlier_in p before))
 
--- its NoOutputOfPriorPicsFlag empties the buffer of what waits (C.5.2.2); before the first
--- picture there is nothing
+-- its NoOutputOfPriorPicsFlag empties the buffer of what is needed for output (C.5.2.2); before the
+-- first picture there is nothing
 abbrev pub discards : Picture → Bool
 discards p = p.no_output_of_prior_pics && not (p.number == 0)
 

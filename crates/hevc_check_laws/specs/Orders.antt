@@ -42,9 +42,9 @@ breaks_order set p before Latency =
 breaks_order set p before SameCount =
     is_for_output p
     && list_any (λ b. int_eq p.order_count b.order_count) (earlier_for_output p before)
--- for want of room there is bumped, up to it, what is output no earlier than it
+-- because the buffer is full there is bumped, up to it, what is output no earlier than it
 breaks_order set p before Full = is_for_output p && filled_for set p.order_count (p ∷ before)
--- what waits for output is discarded at it (C.5.2.2)
+-- what is needed for output is discarded at it (C.5.2.2)
 breaks_order set p before Discards = discards p
 -- more pictures than declared are before it and are output after it
 breaks_order set p before Reorder = is_reordered p before

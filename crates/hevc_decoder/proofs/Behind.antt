@@ -1,4 +1,4 @@
--- A unit of a stream, behind the units before it.
+-- A unit of a stream, after the units before it.
 use Rattle.std.proofs.Common.{◌≡◌, inl, inr, ℕ, ◌+◌, ◌<◌, ◌^◌, List, [], ◌∷◌, ◌++◌, refl, sym, ◌∙◌, ap, subst, arith, Option, Some, None, Result, Ok, Err, true, false}
 use Rattle.std.specs.Prelude.{is_some}
 use Rattle.hevc_spec.specs.Units.{NalUnit}
@@ -37,15 +37,15 @@ use Rattle.hevc_decoder.proofs.Giving.{TakesOrStays, part_of, take_once}
 use Rattle.hevc_decoder.proofs.Numbers.{opening_number}
 use Rattle.hevc_decoder.proofs.Again.{take_on}
 
--- where a decoder stands, whatever waits in its queue
+-- where a decoder is, whatever waits in its queue
 pub stands_with : {B H : Type 0} (o : Options) (us : List NalUnit) (s : Seen B H) (out : List (Frame H)) → StandsAfter o us (with_queue out s) → StandsAfter o us s
 stands_with o us s out x = record { goes_on = x.goes_on; stands = x.stands; state_is = x.state_is; kept = x.kept; latest = x.latest; room = x.room; started = x.started }
 
--- a format that is awaited isn't where a decoder stands
+-- a format that is awaited isn't where a decoder is
 step_in : {B H T : Type 0} (r : Result T DecodeError) (o : Options) (us : List NalUnit) (u : NalUnit) (h : UnitHeader) (old new : Seen B H) → StandsAfter o us old → unit_header u.bytes ≡ Ok h → StepsIn r 0 o h u.bytes old new → Step r (given_next 0 o us u) o h u.bytes old new
 step_in r o us u h old new after parsed y = subst (λ (g : Given). Step r g o h u.bytes old new) (given_first o us u h old after parsed 0) (y.taken (ap is_awaited after.state_is ∙ going_by (standing_after (meant o us)).store.accepted))
 
--- want of memory for the outputs stops a unit before it begins
+-- a failed allocation for the outputs stops a unit before it begins
 unmade : {B H T : Type 0} (at : ℕ → Given) (r : Result T DecodeError) (k : ℕ) (old new : Scene B H) (y : Meaning) (s : Standing) → Unmade r old new → TakesUnit at r k (trail_of old) (trail_of new) y s
 unmade {B} {H} {T} at r k old new y s u = subst (λ (q : Result T DecodeError). TakesUnit at q k (trail_of old) (trail_of new) y s) (sym u.told)
     (record { done = []; rest = (unit_part y s).events; whole = refl; does = does_all_nothing at (trail_of old) (trail_of new) (ap trail_of u.same); next = λ f. absurd f })

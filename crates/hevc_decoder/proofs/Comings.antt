@@ -20,7 +20,7 @@ use Rattle.hevc_stateless_laws.specs.Segments.{latest_behind_unit, latest_from, 
 use Rattle.hevc_stateless_laws.specs.Stands.{meant, kept_after, given_next}
 use Rattle.hevc_stateless_laws.proofs.Keeping.{meant_behind, length_meant}
 
--- ---- segments, one behind the other
+-- ---- segments, one after the other
 
 pub segments_behind : (o : Options) (k : Kept) (l : Option PlainSliceSegmentHeader) (us vs : List NalUnit) → segments_from o k l (us ++ vs) ≡ segments_from o k l us ++ segments_from o (kept_behind_all o k us) (latest_from o k l us) vs
 segments_behind o k l [] vs = refl
@@ -30,7 +30,7 @@ pub length_segments : (o : Options) (k : Kept) (l : Option PlainSliceSegmentHead
 length_segments o k l [] = refl
 length_segments o k l (u ∷ us) = ap suc (length_segments o (kept_behind o k u.bytes) (latest_behind_unit o k l u.bytes) us)
 
--- units hand over the same wherever they stand
+-- units hand over the same wherever they are
 moved_by_test : (o : Options) (p q : ℕ) (x : ℕ) (xs : List ℕ) (t : Bool) → begins_with_start_code (x ∷ xs) ≡ t → ((k : Kept) (l : Option PlainSliceSegmentHeader) → segments_from o k l (units_at kept_bytes (p + 1) xs) ≡ segments_from o k l (units_at kept_bytes (q + 1) xs))
     → (k : Kept) (l : Option PlainSliceSegmentHeader) → segments_from o k l (units_at kept_bytes p (x ∷ xs)) ≡ segments_from o k l (units_at kept_bytes q (x ∷ xs))
 moved_by_test o p q x xs true t more k l =
@@ -52,7 +52,7 @@ given_within ms more ss others k within same =
     ∙ ap (λ (s : Option Segment). given_with 0 (get_or (ms ++ more) k Other) s (standing (stream (take k ms)))) (sym (get_or_append_left ss others None k there))
     ∙ ap (λ (l : List Meaning). given_with 0 (get_or (ms ++ more) k Other) (get_or (ss ++ others) k None) (standing (stream l))) (sym (take-append-le k ms more (omega (arith, within))))
 
--- and is what comes with it behind the units before it
+-- and is what comes with it after the units before it
 given_last : (ms : List Meaning) (y : Meaning) (more : List Meaning) (ss : List (Option Segment)) (s : Option Segment) (others : List (Option Segment)) (k : ℕ) → length ms ≡ k → length ss ≡ k → given_with 0 y s (standing (stream ms)) ≡ given_of (ms ++ y ∷ more) (ss ++ s ∷ others) k
 given_last ms y more ss s others k is are =
     ap (λ (m : Meaning). given_with 0 m s (standing (stream ms))) (sym (get_or-append_seam ms y more Other) ∙ ap (λ (n : ℕ). get_or (ms ++ y ∷ more) n Other) is)
@@ -70,7 +70,7 @@ given_here o all front u later k whole place =
     ∙ ap (λ (ss : List (Option Segment)). given_of (meant o (front ++ u ∷ later)) ss k) (sym (segments_behind o none_kept None front (u ∷ later)))
     ∙ ap (λ (us : List NalUnit). given_of (meant o us) (segments_of o us) k) (sym whole)
 
--- units that come behind change nothing of what came
+-- units that come after change nothing of what came
 pub given_over : (o : Options) (us more : List NalUnit) (k : ℕ) (es : List (ℕ × Event)) → length us ≡ k → AllBelow k es → AllByRecursion (λ e. given_of (meant o us) (segments_of o us) e.0 ≡ given_of (meant o (us ++ more)) (segments_of o (us ++ more)) e.0) es
 given_over o us more k [] is below = tt
 given_over o us more k (e ∷ es) is below = (

@@ -1,11 +1,11 @@
--- A stream may be cut before a start code: what its parts mean, one behind the other, is what it means.
+-- A stream may be cut before a start code: what its parts mean, one after the other, is what it means.
 use Rattle.std.proofs.Common.{◌≡◌, ℕ, ◌+◌, Bool, true, false, List, [], ◌∷◌, drop, refl, ap}
 use Rattle.hevc_spec.specs.Units.{begins_with_start_code, before_start_code, without_trailing_zeros, units_at, kept_bytes}
 use Rattle.hevc_stream.specs.Options.{Options}
 use Rattle.hevc_stream.specs.Kept.{Kept}
 use Rattle.hevc_stream.specs.Stream.{kept_behind, meaning, meanings_behind}
 
--- units mean the same wherever they stand
+-- units mean the same wherever they are
 moved_by_test : (o : Options) (p q : ℕ) (x : ℕ) (xs : List ℕ) (t : Bool) → begins_with_start_code (x ∷ xs) ≡ t → ((k : Kept) → meanings_behind o k (units_at kept_bytes (p + 1) xs) ≡ meanings_behind o k (units_at kept_bytes (q + 1) xs))
     → (k : Kept) → meanings_behind o k (units_at kept_bytes p (x ∷ xs)) ≡ meanings_behind o k (units_at kept_bytes q (x ∷ xs))
 moved_by_test o p q x xs true t more k =

@@ -1,4 +1,4 @@
--- What came out is moved to the outputs, one by one.
+-- What was output is moved to the outputs, one by one.
 use Rattle.std.proofs.Common.{◌≡◌, ℕ, List, [], ◌∷◌, ◌++◌, map, refl, sym, ◌∙◌, ap, subst, append_assoc, append-nil, Some}
 use Rattle.std.proofs.lemmas.List.{map-append}
 use Rattle.hevc_bumping.specs.declared.frame.Frame.{Frame}
@@ -9,7 +9,7 @@ use Rattle.hevc_stateless.specs.Events.{TellsNext}
 use Rattle.hevc_decoder.specs.declared.decoded.Shown.{Shown}
 use Rattle.hevc_decoder.specs.Names.{shown_at}
 
--- a front of the queue was moved, and these are left
+-- a prefix of the queue was moved, and these are left
 pub record MovesTo {H : Type 0} (k : ℕ) (queue left : List (Frame H)) (before now : List (Shown H)) : Type 0 where
   pub front : List (Frame H)
   pub whole : queue ≡ front ++ left

@@ -35,7 +35,7 @@ handed_at_unit : (at : ℕ → Given) (k : ℕ) (es : List Event) → flat_map (
 handed_at_unit at k [] = refl
 handed_at_unit at k (e ∷ es) = ap (λ l. handed_in (at k) e ++ l) (handed_at_unit at k es)
 
--- a call began with an empty queue, and what came out of it was moved
+-- a call began with an empty queue, and what it output was moved
 pub lifts : {B H : Type 0} (at : ℕ → Given) (k : ℕ) (untimed : (at k).timestamp ≡ 0) (old new : Scene B H) (out : List (Frame H)) (done : List Event) → old.seen.view.queue ≡ [] → new.shown ≡ old.shown ++ map (shown_at k) out
     → Does (at k) (traces_of old.seen.log old.seen.handed old.seen.view) (traces_of new.seen.log new.seen.handed (with_queue out new.seen).view) done → DoesAll at (trail_of old) (trail_of new) (at_unit k done)
 lifts {B} {H} at k untimed old new out done empty shown x =

@@ -43,7 +43,7 @@ begins_more (a ∷ []) ys e = absurd (cc e)
 begins_more (a ∷ b ∷ []) ys e = absurd (cc e)
 begins_more (a ∷ b ∷ c ∷ xs) ys e = e
 
--- a stream may be cut in front of a start code, or of its first byte
+-- a stream may be cut before a start code, or of its first byte
 abbrev pub MayBeCut : (front rest : List ℕ) → Type 0
 MayBeCut front rest = (front ≡ []) ⊎ (begins_with_start_code rest ≡ true)
 
@@ -59,7 +59,7 @@ unfolding units_from
 parted o k xs ys (inl none) = subst (λ (front : List ℕ). meanings_behind o k (units_at kept_bytes 0 (front ++ ys)) ≡ meanings_behind o k (units_at kept_bytes 0 front ++ units_at kept_bytes 0 ys)) (sym none) refl
 parted o k xs ys (inr e) = parted_at o k xs ys e
 
--- what a window means behind some units, cut once more
+-- what a window means after some units, cut once more
 window_parted : (o : Options) (front : List NalUnit) (xs ys later : List ℕ) → MayBeCut xs ys → meant o (front ++ units ((xs ++ ys) ++ later)) ≡ meant o (front ++ (units xs ++ units (ys ++ later)))
 window_parted o front xs ys later cut =
     meant_behind o none_kept front (units ((xs ++ ys) ++ later))
@@ -93,7 +93,7 @@ window_segments o front xs ys later cut =
 
 -- ---- runs
 
--- units that come behind those that were taken
+-- units that come after those that were taken
 reached_over : {B H : Type 0} (o : Options) (front more : List NalUnit) (k : ℕ) (begin now : Scene B H) → Reached o front k begin now [] → Reached o (front ++ more) k begin now more
 reached_over o front more k begin now x = record { front = x.front; whole = ap (λ us. us ++ more) (x.whole ∙ append-nil x.front); place = x.place; stands = x.stands; empty = x.empty; few = x.few; does = does_all_as (given_of (meant o front) (segments_of o front)) (given_of (meant o (front ++ more)) (segments_of o (front ++ more))) (trail_of begin) (trail_of now) (walk_events (stream (meant o x.front))) (given_over o front more k (walk_events (stream (meant o x.front))) (ap (λ (us : List NalUnit). length us) (x.whole ∙ append-nil x.front) ∙ x.place) (below o front k begin now [] x)) x.does }
 
@@ -162,7 +162,7 @@ fed_whole {B} {H} o given window first begin old new r x ends =
     let hand : segments o given ≡ segments_of o all = ap (segments o) (sym (append-nil given)) ∙ x.cut_segments [] ∙ ap (λ (bytes : List ℕ). segments_of o (x.front ++ units bytes)) (append-nil window) in
     (subst (λ (ss : List (Option Segment)). Ended r (meanings o given) ss (trail_of begin) (trail_of new)) (sym hand) (subst (λ (us : List Meaning). Ended r us (segments_of o all) (trail_of begin) (trail_of new)) (sym means) y.0), subst (λ (n : ℕ). IfErr r (λ refused. refused.unit ≤ n)) size y.1)
 
--- ---- what came out so far
+-- ---- what was output so far
 
 reached_front : {B H : Type 0} (o : Options) (all later : List NalUnit) (k : ℕ) (begin now : Scene B H) → Reached o all k begin now later → Appended begin.shown now.shown (λ out. IsFront (map output_picture out) (outputs (meant o all)))
 reached_front o all later k begin now x =

@@ -50,7 +50,7 @@ no_nal (ChangedMidPicture accepted named) is = cc is
 no_nal PocOutOfRange is = cc is
 no_nal DpbFull is = cc is
 
--- a picture begins behind the end of the one before
+-- a picture begins after the end of the one before
 whole_begins : (x : Slice) (s : Standing) (o : Option Slice) → whole_slice s.kept x ≡ o → begins_by o s ≡ true → (later : List Event) × ((unit_part (CodedSlice x) s).events ≡ (finish_current (with_kept x s)).events ++ later)
 whole_begins x s None whole e = absurd (cc e)
 whole_begins x s (Some w) whole e = (

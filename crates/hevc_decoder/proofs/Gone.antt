@@ -1,4 +1,4 @@
--- What came out before a unit, or before the end, is no matter to it.
+-- What was output before a unit, or before the end, is no matter to it.
 use Rattle.std.proofs.Common.{◌≡◌, inl, inr, ℕ, List, [], ◌++◌, map, refl, sym, ap, subst, ◌∙◌, append_assoc, append-nil, Result, Err}
 use Rattle.hevc_spec.specs.UnitHeader.{UnitHeader}
 use Rattle.hevc_stream.specs.Options.{Options}
@@ -10,7 +10,7 @@ use Rattle.hevc_decoder.specs.Names.{shown_at}
 use Rattle.hevc_decoder.specs.Scenes.{Scene, accepting}
 use Rattle.hevc_decoder.specs.Gives.{Delivered, Unmade, DecodesUnit, Gives, GivesAgain, GivesWhole, Flushed, Closes}
 
--- so much came out, and all else holds whatever came out before
+-- so much was output, and all else holds whatever was output before
 pub record Adds {B H : Type 0} (R : Scene B H → Scene B H → Type 0) (old new : Scene B H) : Type 0 where
   pub out : List (Shown H)
   pub shown : new.shown ≡ old.shown ++ out

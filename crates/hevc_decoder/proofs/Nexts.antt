@@ -1,4 +1,4 @@
--- One unit after another, whatever came out before.
+-- One unit after another, whatever was output before.
 use Rattle.std.proofs.Common.{◌≡◌, ℕ, ◌+◌, ◌<◌, ◌≤◌, ◌^◌, List, [], ◌∷◌, ◌++◌, length, refl, sym, ap, ap₂, subst, ◌∙◌, append-nil, Option, Some, None, Result, Ok, Err}
 use Rattle.std.specs.Prelude.{IfErr}
 use Rattle.hevc_spec.specs.Units.{NalUnit}
@@ -121,7 +121,7 @@ module _ {B H : Type 0} where
   piece_refused o k before after old new r x begin all later reached =
       subst (λ (l : List (Shown H)). Ended (Err r) (meant o all) (segments_of o all) (trail_of begin) (trail_of (at new l)) × (r.unit ≤ length all)) (sym x.shown) (x.steps begin all later old.shown reached)
 
-  -- the end, as what came out before it stays
+  -- the end, as what was output before it stays
   pub ended_here : (o : Options) (k : ℕ) (r : Result ℕ Refused) (old new : Scene B H) → EndsHere r o k old new → EndsRun r o k [] old new
   ended_here o k r old new x begin all reached =
       subst (λ (l : List (Shown H)). Ended r (meant o all) (segments_of o all) (trail_of begin) (trail_of (at new l)) × IfErr r (λ refused. refused.unit ≤ length all)) (sym x.shown) (x.ends begin all old.shown reached)

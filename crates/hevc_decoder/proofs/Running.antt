@@ -72,7 +72,7 @@ failed us segments k old new x = record { done = x.done; rest = x.rest; whole = 
 pub wanted : {H : Type 0} (us : List Meaning) (segments : List (Option Segment)) (k : ℕ) (old new : Trail H) → Cut ⊥ us segments k old new → Ended (Err (record { unit = k; error = errors.NoMemory })) us segments old new
 wanted us segments k old new x = record { done = x.done; rest = x.rest; whole = x.whole; does = x.does; ends = x.up }
 
--- ---- behind some units
+-- ---- after some units
 
 module _ {B H : Type 0} (o : Options) (all : List NalUnit) (k : ℕ) (old mid : Scene B H) (later : List NalUnit) (x : Reached o all k old mid later) where
   abbrev ms : List Meaning
@@ -141,7 +141,7 @@ module _ {B H : Type 0} (o : Options) (all : List NalUnit) (k : ℕ) (old mid : 
     );
   }
 
--- no unit is behind the last one
+-- no unit is after the last one
 pub reached_within : {B H : Type 0} (o : Options) (all : List NalUnit) (k : ℕ) (old mid : Scene B H) (later : List NalUnit) → Reached o all k old mid later → k ≤ length all
 reached_within o all k old mid later x = let whole = ap (λ (l : List NalUnit). length l) x.whole in let both = length-append x.front later in omega (arith, whole, both, x.place)
 

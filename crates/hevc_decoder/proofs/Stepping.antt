@@ -119,7 +119,7 @@ module _ {B H P : Type 0} (log : B → Option (List (Call H))) (handed : B → O
         (subst (λ (x : Options). Ended r (meant x (units stream)) (segments_of x (units stream)) (trail_of there.begin) (trail_of (scene log handed new (gone ++ ends.out)))) there.set ended.0) ended.1;
   }
 
-  -- ---- along a stream, where what came out was let go
+  -- ---- along a stream, where what was output was let go
 
   pub record Along (o : Options) (stream : List ℕ) (k : ℕ) (left : List NalUnit) (backend : B) (decoder : StatelessDecoder B H P) : Type 0 where
     pub gone : List (Shown H)

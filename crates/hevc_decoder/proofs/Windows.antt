@@ -1,4 +1,4 @@
--- Where the last start code of a window stands.
+-- Where the last start code of a window is.
 use Rattle.std.proofs.Common.{◌≡◌, ◌≤◌, ◌<◌, ◌+◌, ◌-◌, ℕ, Bool, true, false, List, ◌++◌, take, drop, get_or, length, refl, sym, ap, subst, ◌∙◌, arith}
 use Rattle.std.specs.Prelude.{◌⊎◌, nat_le, ◌==◌}
 use Rattle.std.proofs.lemmas.Bool.{eqb-true}
@@ -20,11 +20,11 @@ part_at bytes from to place low high =
 length-part : (bytes : List ℕ) (from to : ℕ) → to ≤ length bytes → length (part bytes from to) ≡ to - from
 length-part bytes from to within = length-take (to - from) (drop from bytes) ∙ grind (arith, length-drop from bytes, within)
 
--- a start code stands at a place, and ends behind the bytes that were seen
+-- a start code is at a place, and ends after the bytes that were seen
 abbrev pub EndsBehind : List ℕ → (seen place : ℕ) → Type 0
 EndsBehind bytes seen place = (seen ≤ place + 2) × StandsAt bytes place
 
--- no start code ends behind a place
+-- no start code ends after a place
 abbrev pub NoneBehind : List ℕ → (seen place : ℕ) → Type 0
 NoneBehind bytes seen place = (start : ℕ) → place ≤ start + 2 → ¬ EndsBehind bytes seen start
 
@@ -56,7 +56,7 @@ stands_at bytes one above within a b c =
     let third : one - 2 + 2 ≡ one = omega (arith, above) in
     (omega (arith, third, within), a, ap (λ (k : ℕ). get_or bytes k 0) second ∙ b, ap (λ (k : ℕ). get_or bytes k 0) third ∙ c)
 
--- what stands at the place of the last 1
+-- what is at the place of the last 1
 pub one_at : (bytes : List ℕ) (seen to k : ℕ) → to ≤ length bytes → k < length (part bytes seen to) → Passes (is_byte 1) (part bytes seen to) k → (seen + k < length bytes) × (get_or bytes (seen + k) 0 ≡ 1)
 one_at bytes seen to k within below here =
     let long = length-part bytes seen to within in
@@ -75,7 +75,7 @@ last_start bytes seen found there none = (there, λ k low high stands. none k (o
 
 -- ---- what is left in the window
 
--- behind the last start code, and in front of it where none was seen, no other stands
+-- after the last start code, and before it where none was seen, no other is
 pub one_left : (window : List ℕ) (seen found : ℕ) → IsLastStart window seen found → NoneStands window 1 (seen - 2) → NoneStands (drop found window) 1 (length (drop found window))
 one_left window seen found last before place behind within stands = by_place (nat_le seen (found + place + 2)) refl
   where
@@ -95,7 +95,7 @@ one_left window seen found last before place behind within stands = by_place (na
         let low : found + place + 2 < seen = grind (arith, nat_tests, t) in
         before (found + place) (omega (arith, behind)) (omega (arith, low)) there
 
--- more bytes come behind a window
+-- more bytes come after a window
 pub one_seen : (window more : List ℕ) → NoneStands window 1 (length window) → NoneStands (window ++ more) 1 (length window - 2)
 one_seen window more one place behind seen stands =
     one place behind (omega (arith, seen)) (omega (arith, seen), at place (omega (arith, seen)) ∙ stands.1, at (place + 1) (omega (arith, seen)) ∙ stands.2, at (place + 2) (omega (arith, seen)) ∙ stands.3)

@@ -26,7 +26,7 @@ abbrev pub IsNoMemory : DecodeError → Type 0
 IsNoMemory errors.NoMemory = Unit {0}
 IsNoMemory error = ⊥
 
--- the stream is decoded whole, or memory was wanted
+-- the stream is decoded whole, or an allocation failed
 abbrev pub IsOkOrNoMemory : Result ℕ Refused → Type 0
 IsOkOrNoMemory (Ok pictures) = Unit {0}
 IsOkOrNoMemory (Err refused) = IsNoMemory refused.error

@@ -12,7 +12,7 @@ use Rattle.hevc_stateless.specs.Views.{traces_of}
 use Rattle.hevc_decoder.specs.Names.{shown_at}
 use Rattle.hevc_decoder.specs.Scenes.{Scene, with_queue, accepting}
 
--- A call was made with an empty queue, and what came out of it was moved.
+-- A call was made with an empty queue, and what it output was moved.
 pub record Delivered {B H T : Type 0} (Calls : Result T DecodeError → Seen B H → Seen B H → Type 0)
     (result : Result T DecodeError) (k : ℕ) (old new : Scene B H) : Type 0 where
   pub out : List (Frame H)
@@ -46,7 +46,8 @@ pub record GivesAgain {B H T : Type 0} (result : Result T DecodeError) (k : ℕ)
     (header : UnitHeader) (bytes : List ℕ) (old new : Scene B H) : Type 0 where
   pub mid : Scene B H
   pub emptied : mid.seen.view.queue ≡ []
-  pub opens : Delivered {T = T} (DecodesUnit options header bytes) (Err errors.CheckEvents) k old mid
+  pub opens : Delivered {T = T} (DecodesUnit options header bytes) (Err errors.CheckEvents) k old
+      mid
   pub again : Gives result k options header bytes (accepting mid) new
 
 abbrev pub GivesWhole : {B H T : Type 0} → Result T DecodeError → ℕ → Options → UnitHeader → List ℕ
@@ -62,6 +63,6 @@ Flushed result old new =
     → Flushes result given (traces_of old.log old.handed old.view)
     (traces_of new.log new.handed new.view) old.view.state old.view.standing new.view.standing
 
--- the stream ended, behind k units
+-- the stream ended, after k units
 abbrev pub Closes : {B H T : Type 0} → Result T DecodeError → ℕ → Scene B H → Scene B H → Type 0
 Closes result k old new = Delivered Flushed result k old new ⊎ Unmade result old new

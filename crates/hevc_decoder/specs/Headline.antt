@@ -1,4 +1,4 @@
--- What decoding a stream promises: which calls the backend got, which pictures came out,
+-- What decoding a stream promises: which calls the backend got, which pictures were output,
 -- and how it ended.
 use Rattle.std.specs.Prelude.{◌≡◌, ℕ, ◌≤◌, List, [], ◌∷◌, ◌++◌, map, Option, Result, Ok, Err, Contains}
 use Rattle.std.specs.List.{AllByRecursion}
@@ -20,7 +20,7 @@ use Rattle.hevc_decoder.specs.declared.decoded.Shown.{Shown}
 use Rattle.hevc_decoder.specs.declared.decoded.Refused.{Refused}
 use Rattle.hevc_decoder.specs.Names.{answer_of, shown_ticket}
 
--- the log, where it is told, grew by calls of which this holds
+-- the log, where it is exposed, grew by calls of which this holds
 abbrev pub Grew : {X : Type 0} → Option (List X) → Option (List X) → (List X → Type 0) → Type 0
 Grew {X} before now P = (l : List X) × (now ≡ logged before l) × P l
 
@@ -50,7 +50,7 @@ AnswersVerdict (Err r) verdict = AnswersError r.error r verdict
 
 -- ---- calls
 
--- the calls made are all those of units before k, and none of units behind it
+-- the calls made are all those of units before k, and none of units after it
 pub record CutsCalls (k : ℕ) (calls : List walk.Call) (all : List (ℕ × walk.Call)) : Type 0 where
   pub made : List (ℕ × walk.Call)
   pub unmade : List (ℕ × walk.Call)
@@ -91,7 +91,7 @@ EndsCalls (Err r) calls all = EndsCallsAt r.error r.unit calls all
 
 -- ---- outputs
 
--- the pictures that came out are all those of units before k, and none of units behind it
+-- the pictures that were output are all those of units before k, and none of units after it
 pub record CutsOutputs (k : ℕ) (given all : List OutputPicture) : Type 0 where
   pub ungiven : List OutputPicture
   pub whole : all ≡ given ++ ungiven
@@ -105,7 +105,7 @@ EndsOutputsAt errors.NoMemory k given all = CutsOutputs k given all
 EndsOutputsAt errors.DpbFull k given all = given ≡ outputs_below k all
 EndsOutputsAt error k given all = given ≡ all
 
--- which pictures came out, by the answer
+-- which pictures were output, by the answer
 abbrev pub EndsOutputs : Result ℕ Refused → List OutputPicture → List OutputPicture → Type 0
 EndsOutputs (Ok n) given all = given ≡ all
 EndsOutputs (Err r) given all = EndsOutputsAt r.error r.unit given all
@@ -136,11 +136,11 @@ SubmittedOnce calls = (n : ℕ) → times n (map (λ t. t.0) (submissions calls)
 abbrev pub shown_numbers : {H : Type 0} → List (Shown H) → List ℕ
 shown_numbers shown = map (λ o. o.number) shown
 
--- no picture comes out twice
+-- no picture is output twice
 abbrev pub ComeOutOnce : {H : Type 0} → List (Shown H) → Type 0
 ComeOutOnce shown = (n : ℕ) → times n (shown_numbers shown) ≤ 1
 
--- those whose fate it is to be output come out, and no others
+-- those whose fate it is to be output are output, and no others
 abbrev pub AreForOutput : {H : Type 0} → List Meaning → List (Shown H) → Type 0
 AreForOutput us shown =
     (n : ℕ)

@@ -7,7 +7,7 @@ use Rattle.hevc_driver.specs.Errors.{error_of}
 use Rattle.hevc_decoder.specs.declared.decoded.Shown.{Shown}
 use Rattle.hevc_decoder.specs.declared.decoded.Refused.{Refused}
 
--- a picture that came out, as an output of the k-th unit
+-- a picture that was output, as an output of the k-th unit
 abbrev pub shown_at : {H : Type 0} → ℕ → Frame H → Shown H
 shown_at k f = record {
   number = f.number;

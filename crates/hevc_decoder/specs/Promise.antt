@@ -20,8 +20,8 @@ use Rattle.hevc_decoder.specs.Answers.{AnswersOnly, FindsRoom, IsOkOrNoMemory, w
 use Rattle.hevc_decoder.specs.Headline.{Grew, Appended, IsFront, all_asked, AnswersVerdict, EndsCalls, EndsOutputs, WantsFrame, AllSubmitted, SubmittedOnce, ComeOutOnce, AreForOutput, NeverStoreMore}
 use Rattle.hevc_decoder.specs.Names.{output_picture}
 
--- What is told at a moment: of a backend its log and what it was handed, if it tells them, its
--- counts, and its promise never to fail; and the pictures that have come out.
+-- What is told at a moment: of a backend its log and what it was handed, if it exposes them, its
+-- counts, and its promise never to fail; and the pictures that were output.
 pub record Told (H : Type 0) : Type 1 where
   pub log : Option (List (Call H))
   pub handed : Option (List Handed)
@@ -49,11 +49,11 @@ pub record CountsNone (before now : Counts) : Type 0 where
 -- What holds of a decoding with this answer, whatever the bytes are.
 pub record IsHonest {H : Type 0} (before now : Told H) (result : Result ℕ Refused) : Type 0 where
   pub answers_only : AnswersOnly result
-  -- each picture comes out with the handle of its one submission
+  -- each picture is output with the handle of its one submission
   pub handles : Grew before.log now.log
       (λ l. Appended before.shown now.shown (λ o. AllSubmitted l o))
   pub submitted_once : Grew before.log now.log (λ l. SubmittedOnce l)
-  -- no picture comes out twice
+  -- no picture is output twice
   pub once : Appended before.shown now.shown (λ o. ComeOutOnce o)
   -- each new picture has timestamp 0
   pub timestamps : Grew before.log now.log (λ l. AllByRecursion (IsTimed 0) l)
@@ -69,14 +69,14 @@ pub record Decodes {H : Type 0} (options : Options) (stream : List ℕ) (before 
   -- the backend gets the calls that the units ask for, in order, and no other
   pub calls : Grew before.log now.log
       (λ l. IsFront (map call_of l) (all_asked (walk.calls (meanings options stream))))
-  -- the pictures that are to be output come out in order, each with its order count and at its unit,
-  -- and no others
+  -- the pictures that are to be output are output in order, each with its order count and at its
+  -- unit, and no others
   pub outputs : Appended before.shown now.shown
       (λ o. IsFront (map output_picture o) (walk.outputs (meanings options stream)))
   -- any answer but a failed backend, one without a frame, and no memory is the verdict on the units
   pub answer : AnswersVerdict result (walk.verdict (meanings options stream))
-  -- On a verdict all calls are made, or those up to the picture that finds the buffer full; else, at
-  -- unit k, all of units before k and none of units after it.
+  -- On a verdict all calls are made, or those up to the picture that finds the buffer full; else,
+  -- at unit k, all of units before k and none of units after it.
   pub whole_calls : Grew before.log now.log
       (λ l. EndsCalls result (map call_of l) (walk.calls (meanings options stream)))
   pub whole_outputs : Appended before.shown now.shown
@@ -86,21 +86,24 @@ pub record Decodes {H : Type 0} (options : Options) (stream : List ℕ) (before 
   pub handed : Grew before.handed now.handed (λ hs. Grew before.log now.log
       (λ l. hs ≡ handed_over (meanings options stream) (segments options stream)
       (take (length l) (walk.calls (meanings options stream)))))
-  -- one to one, in order: a picture with each NewPicture, a picture and its first slice segment with
-  -- each BeginPicture, a slice segment with each DecodeSlice
+  -- one to one, in order: a picture with each NewPicture, a picture and its first slice segment
+  -- with each BeginPicture, a slice segment with each DecodeSlice
   pub one_to_one : Grew before.handed now.handed (λ hs. Grew before.log now.log
       (λ l. AreOneToOne hs (map call_of l)))
   pub unit : IfErr result (λ refused. refused.unit ≤ length (units stream))
   -- a frame is wanted for a picture alone, and as it begins
   pub frames : IfErr result
       (λ refused. WantsFrame refused.error refused.unit (meanings options stream))
-  -- where the stream is decoded whole, those whose fate it is to be output come out
-  pub fates : OnOk result (Appended before.shown now.shown (λ o. AreForOutput (meanings options stream) o))
+  -- where the stream is decoded whole, those whose fate it is to be output are output
+  pub fates : OnOk result
+      (Appended before.shown now.shown (λ o. AreForOutput (meanings options stream) o))
   -- sequence by sequence, and each that keeps the order that it declares in display order
   pub in_turn : OnOk result
-      (Appended before.shown now.shown (λ o. ComeInTurn (meanings options stream) (map output_picture o)))
+      (Appended before.shown now.shown
+      (λ o. ComeInTurn (meanings options stream) (map output_picture o)))
   pub display_order : OnOk result
-      (Appended before.shown now.shown (λ o. ComeInOrder (meanings options stream) (map output_picture o)))
+      (Appended before.shown now.shown
+      (λ o. ComeInOrder (meanings options stream) (map output_picture o)))
   -- Where nothing is refused, and so in every clean stream, memory is all that it takes with a
   -- backend that fails nowhere, and with one that never fails.
   pub complete : (n : ℕ) → walk.verdict (meanings options stream) ≡ Ok n
@@ -111,8 +114,8 @@ pub record Decodes {H : Type 0} (options : Options) (stream : List ℕ) (before 
       → before.is_faultless → IsOkOrNoMemory result
   pub clean_over_faultless : IsClean (meanings options stream)
       → before.is_faultless → IsOkOrNoMemory result
-  -- a clean stream stores no picture where more entries stand than its sets declare, so over any
-  -- backend none finds the buffer full
+  -- a clean stream stores no picture where there are more entries than its sets declare, so over
+  -- any backend none finds the buffer full
   pub stores_few : IsClean (meanings options stream) → NeverStoreMore (meanings options stream)
   pub room : IsClean (meanings options stream) → FindsRoom result
   pub honest : IsHonest before now result

@@ -21,7 +21,7 @@ use Rattle.hevc_decoder.specs.Headline.{BeginsPicture}
 use Rattle.hevc_decoder.specs.Scenes.{Scene, Trail, trail_of}
 use Rattle.hevc_decoder.specs.Takes.{DoesAll}
 
--- Where a run stands in front of unit k, from which on these units come: behind the others, with
+-- Where a run is before unit k, from which on these units come: after the others, with
 -- all that they ask for done.
 pub record Reached {B H : Type 0} (options : Options) (all : List NalUnit) (k : ℕ)
     (old now : Scene B H) (later : List NalUnit) : Type 0 where
@@ -83,8 +83,8 @@ pub record Ended {H : Type 0} (result : Result ℕ Refused) (us : List Meaning)
   pub does : DoesAll (given_of us segments) old new done
   pub ends : Ends result us done rest
 
--- Unit k was taken, the first of `before`, and `after` are left; there is none; or it is refused. So
--- much more came out, whatever came out before.
+-- Unit k was taken, the first of `before`, and `after` are left; there is none; or it is refused.
+-- So much more was output, whatever was output before.
 abbrev pub StepsBy : {B H T : Type 0} → Result (Option T) Refused → Options → (k : ℕ)
     → (before after : List NalUnit) → (out : List (Shown H)) → (old new : Seen B H) → Type 0
 StepsBy {B} {H} (Ok (Some taken)) options k before after out old new =
@@ -106,8 +106,8 @@ pub record TakesNext {B H T : Type 0} (result : Result (Option T) Refused) (opti
   pub shown : new.shown ≡ old.shown ++ out
   pub steps : StepsBy result options k before after out old.seen new.seen
 
--- No unit is left: a run that stood there, in front of unit k, has ended. So much more came out,
--- whatever came out before.
+-- No unit is left: a run that was there, before unit k, has ended. So much more was output,
+-- whatever was output before.
 pub record EndsHere {B H : Type 0} (result : Result ℕ Refused) (options : Options) (k : ℕ)
     (old new : Scene B H) : Type 0 where
   pub out : List (Shown H)
@@ -118,7 +118,7 @@ pub record EndsHere {B H : Type 0} (result : Result ℕ Refused) (options : Opti
       (trail_of (record { seen = new.seen; shown = gone ++ out }))
       × IfErr result (λ refused. refused.unit ≤ length all)
 
--- Units were taken, from unit `first` on: a run that stood in front of them stands behind them, at
+-- Units were taken, from unit `first` on: a run that was before them is after them, at
 -- the next unit, or has ended.
 abbrev pub TakesPiece : {B H : Type 0} → Result ℕ Refused → Options → (first : ℕ) → List NalUnit
     → Scene B H → Scene B H → Type 0
@@ -133,7 +133,7 @@ TakesPiece {B} {H} (Err refused) options first us old new =
     (trail_of new)
     × (refused.unit ≤ length all)
 
--- These units are the last: a run that stood in front of them has ended.
+-- These units are the last: a run that was before them has ended.
 abbrev pub EndsRun : {B H : Type 0} → Result ℕ Refused → Options → (first : ℕ) → List NalUnit
     → Scene B H → Scene B H → Type 0
 EndsRun {B} {H} result options first us old new =

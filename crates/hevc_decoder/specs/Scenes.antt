@@ -1,4 +1,4 @@
--- Where a run stands.
+-- Where a run is.
 use Rattle.std.specs.Prelude.{ℕ, List, Option}
 use Rattle.hevc_backend.specs.declared.call.Call.{Call}
 use Rattle.hevc_backend.specs.Handed.{Handed}
@@ -9,12 +9,12 @@ use Rattle.hevc_stateless.specs.Decoders.{seen_by}
 use Rattle.hevc_stateless.specs.Steps.{Seen}
 use Rattle.hevc_decoder.specs.declared.decoded.Shown.{Shown}
 
--- What its decoder is seen by, and the pictures that came out so far.
+-- What its decoder is seen by, and the pictures that were output so far.
 pub record Scene (B H : Type 0) : Type 0 where
   pub seen : Seen B H
   pub shown : List (Shown H)
 
--- where backends tell these logs, and this that they were handed
+-- where backends expose these logs, and this as what they were handed
 abbrev pub scene : {B H P : Type 0} → (log : B → Option (List (Call H)))
     → (handed : B → Option (List Handed)) → StatelessDecoder B H P → List (Shown H) → Scene B H
 scene log handed decoder shown = record { seen = seen_by log handed decoder; shown = shown }

@@ -14,12 +14,12 @@ use Rattle.hevc_decoder.specs.Headline.{Appended, IsFront}
 use Rattle.hevc_decoder.specs.Scenes.{Scene, Trail, trail_of}
 use Rattle.hevc_decoder.specs.Runs.{Reached, Ended}
 
--- what holds of an answer and of the bytes that a source had left, where it tells them
+-- what holds of an answer and of the bytes that a source had left, where it exposes them
 abbrev pub OfSource : {T E : Type 0} → Result T E → Option (List ℕ) → (T → List ℕ → Type 0) → Type 0
 OfSource result left fact = IfOk result (λ value. IfSome left (λ stream. fact value stream))
 
--- The pictures that came out are, in order, the first ones of the bytes that a source had left,
--- where it tells them.
+-- The pictures that were output are, in order, the first ones of the bytes that a source had left,
+-- where it exposes them.
 abbrev pub ComeOutFirst : {H : Type 0} → Options → Option (List ℕ) → (old new : List (Shown H))
     → Type 0
 ComeOutFirst options left old new =
@@ -27,7 +27,7 @@ ComeOutFirst options left old new =
     Appended old new (λ o. IsFront (map output_picture o) (outputs (meanings options stream))))
 
 -- Of the bytes that a source gave, those of `window` are still to be cut;
--- the units in front of them were taken.
+-- the units before them were taken.
 pub record Fed {B H : Type 0} (options : Options) (given window : List ℕ) (unit : ℕ)
     (begin now : Scene B H) : Type 0 where
   pub front : List NalUnit
@@ -37,7 +37,7 @@ pub record Fed {B H : Type 0} (options : Options) (given window : List ℕ) (uni
   pub cut_segments : (later : List ℕ)
       → segments options (given ++ later) ≡ segments_of options (front ++ units (window ++ later))
 
--- The run ended at a unit of these bytes, whatever comes behind them.
+-- The run ended at a unit of these bytes, whatever comes after them.
 pub record Stopped {B H : Type 0} (options : Options) (given : List ℕ) (refused : Refused)
     (begin now : Scene B H) : Type 0 where
   pub ended : (later : List ℕ)

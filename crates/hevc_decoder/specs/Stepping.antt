@@ -23,9 +23,9 @@ IsNextUnit (Some found) before after = before ≡ unit_of found ∷ after
 abbrev pub first_trail : {H : Type 0} → Option (List (Call H)) → Option (List Handed) → Trail H
 first_trail log handed = record { log = log; handed = handed; shown = []; tickets = [] }
 
--- A decoder that was made over a backend, under these options, was given the units of a stream up to
--- unit k; these are left. None was refused, all that they ask for was done, and these pictures came
--- out.
+-- A decoder that was made over a backend, under these options, was given the units of a stream up
+-- to unit k; these are left. None was refused, all that they ask for was done, and these pictures
+-- were output.
 pub record StandsIn {B H P : Type 0} (log : B → Option (List (Call H)))
     (handed : B → Option (List Handed)) (counts : B → Counts) (is_faultless : B → Type 0)
     (options : Options) (stream : List ℕ) (k : ℕ) (left : List NalUnit) (backend : B)
@@ -37,7 +37,8 @@ pub record StandsIn {B H P : Type 0} (log : B → Option (List (Call H)))
   pub faultless : is_faultless backend → is_faultless (view_of decoder).backend
   pub set : set_for decoder ≡ options
 
--- Unit k was taken, and `after` are left; or there is none; or it is refused, and with it the stream.
+-- Unit k was taken, and `after` are left; or there is none; or it is refused, and with it the
+-- stream.
 abbrev pub GoesOn : {B H P T : Type 0} → (log : B → Option (List (Call H)))
     → (handed : B → Option (List Handed)) → (counts : B → Counts) → (is_faultless : B → Type 0)
     → Result (Option T) Refused → Options → List ℕ → (k : ℕ) → (before after : List NalUnit) → B
@@ -48,12 +49,13 @@ GoesOn log handed counts is_faultless (Ok (Some taken)) options stream k before 
 GoesOn log handed counts is_faultless (Ok None) options stream k before after backend shown new =
     (before ≡ [])
     × StandsIn log handed counts is_faultless options stream k [] backend shown new
-GoesOn log handed counts is_faultless (Err refused) options stream k before after backend shown new =
+GoesOn log handed counts is_faultless (Err refused) options stream k before after backend shown
+    new =
     Decodes options stream (told log handed counts is_faultless backend [])
     (told log handed counts is_faultless (view_of new).backend shown) (Err refused)
 
--- The next unit was taken of a stream, of which `before` were left: so much more came out, and what
--- stood there goes on.
+-- The next unit was taken of a stream, of which `before` were left: so much more was output, and
+-- the stream goes on.
 pub record DecodesNext {B H P T : Type 0} (log : B → Option (List (Call H)))
     (handed : B → Option (List Handed)) (counts : B → Counts) (is_faultless : B → Type 0)
     (result : Result (Option T) Refused) (stream : List ℕ) (k : ℕ) (before after : List NalUnit)
@@ -65,8 +67,8 @@ pub record DecodesNext {B H P T : Type 0} (log : B → Option (List (Call H)))
       → GoesOn log handed counts is_faultless result options stream k before after backend
       (gone ++ out) new
 
--- All units of a stream had been taken, k of them: so much more came out at its end, and the stream
--- is decoded.
+-- All units of a stream had been taken, k of them: so much more was output at its end, and the
+-- stream is decoded.
 pub record DecodesEnd {B H P : Type 0} (log : B → Option (List (Call H)))
     (handed : B → Option (List Handed)) (counts : B → Counts) (is_faultless : B → Type 0)
     (result : Result ℕ Refused) (k : ℕ) (old new : StatelessDecoder B H P)
@@ -78,8 +80,8 @@ pub record DecodesEnd {B H P : Type 0} (log : B → Option (List (Call H)))
       → Decodes options stream (told log handed counts is_faultless backend [])
       (told log handed counts is_faultless (view_of new).backend (gone ++ out)) result
 
--- All units of a stream were taken from its beginning on, and the stream was decoded: these pictures
--- came out.
+-- All units of a stream were taken from its beginning on, and the stream was decoded: these
+-- pictures were output.
 pub record ComesOut {B H P : Type 0} (log : B → Option (List (Call H)))
     (handed : B → Option (List Handed)) (counts : B → Counts) (is_faultless : B → Type 0)
     (result : Result ℕ Refused) (options : Options) (stream : List ℕ) (backend : B)

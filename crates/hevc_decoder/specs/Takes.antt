@@ -113,7 +113,7 @@ TakesUnit at (Err errors.CheckEvents) k old new y before = ⊥
 TakesUnit at (Err errors.PictureNumbersSpent) k old new y before = ⊥
 TakesUnit at (Err error) k old new y before = RefusesUnit at error k old new y before
 
--- The stream ended, behind k units.
+-- The stream ended, after k units.
 pub record ClosesWhole {H : Type 0} (at : ℕ → Given) (k : ℕ) (old new : Trail H) (before : Standing)
     : Type 0 where
   pub room : is_full_now before ≡ false
@@ -125,7 +125,7 @@ pub record FillsAtEnd {H : Type 0} (at : ℕ → Given) (k : ℕ) (old new : Tra
   pub full : is_full_now before ≡ true
   pub fills : FillsPlan at k old new (closing_part before).events
 
--- what was done behind the last unit, by the answer
+-- what was done after the last unit, by the answer
 abbrev pub EndsStream : {H T : Type 0} → (ℕ → Given)
     → Result T DecodeError → ℕ → Trail H → Trail H → Standing
     → Type 0

@@ -2,8 +2,8 @@
 use Rattle.std.specs.Prelude.{◌≡◌, ℕ, ◌+◌, ◌-◌, ◌≤◌, ◌⊎◌, max, List, length}
 use Rattle.hevc_bits.specs.StartCode.{StandsAt, NoneStands}
 
--- of the start codes that end behind the bytes that were seen the last one stands there, or none
--- does behind place 0, and it is 0
+-- of the start codes that end after the bytes that were seen the last one is there, or none
+-- does after place 0, and it is 0
 abbrev pub IsLastStart : List ℕ → (seen found : ℕ) → Type 0
 IsLastStart bytes seen found =
     ((found ≡ 0) ⊎ (seen ≤ found + 2) × StandsAt bytes found)

@@ -14,12 +14,12 @@ pub struct Shown<H> {
     pub handle: H,
     /// Its order count, PicOrderCntVal (8.3.1).
     pub order_count: i32,
-    /// The number, from 0, of the unit at which the picture is output; behind the last unit the number of units.
+    /// The number, from 0, of the unit at which the picture is output; after the last unit the number of units.
     pub unit: u64,
 }
 
 impl<H: Copy> Shown<H> {
-    /// A picture that came out, as an output of this unit.
+    /// A picture that was output, as an output of this unit.
     pub(crate) fn of(frame: Frame<H>, unit: u64) -> Shown<H>
         ensures { result ≡ shown_at unit frame }
     {
@@ -36,7 +36,7 @@ impl<H: Copy> Shown<H> {
 #[derive(Clone, Copy, Debug, PartialEq, Eq, Drop, Error)]
 #[error("unit {unit} is refused: {error}")]
 pub struct Refused {
-    /// The number, from 0, of the unit at which it came; behind the last unit the number of units.
+    /// The number, from 0, of the unit at which it came; after the last unit the number of units.
     pub unit: u64,
     /// Why.
     pub error: DecodeError,
@@ -45,7 +45,7 @@ pub struct Refused {
 /// What is left of a decoding.
 #[derive(Drop)]
 pub struct Decoded<B> {
-    /// The backend, behind the last call that it took.
+    /// The backend, after the last call that it took.
     pub backend: B,
     /// How the stream ended: with the number of its pictures, those included that are skipped, or refused.
     pub result: Result<u64, Refused>,

@@ -103,7 +103,7 @@ fn feed<B: StatelessH265DecoderBackend, S: Source>(
     }
 }
 
-/// Takes all units of the stream that a source has left, of at most `limit` bytes, and gives the number of its pictures. Behind a
+/// Takes all units of the stream that a source has left, of at most `limit` bytes, and gives the number of its pictures. After a
 /// refusal the source is read to its end.
 pub(crate) fn take_source<B: StatelessH265DecoderBackend, S: Source>(
     alloc: Global,

@@ -1,4 +1,4 @@
-//! Whole streams: from bytes to the calls of a backend and the pictures that come out.
+//! Whole streams: from bytes to the calls of a backend and the pictures that are output.
 #![tactic(auto)]
 
 mod decoded;

@@ -14,7 +14,7 @@ use hevc_stateless::{Options, StatelessDecoder, StatelessH265DecoderBackend};
 use std::alloc::Global;
 
 /// Decodes the byte stream (Annex B) that a source has left, of at most `limit` bytes, as it comes: no more of it is kept at a time than
-/// what lies between two start codes and what one read gives. Behind a refusal the source is read to its end.
+/// what lies between two start codes and what one read gives. After a refusal the source is read to its end.
 ///
 /// On `Ok` all is as `decode_stream_with` has it for these bytes. After an `InputError` the backend is dropped; the pictures that came
 /// out until then were added to `shown`. `Failed` has a cause: a fault was counted, or no more can be. By `TooLong` more than `limit`
@@ -33,7 +33,7 @@ pub fn decode_source_with<B: StatelessH265DecoderBackend + Drop, S: Source>(
     ensures end { OnOk result (IsAtEnd (S.left source.new)) }
     ensures limit { OfSource result (S.left source.old) (λ _ stream. length stream ≤ limit) }
 
-    // Its pictures come out in order; where the input failed, the first of them.
+    // Its pictures are output in order; where the input failed, the first of them.
     ensures outputs { ComeOutFirst (options_of options) (S.left source.old)
         shown.old.items shown.new.items }
 

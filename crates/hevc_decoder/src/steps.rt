@@ -26,7 +26,7 @@ pub fn begin_stream<B: StatelessH265DecoderBackend>(
 }
 
 /// Takes the next unit of a byte stream (Annex B) of less than 2^60 bytes, from a position on, as unit `unit`; a format is accepted as it
-/// is negotiated. Pictures that come out are added to `shown`, and the position moves to the place after the unit. `None` where no unit
+/// is negotiated. Pictures that are output are added to `shown`, and the position moves to the place after the unit. `None` where no unit
 /// is left. A refusal is that of the whole stream.
 pub fn decode_next_unit<'a, B: StatelessH265DecoderBackend>(
     decoder: &mut StatelessDecoder<B>,
@@ -53,7 +53,7 @@ pub fn decode_next_unit<'a, B: StatelessH265DecoderBackend>(
     take_next(decoder, stream, position, unit, shown)
 }
 
-/// Ends a stream all units of which were taken, so many of them, and gives the number of its pictures. Those that come out now are added
+/// Ends a stream all units of which were taken, so many of them, and gives the number of its pictures. Those that are output now are added
 /// to `shown`.
 pub fn end_stream<B: StatelessH265DecoderBackend>(
     decoder: &mut StatelessDecoder<B>,

@@ -14,7 +14,7 @@ use crate::units::take_units;
 use hevc_stateless::{Options, StatelessDecoder, StatelessH265DecoderBackend};
 use std::alloc::Global;
 
-/// Decodes a byte stream (Annex B) of less than 2^60 bytes, and adds the pictures that come out to `shown`, in output order (C.5.2).
+/// Decodes a byte stream (Annex B) of less than 2^60 bytes, and adds the pictures that are output to `shown`, in output order (C.5.2).
 ///
 /// What the units ask for is defined without this code: `meanings` gives what each unit means (7.3, 7.4), `calls` the calls of a backend,
 /// `outputs` the pictures that are output and the unit at which each is, `verdict` how the stream ends. `Decodes` says that no more is
@@ -59,7 +59,7 @@ pub fn decode_stream<B: StatelessH265DecoderBackend>(
 }
 
 /// Decodes a byte stream (Annex B) of less than 2^60 bytes for its verdict and its calls alone: `decode_stream_with`, but that the
-/// pictures that come out are let go, so that no more memory is taken by a longer stream.
+/// pictures that are output are let go, so that no more memory is taken by a longer stream.
 pub fn judge_stream<B: StatelessH265DecoderBackend>(
     alloc: Global,
     backend: B,
@@ -80,7 +80,7 @@ pub fn judge_stream<B: StatelessH265DecoderBackend>(
     }
 }
 
-/// Takes all units of a stream, and lets go what comes out.
+/// Takes all units of a stream, and lets go what is output.
 fn judge_units<B: StatelessH265DecoderBackend>(
     alloc: Global,
     decoder: &mut StatelessDecoder<B>,

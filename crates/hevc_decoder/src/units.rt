@@ -22,7 +22,7 @@ use hevc_stateless::{
     DecodeError, DecoderEvent, MAX_OUTPUTS_OF_UNIT, StatelessDecoder, StatelessH265DecoderBackend,
 };
 
-/// Moves what came out to the outputs of a unit.
+/// Moves what was output to the outputs of a unit.
 fn deliver<B: StatelessH265DecoderBackend>(
     decoder: &mut StatelessDecoder<B>,
     unit: u64,
@@ -41,7 +41,7 @@ fn deliver<B: StatelessH265DecoderBackend>(
     }
 }
 
-/// Gives a unit, and moves what comes out.
+/// Gives a unit, and moves what is output.
 fn give<B: StatelessH265DecoderBackend>(
     decoder: &mut StatelessDecoder<B>,
     nalu: &Nalu<'_, NaluHeader>,
@@ -97,7 +97,7 @@ fn take_unit<B: StatelessH265DecoderBackend>(
     give(decoder, nalu, unit, shown)
 }
 
-/// Behind the last unit.
+/// After the last unit.
 fn close<B: StatelessH265DecoderBackend>(
     decoder: &mut StatelessDecoder<B>,
     unit: u64,
@@ -188,7 +188,7 @@ pub(crate) fn take_piece<B: StatelessH265DecoderBackend>(
     Ok(unit)
 }
 
-/// Behind the last of so many units. Gives the number of pictures.
+/// After the last of so many units. Gives the number of pictures.
 pub(crate) fn finish<B: StatelessH265DecoderBackend>(
     decoder: &mut StatelessDecoder<B>,
     unit: u64,

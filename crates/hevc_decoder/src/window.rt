@@ -17,7 +17,7 @@ const BLOCK: usize = 262_144;
 #[derive(Drop)]
 pub(crate) struct Window {
     bytes: Vec<u8>,
-    /// How many of `bytes` are there; behind them is room.
+    /// How many of `bytes` are there; after them is room.
     filled: usize,
 }
 
@@ -56,7 +56,7 @@ impl Window {
         &self.bytes[..self.filled]
     }
 
-    /// Reads more bytes behind these, and gives their number; 0 says that the source is at its end.
+    /// Reads more bytes after these, and gives their number; 0 says that the source is at its end.
     pub(crate) fn read<S: Source>(&mut self, source: &mut S) -> Result<usize, InputError>
         ensures more { IfOk result (λ count. (got : List ℕ) × (self.new ≡ self.old ++ got)
             × (length got ≡ count) × Consumes (S.left source.old) (S.left source.new) got) }
@@ -120,7 +120,7 @@ impl Window {
     }
 }
 
-/// Up to where the units of these bytes are whole, whatever comes behind: the place of the last start code that ends behind `seen`
+/// Up to where the units of these bytes are whole, whatever comes after: the place of the last start code that ends after `seen`
 /// bytes, or 0 where there is none.
 pub(crate) fn whole_units(bytes: &[u8], seen: usize) -> usize
     ensures within { result ≤ length bytes.now }

@@ -26,6 +26,7 @@ abbrev pub overstored : List Meaning
 overstored =
     SequenceSet plain_format ∷ Other ∷ idr sets
     ∷ CodedSlice (referring P 1 (used_member (negsuc 0) ∷ []) [] [] 1)
-    ∷ CodedSlice (record (referring P 2 (used_member (negsuc 0) ∷ used_member (negsuc 1) ∷ []) [] [] 1)
+    ∷ CodedSlice (record
+    (referring P 2 (used_member (negsuc 0) ∷ used_member (negsuc 1) ∷ []) [] [] 1)
     { sets = limited 1 0 1 })
     ∷ []

@@ -7,14 +7,14 @@ ghost use Rattle.hevc_walk_examples.specs.Corners.{without_prior};
 ghost use Rattle.hevc_decoder.specs.Headline.{AllSubmitted, SubmittedOnce, ComeOutOnce, AreForOutput, NeverStoreMore};
 ghost use Rattle.hevc_decoder_examples.specs.Broken.{submitted, shown, overstored};
 
-/// A picture that is discarded and comes out, and one that is to come out and doesn't; one that comes out twice.
+/// A picture that is discarded and output, and one that is to be output and isn't; one that is output twice.
 pub fn wrong_outputs()
     ensures discarded { AreForOutput without_prior (shown 0 7 ∷ shown 1 8 ∷ shown 2 9 ∷ []) → ⊥ }
     ensures missing { AreForOutput plain (shown 0 7 ∷ shown 1 8 ∷ []) → ⊥ }
     ensures twice { ComeOutOnce (shown 0 7 ∷ shown 1 8 ∷ shown 0 7 ∷ []) → ⊥ }
 {}
 
-/// A picture that comes out with the handle of another, and one that is submitted twice.
+/// A picture that is output with the handle of another, and one that is submitted twice.
 pub fn wrong_handles()
     ensures exchanged { AllSubmitted (submitted 0 7 ∷ submitted 1 8 ∷ []) (shown 0 8 ∷ []) → ⊥ }
     ensures twice { SubmittedOnce (submitted 0 7 ∷ submitted 1 8 ∷ submitted 0 9 ∷ []) → ⊥ }

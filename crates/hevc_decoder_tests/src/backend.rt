@@ -14,7 +14,7 @@ use over_device::{Device, OverDevice};
 use std::alloc::Global;
 use std::test::Fail;
 
-/// A unit of an IDR picture behind its start code.
+/// A unit of an IDR picture after its start code.
 const UNIT: &[u8] = &[0, 0, 1, 38, 1, 175, 128];
 
 /// What picture 7 begins with, if the first unit of the stream is one.

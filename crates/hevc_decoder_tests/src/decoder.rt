@@ -14,8 +14,8 @@ use std::alloc::Global;
 use std::process::Abort;
 use std::test::Fail;
 
-/// A sequence set of 16 by 16 luma samples of which one picture may wait, a picture set, and two
-/// slices of an IDR picture each, every unit behind a start code.
+/// A sequence set of 16 by 16 luma samples of which one picture may be needed for output, a picture set, and two
+/// slices of an IDR picture each, every unit after a start code.
 const TWO_PICTURES: &[u8] = &[
     0x00, 0x00, 0x01, 0x42, 0x01, 0x01, 0x01, 0x60, 0x00, 0x00, 0x03, 0x00, 0x90, 0x00, 0x00, 0x03,
     0x00, 0x00, 0x03, 0x00, 0x3c, 0xa0, 0x88, 0x45, 0xe5, 0x5a, 0xbc, 0x20, 0x80, 0x00, 0x00, 0x01,
@@ -55,7 +55,7 @@ fn two_pictures_come_out(rt: HostRuntime) -> Result<(), Fail> {
     Ok(())
 }
 
-/// The stream is refused at this unit over a backend, which took so many calls; so many pictures came out.
+/// The stream is refused at this unit over a backend, which took so many calls; so many pictures were output.
 fn refused(
     rt: &impl Abort,
     alloc: Global,

@@ -7,7 +7,7 @@ use hevc_types_c::Sps;
 use std::test::Fail;
 use streams::{IDR, close, give, slice, start};
 
-/// The number of pictures that came out, and the number of the last one.
+/// The number of pictures that were output, and the number of the last one.
 fn outputs(driver: &Driver<Backend>) -> (usize, Option<u64>) {
     let queue = &driver.standing.queue;
     (queue.len(), queue.back().map(|frame| frame.number))

@@ -6,7 +6,7 @@ use std::alloc::{AllocError, Global};
 use std::process::Abort;
 use std::test::Fail;
 
-/// 16 by 16 luma samples, one picture may wait.
+/// 16 by 16 luma samples, one picture may be needed for output.
 const SPS: &[u8] = &[
     0x42, 0x01, 0x01, 0x01, 0x60, 0x00, 0x00, 0x03, 0x00, 0x90, 0x00, 0x00, 0x03, 0x00, 0x00, 0x03,
     0x00, 0x3c, 0xa0, 0x88, 0x45, 0xe5, 0x5a, 0xbc, 0x20, 0x80,
@@ -18,7 +18,7 @@ const WIDE_SPS: &[u8] = &[
     0x00, 0x3c, 0xa0, 0x42, 0x11, 0x79, 0x56, 0xaf, 0x08, 0x20,
 ];
 
-/// 192 by 192 luma samples at level 1: 16 pictures may wait, and the buffer has room for 6.
+/// 192 by 192 luma samples at level 1: 16 pictures may be needed for output, and the buffer has room for 6.
 const LARGE_SPS: &[u8] = &[
     0x42, 0x01, 0x01, 0x01, 0x60, 0x00, 0x00, 0x03, 0x00, 0x90, 0x00, 0x00, 0x03, 0x00, 0x00, 0x03,
     0x00, 0x1e, 0xa0, 0x18, 0x20, 0x30, 0x5e, 0x11, 0x08, 0xea, 0xf0, 0x82,
@@ -152,7 +152,7 @@ const UPPER_P2_2: &str =
 const B2_2: &str =
     "pic 2 type 1 poc 2 output 1\nslice 2 at 0 size 7 list0 0 list1 1\nsubmit 2 handle 2\n";
 
-/// The units, each behind this start code.
+/// The units, each after this start code.
 fn joined(alloc: Global, start: &[u8], units: &[&[u8]]) -> Result<Vec<u8>, AllocError> {
     let mut bytes = Vec::new(alloc);
     for unit in units {
@@ -162,7 +162,7 @@ fn joined(alloc: Global, start: &[u8], units: &[&[u8]]) -> Result<Vec<u8>, Alloc
     Ok(bytes)
 }
 
-/// The units, each behind 00 00 01.
+/// The units, each after 00 00 01.
 fn stream(alloc: Global, units: &[&[u8]]) -> Result<Vec<u8>, AllocError> {
     joined(alloc, START, units)
 }
@@ -449,7 +449,7 @@ fn a_changed_format_is_negotiated(rt: HostRuntime) -> Result<(), Fail> {
         0,
         &[SEQ, PICTURE_0, sequence, PICTURE_1, end],
     )?;
-    // What waits comes out as the format changes, before a picture could discard it.
+    // What is needed for output is output as the format changes, before a picture could discard it.
     let units = [SPS, PPS, IDR, P4, TEN_BIT_LUMA, PPS, DISCARDING_IDR];
     let sequence = "seq 16x16 profile 1 depth 10 8 chroma 1 buffer 16\n";
     let end =

@@ -40,7 +40,7 @@ fn accept(decoder: &mut StatelessDecoder<Backend>) -> bool {
     awaited
 }
 
-/// The number of the next picture that came out.
+/// The number of the next picture that was output.
 fn next_number(decoder: &mut StatelessDecoder<Backend>) -> Option<u64> {
     match decoder.next_event() {
         Some(DecoderEvent::FrameReady(frame)) => Some(frame.number),
@@ -65,7 +65,7 @@ fn takes(rt: &impl Abort, decoder: &mut StatelessDecoder<Backend>, units: &[&[u8
     }
 }
 
-/// The next pictures that come out have these numbers.
+/// The next pictures that are output have these numbers.
 fn come_out(rt: &impl Abort, decoder: &mut StatelessDecoder<Backend>, numbers: &[u64]) {
     for number in numbers {
         assert!(rt; next_number(decoder) == Some(*number));

@@ -54,7 +54,7 @@ pub enum Came {
     },
 }
 
-/// A backend that keeps all that comes with its calls. None fails but for want of memory, and there is always a free frame.
+/// A backend that keeps all that comes with its calls. None fails unless an allocation does, and there is always a free frame.
 #[derive(Drop)]
 pub struct TellingBackend {
     room: bool,

@@ -37,7 +37,7 @@ tickets es = map ticket es
 abbrev pub IsPartOf : {X : Type 0} → List X → List X → Type 0
 IsPartOf {X} xs ys = (x : X) → Contains xs x → Contains ys x
 
--- it waits for output, or is used for reference (C.5.2.2)
+-- it is needed for output, or is used for reference (C.5.2.2)
 abbrev pub is_needed : {T : Type 0} → DpbEntry T → Bool
 is_needed e = waits e || is_ref e
 

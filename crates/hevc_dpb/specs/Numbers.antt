@@ -8,7 +8,7 @@ abbrev pub Absent : ℕ → List ℕ → Type 0
 Absent n [] = ⊤
 Absent n (m ∷ ms) = (m ≢ n) × Absent n ms
 
--- no number stands twice
+-- no number is there twice
 abbrev pub Distinct : List ℕ → Type 0
 Distinct [] = ⊤
 Distinct (n ∷ ns) = Absent n ns × Distinct ns

@@ -8,7 +8,7 @@ use crate::entry::DpbEntry;
 use hevc_pictures::Limits;
 
 impl<T: Copy> DpbEntry<T> {
-    /// Whether it waits, and its latency count is at least SpsMaxLatencyPictures (7-9).
+    /// Whether it is needed for output, and its latency count is at least SpsMaxLatencyPictures (7-9).
     pub(crate) fn is_late(&self, limits: &Limits) -> bool
         ensures { result ≡ is_late limits.now self.now }
     {
@@ -33,14 +33,14 @@ pub(crate) fn is_bumping_due<T: Copy>(entries: &Vec<DpbEntry<T>>, limits: &Limit
     is_additional_due(entries, limits) || entries.len() >= limits.buffering as usize + 1
 }
 
-/// How many entries wait for output.
+/// How many entries are needed for output.
 fn num_waiting<T: Copy>(entries: &Vec<DpbEntry<T>>) -> usize
     ensures { result ≡ count_by waits entries.now.items }
 {
     entries.iter().filter(|entry| entry.waits()).count()
 }
 
-/// Whether an entry waits for too long.
+/// Whether an entry is needed for output for too long.
 fn any_late<T: Copy>(entries: &Vec<DpbEntry<T>>, limits: &Limits) -> bool
     ensures { result ≡ list_any (is_late limits.now) entries.now.items }
 {

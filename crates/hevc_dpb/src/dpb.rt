@@ -20,13 +20,13 @@ pub struct DpbFull;
 
 /// Stored pictures, in the order in which they were stored: at most 16, each with a number of its own.
 ///
-/// Beside them stands in which order those that wait for output are output. `picture_mut` lets order counts change, so
-/// the order is stale behind it until a later call makes it anew.
+/// It also keeps in which order those that are needed for output are output. `picture_mut` lets order counts change, so
+/// the order is stale after it until a later call makes it anew.
 #[derive(Drop)]
 pub struct Dpb<T: Copy> {
     entries: Vec<DpbEntry<T>>,
     max_num_pics: usize,
-    /// The positions of the entries that wait for output, in order, unless they are stale.
+    /// The positions of the entries that are needed for output, in order, unless they are stale.
     waiting: ArrayVec<u8, 16>,
     stale: bool,
     ghost few: { length entries.items ≤ 16 },
@@ -137,7 +137,7 @@ impl<T: Copy> Dpb<T> {
         self.order_waiting();
     }
 
-    /// The positions of the pictures that wait for output, in the order in which they are output; None where that order is
+    /// The positions of the pictures that are needed for output, in the order in which they are output; None where that order is
     /// stale.
     pub fn waiting_positions(&self) -> Option<&[u8]>
         ensures stale { IsSome result ↔ (is_stale self.now ≡ false) }
@@ -221,7 +221,7 @@ impl<T: Copy> Dpb<T> {
         unmark_all(&mut self.entries);
     }
 
-    /// The pictures that neither wait for output nor are used for reference leave (C.5.2.2).
+    /// The pictures that are neither needed for output nor used for reference leave (C.5.2.2).
     pub fn remove_unused(&mut self)
         ensures entries { stored_entries self.new ≡ filter is_needed (stored_entries self.old) }
         ensures buffer { buffer_of self.new ≡ needed_entries (buffer_of self.old) }
@@ -258,7 +258,7 @@ impl<T: Copy> Dpb<T> {
         is_bumping_due(&self.entries, limits)
     }
 
-    /// Of the pictures that wait for output, the first one in order is output (C.5.2.4). It leaves unless it is used for
+    /// Of the pictures that are needed for output, the first one in order is output (C.5.2.4). It leaves unless it is used for
     /// reference; where the buffer is flushed, it leaves in any case.
     pub fn bump(&mut self, flush: bool) -> Option<DpbEntry<T>>
         ensures output { result
@@ -291,7 +291,7 @@ impl<T: Copy> Dpb<T> {
         output
     }
 
-    /// All pictures that wait for output are appended in order, and leave. The others stay.
+    /// All pictures that are needed for output are appended in order, and leave. The others stay.
     ///
     /// Errors: no memory; both are then as they were.
     pub fn drain(&mut self, out: &mut Vec<DpbEntry<T>>) -> Result<(), AllocError>
@@ -321,7 +321,7 @@ impl<T: Copy> Dpb<T> {
         Ok(())
     }
 
-    /// Stores a picture behind the others, as a short-term reference picture that waits if it is to be output (C.5.2.3).
+    /// Stores a picture after the others, as a short-term reference picture, needed for output if it is to be output (C.5.2.3).
     ///
     /// Errors: the buffer holds as many pictures as it may; it is then as it was.
     pub fn store_picture(

@@ -1,4 +1,4 @@
-//! The decoded picture buffer: pictures that wait for output or are used for reference (C.5.2).
+//! The decoded picture buffer: pictures that are needed for output or are used for reference (C.5.2).
 #![tactic(auto)]
 
 mod bumping;

@@ -14,7 +14,7 @@ use crate::entry::DpbEntry;
 use arrayvec::ArrayVec;
 
 impl<T: Copy> DpbEntry<T> {
-    /// Its output: it waits no longer.
+    /// Its output: it is no longer needed for output.
     fn as_output(&self) -> DpbEntry<T>
         ensures { result ≡ as_output self.now }
     {
@@ -81,7 +81,7 @@ fn take_output<T: Copy>(entries: &mut Vec<DpbEntry<T>>, place: usize, flush: boo
     output
 }
 
-/// The entries that wait are appended in order.
+/// The entries that are needed for output are appended in order.
 pub(crate) fn append_in_order<T: Copy>(
     entries: &Vec<DpbEntry<T>>,
     waiting: &ArrayVec<u8, 16>,

@@ -1,4 +1,4 @@
--- The picture whose slices came is over, and all that waits is output.
+-- The picture whose slices came is over, and all that is needed for output is output.
 use Rattle.std.proofs.Common.{◌≡◌, ◌++◌, refl, ap, Result, Err, false}
 use Rattle.std.specs.Result.{IsErrAnd}
 use Rattle.std.proofs.lemmas.Result.{err_from_is_err_and}

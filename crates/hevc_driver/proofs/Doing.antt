@@ -150,7 +150,7 @@ pub stops_at : {H : Type 0} (t : Given) (old new : Traces H) (call : walk.Call) 
     → Stops t old new (Called call ∷ rest) Left
 stops_at t old new call rest Left log handed queue tickets left = record { done = []; call = call; rest = rest; whole = refl; does = does_nothing t old new log handed queue tickets; left = left }
 
--- one that stops behind another
+-- one that stops after another
 pub stops_then : {H : Type 0} (t : Given) (a b c : Traces H) (d plan : List Event) (Left : walk.Call → Type 0) → Does t a b d → Stops t b c plan Left → Stops t a c (d ++ plan) Left
 stops_then t a b c d plan Left x y = record {
   done = d ++ y.done;
@@ -161,7 +161,7 @@ stops_then t a b c d plan Left x y = record {
   left = y.left;
 }
 
--- one that stops in front of another
+-- one that stops before another
 pub stops_more : {H : Type 0} (t : Given) (a b : Traces H) (plan more : List Event) (Left : walk.Call → Type 0) → Stops t a b plan Left → Stops t a b (plan ++ more) Left
 stops_more t a b plan more Left x = record {
   done = x.done;
@@ -210,7 +210,7 @@ completes_then {H} t a b c p f s r x y =
     let z = subst (λ (v : Standing). Completes t b c (f v) r) x.next y in
     record { does = does_then t a b c p.events (f p.next).events x.does z.does; next = z.next }
 
--- the exit of a `?` behind a call of the backend
+-- the exit of a `?` after a call of the backend
 pub runs_stop : {H T : Type 0} (r : Result T DecodeError) (e : BackendError) (t : Given) (a b : Traces H) (part : Part Standing) (Left : walk.Call → Type 0) (st : Standing) → IsErrAnd r (λ y. y ≡ backend_error e) → Stops t a b part.events Left → Runs r t a b part Left st
 runs_stop r e t a b part Left st is x = let q = err_from_is_err_and r is in rw q.1 (rw q.2 (stops_by e t a b part.events Left x))
 

@@ -90,7 +90,7 @@ follow_changed {H} {T} r e t a b w s st is changed same left = let q = err_from_
     by errors.NoMemory h = absurd (cc h.told)
     by e h = (h, same, left)
 
--- what stands once the picture of a refused slice is given up
+-- the standing once the picture of a refused slice is given up
 pub left_refused : {T : Type 0} (r : Result T DecodeError) (s : Standing) → is_err r ≡ true → given_up_by r s ≡ given_up s
 left_refused (Ok value) s refused = absurd (cc refused)
 left_refused (Err e) s refused = refl

@@ -26,7 +26,7 @@ given_whole timestamp v w whole segment s slice_is segment_is =
     ap (λ (o : Option Slice). record { timestamp = timestamp; picture = picture_at o (Some segment) s; segment = Some segment }) (sym slice_is)
     ∙ ap (λ (o : Option Segment). given_at timestamp v o s) (sym segment_is)
 
--- the latest independent header is the same behind a segment and behind the completed one
+-- the latest independent header is the same after a segment and after the completed one
 pub latest_whole : (done : Bool) (latest : Option PlainSliceSegmentHeader) (own whole : PlainSliceSegmentHeader) → done ≡ true → OnTrue done (whole_header latest own ≡ Some whole) → latest_behind latest whole ≡ latest_behind latest own
 latest_whole done latest own whole is header = by own.dependent_slice_segment_flag refl latest (subst (λ (b : Bool). OnTrue b (whole_header latest own ≡ Some whole)) is header)
   where

@@ -59,7 +59,7 @@ bumps {H} t a b p s d e before now keeps goes needed kept x log handed qa qb tb 
 
 -- ---- a format is negotiated
 
--- what waits is output before
+-- what is needed for output is output before
 pub drains_first : {H Z : Type 0} (t : Given) (a b : Traces H) (s : Standing) (d e : Dpb H) (before now : VecDeque (Frame H) Z) → s.store.buffer ≡ buffer_of d → Bumps (draining (buffer_of d)) d e before now → b.log ≡ a.log → b.handed ≡ a.handed → a.queue ≡ before.items → b.queue ≡ now.items → a.tickets ≡ tickets (stored_entries d) → b.tickets ≡ tickets (stored_entries e)
     → Completes t a b (on_store (output_by draining) s) (with_buffer (buffer_of e) s)
 drains_first t a b s d e before now same x log handed qa qb ta tb = rw same (record { does = does_bump t a b (draining (buffer_of d)) d e before now x log handed qa qb ta tb; next = ap (λ es. with_buffer es s) x.left })

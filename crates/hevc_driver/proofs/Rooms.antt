@@ -1,4 +1,4 @@
--- What a reference picture set names is stored behind the marks that it leaves, and behind the pictures that leave (8.3.2, C.5.2.2).
+-- What a reference picture set names is stored after the marks that it leaves, and after the pictures that leave (8.3.2, C.5.2.2).
 use Rattle.std.proofs.Common.{◌≡◌, ℕ, suc, length, Bool, true, false, not, ◌||◌, ◌&&◌, ◌==◌, List, [], ◌∷◌, ◌++◌, map, filter, refl, sym, ap, ◌∙◌, subst, Option, None, if◌then◌else◌}
 use Rattle.hevc_spec.specs.UnitTypes.{is_idr}
 use Rattle.hevc_walk.specs.Meanings.{Slice, ShortTermMember, LongTermMember, ShortTermRefPicSet}
@@ -94,7 +94,7 @@ lists_name_nothing p w set es n =
     five : RefPicSet
     five = five_lists p w set (map unmarked es) (map unmarked es)
 
--- behind the marks of a picture that begins a sequence
+-- after the marks of a picture that begins a sequence
 pub names_nothing : (p : Head) (w : Slice) (es : Buffer) (n : ℕ) → p.starts_sequence ≡ true → names n (all_members (reference_set p w es)) ≡ false
 unfolding reference_set
 names_nothing p w es n begins = by (is_idr p.nal_unit_type)
@@ -127,7 +127,7 @@ reference_stays p s n prior none h = by p.no_output_of_prior_pics p.starts_seque
     by false true d b = absurd (none b)
     by false false d b = ap (has_reference n) (room_is p s false false d b) ∙ behind_outputs n (due_outputs (needs_bumping p.limits) (needed_entries s.buffer)) (needed_entries s.buffer) (behind_needed n s.buffer h)
 
--- ---- what waits stays
+-- ---- what is needed for output stays
 
 waits_on : (w r : Bool) (e : Entry) (es left : Buffer) → e.needed_for_output ≡ w → in_output_order left ≡ in_output_order es → in_output_order (if w || r then e ∷ left else left) ≡ in_output_order (e ∷ es)
 waits_on true r e es left is same = ap (λ (l : List Entry). if e.needed_for_output then placed e l else l) same

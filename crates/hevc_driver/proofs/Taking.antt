@@ -170,7 +170,7 @@ module _ {H : Type 0} (t : Given) (a b : Traces H) (x w : Slice) (s st : Standin
     unfinished (Err errors.DpbFull) i y = full_first y
     unfinished (Err e) i y = absurd y
 
-    -- stopped behind that
+    -- stopped after that
     module _ (mid : Traces H) (room : is_full_now k ≡ false) (finishes : Does t a mid (finish_current k).events) where
       left_begun : (c : walk.Call) → LeftBegun c w m st → LeftAt c u s st
       left_begun (walk.SubmitPicture number) h = absurd h

@@ -60,7 +60,7 @@ pub record Completes {H : Type 0} (given : Given) (old new : Traces H) (part : P
   pub does : Does given old new part.events
   pub next : standing ≡ part.next
 
--- the backend refused a call, for want of memory or because it failed
+-- the backend refused a call, because an allocation failed or it failed itself
 abbrev pub StopsBy : {H : Type 0} → DecodeError → Given → Traces H → Traces H → List Event
     → (walk.Call → Type 0) → Type 0
 StopsBy errors.Backend given old new plan Left = Stops given old new plan Left

@@ -35,7 +35,7 @@ abbrev pub picture_at : Option Slice → Option Segment → Standing → PlainPi
 picture_at (Some whole) (Some segment) s = next_picture whole segment s
 picture_at whole segment s = no_picture
 
--- a slice with its segment, where this stands
+-- a slice with its segment, where there is one
 abbrev pub given_at : (timestamp : ℕ) → Slice → Option Segment → Standing → Given
 given_at timestamp slice segment s = record {
   timestamp = timestamp;

@@ -14,7 +14,7 @@ use Rattle.hevc_backend.specs.Handed.{Segment}
 abbrev pub shared_header : PlainSliceSegmentHeader → PlainSliceSegmentHeader
 shared_header independent = completed_header default_slice_header independent
 
--- the same of the latest independent segment, behind one more segment
+-- the same of the latest independent segment, after one more segment
 abbrev pub latest_behind : Option PlainSliceSegmentHeader → PlainSliceSegmentHeader
     → Option PlainSliceSegmentHeader
 latest_behind latest own =

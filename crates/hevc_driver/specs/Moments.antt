@@ -1,4 +1,4 @@
--- The parts of the walk that a call may stop between, and what stands there.
+-- The parts of the walk that a call may stop between, and the standing there.
 use Rattle.std.specs.Prelude.{Bool, true, false, not, ◌&&◌, ◌==◌, ◌-◌, ◌^◌, [], ◌∷◌, Option, Some, None}
 use Rattle.hevc_walk.specs.Meanings.{Format, Slice, Meaning, SequenceSet, CodedSlice}
 use Rattle.hevc_walk.specs.Pictures.{Head}
@@ -10,7 +10,7 @@ use Rattle.hevc_walk.specs.ReferenceSets.{RefPicSet, with_marks}
 use Rattle.hevc_walk.specs.Refusals.{Cause, PocOutOfRange, ChangedMidPicture}
 use Rattle.hevc_walk_units.specs.Units.{Standing, NoPicture, OpenPicture, context_behind, on_store, finish_current, open_picture, decode_slice, begins_picture, unit_part}
 
--- a slice's header is kept for the dependent ones behind it
+-- a slice's header is kept for the dependent ones after it
 abbrev pub with_kept : Slice → Standing → Standing
 with_kept slice s = record s { kept = kept_header s.kept slice }
 
@@ -29,7 +29,7 @@ not_stored s = record (finish_current s).next { store = s.store }
 abbrev pub drained : Standing → Standing
 drained s = record s { store = record s.store { buffer = [] } }
 
--- what waits is output, and a format is negotiated
+-- what is needed for output is output, and a format is negotiated
 abbrev pub renegotiates : Format → Standing → Part Standing
 renegotiates format s = on_store (output_by draining) s >>= on_store (open_sequence format)
 
@@ -102,7 +102,7 @@ abbrev pub step_part : Meaning → Standing → Part Standing
 step_part (SequenceSet format) s = on_store (open_sequence format) s
 step_part u s = unit_part u s
 
--- ---- what stands behind a refusal
+-- ---- the standing after a refusal
 
 -- as a call of the backend is refused: the picture is given up,
 -- and its number is taken if it has begun
@@ -119,7 +119,7 @@ left_by PocOutOfRange u s = (finish_current (kept_behind u s)).next
 left_by (ChangedMidPicture accepted named) u s = given_up (kept_behind u s)
 left_by cause u s = s
 
--- behind the last unit; a format that was awaited is forgotten
+-- after the last unit; a format that was awaited is forgotten
 abbrev pub closes : Standing → Part Standing
 closes s = finish_current s >>= on_store (output_by draining)
 

@@ -53,7 +53,8 @@ pub record Fits {H P : Type 0} (w : driver.Standing H P) (t : Told H) : Type 0 w
 
 -- A picture of this head and this reference picture set is newer than all that are stored, and
 -- refers to none but those.
-pub record IsNewest {H P : Type 0} (head : Head) (set : RefPicSet) (w : driver.Standing H P) : Type 0 where
+pub record IsNewest {H P : Type 0} (head : Head) (set : RefPicSet) (w : driver.Standing H P)
+    : Type 0 where
   pub newer : AreBelow head.number (tickets (stored_entries w.dpb))
   pub counted : head.number < w.next.number
   pub references : SetNamesAmong (numbers (stored_entries w.dpb)) set
@@ -86,22 +87,24 @@ pub record IsSound {H P : Type 0} (log : Option (List (Call H))) (handed : Optio
   pub told : WhereTold log (Fits w)
   pub announced : AsAnnounced handed w
 
--- how many pictures came out or may come out
+-- how many pictures were output or may be output
 abbrev pub total : {H P : Type 0} → driver.Standing H P → ℕ
 total w = deque_len w.queue + num_waiting (buffer_of w.dpb)
 
--- There is room for so many pictures more than came out or wait, and for 16 that are stored.
+-- There is room for so many pictures more than were output or are needed for output, and for 16
+-- that are stored.
 pub record HasRoom {H P : Type 0} (more : ℕ) (w : driver.Standing H P) : Type 0 where
   pub queue : total w + more ≤ deque_capacity w.queue
   pub stored : 16 ≤ room_of w.dpb
 
--- At most so many pictures more came out or wait, in the same memory.
+-- At most so many pictures more were output or are needed for output, in the same memory.
 pub record Grows {H P : Type 0} (more : ℕ) (old new : driver.Standing H P) : Type 0 where
   pub few : total new ≤ total old + more
   pub capacity : deque_capacity new.queue ≡ deque_capacity old.queue
   pub stored : room_of new.dpb ≡ room_of old.dpb
 
--- It is sound again, with at most so many pictures more that came out or wait.
+-- It is sound again, with at most so many pictures more that were output or are
+-- needed for output.
 pub record StaysSound {H P : Type 0} (more : ℕ) (log : Option (List (Call H)))
     (handed : Option (List Handed)) (old new : driver.Standing H P) : Type 0 where
   pub sound : IsSound log handed new
@@ -117,7 +120,7 @@ with_header kept w = record w { kept = kept }
 -- Pictures are output, and some leave; none comes in.
 pub record Leaves {H P : Type 0} (old new : driver.Standing H P) : Type 0 where
   pub handles : IsPartOf (tickets (stored_entries new.dpb)) (tickets (stored_entries old.dpb))
-  -- nothing of them changes but their marks, and whether they wait
+  -- nothing of them changes but their marks, and whether they are needed for output
   pub pictures :
       IsPartOf (stored_pictures (stored_entries new.dpb)) (stored_pictures (stored_entries old.dpb))
   pub size : max_num_pics_of new.dpb ≡ max_num_pics_of old.dpb

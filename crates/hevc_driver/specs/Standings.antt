@@ -1,4 +1,4 @@
--- What stands between two calls, as the walk over units has it.
+-- The standing between two calls, as the walk over units has it.
 use Rattle.std.specs.Prelude.{List, option_map, Option}
 use Rattle.hevc_walk_units.specs.Units as units
 use Rattle.hevc_walk_units.specs.Units.{Standing}

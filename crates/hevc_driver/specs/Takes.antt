@@ -71,7 +71,7 @@ abbrev pub IsNumbered : walk.Call → Meaning → Standing → Type 0
 IsNumbered (walk.SubmitPicture number) u before = Unit {0}
 IsNumbered call u before = spends u before ≡ false
 
--- what stands behind a call that the backend refused
+-- the standing after a call that the backend refused
 abbrev pub LeftAt : walk.Call → Meaning → Standing → Standing → Type 0
 LeftAt call u before standing = IsNumbered call u before × (standing ≡ left_at call u before)
 
@@ -121,7 +121,7 @@ abbrev pub IsNewSequence : walk.Call → Type 0
 IsNewSequence (walk.NewSequence info) = Unit {0}
 IsNewSequence call = ⊥
 
--- a format was negotiated, behind what waited
+-- a format was negotiated, after what waited
 abbrev pub Negotiates : {H T : Type 0} → Result T DecodeError → Given → Traces H → Traces H → Format
     → Standing → Standing → Type 0
 Negotiates result given old new format s standing =
@@ -219,7 +219,7 @@ Follows (Err error) given old new slice s standing =
     × (new ≡ old)
     × (standing ≡ given_up s)
 
--- what stands once the picture of a refused slice is given up
+-- the standing once the picture of a refused slice is given up
 abbrev pub given_up_by : {T : Type 0} → Result T DecodeError → Standing → Standing
 given_up_by (Ok value) s = s
 given_up_by (Err error) s = given_up s
@@ -242,7 +242,7 @@ Changes result given old new slice s standing =
     BeginsBehind result given old new slice s standing
     ⊎ (IsRefused result × Finishes result given old new s standing)
 
--- the picture whose slices came is over, and all that waits is output
+-- the picture whose slices came is over, and all that is needed for output is output
 abbrev pub Closes : {H T : Type 0} → Result T DecodeError → Given → Traces H → Traces H → Standing
     → Standing → Type 0
 Closes (Ok value) given old new s standing =

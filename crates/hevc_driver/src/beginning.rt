@@ -43,6 +43,7 @@ pub fn head_of_first(
     ensures picture { (pps : Pps) → IfOk result (λ h. plain_picture h.picture
         ≡ first_picture (context_of next.now) (slice_of options slice.now sps.now pps)
         slice.now.header.st_rps_bits) }
+    ensures number { IfOk result (λ h. h.number ≡ next.now.number) }
     ensures format { IfOk result (λ h. h.format ≡ info_of (format_of_set (plain_sps sps.now))) }
     ensures within { (pps : Pps) → OnOk result (order_count_in_range
         (head (context_of next.now) (slice_of options slice.now sps.now pps)) ≡ true) }

@@ -21,7 +21,7 @@ use std::collections::VecDeque;
 /// The most pictures that one unit outputs: the 16 that may be stored (A.4.2), and the one that is over.
 pub const MAX_OUTPUTS_OF_UNIT: usize = 17;
 
-/// A backend, and what stands between two calls of it.
+/// A backend, and the standing between two calls of it.
 #[derive(Drop)]
 pub struct Driver<B: StatelessH265DecoderBackend> {
     pub alloc: Global,
@@ -95,7 +95,7 @@ impl<B: StatelessH265DecoderBackend> Driver<B> {
         Ok(())
     }
 
-    /// The picture whose slices came is over, and all that waits is output (C.5.2.2).
+    /// The picture whose slices came is over, and all that is needed for output is output (C.5.2.2).
     ///
     /// Errors: `Backend`, `DpbFull`, `NoMemory`; the picture is given up then, and nothing is output.
     pub fn close(&mut self) -> Result<(), DecodeError>

@@ -10,7 +10,7 @@ use crate::driver::Driver;
 use hevc_backend::StatelessH265DecoderBackend;
 
 impl<B: StatelessH265DecoderBackend> Driver<B> {
-    /// The next picture is the first one behind an end of sequence (7.4.2.4.4).
+    /// The next picture is the first one after an end of sequence (7.4.2.4.4).
     pub fn end_sequence(&mut self)
         requires sound { IsSound (B.log self.old.backend) (B.handed self.old.backend)
             self.old.standing }
@@ -26,7 +26,7 @@ impl<B: StatelessH265DecoderBackend> Driver<B> {
         self.standing.next.first_picture_after_eos = true;
     }
 
-    /// The next picture is the first one in the bitstream, behind an end of the one before (7.4.2.4.4).
+    /// The next picture is the first one in the bitstream, after an end of the one before (7.4.2.4.4).
     pub fn end_bitstream(&mut self)
         requires sound { IsSound (B.log self.old.backend) (B.handed self.old.backend)
             self.old.standing }

@@ -30,7 +30,7 @@ pub struct Context {
     pub number: u64,
     /// It is the first one in the bitstream.
     pub first_picture_in_bitstream: bool,
-    /// It is the first one behind an end of sequence.
+    /// It is the first one after an end of sequence.
     pub first_picture_after_eos: bool,
     /// The order count of prevTid0Pic, if there is one.
     pub prev_tid0_count: Option<i32>,

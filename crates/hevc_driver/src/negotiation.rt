@@ -68,7 +68,7 @@ impl<B: StatelessH265DecoderBackend> Driver<B> {
         }
     }
 
-    /// Another format is negotiated: what waits is output before.
+    /// Another format is negotiated: what is needed for output is output before.
     fn negotiate(&mut self, sps: &Sps) -> Result<(), DecodeError>
         requires none { current_of self.old.standing.current ≡ NoPicture }
         requires sound { IsSound (B.log self.old.backend) (B.handed self.old.backend)

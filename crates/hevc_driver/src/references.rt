@@ -24,7 +24,7 @@ use hevc_types_a::ShortTermRefPicSet;
 use hevc_types_c::Sps;
 use hevc_types_d::{Pps, Slice, SliceHeader};
 
-/// The short-term set of a slice: that of the sequence set, or behind those the header's own (7.4.7.1).
+/// The short-term set of a slice: that of the sequence set, or after those the header's own (7.4.7.1).
 fn short_term_set<'a>(header: &'a SliceHeader, sps: &'a Sps) -> &'a ShortTermRefPicSet
     ensures { plain_short_term_ref_pic_set result.now
         ≡ get_or (plain_sps sps.now).short_term_ref_pic_set header.now.curr_rps_idx

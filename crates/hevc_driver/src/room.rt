@@ -32,7 +32,7 @@ impl<H: Copy, P> Standing<H, P> {
     ghost use Rattle.hevc_driver.specs.Standings.{standing, traces};
     ghost use Rattle.hevc_driver.specs.Sound.{HasRoom, Leaves};
 
-    /// All that waits is output, and nothing is left.
+    /// All that is needed for output is output, and nothing is left.
     pub(crate) fn output_all(&mut self)
         requires latency { HaveLatency (stored_entries self.old.dpb) }
         requires room { HasRoom 0 self.old }

@@ -1,4 +1,4 @@
-//! What stands between two calls.
+//! The standing between two calls.
 use crate::current::Current;
 use crate::head::Context;
 use hevc_backend::NegotiationInfo;
@@ -18,8 +18,8 @@ pub struct Standing<H: Copy, P> {
     pub current: Current<P>,
     /// The header of the latest independent slice segment (7.4.7.1).
     pub kept: Option<SliceHeader>,
-    /// What stands for the next picture.
+    /// The context of the next picture.
     pub next: Context,
-    /// The pictures that came out.
+    /// The pictures that were output.
     pub queue: VecDeque<Frame<H>>,
 }

@@ -7,14 +7,14 @@ use Rattle.hevc_elements.specs.declared.parse_error.ParseError.{ParseError}
 use Rattle.hevc_elements.specs.declared.parse_error.ParseError.TheVariants.{NoMemory}
 use Rattle.hevc_elements.specs.Reads.{Refuses}
 
--- The error is the refusal of an element, and the reader stands where it began;
--- or memory is wanted.
+-- The error is the refusal of an element, and the reader is where it began;
+-- or an allocation fails.
 abbrev pub RefusesGrowing : {A : Type 0} → ParseError → Place → Reading A → Type 0
 RefusesGrowing NoMemory new reading = Unit {0}
 RefusesGrowing e new reading = Refuses e new reading
 
 -- The result, seen by a view, is the value that reading gives,
--- and the reader stands behind its last bit.
+-- and the reader is after its last bit.
 abbrev pub ReadsGrowing : {X A : Type 0} → (X → A) → Result X ParseError → Place → Reading A
     → Type 0
 ReadsGrowing view (Ok x) new reading = reading ≡ gives (view x) (bits new)

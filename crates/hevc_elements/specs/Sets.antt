@@ -12,7 +12,7 @@ use Rattle.hevc_elements.specs.Naming.{names_sequence_set, names_picture_set}
 abbrev pub IsRefused : {A : Type 0} → Fault → Reading A → Type 0
 IsRefused fault reading = (rest : List Bool) × (reading ≡ refuses fault rest)
 
--- The error is the refusal of an element, or of a set that isn't kept; or memory is wanted.
+-- The error is the refusal of an element, or of a set that isn't kept; or an allocation fails.
 abbrev pub RefusesSet : {A : Type 0} → ParseError → Reading A → Type 0
 RefusesSet WrongNaluType reading = ⊥
 RefusesSet OutOfBits reading = IsRefused out_of_bits reading
@@ -30,7 +30,7 @@ ReadsSet view (Err e) reading = RefusesSet e reading
 abbrev pub IsBroken : {A : Type 0} → Fault → Table A → List Bool → Type 0
 IsBroken fault table payload = (rest : List Bool) × BreaksOff table fault payload rest
 
--- A refusal is that the table's next line breaks; or memory is wanted.
+-- A refusal is that the table's next line breaks; or an allocation fails.
 abbrev pub BreaksSet : {A : Type 0} → ParseError → Table A → List Bool → Type 0
 BreaksSet WrongNaluType table payload = ⊥
 BreaksSet OutOfBits table payload = IsBroken out_of_bits table payload
@@ -44,12 +44,12 @@ pub record MeansSet {X A : Type 0} (view : X → A) (table : Table A) (result : 
     (payload : List Bool) : Type 0 where
   -- What is read has lines that are allowed and that the payload spells, up to some place.
   pub found : IfOk result (λ x. (rest : List Bool) × Spells table (view x) payload rest)
-  -- What has such lines is read, or memory is wanted.
+  -- What has such lines is read, or an allocation fails.
   pub only : (x : A) (rest : List Bool) → Spells table x payload rest
       → ReadsSet view result (gives x rest)
-  -- A refusal is the first line that breaks, or want of memory.
+  -- A refusal is the first line that breaks, or a failed allocation.
   pub refused : IfErr result (λ e. BreaksSet e table payload)
-  -- Where a line breaks, that is the refusal, or memory is wanted.
+  -- Where a line breaks, that is the refusal, or an allocation fails.
   pub broken : (fault : Fault) (rest : List Bool) → BreaksOff table fault payload rest
       → ReadsSet view result (refuses fault rest)
 

@@ -1,4 +1,4 @@
--- Counts of faults, which never fall and stand still at the last value of a `u64`.
+-- Counts of faults, which never fall and stay at the last value of a `u64`.
 use Rattle.std.specs.Prelude.{ℕ, ◌+◌, ◌-◌, ◌^◌, ◌≤◌, min, OnErr, Result}
 
 -- the count is higher now, or at the greatest value that it can have

@@ -81,7 +81,7 @@ judged_refused stream before now r d faultless = judged_error r.error r (verdict
 pub judged_ok : {H : Type 0} (stream : List ℕ) (before now : Told H) (n : ℕ) → Decodes default_options stream before now (Ok n) → IsOk (ending stream)
 judged_ok stream before now n d = subst IsOk (sym d.answer) refl
 
--- never for want of a point
+-- never for lack of a point
 pub isnt_number : (e : DecodeError) (r : Refused) → ¬ (error_for e r ≡ errors.NoSuchPoint)
 isnt_number decode.NoMemory r is = cc is
 isnt_number e r is = cc is

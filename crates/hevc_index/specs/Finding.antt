@@ -34,7 +34,7 @@ point_by k offset None = None
 point_by k offset (Some p) = if is_start p then Some (point_of k offset p) else None
 
 -- The point that began with unit k, if one did: so many pictures had begun before it, and after it
--- this stands.
+-- this is.
 abbrev pub point_begun : (before k offset : ℕ) → Standing → Option PlainPoint
 point_begun before k offset s =
     if s.next.number == before then None else point_by k offset (open_head s.current)

@@ -29,7 +29,7 @@ plain_point p = record {
 abbrev pub ending : List ℕ → Result ℕ Refused
 ending stream = ending_of default_options stream
 
--- the error of a decoding that was refused; want of memory is no refusal
+-- the error of a decoding that was refused; a failed allocation is no refusal
 abbrev pub error_for : DecodeError → Refused → IndexError
 error_for decode.NoMemory refused = errors.NoMemory
 error_for error refused = errors.Refused refused
@@ -50,7 +50,7 @@ Judges (Ok value) ending = IsOk ending
 Judges (Err error) ending = JudgesError error ending
 
 -- there is no point of the number exactly where that is the answer, unless the stream is refused or
--- memory is wanted
+-- an allocation fails
 abbrev pub SeeksByError : IndexError → Option Picture → Type 0
 SeeksByError (errors.Refused refused) point = Unit {0}
 SeeksByError errors.NoSuchPoint point = point ≡ None

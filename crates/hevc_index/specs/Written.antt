@@ -12,8 +12,8 @@ use Rattle.hevc_index.specs.declared.words.Request.{Request}
 use Rattle.hevc_index.specs.declared.words.Request.TheVariants.{Points, Splice}
 use Rattle.hevc_index.specs.Indexing.{ending, point_at, BeginsAtPoint}
 
--- the line of a point: its number, the unit of its first slice, the place of that unit's header, its
--- type and its order count
+-- the line of a point: its number, the unit of its first slice, the place of that unit's header,
+-- its type and its order count
 abbrev pub point_line : PlainPoint → List ℕ
 point_line p =
     codes "point " ++ decimal p.number ++ codes " unit " ++ decimal p.unit

@@ -34,7 +34,7 @@ pub fn index(alloc: Global, stream: &[u8]) -> Result<Items<Point>, IndexError>
 }
 
 /// Gives a decoder all units of a stream, and lists the points that begin with them. The pictures
-/// that come out are let go.
+/// that are output are let go.
 fn list_points<B: StatelessH265DecoderBackend>(
     alloc: Global,
     decoder: &mut StatelessDecoder<B>,

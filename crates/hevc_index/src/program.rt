@@ -50,7 +50,7 @@ pub fn run_index<S: Source, K: Sink>(
     // That is so for no longer input than may be.
     ensures limit { IfSome (asked_request words.now) (λ _. IsAnswer result
         → IfSome (S.left source.old) (λ s. length s ≤ INPUT_LIMIT)) }
-    // Whatever the status, what was written is a front of that; on 4 not the whole.
+    // Whatever the status, what was written is a prefix of that; on 4 not the whole.
     ensures part { IfSome (asked_request words.now) (λ request. IfSome (S.left source.old) (λ s.
         AppendsPrefix (K.written sink.old) (K.written sink.new) (written_of request s))) }
     ensures less { IfSome (asked_request words.now) (λ request. result ≡ 4

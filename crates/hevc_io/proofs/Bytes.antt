@@ -26,7 +26,7 @@ read_on xs front buf at n inside m e =
       λ none room. drop_all (at + n) xs (omega (arith, simp (length-append, length-drop) at room)),
     )
 
--- what was read behind the first bytes of a buffer stands behind them
+-- what was read after the first bytes of a buffer comes after them
 pub read_behind : (now buf rest more : List ℕ) (len at n : ℕ) → at ≤ length now → at + n ≤ len → n ≤ length buf
     → take (at + n) (take len (take at now ++ (buf ++ rest) ++ more)) ≡ take at now ++ take n buf
 read_behind now buf rest more len at n inside room few =
@@ -37,7 +37,7 @@ read_behind now buf rest more len at n inside room few =
     ∙ take-append-add (take at now) ((buf ++ rest) ++ more) n
     ∙ ap (λ l. take at now ++ l) (take-append-le n (buf ++ rest) more (simp length-append (omega (arith, few))) ∙ take-append-le n buf rest few)
 
--- room behind the first bytes leaves them
+-- room after the first bytes leaves them
 pub still_there : (items fresh : List ℕ) (at room : ℕ) → at ≤ length items → take at (take (at + room) items ++ fresh) ≡ take at items
 still_there items fresh at room inside =
     take-append-le at (take (at + room) items) fresh (simp length-take (omega (arith, inside)))

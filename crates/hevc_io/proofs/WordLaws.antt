@@ -28,7 +28,7 @@ take_all (suc n) [] is = refl
 take_all zero (w ∷ ws) is = absurd (cc is)
 take_all (suc n) (w ∷ ws) is = ap (λ (xs : List (List ℕ)). w ∷ xs) (take_all n ws is)
 
--- what follows of the words, where they are told
+-- what follows of the words, where they are exposed
 pub told_by : (told : Option (List (List ℕ))) (P Q : List (List ℕ) → Type 0) → ((words : List (List ℕ)) → P words → Q words) → IfSome told P → IfSome told Q
 told_by None P Q follows p = tt
 told_by (Some words) P Q follows p = follows words p

@@ -1,4 +1,4 @@
--- What a source over a reader has left and a sink over a writer was given, where these tell it,
+-- What a source over a reader has left and a sink over a writer was given, where these expose it,
 -- and how many calls failed.
 use Rattle.std.specs.Prelude.{ℕ, List}
 use Rattle.std.specs.declared.option.Option.{Option}

@@ -48,7 +48,7 @@ impl FaultPlan {
     }
 }
 
-/// Whether the call behind so many is one of those that fail. Behind 2^64 - 1 calls there is none.
+/// Whether the call after so many is one of those that fail. After 2^64 - 1 calls there is none.
 fn is_planned(failing: &[u64], calls: u64) -> bool
     ensures { IsTrue result ↔ Contains failing.now (calls + 1) }
 {

@@ -43,7 +43,7 @@ impl From<AllocError> for InputError {
 }
 
 /// Reads a source to its end, which gives at most `limit` bytes. Each piece is read into its place in the
-/// input, behind which room is kept for the next one.
+/// input, after which room is kept for the next one.
 ///
 /// `Failed` has a cause: a fault was counted, or no more can be. By `TooLong` more than `limit` bytes left
 /// the source, at most 65,536 more. After a refusal what was read is lost.

@@ -30,7 +30,7 @@ impl Model for MemorySource {
 }
 
 impl MemorySource {
-    /// A source of these bytes. Exactly the calls of `read` whose numbers, from 1, stand in
+    /// A source of these bytes. Exactly the calls of `read` whose numbers, from 1, are in
     /// `failing` fail.
     pub fn new(bytes: Vec<u8>, failing: Vec<u64>) -> MemorySource
         ensures left { result.left ≡ bytes.items }
@@ -83,7 +83,7 @@ impl Model for MemorySink {
 
 impl MemorySink {
     /// A sink in which nothing is written yet. Exactly the calls of `write` whose numbers, from 1,
-    /// stand in `failing` fail.
+    /// are in `failing` fail.
     pub fn new(alloc: Global, failing: Vec<u64>) -> MemorySink
         ensures written { result.written ≡ [] }
         ensures plan { result.plan ≡ record { failing = failing.items; calls = 0; faults = 0 } }

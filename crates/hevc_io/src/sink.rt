@@ -20,10 +20,10 @@ pub enum SinkError {
 
 /// Something that takes bytes.
 pub trait Sink {
-    /// The bytes that were written, where the sink tells them.
+    /// The bytes that were written, where the sink exposes them.
     ghost written: { Self → Option (List ℕ) };
 
-    /// How many writes failed so far. It never falls, and stands still at 2^64 - 1.
+    /// How many writes failed so far. It never falls, and stays at 2^64 - 1.
     ghost faults: { Self → ℕ };
 
     /// Takes bytes from the front of a piece, at least one where the piece isn't empty, and answers

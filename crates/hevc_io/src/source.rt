@@ -14,10 +14,10 @@ pub struct Failed;
 
 /// Something that hands over bytes.
 pub trait Source {
-    /// The bytes that are left, where the source tells them.
+    /// The bytes that are left, where the source exposes them.
     ghost left: { Self → Option (List ℕ) };
 
-    /// How many reads failed so far. It never falls, and stands still at 2^64 - 1.
+    /// How many reads failed so far. It never falls, and stays at 2^64 - 1.
     ghost faults: { Self → ℕ };
 
     /// Puts the next bytes at the front of `buf`, and answers their number, which is at most the length

@@ -11,7 +11,7 @@ use crate::source::{Failed, Source};
 use std::io::{Read, Write};
 use std::marker::Model;
 
-/// The standard input, or any other reader. It tells of its bytes what the reader tells; of those of standard input that is
+/// The standard input, or any other reader. It exposes of its bytes what the reader exposes; of those of standard input that is
 /// nothing.
 #[derive(Drop)]
 pub struct StdSource<R: Read> {
@@ -51,7 +51,7 @@ impl<R: Read> Source for StdSource<R> {
     }
 }
 
-/// The standard output, or any other writer. It tells of what was written what the writer tells; of standard output that is
+/// The standard output, or any other writer. It exposes of what was written what the writer exposes; of standard output that is
 /// nothing.
 #[derive(Drop)]
 pub struct StdSink<W: Write> {

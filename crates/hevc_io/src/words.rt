@@ -48,7 +48,7 @@ impl From<AllocError> for WordsError {
 
 /// Something that hands over the words of a command line after the program's name.
 pub trait Words {
-    /// The words, where they are told.
+    /// The words, where they are exposed.
     ghost told: { Self → Option (List (List ℕ)) };
 
     /// Puts the word with this number, from 0, at the front of `room`, and answers its length in bytes.
@@ -61,7 +61,7 @@ pub trait Words {
             (λ words. HandsOver (slice_get words number) result room.new) };
 }
 
-/// The words that a system hands over. It tells none of them.
+/// The words that a system hands over. It exposes none of them.
 #[derive(Drop)]
 pub struct StdWords<'a, E: Env> {
     pub system: &'a E,

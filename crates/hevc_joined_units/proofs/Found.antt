@@ -1,4 +1,4 @@
--- Pieces that stand after a start code each are found.
+-- Pieces that are after a start code each are found.
 use Rattle.std.proofs.Common.{◌≡◌, ℕ, ◌+◌, false, List, [], ◌∷◌, ◌++◌, length, refl, ap, ap₂, ◌∙◌, arith, append-nil}
 use Rattle.std.specs.Prelude.{All}
 use Rattle.std.proofs.lemmas.List.Elements.{All-head, All-tail}
@@ -8,7 +8,7 @@ use Rattle.hevc_joined_units.specs.Pieces.{IsPiece, IsWholePiece, units_of_piece
 use Rattle.hevc_joined_units.proofs.Joined.{units_joined}
 use Rattle.hevc_joined_units.proofs.Whole.{whole}
 
--- bytes in which no start code stands have no unit
+-- bytes without a start code have no unit
 no_units : (place : ℕ) (bytes : List ℕ) → before_start_code bytes ≡ bytes → units_at kept_bytes place bytes ≡ []
 no_units place [] h = refl
 no_units place (byte ∷ bytes) h =

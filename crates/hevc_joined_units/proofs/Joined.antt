@@ -33,7 +33,7 @@ before_at : (ys : List ℕ) → begins_with_start_code ys ≡ true → before_st
 before_at [] e = refl
 before_at (y ∷ ys) e = rw e refl
 
--- bytes end before a start code that stands after them, as at their end
+-- bytes end before a start code that is after them, as at their end
 before_same : (xs ys : List ℕ) → begins_with_start_code ys ≡ true → before_start_code (xs ++ ys) ≡ before_start_code xs
 before_same [] ys e = before_at ys e
 before_same (x ∷ xs) ys e = rw (none_across x xs ys e) (ap (λ (bytes : List ℕ). if begins_with_start_code (x ∷ xs) then [] else x ∷ bytes) (before_same xs ys e))

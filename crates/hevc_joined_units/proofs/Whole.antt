@@ -1,8 +1,8 @@
--- Bytes in which no start code stands.
+-- Bytes without a start code.
 use Rattle.std.proofs.Common.{◌≡◌, ℕ, zero, suc, Bool, true, false, cond, List, [], ◌∷◌, take, refl, ap}
 use Rattle.hevc_spec.specs.Units.{begins_with_start_code, before_start_code}
 
--- none begins at the first byte, and none stands after it
+-- none begins at the first byte, and none is after it
 pub record Whole (byte : ℕ) (bytes : List ℕ) : Type 0 where
   pub here : begins_with_start_code (byte ∷ bytes) ≡ false
   pub after : before_start_code bytes ≡ bytes
@@ -14,7 +14,7 @@ whole byte bytes e = by_test (begins_with_start_code (byte ∷ bytes)) refl e
     by_test true f g = absurd cc
     by_test false f g = record { here = f; after = cc }
 
--- none stands in what is before the first one
+-- none is in what is before the first one
 none_before : (x : ℕ) (xs : List ℕ) → begins_with_start_code (x ∷ xs) ≡ false → begins_with_start_code (x ∷ before_start_code xs) ≡ false
 none_before x [] h = refl
 none_before x (y ∷ []) h = refl

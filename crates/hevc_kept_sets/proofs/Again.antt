@@ -148,7 +148,7 @@ module _ (options : Options) where
   abbrev pub unread_with : Kept → List ℕ → Bool
   unread_with kept bytes = is_unread (content options kept bytes)
 
-  -- a unit can't be read behind other sets either that have the same sequence set for it
+  -- a unit can't be read after other sets either that have the same sequence set for it
   still_unread : (kept other : Kept) (bytes : List ℕ) → IfSome (named_set bytes) (λ id. kept.sequence_sets id ≡ other.sequence_sets id) → unread_with kept bytes ≡ true → unread_with other bytes ≡ true
   still_unread kept other bytes same e =
       let is : content options kept bytes ≡ unread_picture_set = unread_is (content options kept bytes) e in

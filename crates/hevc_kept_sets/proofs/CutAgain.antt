@@ -1,4 +1,4 @@
--- A unit that was cut out of a stream is cut out again behind a start code of its own.
+-- A unit that was cut out of a stream is cut out again after a start code of its own.
 use Rattle.std.proofs.Common.{◌≡◌, ℕ, ◌+◌, ◌/◌, ◌%◌, ◌≤◌, ◌<◌, ◌^◌, Bool, true, false, List, [], ◌∷◌, ◌++◌, Result, Ok, Err, refl, ap, sym, subst, ◌∙◌, arith, if◌then◌else◌, ◌==◌, drop, length, length-take, length-drop}
 use Rattle.std.proofs.lemmas.Bool.Decides.{nat_tests}
 use Rattle.std.specs.Prelude.{◌&&◌, nat_le}
@@ -16,7 +16,7 @@ begins_in_front x [] rest e = refl
 begins_in_front x (a ∷ []) rest e = refl
 begins_in_front x (a ∷ b ∷ front) rest e = e
 
--- what stands before a start code is a front, and so are bytes without the zeros at their end
+-- what is before a start code is a front, and so are bytes without the zeros at their end
 abbrev IsFront : List ℕ → List ℕ → Type 0
 IsFront front bytes = (rest : List ℕ) × (bytes ≡ front ++ rest)
 
@@ -177,7 +177,7 @@ cut_again place stream u us h cut parsed typed =
     let same : u.bytes ≡ cutted = found.1 ∙ all in
     rw same (one_unit cutted (trimmed_has_none (before_start_code found.0) (before_has_none found.0)) (trimmed_twice (before_start_code found.0)) all)
 
--- the bytes of a picture set behind a start code are its stream
+-- the bytes of a picture set after a start code are its stream
 pub picture_set_stream : (unit : FoundUnit UnitHeader) (items : List ℕ) → items ≡ 0 ∷ 0 ∷ 1 ∷ bytes_of unit → IsCutOut kept_bytes unit → unit_header (bytes_of unit) ≡ Ok unit.header → unit.header.nal_unit_type ≡ 34 → length unit.stream < 2 ^ 60
     → IsPictureSetStream items
 unfolding units_from

@@ -1,4 +1,4 @@
--- What reading the unit of a set answers, as what is kept behind it.
+-- What reading the unit of a set answers, as what is kept after it.
 use Rattle.std.proofs.Common.{◌≡◌, ℕ, ◌≤◌, ◌-◌, Bool, true, false, List, [], ◌∷◌, ◌++◌, Option, Some, Result, Ok, Err, refl, ap, sym, ◌∙◌, arith}
 use Rattle.std.specs.Prelude.{nat_le, ◌&&◌, option_to_list}
 use Rattle.std.specs.List.{list_all}
@@ -91,7 +91,7 @@ module _ (options : Options) (bytes : List ℕ) (header : UnitHeader) (parsed : 
     pub picture_set_waits : (E : Type 0) (waiting : List (List ℕ)) (old new : Kept) → ReadsPictureSet {E = E} header bytes (Ok false) old new → waited_by (waiting ++ bytes ∷ []) new ≡ with_waited options (waited_by waiting old) bytes
     picture_set_waits E waiting old new reads = ap (waited_by (waiting ++ bytes ∷ [])) reads.1 ∙ ap (λ (c : Content). with_picture_set_unit bytes c (waited_by waiting old)) (sym reads.0) ∙ sym (waited_picture_set (waited_by waiting old))
 
-    -- behind the unit, where it was read or not
+    -- after the unit, where it was read or not
     pub behind_read : (E : Type 0) (read_it : Bool) (waiting : List (List ℕ)) (old new : Kept) → read_it ≡ true → ReadsPictureSet {E = E} header bytes (Ok read_it) old new → waited_by waiting new ≡ with_waited options (waited_by waiting old) bytes
     behind_read E true waiting old new is reads = picture_set_tried E waiting old new reads
     behind_read E false waiting old new is reads = absurd (cc is)

@@ -1,4 +1,4 @@
--- Units that wait are tried once more, one behind the other.
+-- Units that wait are tried once more, one after the other.
 use Rattle.std.proofs.Common.{◌≡◌, ℕ, suc, List, [], ◌∷◌, ◌++◌, length, refl, ap, sym, ◌∙◌, arith}
 use Rattle.std.specs.Prelude.{fold}
 use Rattle.std.proofs.lemmas.List.Sums.{fold_push}
@@ -53,7 +53,7 @@ module _ (options : Options) where
     behind_push : (tried : List (List ℕ)) (bytes : List ℕ) → behind (tried ++ bytes ∷ []) ≡ with_waited options (behind tried) bytes
     behind_push tried bytes = fold_push (with_waited options) (waited_by [] old) tried bytes
 
-    -- all units but as many were tried; these stand before those that wait still
+    -- all units but as many were tried; these are before those that wait still
     pub record IsUnderway (now : Kept) (left : ℕ) : Type 0 where
       pub tried : List (List ℕ)
       pub others : List (List ℕ)

@@ -5,7 +5,7 @@ use Rattle.hevc_spec.specs.Units.{units}
 use Rattle.hevc_stream.specs.Slices.{temporal_id}
 use Rattle.hevc_bits.specs.declared.stream_limit.TheConstants.{STREAM_LIMIT}
 
--- a stream that has one unit, of a picture set, directly behind its first three bytes
+-- a stream that has one unit, of a picture set, directly after its first three bytes
 pub record IsPictureSetStream (stream : List ℕ) : Type 0 where
   pub one : units stream ≡ record { offset = 3; bytes = drop 3 stream } ∷ []
   pub header : UnitHeader

@@ -26,7 +26,7 @@ cause_error other = None
 abbrev pub IsRefusedBy : ParseError → Content → Type 0
 IsRefusedBy error c = (cause : UnitCause) × (c ≡ refused cause) × (cause_error cause ≡ Some error)
 
--- a refusal leaves what is kept; it is the unit's, or memory is wanted
+-- a refusal leaves what is kept; it is the unit's, or an allocation fails
 abbrev pub Refuses : Options → List ℕ → ParseError → Kept → Kept → Type 0
 Refuses options bytes errors.NoMemory old new = new ≡ old
 Refuses options bytes error old new = IsRefusedBy error (content options old bytes) × (new ≡ old)
@@ -50,7 +50,7 @@ KeepsSequenceSet options bytes (Ok id) old new =
 KeepsSequenceSet options bytes (Err error) old new = Refuses options bytes error old new
 
 -- units were tried once more, in their order; the others wait on,
--- behind those of them that wait still
+-- after those of them that wait still
 abbrev pub with_waited_up_to : Options → (tried others : List (List ℕ)) → Kept → Kept
 with_waited_up_to options tried others kept =
     let behind = fold (with_waited options) (record kept { waiting = [] }) tried in
@@ -76,7 +76,7 @@ picture_set_content header bytes kept =
     (read (picture_parameter_set (header.nuh_temporal_id_plus1 - 1) kept.sequence_sets)
     (payload bytes))
 
--- the unit is a picture set, which is kept, or one that can't be read; or memory is wanted
+-- the unit is a picture set, which is kept, or one that can't be read; or an allocation fails
 abbrev pub ReadsPictureSet : {E : Type 0} → UnitHeader → List ℕ → Result Bool E → Kept → Kept
     → Type 0
 ReadsPictureSet header bytes (Ok true) old new =

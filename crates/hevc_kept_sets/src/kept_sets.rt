@@ -124,7 +124,7 @@ impl KeptSets {
     /// Tries all units that wait once more, in their order: each is read now and its set kept, or waits on. One whose sequence set is
     /// as it was at the last try waits on unread, and where that holds of all, none is looked at.
     ///
-    /// Errors: want of memory at some unit. The units before it were tried; it and those behind it wait on, in their order.
+    /// Errors: an allocation fails at some unit. The units before it were tried; it and those after it wait on, in their order.
     pub fn read_waiting(&mut self) -> Result<(), AllocError>
         ensures read { OnOk result
             (kept_of self.new ≡ with_all_waited (options_in self.old) (kept_of self.old)) }
@@ -141,9 +141,9 @@ impl KeptSets {
     }
 
     /// Reads the picture set of a unit, of a wanted sub-layer and a stream of less than 2^60 bytes, by table 11 (7.3.2.3.1), and keeps
-    /// it. Where it can't be read, a copy of the unit waits behind the others.
+    /// it. Where it can't be read, a copy of the unit waits after the others.
     ///
-    /// Errors: want of memory. What is kept then stays.
+    /// Errors: an allocation fails. What is kept then stays.
     pub fn take_picture_set(&mut self, nalu: &Nalu<'_, NaluHeader>) -> Result<(), AllocError>
         requires short { length nalu.now.stream < STREAM_LIMIT }
         requires typed { nalu.now.header.nal_unit_type ≡ 34 }
@@ -163,8 +163,8 @@ impl KeptSets {
         Ok(())
     }
 
-    /// Looks at all units that wait, in their order, and tries those once more whose sequence set changed. On want of memory at some unit
-    /// it and those behind it wait on, in their order.
+    /// Looks at all units that wait, in their order, and tries those once more whose sequence set changed. Where an allocation fails at some unit
+    /// it and those after it wait on, in their order.
     fn try_all(&mut self) -> Result<(), AllocError>
         ensures tried { OnOk result
             (kept_of self.new ≡ with_all_waited (options_in self.old) (kept_of self.old)) }
@@ -182,7 +182,7 @@ impl KeptSets {
         Ok(())
     }
 
-    /// Tries the first unit that waits once more: it is read now, or waits behind the others. On want of memory it stays the first.
+    /// Tries the first unit that waits once more: it is read now, or waits after the others. Where an allocation fails it stays the first.
     /// It isn't read where its sequence set is as it was.
     fn try_first(&mut self) -> Result<(), AllocError>
         requires { 0 < length (kept_of self.old).waiting }

@@ -20,7 +20,7 @@ use std::alloc::{AllocError, Global};
 use std::collections::VecDeque;
 use std::marker::Model;
 
-/// The unit of a picture set, kept behind a start code.
+/// The unit of a picture set, kept after a start code.
 #[derive(Drop)]
 pub(crate) struct WaitingUnit {
     stream: Vec<u8>,

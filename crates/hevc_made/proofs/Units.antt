@@ -38,7 +38,7 @@ ends_whole (byte ∷ bytes) = rw (ends_whole bytes) (by_rest bytes (eqb byte 0))
     by_rest (_ ∷ _) true = refl
     by_rest (_ ∷ _) false = refl
 
--- a byte of data stands behind whole bytes
+-- a byte of data comes after whole bytes
 ends_in_data : (bits : List Bool) → without_trailing_zeros (packed (bits ++ trailing_bits (length bits) ++ low_bits 8 128)) ≡ packed (bits ++ trailing_bits (length bits) ++ low_bits 8 128)
 ends_in_data bits =
     let front = bits ++ trailing_bits (length bits) in

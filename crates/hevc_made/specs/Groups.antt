@@ -1,4 +1,4 @@
--- Groups of eight pictures, as the pictures of a made stream behind its first one are coded.
+-- Groups of eight pictures, as the pictures of a made stream after its first one are coded.
 use Rattle.std.specs.Prelude.{ℕ, ◌+◌, ◌*◌, ◌/◌, ◌%◌, nat_lt, ◌&&◌, Bool, true, false, List, [], ◌∷◌, slice_index_or}
 
 -- A member of a short-term reference picture set (7.4.8): how far its order count is from that of
@@ -6,12 +6,12 @@ use Rattle.std.specs.Prelude.{ℕ, ◌+◌, ◌*◌, ◌/◌, ◌%◌, nat_lt, �
 abbrev pub Member : Type 0
 Member = ℕ × Bool
 
--- each member lies behind the one before it, and the first one behind this distance
+-- each member lies after the one before it, and the first one after this distance
 abbrev pub are_rising : ℕ → List Member → Bool
 are_rising last [] = true
 are_rising last (m ∷ ms) = nat_lt last m.0 && are_rising m.0 ms
 
--- a picture of a group: its order count behind the last one of the group before, and the members of
+-- a picture of a group: its order count after the last one of the group before, and the members of
 -- its set before it and after it, nearest first
 pub record Picture : Type 0 where
   pub count : ℕ
@@ -39,7 +39,7 @@ group =
 abbrev pub no_picture : Picture
 no_picture = record { count = 0; before = []; after = [] }
 
--- the picture of this number behind the first one of the stream, from 0
+-- the picture of this number after the first one of the stream, from 0
 abbrev pub picture : ℕ → Picture
 picture number = slice_index_or group (number % 8) no_picture
 

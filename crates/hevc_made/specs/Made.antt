@@ -5,7 +5,7 @@ use Rattle.hevc_bit_writer.specs.WrittenUnits.{stream_of}
 use Rattle.hevc_made.specs.Groups.{picture, order_count}
 use Rattle.hevc_made.specs.Slices.{slice_unit}
 
--- 16 by 16 samples, eight bits of order counts, three pictures may wait
+-- 16 by 16 samples, eight bits of order counts, three pictures may be needed for output
 abbrev pub sequence_set : List ℕ
 sequence_set =
     66 ∷ 1 ∷ 1 ∷ 1 ∷ 96 ∷ 0 ∷ 0 ∷ 3 ∷ 0 ∷ 144 ∷ 0 ∷ 0 ∷ 3 ∷ 0 ∷ 0 ∷ 3 ∷ 0 ∷ 60 ∷ 160 ∷ 136 ∷ 69
@@ -18,7 +18,7 @@ picture_set = 68 ∷ 1 ∷ 192 ∷ 113 ∷ 128 ∷ 18 ∷ []
 abbrev pub first_picture : List ℕ
 first_picture = 38 ∷ 1 ∷ 175 ∷ 128 ∷ []
 
--- the unit of the picture of this number behind the first one, from 0
+-- the unit of the picture of this number after the first one, from 0
 unfoldable pub picture_unit : ℕ → List ℕ
 picture_unit number = slice_unit (picture number) (order_count number)
 

@@ -27,7 +27,7 @@ flag row set = element row (u 1) (if set then 1 else 0)
 abbrev pub spelled_elements : List Element → List Bool
 spelled_elements elements = flat_map (λ e. spelled e.form e.value) elements
 
--- rows of members behind a distance: each difference to the member before, less 1,
+-- rows of members after a distance: each difference to the member before, less 1,
 -- and whether the member is used
 abbrev pub members : Row → Row → ℕ → List Member → List Element
 members difference used last [] = []

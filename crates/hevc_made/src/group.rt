@@ -6,7 +6,7 @@ ghost use Rattle.hevc_made.specs.Groups.{are_rising, order_count, picture};
 /// picture, and whether that may refer to it.
 pub(crate) type Member = (u32, bool);
 
-/// The order count of the picture of this number behind the first one.
+/// The order count of the picture of this number after the first one.
 pub(crate) fn order_count(number: u32) -> u64
     ensures { result ≡ order_count number }
 {

@@ -10,7 +10,7 @@ pub fn made_units_are_found()
     ensures { (pictures : ℕ) → units (made pictures) ≡ placed 0 (made_units pictures) }
 {}
 
-/// Each picture behind the first one takes at most 64 bytes.
+/// Each picture after the first one takes at most 64 bytes.
 #[tactic(auto, using(crate::proofs::Sizes::short))]
 pub fn made_streams_are_short()
     ensures { (pictures : ℕ) → length (made pictures) ≤ 46 + 64 * pictures }

@@ -34,7 +34,7 @@ pub fn make_stream(alloc: Global, pictures: u32) -> Result<Vec<u8>, AllocError>
     Ok(stream)
 }
 
-/// Adds the unit of the picture of this number behind the first one.
+/// Adds the unit of the picture of this number after the first one.
 fn append_picture(alloc: Global, stream: &mut Vec<u8>, number: u32) -> Result<(), AllocError>
     ensures { OnOk result
         (stream.new.items ≡ stream.old.items ++ started (picture_unit number)) }

@@ -8,7 +8,7 @@ use crate::group::{Member, members_after, members_before, order_count};
 use hevc_bit_writer::BitWriter;
 use std::alloc::AllocError;
 
-/// Writes the payload of the picture of this number behind the first one.
+/// Writes the payload of the picture of this number after the first one.
 pub(crate) fn write_slice(payload: &mut BitWriter, number: u32) -> Result<(), AllocError>
     requires { payload.old ≡ [] }
     ensures bits { OnOk result

@@ -9,7 +9,7 @@ use crate::picture_data::PictureData;
 use hevc_bits::NaluType;
 use hevc_types_d::Slice;
 
-/// NoRaslOutputFlag (8.1.3), which holds for every picture that is first behind an end of sequence.
+/// NoRaslOutputFlag (8.1.3), which holds for every picture that is first after an end of sequence.
 fn no_rasl_output(
     nalu_type: NaluType,
     first_in_bitstream: bool,

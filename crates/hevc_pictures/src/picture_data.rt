@@ -5,7 +5,7 @@ ghost use Rattle.hevc_pictures.specs.Marks.{is_reference};
 use crate::reference::Reference;
 use hevc_bits::NaluType;
 
-/// What its first slice tells of a picture, and how it stands in the decoded picture buffer.
+/// What its first slice tells of a picture, and how it is in the decoded picture buffer.
 #[derive(Clone, Copy, Default, PartialEq, Eq)]
 pub struct PictureData {
     /// The type of its slices' units.
@@ -26,11 +26,11 @@ pub struct PictureData {
     pub no_output_of_prior_pics_flag: bool,
     /// Whether it is an intra random access point picture.
     pub is_irap: bool,
-    /// Whether it is the first picture behind an end of sequence.
+    /// Whether it is the first picture after an end of sequence.
     pub first_picture_after_eos: bool,
-    /// PicLatencyCount: how many pictures were stored behind it.
+    /// PicLatencyCount: how many pictures were stored after it.
     pub pic_latency_cnt: i32,
-    /// PicOutputFlag as it is stored, until it is output: whether it waits for output.
+    /// PicOutputFlag as it is stored, until it is output: whether it is needed for output.
     pub needed_for_output: bool,
     /// The payload bits of the short-term set in its first slice's header.
     pub short_term_ref_pic_set_size_bits: u32,

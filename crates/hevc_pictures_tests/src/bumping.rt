@@ -1,4 +1,4 @@
-//! Pictures that are due, and all that wait.
+//! Pictures that are due, and all that are needed for output.
 use hevc_bumping::{Frame, bump_additionally, bump_for_room, output_all};
 use hevc_dpb::{Dpb, Limits, PictureData};
 use std::collections::VecDeque;

@@ -6,7 +6,7 @@ use hevc_types_d::{Slice, SliceHeader};
 use std::alloc::Global;
 use std::test::Fail;
 
-/// A picture of this unit and these low bits behind a picture of this order count, where MaxPicOrderCntLsb is 16.
+/// A picture of this unit and these low bits after a picture of this order count, where MaxPicOrderCntLsb is 16.
 fn behind(
     alloc: Global,
     unit: &[u8],

@@ -9,7 +9,7 @@ use Rattle.std.proofs.Math.Nat.{div-mul-le_self, mul-div_right}
 use Rattle.hevc_tables.specs.PpsTable.{even_size, even_sizes}
 use Rattle.hevc_pps.specs.Tiling.{blocks_of}
 
--- a part has a block: its end is behind its beginning
+-- a part has a block: its end is after its beginning
 pub part_grows : (size count i : ℕ) → 1 ≤ count → count ≤ size → i * size / count + 1 ≤ (i + 1) * size / count
 part_grows size count i some le = le-div (i * size / count + 1) ((i + 1) * size) count some (grind (arith, le, div-mul-le_self (i * size) count))
 
@@ -27,7 +27,7 @@ even_all places size count some le =
     let front : take count (xs ++ replicate (places - count) 0) ≡ xs = take-append-le count xs (replicate (places - count) 0) (grind (arith, length-map-range_with_len (even_size size count) 0 count)) ∙ take-map-range_with_len (even_size size count) 0 count count (grind arith) in
     ap (sum_by (λ (s : ℕ). s + 1)) front ∙ first_parts size count count some le ∙ mul-div_right size some
 
--- one more part stands behind those before it
+-- one more part comes after those before it
 pub part_put : (f : ℕ → ℕ) (places i : ℕ) → i < places → slice_set (map f (range_with_len 0 i) ++ replicate (places - i) 0) i (f i) ≡ map f (range_with_len 0 (i + 1)) ++ replicate (places - (i + 1)) 0
 part_put f places i lt =
     let xs = map f (range_with_len 0 i) in

@@ -33,7 +33,7 @@ use std::collections::BTreeMap;
 /// sizes of tiles, which follow from the size of the picture (6.5.1).
 ///
 /// Errors: `WrongNaluType` first, where the unit is of another type; `OutOfBits` where the payload ends within an element;
-/// `OutOfRange` with table and row of the first element that isn't allowed; behind row 2, `MissingSps` where none of the sets has
+/// `OutOfRange` with table and row of the first element that isn't allowed; after row 2, `MissingSps` where none of the sets has
 /// the id that it names.
 #[tactic(auto, using(hevc_elements::proofs::SetMeaning::set_meanings))]
 pub fn read_pps(

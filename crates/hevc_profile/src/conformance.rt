@@ -15,7 +15,7 @@ pub fn conforms_to(profile_idc: u8, compatibility_flags: &[bool; 32], number: u8
     profile_idc == number || compatibility_flags[usize::from(number)]
 }
 
-/// Whether constraint flags of the range extensions' profiles stand in a set of a layer with this `profile_idc` and these
+/// Whether constraint flags of the range extensions' profiles are in a set of a layer with this `profile_idc` and these
 /// compatibility flags: it conforms to one of the profiles 4 to 11.
 pub fn has_range_extensions(profile_idc: u8, compatibility_flags: &[bool; 32]) -> bool
     ensures { result ≡ has_range_extensions_flags profile_idc compatibility_flags.now }
@@ -37,7 +37,7 @@ pub(crate) fn layer_conforms_to(layer: &LayerProfile, number: u8) -> bool
     conforms_to(layer.profile_idc, &layer.profile_compatibility_flag, number)
 }
 
-/// Whether constraint flags of the range extensions' profiles stand there.
+/// Whether constraint flags of the range extensions' profiles are there.
 pub(crate) fn has_extensions(layer: &LayerProfile) -> bool
     ensures { result
         ≡ has_range_extensions_flags layer.now.profile_idc layer.now.profile_compatibility_flag }
@@ -45,7 +45,7 @@ pub(crate) fn has_extensions(layer: &LayerProfile) -> bool
     has_range_extensions(layer.profile_idc, &layer.profile_compatibility_flag)
 }
 
-/// Whether `max_14bit_constraint_flag` stands among them.
+/// Whether `max_14bit_constraint_flag` is among them.
 pub(crate) fn has_14bit(layer: &LayerProfile) -> bool
     ensures { result ≡ table.has_14bit_flag (plain_layer_profile layer.now) }
 {
@@ -55,7 +55,7 @@ pub(crate) fn has_14bit(layer: &LayerProfile) -> bool
         || layer_conforms_to(layer, 11)
 }
 
-/// Whether `inbld_flag` stands there.
+/// Whether `inbld_flag` is there.
 pub(crate) fn has_inbld(layer: &LayerProfile) -> bool
     ensures { result ≡ has_inbld_flag layer.now.profile_idc layer.now.profile_compatibility_flag }
 {

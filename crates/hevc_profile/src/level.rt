@@ -11,7 +11,7 @@ use hevc_elements::rows::{out_of_range, refusal};
 use hevc_spec::Row;
 use hevc_types_a::Level;
 
-/// The level whose number stands there, u(8). Other numbers are out of range.
+/// The level whose number is there, u(8). Other numbers are out of range.
 #[tactic(auto, using(crate::proofs::LevelNumbers::level_numbers), unfolding(hevc_tables::specs::ProfileTierLevelTable::level))]
 pub(crate) fn read_level(r: &mut NaluReader<'_>, row: Row) -> Result<Level, ParseError>
     ensures read { Reads level_number result r.new (read (level_table row) (bits r.old)) }

@@ -20,7 +20,7 @@ use hevc_types_a::ProfileTierLevel;
 /// An element that is absent has its value of `ProfileTierLevel::new`.
 ///
 /// Errors: `OutOfBits` where the payload ends within an element, and `OutOfRange` with table 2 and the row where a level isn't one
-/// of Table A.8. The reader then stands where that element begins.
+/// of Table A.8. The reader then is where that element begins.
 #[tactic(auto, using(hevc_elements::proofs::Meaning::meanings))]
 pub fn read_profile_tier_level(
     r: &mut NaluReader<'_>,

@@ -1,4 +1,4 @@
--- What stands at the front of bits is what spells it, for each form.
+-- What is at the front of bits is what spells it, for each form.
 use Rattle.std.proofs.Common.{◌≡◌, ◌≢◌, ℕ, zero, suc, ◌+◌, ◌-◌, ◌*◌, ◌<◌, ◌≤◌, Bool, true, false, cond, eqb, List, [], ◌∷◌, ◌++◌, length, refl, sym, ap, ◌∙◌, append_assoc, arith, inl, inr}
 use Rattle.std.specs.Prelude.{replicate, if◌then◌else◌, ◌==◌, ◌⊎◌}
 use Rattle.std.proofs.lemmas.List.{append-nil, length-append}
@@ -9,7 +9,7 @@ use Rattle.hevc_spec.specs.Lines.{IsGolomb, BeginsWithZeros, EndsWithin}
 
 -- ---- the same by recursion on the bits
 
--- so many bits behind a number
+-- so many bits after a number
 abbrev pub bits_after : ℕ → ℕ → List Bool → Found
 bits_after n zero bits = found n bits
 bits_after n (suc more) [] = ended
@@ -20,7 +20,7 @@ bits_behind-is n zero bits = bits_after-zero n bits
 bits_behind-is n (suc more) [] = bits_after-nil n more
 bits_behind-is n (suc more) (b ∷ bits) = bits_after-cons n more b bits ∙ bits_behind-is (2 * n + (if b then 1 else 0)) more bits
 
--- an Exp-Golomb number behind some of its zeros
+-- an Exp-Golomb number after some of its zeros
 abbrev pub golomb_after : ℕ → List Bool → Found
 golomb_after count [] = ended
 golomb_after count (false ∷ bits) = if count == 31 then out_of_bounds else golomb_after (count + 1) bits
@@ -167,7 +167,7 @@ golomb_zeros_again z (suc (suc more)) behind small many =
     let ne : eqb z 31 ≡ false = grind arith in
     rw ne (golomb_zeros_again (z + 1) (suc more) behind (omega arith) (omega arith))
 
--- how the bits end within a number: among its zeros, or behind its one
+-- how the bits end within a number: among its zeros, or after its one
 record EndsGolomb (z : ℕ) (bits : List Bool) : Type 0 where
   pub more : ℕ
   pub front : List Bool

@@ -227,7 +227,7 @@ one_spelling form v w a b x y p q e =
     let behind : a ++ x ≡ b ++ x = e ∙ ap (λ (z : List Bool). b ++ z) (sym rest) in
     (cc, same_behind a b x behind, rest)
 
--- Two lists of lines of a table that fronts of one payload spell agree line by line.
+-- Two lists of lines of a table that prefixes of one payload spell agree line by line.
 pub lines_agree : {A : Type 0} (t : Table A) (r r' : A) (ls ls' : List Line) (x y : List Bool) → HasLines t r ls → HasLines t r' ls' → AreGood ls → AreGood ls' → joined ls ++ x ≡ joined ls' ++ y → ls ≡ ls'
 lines_agree (done z) r r' ls ls' x y h h' g g' e = h.1 ∙ sym h'.1
 lines_agree (missing row id) r r' ls ls' x y h h' g g' e = absurd h

@@ -24,7 +24,7 @@ pub record PlainHrdParams : Type 0 where
   pub nal_hrd : List PlainSublayerHrdParameters
   pub vcl_hrd : List PlainSublayerHrdParameters
 
--- what stands where nothing was read
+-- the value where nothing was read
 abbrev pub default_hrd_params : PlainHrdParams
 default_hrd_params = record {
   nal_hrd_parameters_present_flag = false;

@@ -52,7 +52,7 @@ pub record PlainPps : Type 0 where
   pub qp_bd_offset_y : ℕ
   pub temporal_id : ℕ
 
--- what stands where nothing was read
+-- the value where nothing was read
 abbrev pub default_pps : PlainPps
 default_pps = record {
   pic_parameter_set_id = 0;

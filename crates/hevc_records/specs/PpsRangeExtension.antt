@@ -12,7 +12,7 @@ pub record PlainPpsRangeExtension : Type 0 where
   pub log2_sao_offset_scale_luma : ℕ
   pub log2_sao_offset_scale_chroma : ℕ
 
--- what stands where nothing was read
+-- the value where nothing was read
 abbrev pub default_pps_range_extension : PlainPpsRangeExtension
 default_pps_range_extension = record {
   log2_max_transform_skip_block_size_minus2 = 0;

@@ -16,7 +16,7 @@ pub record PlainPpsSccExtension : Type 0 where
   pub chroma_bit_depth_entry_minus8 : ℕ
   pub palette_predictor_initializer : List (List ℕ)
 
--- what stands where nothing was read
+-- the value where nothing was read
 abbrev pub default_pps_scc_extension : PlainPpsSccExtension
 default_pps_scc_extension = record {
   curr_pic_ref_enabled_flag = false;

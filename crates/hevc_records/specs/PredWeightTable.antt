@@ -18,7 +18,7 @@ pub record PlainPredWeightTable : Type 0 where
   pub delta_chroma_weight_l1 : List (List ℤ)
   pub delta_chroma_offset_l1 : List (List ℤ)
 
--- what stands where nothing was read
+-- the value where nothing was read
 abbrev pub default_pred_weight_table : PlainPredWeightTable
 default_pred_weight_table = record {
   luma_log2_weight_denom = 0;

@@ -9,7 +9,7 @@ abbrev pub conforms_to : ℕ → List Bool → ℕ → Bool
 conforms_to profile_idc flags number =
     profile_idc == number || unwrap_or (slice_get flags number) false
 
--- Constraint flags of the range extensions' profiles stand in the set (7.3.3): the layer conforms
+-- Constraint flags of the range extensions' profiles are in the set (7.3.3): the layer conforms
 -- to one of the profiles 4 to 11.
 abbrev pub has_range_extensions_flags : ℕ → List Bool → Bool
 has_range_extensions_flags profile_idc flags =
@@ -22,7 +22,7 @@ has_range_extensions_flags profile_idc flags =
     || conforms_to profile_idc flags 10
     || conforms_to profile_idc flags 11
 
--- inbld_flag stands in the set (7.3.3): the layer conforms to one of the profiles 1 to 5, 9 and 11.
+-- inbld_flag is in the set (7.3.3): the layer conforms to one of the profiles 1 to 5, 9 and 11.
 abbrev pub has_inbld_flag : ℕ → List Bool → Bool
 has_inbld_flag profile_idc flags =
     conforms_to profile_idc flags 1

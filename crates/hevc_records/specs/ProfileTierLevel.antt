@@ -46,7 +46,7 @@ pub record PlainProfileTierLevel : Type 0 where
   pub sub_layer_inbld_flag : List Bool
   pub sub_layer_level_idc : List ℕ
 
--- what stands where nothing was read
+-- the value where nothing was read
 abbrev pub default_profile_tier_level : PlainProfileTierLevel
 default_profile_tier_level = record {
   general_profile_space = 0;

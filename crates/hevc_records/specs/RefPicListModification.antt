@@ -7,7 +7,7 @@ pub record PlainRefPicListModification : Type 0 where
   pub ref_pic_list_modification_flag_l1 : Bool
   pub list_entry_l1 : List ℕ
 
--- what stands where nothing was read
+-- the value where nothing was read
 abbrev pub default_ref_pic_list_modification : PlainRefPicListModification
 default_ref_pic_list_modification = record {
   ref_pic_list_modification_flag_l0 = false;

@@ -9,7 +9,7 @@ pub record PlainScalingLists : Type 0 where
   pub scaling_list_16x16 : List (List ℕ)
   pub scaling_list_32x32 : List (List ℕ)
 
--- what stands where nothing was read
+-- the value where nothing was read
 abbrev pub zero_scaling_lists : PlainScalingLists
 zero_scaling_lists = record {
   scaling_list_dc_coef_minus8_16x16 = replicate 6 (pos 0);

@@ -14,7 +14,7 @@ pub record PlainShortTermRefPicSet : Type 0 where
   pub used_by_curr_pic_s1 : List Bool
   pub num_delta_pocs : ℕ
 
--- what stands where nothing was read
+-- the value where nothing was read
 abbrev pub default_short_term_ref_pic_set : PlainShortTermRefPicSet
 default_short_term_ref_pic_set = record {
   inter_ref_pic_set_prediction_flag = false;

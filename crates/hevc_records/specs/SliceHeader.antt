@@ -60,7 +60,7 @@ pub record PlainSliceSegmentHeader : Type 0 where
   pub n_emulation_prevention_bytes : ℕ
   pub st_rps_bits : ℕ
 
--- what stands where nothing was read
+-- the value where nothing was read
 abbrev pub default_slice_header : PlainSliceSegmentHeader
 default_slice_header = record {
   first_slice_segment_in_pic_flag = false;
@@ -133,7 +133,7 @@ with_inferred pps num_short_term_ref_pic_sets motion_vector_resolution_control_i
 }
 
 -- The whole header of a dependent slice segment (7.4.7.1): what
--- stands before slice_type and what tells of its own unit is its own,
+-- is before slice_type and what tells of its own unit is its own,
 -- all other elements are those of the independent segment before it.
 abbrev pub completed_header : PlainSliceSegmentHeader → PlainSliceSegmentHeader
     → PlainSliceSegmentHeader

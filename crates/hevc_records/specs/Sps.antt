@@ -74,7 +74,7 @@ pub record PlainSps : Type 0 where
   pub wp_offset_half_range_y : ℕ
   pub wp_offset_half_range_c : ℕ
 
--- what stands where nothing was read
+-- the value where nothing was read
 abbrev pub default_sps : PlainSps
 default_sps = record {
   video_parameter_set_id = 0;

@@ -12,7 +12,7 @@ pub record PlainSpsRangeExtension : Type 0 where
   pub persistent_rice_adaptation_enabled_flag : Bool
   pub cabac_bypass_alignment_enabled_flag : Bool
 
--- what stands where nothing was read
+-- the value where nothing was read
 abbrev pub default_sps_range_extension : PlainSpsRangeExtension
 default_sps_range_extension = record {
   transform_skip_rotation_enabled_flag = false;

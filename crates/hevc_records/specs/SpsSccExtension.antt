@@ -13,7 +13,7 @@ pub record PlainSpsSccExtension : Type 0 where
   pub motion_vector_resolution_control_idc : ℕ
   pub intra_boundary_filtering_disabled_flag : Bool
 
--- what stands where nothing was read
+-- the value where nothing was read
 abbrev pub default_sps_scc_extension : PlainSpsSccExtension
 default_sps_scc_extension = record {
   curr_pic_ref_enabled_flag = false;

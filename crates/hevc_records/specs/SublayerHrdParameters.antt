@@ -8,7 +8,7 @@ pub record PlainSublayerHrdParameters : Type 0 where
   pub bit_rate_du_value_minus1 : List ℕ
   pub cbr_flag : List Bool
 
--- what stands where nothing was read
+-- the value where nothing was read
 abbrev pub default_sublayer_hrd_parameters : PlainSublayerHrdParameters
 default_sublayer_hrd_parameters = record {
   bit_rate_value_minus1 = replicate 32 0;

@@ -28,7 +28,7 @@ pub record PlainVps : Type 0 where
   pub hrd_parameters : List PlainHrdParams
   pub extension_flag : Bool
 
--- what stands where nothing was read
+-- the value where nothing was read
 abbrev pub default_vps : PlainVps
 default_vps = record {
   video_parameter_set_id = 0;

@@ -44,7 +44,7 @@ pub record PlainVuiParams : Type 0 where
   pub log2_max_mv_length_horizontal : ℕ
   pub log2_max_mv_length_vertical : ℕ
 
--- what stands where nothing was read
+-- the value where nothing was read
 abbrev pub default_vui_params : PlainVuiParams
 default_vui_params = record {
   aspect_ratio_info_present_flag = false;

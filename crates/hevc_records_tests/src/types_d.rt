@@ -8,7 +8,7 @@ use hevc_types_b::PredWeightTable;
 use hevc_types_d::{NotDependent, Pps, Slice, SliceHeader, comparisons};
 use std::test::Fail;
 
-/// A unit of type 1 with four bytes, behind its start code.
+/// A unit of type 1 with four bytes, after its start code.
 const STREAM: [u8; 7] = [0, 0, 1, 2, 1, 0xD2, 0x14];
 
 #[test]

@@ -15,8 +15,8 @@ use Rattle.hevc_dpb.specs.Entries.{tickets, unmarked}
 use Rattle.hevc_dpb.specs.Plain.{HaveLatency}
 use Rattle.hevc_dpb.specs.Views.{stored_entries, max_num_pics_of, room_of, is_stale}
 
--- What a reference picture set reads of a picture (8.3.2) is what this head says: its type, its order
--- count, and whether it begins a sequence.
+-- What a reference picture set reads of a picture (8.3.2) is what this head says: its type, its
+-- order count, and whether it begins a sequence.
 pub record RefersAs (h : Head) (p : PictureData) : Type 0 where
   pub nal_unit_type : nalu_type_number p.nalu_type ≡ h.nal_unit_type
   pub order_count : p.pic_order_cnt_val ≡ h.order_count

@@ -45,7 +45,7 @@ fn whole_count(order_count: i32, cycle: u64, modulus: i32, lsb: u32) -> i128
         + lsb as i128
 }
 
-/// What is looked for as a long-term member: low bits, or a whole order count where its most significant bits are told.
+/// What is looked for as a long-term member: low bits, or a whole order count where its most significant bits are signalled.
 fn sought(order_count: i32, header: &SliceHeader, i: usize, modulus: i32) -> Sought
     requires within { i < 16 }
     requires modulus { IsMaxPicOrderCntLsb modulus }

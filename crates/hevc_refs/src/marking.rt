@@ -75,7 +75,7 @@ fn long_term_mark<T: Copy>(
     }
 }
 
-/// The mark of an entry behind a picture's set: none where no list names it.
+/// The mark of an entry after a picture's set: none where no list names it.
 fn kept_mark<T: Copy>(entry: &DpbEntry<T>, set: &RefPicSet) -> Reference
     ensures { record (plain_entry entry.now) { mark = mark_of result }
         ≡ marked_if (all_members (plain_set set.now)) (plain_entry entry.now) }

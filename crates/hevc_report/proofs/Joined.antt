@@ -149,7 +149,7 @@ report_is options stream empty after log none given shown result p q r s b m c o
     let us = meanings options stream in
     text_is us log shown result (whole_of us empty after log none given shown result p q r s b m c o a) counted
 
--- what follows of the bytes that a source had left, where it tells them
+-- what follows of the bytes that a source had left, where it exposes them
 pub told_by : (left : Option (List ℕ)) (P Q : List ℕ → Type 0) → ((s : List ℕ) → P s → Q s) → IfSome left P → IfSome left Q
 told_by None P Q follows p = tt
 told_by (Some s) P Q follows p = follows s p

@@ -1,4 +1,4 @@
--- What comes out of a stream that is decoded comes out in order.
+-- The pictures of a stream that is decoded are output in order.
 use Rattle.std.proofs.Common.{◌≡◌, ℕ, length, Option, Some, None, List, Result, Ok, Err, true, is_ok, refl}
 use Rattle.hevc_walk.specs.Pictures.{pictures}
 use Rattle.hevc_walk.specs.Meanings.{Meaning}

@@ -1,4 +1,4 @@
--- What is written of a log and of the pictures that came out.
+-- What is written of a log and of the pictures that were output.
 use Rattle.std.specs.Prelude.{ℕ, ℤ, List, [], ◌++◌, length, map, Result, Ok, Err}
 use Rattle.std.specs.List.{flat_map}
 use Rattle.hevc_bits.specs.NaluType.{nalu_type_number}

@@ -1,4 +1,4 @@
--- The report on a stream, as bytes: what the units ask for, which pictures come out,
+-- The report on a stream, as bytes: what the units ask for, which pictures are output,
 -- and how the stream ends.
 use Rattle.std.specs.Prelude.{ℕ, ℤ, ◌+◌, Bool, List, [], ◌∷◌, ◌++◌, length, take, codes, decimal, Option, Some, None, Result, Ok, Err, if◌then◌else◌}
 use Rattle.std.specs.List.{flat_map}
@@ -89,7 +89,7 @@ calls_text handle [] = []
 calls_text handle (call ∷ calls) =
     call_line handle call ++ calls_text (handle_behind handle call) calls
 
--- the line of a picture that comes out: its number, its order count, and the unit at which it does
+-- the line of a picture that is output: its number, its order count, and the unit at which it is
 abbrev pub output_line : OutputPicture → List ℕ
 output_line output =
     codes "show " ++ decimal output.number ++ codes " poc " ++ signed_decimal output.order_count
@@ -142,7 +142,8 @@ abbrev pub calls_made : Result ℕ Refused → List (ℕ × Call) → List (ℕ 
 calls_made (Ok pictures) all = all
 calls_made (Err refused) all = calls_until refused.error refused.unit all
 
--- the pictures that come out: all, or, where the buffer is full at unit k, those of units before it
+-- the pictures that are output: all, or, where the buffer is full at unit k, those of units before
+-- it
 abbrev pub outputs_until : DecodeError → ℕ → List OutputPicture → List OutputPicture
 outputs_until errors.DpbFull k all = outputs_below k all
 outputs_until error k all = all

@@ -16,7 +16,7 @@ use hevc_types_a::ScalingLists;
 /// less 8. Of the 32x32 matrices those of chroma aren't read: their entries are 0.
 ///
 /// Errors: `OutOfBits` where the payload ends within an element, and `OutOfRange` with table and row of the first element that
-/// isn't allowed. The reader then stands where that element begins.
+/// isn't allowed. The reader then is where that element begins.
 #[tactic(auto, using(hevc_elements::proofs::Meaning::meanings))]
 pub fn read_scaling_list_data(r: &mut NaluReader<'_>) -> Result<ScalingLists, ParseError>
     ensures read { Reads plain_scaling_lists result r.new (read scaling_list_data (bits r.old)) }

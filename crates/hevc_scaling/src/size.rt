@@ -39,7 +39,7 @@ pub(crate) fn has_matrix(size: Size, matrix_id: u8) -> bool
     matrix_id % matrix_step(size) == 0
 }
 
-/// How many matrices stand before one, which is its greatest `scaling_list_pred_matrix_id_delta`.
+/// How many matrices are before one, which is its greatest `scaling_list_pred_matrix_id_delta`.
 pub(crate) fn max_delta(size: Size, matrix_id: u8) -> u8
     ensures { result ≡ matrix_id / matrix_step_of_size (plain_size size) }
 {

@@ -1,4 +1,4 @@
-//! Readers of parameter sets (7.3.2), and of the parts that stand in them (7.3.3, 7.3.4, 7.3.7, Annex E).
+//! Readers of parameter sets (7.3.2), and of the parts that are in them (7.3.3, 7.3.4, 7.3.7, Annex E).
 //!
 //! A reader of a set reads it out of its unit; those of video and sequence sets want memory for their lists. A reader of a part reads at a
 //! reader of payload bits, takes no memory, and answers `OutOfBits` or `OutOfRange` alone besides its record.

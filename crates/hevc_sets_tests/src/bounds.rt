@@ -244,7 +244,7 @@ impl Trial<'_> {
     }
 }
 
-/// Each bound of a unit, and the unit as it stands.
+/// Each bound of a unit, and the unit as it is.
 fn try_unit(rt: &impl Abort, alloc: Global, kept: &Kept, unit: &Unit) -> Result<(), Fail> {
     let lines = lines_of(alloc, unit)?;
     let trial = Trial {
@@ -261,7 +261,7 @@ fn try_unit(rt: &impl Abort, alloc: Global, kept: &Kept, unit: &Unit) -> Result<
     Ok(())
 }
 
-/// A unit as it stands.
+/// A unit as it is.
 fn whole(rt: &impl Abort, alloc: Global, unit: &Unit) -> Result<Vec<u8>, Fail> {
     let lines = lines_of(alloc, unit)?;
     let mut writer = BitWriter::new(alloc);

@@ -28,7 +28,7 @@ const DEEP_PICTURE_SET: &[u8] = &[
     0x00, 0x00, 0x01, 0x44, 0x01, 0xc0, 0x60, 0xf4, 0x60, 0x04, 0x80,
 ];
 
-/// A picture set whose payload ends behind its ids.
+/// A picture set whose payload ends after its ids.
 const BROKEN_SET: &[u8] = &[0x00, 0x00, 0x01, 0x44, 0x01, 0xc0];
 
 /// Takes the first unit of each of these streams.

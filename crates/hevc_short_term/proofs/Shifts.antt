@@ -12,11 +12,11 @@ shifted_none : (shift : ℤ) (flags : List MemberFlags) → shifted shift [] fla
 unfolding shifted
 shifted_none shift flags = refl
 
--- behind the last difference there is nothing
+-- after the last difference there is nothing
 pub shifted_all : (shift : ℤ) (ds : List ℤ) (fs : List MemberFlags) (i : ℕ) → length ds ≤ i → shifted shift (drop i ds) (drop i fs) ≡ []
 shifted_all shift ds fs i le = rw (drop_all i ds le) (shifted_none shift (drop i fs))
 
--- what the first of the rest gives, and then what is behind it
+-- what the first of the rest gives, and then what is after it
 pub shifted_next : (shift : ℤ) (ds : List ℤ) (fs : List MemberFlags) (i : ℕ) (d : ℤ) (f : MemberFlags) → i < length ds → i < length fs → shifted shift (drop i ds) (drop i fs) ≡ shifted_one shift (get_or ds i d) (get_or fs i f) ++ shifted shift (drop (i + 1) ds) (drop (i + 1) fs)
 unfolding shifted
 shifted_next shift ds fs i d f in_ds in_fs = rw (drop_more ds i d in_ds, drop_more fs i f in_fs) refl

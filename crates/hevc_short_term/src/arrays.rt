@@ -5,7 +5,7 @@ ghost use Rattle.hevc_tables.specs.ShortTermTable.{deltas, used, is_i32, array_o
 
 use hevc_tables::ShortTermMember;
 
-/// The differences of members, and zeros behind them.
+/// The differences of members, and zeros after them.
 #[tactic(auto, using(hevc_short_term_laws::proofs::FilledArrays::arrays, hevc_short_term_laws::proofs::Parts::fit_at))]
 pub(crate) fn difference_array(members: &[ShortTermMember]) -> [i32; 16]
     requires few { length members.now ≤ 16 }
@@ -27,7 +27,7 @@ fn difference(member: &ShortTermMember) -> i32
     member.delta_poc as i32
 }
 
-/// Which members the current picture may refer to, and none behind them.
+/// Which members the current picture may refer to, and none after them.
 #[tactic(auto, using(hevc_short_term_laws::proofs::FilledArrays::arrays))]
 pub(crate) fn used_array(members: &[ShortTermMember]) -> [bool; 16]
     requires { length members.now ≤ 16 }

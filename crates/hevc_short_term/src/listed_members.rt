@@ -33,7 +33,7 @@ pub(crate) fn read_listed_before(
     Ok(members)
 }
 
-/// Rows 9 and 10 of table 7, for the member behind these.
+/// Rows 9 and 10 of table 7, for the member after these.
 #[tactic(auto, unfolding(hevc_tables::specs::ShortTermTable::member_before))]
 fn read_member_before(
     r: &mut NaluReader<'_>,
@@ -75,7 +75,7 @@ pub(crate) fn read_listed_after(
     Ok(members)
 }
 
-/// Rows 11 and 12 of table 7, for the member behind these.
+/// Rows 11 and 12 of table 7, for the member after these.
 #[tactic(auto, unfolding(hevc_tables::specs::ShortTermTable::member_after))]
 fn read_member_after(
     r: &mut NaluReader<'_>,

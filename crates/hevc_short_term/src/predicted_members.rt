@@ -10,8 +10,8 @@ use hevc_types_a::ShortTermRefPicSet;
 
 /// The members of a set that is predicted from another, in rising order.
 ///
-/// The other set's members before its picture fall and those behind it rise, so those before are taken from the last to the
-/// first, then the picture, then those behind.
+/// The other set's members before its picture fall and those after it rise, so those before are taken from the last to the
+/// first, then the picture, then those after.
 #[tactic(auto)]
 pub(crate) fn predicted_members(
     other: &ShortTermRefPicSet,

@@ -19,7 +19,7 @@ use hevc_spec::Row;
 use hevc_tables::ShortTermMember;
 use hevc_types_a::ShortTermRefPicSet;
 
-/// Rows 2 to 6 of table 7, for number `st_rps_idx` of `count` sets or for one behind them.
+/// Rows 2 to 6 of table 7, for number `st_rps_idx` of `count` sets or for one after them.
 #[tactic(auto, using(crate::proofs::Parts::set_at), unfolding(hevc_tables::specs::ShortTermTable::predicted_set))]
 pub(crate) fn read_predicted_set(
     r: &mut NaluReader<'_>,

@@ -24,7 +24,7 @@ use hevc_types_a::ShortTermRefPicSet;
 ///
 /// Errors: `OutOfBits` where the payload ends within an element, and `OutOfRange` with table and row of the first element that
 /// isn't allowed; row 6 where a predicted set has more than 16 members or a difference that isn't of 32 bits. The reader then
-/// stands where that element begins.
+/// is where that element begins.
 #[tactic(auto, using(hevc_elements::proofs::Meaning::meanings))]
 pub fn read_short_term_set(
     r: &mut NaluReader<'_>,

@@ -7,7 +7,7 @@ use Rattle.hevc_tables.specs.ShortTermTable.{deltas, array_of}
 use Rattle.hevc_short_term_laws.specs.Sides.{LieBefore, LieAfter}
 use Rattle.hevc_short_term_laws.proofs.OrderLaws.{fall_of, rise_of}
 
--- so many elements of the list, each seen by f, and empty ones behind them
+-- so many elements of the list, each seen by f, and empty ones after them
 abbrev pub filled : {X A : Type 0} → (X → A) → A → List X → ℕ → List A
 filled f empty xs i = map f (take i xs) ++ replicate (16 - i) empty
 

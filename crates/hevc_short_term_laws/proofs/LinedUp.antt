@@ -77,7 +77,7 @@ insert_before : (m : ShortTermMember) (ys : List ShortTermMember) → AllAbove m
 insert_before m [] h = refl
 insert_before m (y ∷ ys) h = let first : int_lt m.delta_poc y.delta_poc ≡ true = grind (arith, h.0) in rw first refl
 
--- rising members are put behind those that don't lie above a bound below them
+-- rising members are put after those that don't lie above a bound below them
 rising_behind : (b : ℤ) (xs ys : List ShortTermMember) → Rises (deltas xs) → AllAbove b (deltas xs) → AllBelow (b +ℤ pos 1) (deltas (rising ys)) → rising (xs ++ ys) ≡ rising ys ++ xs
 unfolding rising
 rising_behind b [] ys rises above below = sym (append-nil (rising ys))

@@ -1,4 +1,4 @@
--- Members that are written out, one behind the other.
+-- Members that are written out, one after the other.
 use Rattle.std.proofs.Common.{◌≡◌, ℕ, zero, suc, ◌+◌, ◌*◌, ◌<◌, length, get_or, ℤ, pos, negsuc, neg_ℤ, ◌+ℤ◌, ◌-ℤ◌, ◌<ℤ◌, ◌≤ℤ◌, Bool, List, [], ◌∷◌, ◌++◌, refl, arith, rules, IsTrue}
 use Rattle.std.specs.List.{list_all}
 use Rattle.std.proofs.lemmas.List.{map-append, length-append}
@@ -26,14 +26,14 @@ last_is (m ∷ []) (suc i) d e = absurd (omega arith)
 last_is (m ∷ n ∷ ms) zero d e = absurd (omega arith)
 last_is (m ∷ n ∷ ms) (suc i) d e = last_is (n ∷ ms) i d (omega arith)
 
--- members before the current picture, each at most 32768 behind the one before
+-- members before the current picture, each at most 32768 after the one before
 pub record DownTo (ms : List ShortTermMember) : Type 0 where
   pub before : LieBefore ms
   pub above : AllAbove (last_delta ms -ℤ pos 1) (deltas ms)
   pub low : neg_ℤ (pos (32768 * length ms)) ≤ℤ last_delta ms
   pub most : last_delta ms ≤ℤ pos 0
 
--- members after the current picture, each at most 32768 behind the one before
+-- members after the current picture, each at most 32768 after the one before
 pub record UpTo (ms : List ShortTermMember) : Type 0 where
   pub after : LieAfter ms
   pub below : AllBelow (last_delta ms +ℤ pos 1) (deltas ms)

@@ -35,7 +35,7 @@ module _ {X : Type 0} (x : X) where
   own_behind : (id_of : X → ℕ) (old new : BTreeMap ℕ X) (id : ℕ) → id_of x ≡ id → Updates nat_cmp old new id (Some x) → HasOwnIds id_of old → HasOwnIds id_of new
   own_behind id_of old new id is updates own k = subst (λ (o : Option X). IfSome o (λ y. id_of y ≡ k)) (sym (updates.0 k)) (own_by_test id_of id k (is_at (nat_cmp id) k) (get nat_cmp old k) refl is (own k))
 
-  -- each set stands under its own id, whether x was kept or not
+  -- each set is under its own id, whether x was kept or not
   pub own_after : {A B : Type 0} (id_of : X → ℕ) (old new : BTreeMap ℕ X) (id : ℕ) (r : Result A B) → id_of x ≡ id → OnOk r (Updates nat_cmp old new id (Some x)) → OnErr r (IsUnchanged old new) → HasOwnIds id_of old → HasOwnIds id_of new
   own_after id_of old new id (Ok a) is updates unchanged own = own_behind id_of old new id is updates own
   own_after id_of old new id (Err b) is updates unchanged own = λ k. subst (λ (es : List (ℕ × X)). IfSome (lookup (is_at (nat_cmp k)) es) (λ y. id_of y ≡ k)) (sym unchanged) (own k)
@@ -53,7 +53,7 @@ weaker : {X : Type 0} (o : Option X) (P Q : X → Type 0) → ((y : X) → P y �
 weaker None P Q by p = tt
 weaker (Some y) P Q by p = by y p
 
--- behind a sequence set
+-- after a sequence set
 pub named_after : {A B : Type 0} (x : Sps) (old new : BTreeMap ℕ Sps) (picture_sets : BTreeMap ℕ Pps) (id : ℕ) (r : Result A B) → OnOk r (Updates nat_cmp old new id (Some x)) → OnErr r (IsUnchanged old new) → HasNamedSets old picture_sets → HasNamedSets new picture_sets
 named_after x old new picture_sets id r updates unchanged named k =
     weaker (get nat_cmp picture_sets k) (λ set. IsSome (get nat_cmp old set.seq_parameter_set_id)) (λ set. IsSome (get nat_cmp new set.seq_parameter_set_id)) (λ set. some_after x old new id r updates unchanged set.seq_parameter_set_id) (named k)
@@ -62,7 +62,7 @@ named_by_test : (sequence_sets : BTreeMap ℕ Sps) (x : Pps) (b : Bool) (o : Opt
 named_by_test sequence_sets x true o is named = is
 named_by_test sequence_sets x false o is named = named
 
--- behind a picture set whose sequence set is kept
+-- after a picture set whose sequence set is kept
 pub names_after : {A B : Type 0} (sequence_sets : BTreeMap ℕ Sps) (x : Pps) (old new : BTreeMap ℕ Pps) (id : ℕ) (r : Result A B) → IsSome (get nat_cmp sequence_sets x.seq_parameter_set_id) → OnOk r (Updates nat_cmp old new id (Some x)) → OnErr r (IsUnchanged old new) → HasNamedSets sequence_sets old → HasNamedSets sequence_sets new
 names_after sequence_sets x old new id (Ok a) is updates unchanged named k =
     subst (λ (o : Option Pps). IfSome o (λ set. IsSome (get nat_cmp sequence_sets set.seq_parameter_set_id))) (sym (updates.0 k)) (named_by_test sequence_sets x (is_at (nat_cmp id) k) (get nat_cmp old k) is (named k))

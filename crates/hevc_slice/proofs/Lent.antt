@@ -10,7 +10,7 @@ use Rattle.hevc_elements.specs.Sets.{RefusesSet, ReadsSet, MeansSet, NamesNoSet}
 use Rattle.hevc_slice.specs.Answers.{NamesNoPictureSet}
 use Rattle.hevc_elements.proofs.SetMeaning.{set_found, set_only, set_refused, set_broken}
 
--- what is read is the kept set, or memory is wanted
+-- what is read is the kept set, or an allocation fails
 pub lent_reads : {X A : Type 0} (view : X → A) (x : X) (r : Result (Bor X) ParseError) (reading : Reading A) → IfOk r (λ kept. kept.now ≡ x) → IfErr r (λ e. e ≡ NoMemory) → ReadsSet view (Ok x) reading → ReadsSet (λ (kept : Bor X). view kept.now) r reading
 lent_reads {X = X} view x (Ok kept) reading same refused h = (h.0, h.1 ∙ ap (λ (y : X). gives (view y) h.0) (sym same))
 lent_reads view x (Err e) reading same refused h = subst (λ (f : ParseError). RefusesSet f reading) (sym refused) tt

@@ -26,7 +26,7 @@ kept_by p = record {
 abbrev pub sequence_set_by : Parser → ℕ → Option Sps
 sequence_set_by p id = get nat_cmp p.sequence_sets id
 
--- With tiles, a picture set's columns and rows take all blocks of a picture of the sequence set that
--- it names, of those that a parser keeps (6.5.1).
+-- With tiles, a picture set's columns and rows take all blocks of a picture of the sequence set
+-- that it names, of those that a parser keeps (6.5.1).
 abbrev pub TilesCoverKept : Parser → PlainPps → Type 0
 TilesCoverKept p pps = CoverKept p.sequence_sets pps

@@ -9,7 +9,7 @@ use Rattle.std.proofs.Math.Bool.{Bool-set}
 use Rattle.hevc_types_c.specs.declared.sps.Sps.{Sps}
 use Rattle.hevc_types_d.specs.declared.pps.Pps.{Pps}
 
--- each set stands under its own id
+-- each set is under its own id
 abbrev pub HasOwnIds : {X : Type 0} → (X → ℕ) → BTreeMap ℕ X → Type 0
 HasOwnIds id_of sets = (id : ℕ) → IfSome (get nat_cmp sets id) (λ set. id_of set ≡ id)
 

@@ -146,7 +146,7 @@ impl Parser {
     /// Keeps a sequence parameter set, in the place of an earlier one of its id (7.4.2.4.2), and tells whether that changed what is
     /// kept: whether no set was kept under its id, or one that differs from it.
     ///
-    /// Errors: want of memory; what is kept then stays.
+    /// Errors: an allocation fails; what is kept then stays.
     pub fn keep_sequence_set(&mut self, set: Sps) -> Result<bool, AllocError>
         ensures kept { OnOk result
             (kept_by self.new ≡ with_sequence_set (plain_sps set) (kept_by self.old)) }

@@ -5,7 +5,7 @@ use Rattle.hevc_tables.specs.SliceHeaderTable.{emulation_prevention_bytes, with_
 use Rattle.std.specs.Prelude.{◌==◌, ◌&&◌, if◌then◌else◌, option_map, option_and_then}
 use Rattle.hevc_spec.specs.Payload.{Place, run_behind, low_bits, loading, no_bits, with_bits, one_bit_on, next_place, place_behind, first_place, bits, IsReached}
 
--- behind a byte that isn't dropped, the next one is loaded
+-- after a byte that isn't dropped, the next one is loaded
 loads_next : (dropped : ℕ) (bytes : List ℕ) (q : Place) → loading 0 dropped bytes ≡ Some q → q.dropped ≡ dropped
 loads_next dropped [] q e = absurd cc
 loads_next dropped (byte ∷ bytes) q e = let same : record { loaded = low_bits 8 byte; zero_run = run_behind 0 byte; behind = bytes; dropped = dropped } ≡ q = cc in rw (← same) refl

@@ -94,7 +94,7 @@ pub record IsNamed (id count : ℕ) (pic_parameter_set_id : ℕ) (names_one : Bo
   pub same : pic_parameter_set_id ≡ id
   pub current : IsCurrent count names_one curr_rps_idx
 
--- what a header is before its short-term set, and behind it
+-- what a header is before its short-term set, and after it
 abbrev pub IsFresh : ℕ → ℕ → PlainSliceSegmentHeader → Type 0
 IsFresh id count h = HasLists h × IsUnnamed id count h.pic_parameter_set_id h.short_term_ref_pic_set_sps_flag h.curr_rps_idx
 
@@ -387,7 +387,7 @@ module _ (sps : PlainSps) (pps : PlainPps) (small : AreSmall sps pps) (id : ℕ)
       takes_part 33 33574100 (takes_when _ _ begun (later_takes _ begun))
       (λ a p. takes_part 17431 33556669 (takes_when (not a.dependent_slice_segment_flag) a (fresh_whole id count a p) (independent_takes t a p)) (λ b q. ending_takes b q))
 
--- rows 1 to 52, of a header that begins as a new one: how many bits they take, and what the header is behind them
+-- rows 1 to 52, of a header that begins as a new one: how many bits they take, and what the header is after them
 pub rows_take : (nal_unit_type : ℕ) (sps : PlainSps) (pps : PlainPps) → AreSmall sps pps → (h begun read_whole : PlainSliceSegmentHeader) (all behind rest : List Bool) → h ≡ default_slice_header
     → read (table.beginning nal_unit_type h) all ≡ gives begun behind
     → read (table.header_of nal_unit_type sps pps begun) behind ≡ gives read_whole rest

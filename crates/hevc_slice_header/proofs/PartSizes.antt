@@ -45,7 +45,7 @@ unfolding list_entries list_entry
 entries_take r total count =
     takes_more (count * 32) (grind arith) (λ x q. record { all = grind (arith, q.all); fit = q.fit }) (takes_repeat_to 32 {P = AreEntries total} (λ i s p. takes_part 32 0 (takes_more 32 (few_index_bits total) (λ x q. q) (takes_bits r (ceil_log2 total) 0 (total - 1))) (λ e q. takes_done (entries_more total i e s p q))) 0 count [] (record { all = refl; fit = refl }))
 
--- the entries of a list, where its order is told
+-- the entries of a list, where its order is signalled
 abbrev pub AreTold : Bool → ℕ → ℕ → List ℕ → Type 0
 AreTold told total active entries = IsTrue told → HasEntries total active entries
 

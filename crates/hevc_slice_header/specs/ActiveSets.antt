@@ -6,7 +6,7 @@ use Rattle.hevc_types_c.specs.declared.sps.Sps.{Sps}
 use Rattle.hevc_types_d.specs.declared.pps.Pps.{Pps}
 use Rattle.hevc_slice_header.specs.declared.active_sets.ActiveSets.{ActiveSets}
 
--- The picture set stands under this id, and the sequence set under that which it names.
+-- The picture set is under this id, and the sequence set under that which it names.
 pub record AreFound (picture_sets : BTreeMap ℕ Pps) (sequence_sets : BTreeMap ℕ Sps) (id : ℕ)
     (sets : ActiveSets) : Type 0 where
   pub picture : get nat_cmp picture_sets id ≡ Some sets.pps.now

@@ -18,14 +18,14 @@ use Rattle.hevc_elements.specs.Sets.{ReadsSet, MeansSet}
 use Rattle.hevc_slice_header.specs.CurrentSet.{HasCurrentSet}
 use Rattle.hevc_slice_header.specs.Lists.{HasLists}
 
--- The error is the refusal of an element or of a set that isn't kept, and the reader stands where
--- the element began, or behind the one that names the set; or memory is wanted.
+-- The error is the refusal of an element or of a set that isn't kept, and the reader is where
+-- the element began, or after the one that names the set; or an allocation fails.
 abbrev pub RefusesHeader : {A : Type 0} → ParseError → Place → Reading A → Type 0
 RefusesHeader NoMemory new reading = Unit {0}
 RefusesHeader e new reading = RefusesNaming e new reading
 
 -- The result, seen by a view, is the value that reading gives,
--- and the reader stands behind its last bit.
+-- and the reader is after its last bit.
 abbrev pub ReadsHeader : {X A : Type 0} → (X → A) → Result X ParseError → Place → Reading A → Type 0
 ReadsHeader view (Ok x) new reading = reading ≡ gives (view x) (bits new)
 ReadsHeader view (Err e) new reading = RefusesHeader e new reading
@@ -59,5 +59,6 @@ pub record ReadsSlice {X : Type 0} (kept : ℕ → Option ActiveSets) (unit : Fo
   -- CurrRpsIdx is at most the number of the sequence set's short-term sets, and that number exactly
   -- where the header names none of them
   pub current : OnOk result (HasCurrentSet kept (plain_slice_header header))
-  -- each list whose order is told has an entry for each active place, each below NumPicTotalCurr
+  -- each list whose order is signalled has an entry for each active place, each below
+  -- NumPicTotalCurr
   pub lists : OnOk result (HasLists (plain_slice_header header))

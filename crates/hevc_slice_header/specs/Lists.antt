@@ -4,7 +4,7 @@ use Rattle.hevc_records.specs.RefPicListModification.{PlainRefPicListModificatio
 use Rattle.hevc_records.specs.SliceHeader.{PlainSliceSegmentHeader}
 use Rattle.hevc_slice_parts.specs.Entries.{HasEntries}
 
--- A list whose order is told has an entry for each active place, each one of the pictures.
+-- A list whose order is signalled has an entry for each active place, each one of the pictures.
 pub record IsOrdered (num_pic_total_curr l0_active_minus1 l1_active_minus1 : ℕ)
     (m : PlainRefPicListModification) : Type 0 where
   pub l0 : IsTrue m.ref_pic_list_modification_flag_l0

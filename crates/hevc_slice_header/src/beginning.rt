@@ -1,4 +1,4 @@
-//! Where a segment stands (7.3.6.1, rows 1 to 5 of table 14).
+//! Where a segment is (7.3.6.1, rows 1 to 5 of table 14).
 ghost use Rattle.std.specs.Prelude.{◌≡◌, ◌≤◌, ◌^◌};
 ghost use Rattle.hevc_bits.specs.NaluType.{nalu_type_number};
 ghost use Rattle.hevc_elements.specs.Words.{Fills};

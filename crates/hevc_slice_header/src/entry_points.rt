@@ -58,7 +58,7 @@ fn read_parallel_parts(
     Ok(())
 }
 
-/// How many entry points a segment can have behind its first.
+/// How many entry points a segment can have after its first.
 fn most_entry_points(sps: &Sps, pps: &Pps) -> u32
     ensures value { result ≡ table.most_entry_points (plain_sps sps.now) (plain_pps pps.now) }
     ensures few { result < 2 ^ 20 }

@@ -140,7 +140,7 @@ fn read_table(
 /// else of the header stays.
 ///
 /// Errors: `OutOfBits` where the payload ends within an element, and `OutOfRange` with table and row of the first element that
-/// isn't allowed. The header is then as before, and the reader stands where that element begins.
+/// isn't allowed. The header is then as before, and the reader is where that element begins.
 #[tactic(auto, using(hevc_elements::proofs::Meaning::meanings))]
 pub fn parse_pred_weight_table(
     hdr: &mut SliceHeader,

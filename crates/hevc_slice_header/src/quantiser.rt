@@ -108,7 +108,7 @@ fn set_chroma_offsets(h: &mut SliceHeader, cb: i8, cr: i8)
     h.cr_qp_offset = cr;
 }
 
-/// A row of a chroma offset, and the check behind it.
+/// A row of a chroma offset, and the check after it.
 #[tactic(auto, unfolding(hevc_tables::specs::SliceHeaderTable::chroma_offset))]
 fn read_chroma_offset(
     r: &mut NaluReader<'_>,

@@ -1,4 +1,4 @@
-//! Segments behind the id of their picture set (7.3.6.1, rows 4 to 52 of table 14).
+//! Segments after the id of their picture set (7.3.6.1, rows 4 to 52 of table 14).
 ghost use Rattle.std.specs.Prelude.{◌≡◌};
 ghost use Rattle.hevc_bits.specs.NaluType.{nalu_type_number};
 ghost use Rattle.hevc_elements.specs.Words.{when, Fills, FillsGrowing};

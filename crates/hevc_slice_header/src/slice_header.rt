@@ -38,7 +38,7 @@ use std::collections::BTreeMap;
 /// An element that is absent has its value of `SliceHeader::new`, but for what its sets infer (`SliceHeader::set_defaults`).
 ///
 /// Errors: `WrongNaluType` first, where the unit is no slice (types 0 to 9 and 16 to 21); `OutOfBits` where the payload ends within
-/// an element; `OutOfRange` with table and row of the first element that isn't allowed; behind row 3, `MissingPps` where none of
+/// an element; `OutOfRange` with table and row of the first element that isn't allowed; after row 3, `MissingPps` where none of
 /// the picture sets has the id that it names, with a sequence set that is kept; `NoMemory`. The header is again that of
 /// `SliceHeader::new` then.
 #[tactic(auto, using(hevc_elements::proofs::SetMeaning::set_meanings, crate::proofs::CurrentSets::in_order))]
@@ -101,7 +101,7 @@ fn read_payload<'a>(
     }
 }
 
-/// The sizes of a header of so many payload bits, behind which the reader stands.
+/// The sizes of a header of so many payload bits, after which the reader is.
 fn set_sizes(size: u32, r: &NaluReader<'_>, h: &mut SliceHeader)
     requires few { size < 2 ^ 32 - 16 }
     requires dropped { r.now.dropped ≤ size }

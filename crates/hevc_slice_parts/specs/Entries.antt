@@ -1,4 +1,4 @@
--- The entries of a reference picture list whose order is told (7.4.7.2).
+-- The entries of a reference picture list whose order is signalled (7.4.7.2).
 use Rattle.std.specs.Prelude.{◌≡◌, ℕ, ◌+◌, ◌-◌, List, length}
 use Rattle.hevc_records.specs.Bounds.{AtMost}
 

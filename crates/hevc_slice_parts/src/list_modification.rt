@@ -19,7 +19,7 @@ use hevc_types_a::RefPicListModification;
 /// 14. Only a B slice has a list 1.
 ///
 /// Errors: `OutOfBits` where the payload ends within an element, and `OutOfRange` with table and row of an entry that isn't below
-/// `num_pic_total_curr`. The reader then stands where that element begins.
+/// `num_pic_total_curr`. The reader then is where that element begins.
 #[tactic(auto, using(hevc_elements::proofs::Meaning::meanings))]
 pub fn read_ref_pic_list_modification(
     r: &mut NaluReader<'_>,
@@ -38,7 +38,7 @@ pub fn read_ref_pic_list_modification(
         num_ref_idx_l0_active_minus1 num_ref_idx_l1_active_minus1) result r.old r.new }
     ensures moves { IsAhead r.old r.new }
     ensures place { IsReached r.old r.new }
-    // A list whose order is told has an entry for each active place, each below NumPicTotalCurr.
+    // A list whose order is signalled has an entry for each active place, each below NumPicTotalCurr.
     ensures entries_l0 { IfOk result
         (λ m. IsTrue m.ref_pic_list_modification_flag_l0
         → HasEntries num_pic_total_curr num_ref_idx_l0_active_minus1 m.list_entry_l0.items) }
@@ -136,7 +136,7 @@ fn read_l1(
     Ok(())
 }
 
-/// The entries of a list, where its order is told.
+/// The entries of a list, where its order is signalled.
 #[tactic(auto, unfolding(hevc_spec::specs::Rows::when))]
 fn read_entries_if(
     r: &mut NaluReader<'_>,

@@ -21,7 +21,7 @@ use hevc_types_c::Sps;
 /// The counts are those of active places, less 1, 0 to 14. Only a B slice has a list 1. A flag stands for every active place.
 ///
 /// Errors: `OutOfBits` where the payload ends within an element, and `OutOfRange` with table and row of the first element that
-/// isn't allowed. The reader then stands where that element begins.
+/// isn't allowed. The reader then is where that element begins.
 #[tactic(auto, using(hevc_elements::proofs::Meaning::meanings))]
 pub fn read_pred_weight_table(
     r: &mut NaluReader<'_>,

@@ -10,7 +10,7 @@ use hevc_elements::rows::bits_u8;
 use hevc_slice_parts::ceil_log2;
 use hevc_spec::Row;
 
-/// The index of one of so many, which stands there where there are several; else 0.
+/// The index of one of so many, which is there where there are several; else 0.
 #[tactic(auto, unfolding(hevc_spec::specs::Rows::when))]
 pub(crate) fn read_index(r: &mut NaluReader<'_>, row: Row, count: u8) -> Result<u8, ParseError>
     ensures read { Reads (λ n. n) result r.new

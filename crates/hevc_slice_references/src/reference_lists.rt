@@ -20,7 +20,7 @@ use hevc_types_d::{Pps, SliceHeader};
 /// refer to (7-55), and how its lists are ordered.
 ///
 /// Errors: `OutOfBits` where the payload ends within an element, and `OutOfRange` with table and row of the first element that
-/// isn't allowed. The reader then stands where that element begins.
+/// isn't allowed. The reader then is where that element begins.
 #[tactic(auto, unfolding(hevc_tables::specs::SliceHeaderTable::reference_lists, hevc_spec::specs::Rows::when))]
 pub fn read_reference_lists(
     r: &mut NaluReader<'_>,

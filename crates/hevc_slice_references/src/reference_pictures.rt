@@ -17,7 +17,7 @@ use hevc_types_d::SliceHeader;
 /// reference pictures.
 ///
 /// Errors: `OutOfBits` where the payload ends within an element, and `OutOfRange` with table and row of the first element that
-/// isn't allowed. The reader then stands where that element begins.
+/// isn't allowed. The reader then is where that element begins.
 #[tactic(auto, unfolding(hevc_tables::specs::SliceHeaderTable::reference_pictures, hevc_spec::specs::Rows::when))]
 pub fn read_reference_pictures(
     r: &mut NaluReader<'_>,

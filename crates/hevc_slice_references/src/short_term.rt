@@ -38,7 +38,7 @@ pub(crate) fn read_short_term(
     }
 }
 
-/// How many low bits of order counts are told: 4 to 16.
+/// How many low bits of order counts are signalled: 4 to 16.
 pub(crate) fn lsb_bits(sps: &Sps) -> usize
     ensures value { result ≡ table.lsb_bits (plain_sps sps.now) }
     ensures range { (4 ≤ result) × (result ≤ 16) }

@@ -1,4 +1,4 @@
--- What stands at the front of bits, bit by bit.
+-- What is at the front of bits, bit by bit.
 use Rattle.std.proofs.Common.{◌≡◌, ℕ, suc, ◌+◌, ◌*◌, ◌^◌, ◌<◌, ◌≤◌, Bool, true, false, cond, List, [], ◌∷◌, ◌++◌, length, take, drop, refl, sym, ap, subst, ◌∙◌, arith}
 use Rattle.std.proofs.Math.ListN.{length-take}
 use Rattle.std.proofs.lemmas.List.{take-append-drop}
@@ -36,7 +36,7 @@ bits_after-cons front n b bits = rw (nat_le-suc n (length bits)) refl
 
 -- ---- Exp-Golomb numbers
 
--- an Exp-Golomb number behind some of its zeros
+-- an Exp-Golomb number after some of its zeros
 unfoldable pub golomb_after : ℕ → List Bool → Found
 golomb_after count bits = let zeros = leading_zeros bits in if nat_le 32 (count + zeros) then out_of_bounds else less_one (bits_at (count + zeros + 1) (drop zeros bits))
 

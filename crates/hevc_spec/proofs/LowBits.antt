@@ -150,7 +150,7 @@ golomb-low_bits z r l c rest long big small few =
     found_in_bounds (d - 1) (low_bits r c ++ rest) (low_bits l c ++ rest) (omega arith)
     (ap golomb_at same ∙ sym (golomb_after-zero (low_bits (z + suc m) w ++ rest)) ∙ zeros ∙ one ∙ ap less_one read ∙ ap (λ (x : ℕ). found (x - 1) (low_bits r c ++ rest)) sum)
 
--- the number that its one and the bits behind that spell
+-- the number that its one and the bits after that spell
 pub golomb_value : (zeros behind left c : ℕ) → left ≡ (2 * zeros + 1) + behind → 2 ^ (zeros + behind) ≤ c % 2 ^ left → c % 2 ^ left < 2 ^ suc (zeros + behind) → zeros ≤ 30
     → (1 ≤ (c / 2 ^ behind) % 2 ^ (2 * zeros + 1)) × ((c / 2 ^ behind) % 2 ^ (2 * zeros + 1) < 2 ^ 31)
 golomb_value z r l c long big small few =

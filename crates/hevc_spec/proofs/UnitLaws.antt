@@ -1,4 +1,4 @@
--- The units from a place on: the first of them, and those behind it.
+-- The units from a place on: the first of them, and those after it.
 use Rattle.std.proofs.Common.{◌≡◌, ℕ, zero, suc, ◌+◌, ◌-◌, ◌<◌, ◌≤◌, Bool, true, false, eqb, List, [], ◌∷◌, length, take, drop, refl, ap, sym, ◌∙◌, arith}
 use Rattle.std.proofs.Math.Seq.{drop-nil}
 use Rattle.std.proofs.Math.ListN.{drop_of_length-le, length-drop}
@@ -6,7 +6,7 @@ use Rattle.std.specs.Prelude.{◌&&◌}
 use Rattle.std.proofs.lemmas.Bool.{eqb-true, and_parts}
 use Rattle.hevc_spec.specs.Units.{begins_with_start_code, before_start_code, without_trailing_zeros, units_at, units_from}
 
--- no start code stands from one place of a stream up to another
+-- there is no start code from one place of a stream up to another
 abbrev pub NoStartCode : List ℕ → ℕ → ℕ → Type 0
 NoStartCode stream from to = (k : ℕ) → from ≤ k → k < to → begins_with_start_code (drop k stream) ≡ false
 
@@ -115,7 +115,7 @@ module _ (kept : List ℕ → List ℕ) (stream : List ℕ) (start end : ℕ) (s
       (λ k lt. rw (drop-drop (start + 3) k stream) (none (start + 3 + k) (omega arith) (omega arith)))
       (λ lt. let e : start + 3 + (end - (start + 3)) ≡ end = omega arith in rw (drop-drop (start + 3) (end - (start + 3)) stream, e) (ends (omega arith)))
 
-  -- The first unit, and the units behind any part of it.
+  -- The first unit, and the units after any part of it.
   pub units_from-first : (from size : ℕ) → from ≤ start → NoStartCode stream from start → start + 3 + size ≤ end
       → units_from kept from stream ≡ record { offset = start + 3; bytes = kept (without_trailing_zeros (take (end - (start + 3)) (drop (start + 3) stream))) } ∷ units_from kept (start + 3 + size) stream
   units_from-first from size before first within =

@@ -1,7 +1,7 @@
--- How an element is spelled in bits (7.2, 9.2), and what stands at the front of bits.
+-- How an element is spelled in bits (7.2, 9.2), and what is at the front of bits.
 use Rattle.std.specs.Prelude.{◌≡◌, ℕ, suc, ◌+◌, ◌-◌, ◌*◌, ◌≤◌, Bool, true, false, List, [], ◌∷◌, ◌++◌, length, replicate, take, drop, nat_le, ◌&&◌, ◌==◌, if◌then◌else◌, ℤ, pos, neg_ℤ, int_le, ◌/◌, ◌%◌}
 
--- the number that bits spell behind a number, the most significant bit first
+-- the number that bits spell after a number, the most significant bit first
 abbrev pub number_after : ℕ → List Bool → ℕ
 number_after n [] = n
 number_after n (b ∷ bits) = number_after (2 * n + (if b then 1 else 0)) bits
@@ -21,7 +21,7 @@ pub data Form : Type 0 where
   skip : ℕ → Form
   check : Form
 
--- An Exp-Golomb number (9.2): as many zeros as bits stand behind the first one, at most 31. The one
+-- An Exp-Golomb number (9.2): as many zeros as bits come after the first one, at most 31. The one
 -- and those bits spell the value plus 1.
 pub record IsExpGolomb (value : ℕ) (bits : List Bool) : Type 0 where
   pub rest : List Bool
@@ -37,7 +37,7 @@ IsSpelled se value bits = IsExpGolomb value bits
 IsSpelled (skip n) value bits = (length bits ≡ n) × (number bits ≡ value)
 IsSpelled check value bits = (bits ≡ []) × (value ≡ 0)
 
--- bits that spell the value stand at the front, before the rest
+-- bits that spell the value are at the front, before the rest
 pub record IsAtFront (form : Form) (value : ℕ) (bits rest : List Bool) : Type 0 where
   pub front : List Bool
   pub spelled : IsSpelled form value front
@@ -49,14 +49,14 @@ signed n = if n % 2 == 1 then pos (n / 2 + 1) else neg_ℤ (pos (n / 2))
 
 -- ---- reading
 
--- What stands at the front of bits: a value and the bits behind it, a value out of bounds,
+-- What is at the front of bits: a value and the bits after it, a value out of bounds,
 -- or too few bits.
 pub data Found : Type 0 where
   found : ℕ → List Bool → Found
   out_of_bounds : Found
   ended : Found
 
--- the number of the next n bits behind a number
+-- the number of the next n bits after a number
 unfoldable pub bits_after : ℕ → ℕ → List Bool → Found
 bits_after front n bits =
     if nat_le n (length bits) then found (number_after front (take n bits)) (drop n bits) else ended
@@ -65,7 +65,7 @@ bits_after front n bits =
 unfoldable pub bits_at : ℕ → List Bool → Found
 bits_at n bits = bits_after 0 n bits
 
--- how many zeros stand before the first one
+-- how many zeros are before the first one
 abbrev pub leading_zeros : List Bool → ℕ
 leading_zeros [] = 0
 leading_zeros (true ∷ bits) = 0
@@ -100,7 +100,7 @@ ue_at bits = within (in_range 0 2147483647) (golomb_at bits)
 abbrev pub in_signed_range : ℤ → ℤ → ℕ → Bool
 in_signed_range min max n = nat_le n 2147483647 && int_le min (signed n) && int_le (signed n) max
 
--- what stands there for a form
+-- what is found there for a form
 abbrev pub form_at : Form → List Bool → Found
 form_at (u n) bits = bits_at n bits
 form_at ue bits = golomb_at bits

@@ -51,7 +51,7 @@ HasLines (part {A = X} t k) r ls =
     × HasLines (k x) r others
     × (ls ≡ first ++ others)
 
--- what comes behind first lines of a table: a line that asks for something,
+-- what comes after first lines of a table: a line that asks for something,
 -- or a set that is not kept
 pub data Next : Type 0 where
   line : Head → Next
@@ -89,7 +89,7 @@ pub record SpellsOther (h : Head) (bits : List Bool) : Type 0 where
   pub spelled : IsSpelled h.form value front
   pub not_allowed : h.allowed value ≡ false
 
--- 32 zero bits stand at the front.
+-- 32 zero bits are at the front.
 pub record BeginsWithZeros (bits : List Bool) : Type 0 where
   pub behind : List Bool
   pub parts : bits ≡ replicate 32 false ++ behind

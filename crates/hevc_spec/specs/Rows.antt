@@ -35,7 +35,7 @@ skip_row r n = element r (skip n) (λ _. true) (λ _. 0)
 unfoldable pub check_row : Row → Bool → Table ℕ
 check_row r holds = element r check (λ _. holds) (λ v. v)
 
--- a row that is there only under a condition, and the value of its element where it is not
+-- a row that is present only under a condition, and the value of its element where it is not
 unfoldable pub when : {A : Type 0} → Bool → A → Table A → Table A
 when true absent t = t
 when false absent t = done absent

@@ -23,7 +23,7 @@ pub data Fault : Type 0 where
   out_of_range : Row → Fault
   not_kept : Row → ℕ → Fault
 
--- what reading gives: a value and the bits behind it,
+-- what reading gives: a value and the bits after it,
 -- or a fault and the bits from the refused element on
 pub data Reading (A : Type 0) : Type 0 where
   gives : A → List Bool → Reading A
@@ -33,7 +33,7 @@ abbrev pub reading_then : {A B : Type 0} → Reading A → (A → List Bool → 
 reading_then (gives x rest) k = k x rest
 reading_then (refuses f rest) k = refuses f rest
 
--- what one line gives, by what stands there
+-- what one line gives, by what is there
 abbrev pub line_found : {A : Type 0} → Row → (ℕ → A) → List Bool → Found → Reading A
 line_found row value bits (found v rest) = gives (value v) rest
 line_found row value bits out_of_bounds = refuses (out_of_range row) bits

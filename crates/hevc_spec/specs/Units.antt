@@ -3,19 +3,19 @@ use Rattle.std.specs.Prelude.{ℕ, ◌+◌, Bool, true, false, List, [], ◌∷�
 use Rattle.hevc_spec.specs.UnitHeader.{nal_unit_type}
 use Rattle.hevc_spec.specs.UnitTypes.{is_end}
 
--- A unit as it stands in a stream: the place of its first header byte, and its bytes.
+-- A unit as it is in a stream: the place of its first header byte, and its bytes.
 pub record NalUnit : Type 0 where
   pub offset : ℕ
   pub bytes : List ℕ
 
--- the start code 00 00 01 stands at the front (B.2.1, start_code_prefix_one_3bytes)
+-- the start code 00 00 01 is at the front (B.2.1, start_code_prefix_one_3bytes)
 abbrev pub begins_with_start_code : List ℕ → Bool
 begins_with_start_code [] = false
 begins_with_start_code (_ ∷ []) = false
 begins_with_start_code (_ ∷ _ ∷ []) = false
 begins_with_start_code (a ∷ b ∷ c ∷ _) = a == 0 && b == 0 && c == 1
 
--- the bytes before the next start code, or all of them where none stands
+-- the bytes before the next start code, or all of them where there is none
 abbrev pub before_start_code : List ℕ → List ℕ
 before_start_code [] = []
 before_start_code (byte ∷ bytes) =
@@ -32,7 +32,7 @@ without_trailing_zeros (byte ∷ bytes) =
     if byte == 0 && is_empty (without_trailing_zeros bytes) then []
     else byte ∷ without_trailing_zeros bytes
 
--- The units of bytes that stand at a place of a stream. Behind each
+-- The units of bytes that are at a place of a stream. After each
 -- start code a unit begins, and ends before the next one, without the
 -- zeros there. Of those bytes, those are its own that are kept.
 abbrev pub units_at : (kept : List ℕ → List ℕ) → ℕ → List ℕ → List NalUnit
@@ -45,7 +45,7 @@ units_at kept place (byte ∷ bytes) =
     } ∷ units_at kept (place + 1) bytes
     else units_at kept (place + 1) bytes
 
--- the units whose start codes stand at a place of a stream or behind it
+-- the units whose start codes are at a place of a stream or after it
 unfoldable pub units_from : (kept : List ℕ → List ℕ) → ℕ → List ℕ → List NalUnit
 units_from kept place stream = units_at kept place (drop place stream)
 

@@ -23,7 +23,7 @@ idle AwaitingFormat current none = tt
 idle Decoding current none = tt
 idle Reset current none = tt
 
--- behind a refusal the picture is given up
+-- after a refusal the picture is given up
 pub closed_none : {H : Type 0} (T : Type 0) (e : DecodeError) (t : Given) (a b : Traces H) (s st : Standing) → Closes {H = H} {T = T} (Err e) t a b s st → st.current ≡ units.NoPicture
 closed_none T errors.DpbFull t a b s st h = ap (λ (x : Standing). x.current) h.1.left
 closed_none T errors.Backend t a b s st h = ap (λ (x : Standing). x.current) h.left

@@ -121,7 +121,7 @@ first_means AwaitingFormat u m is p means = absurd (cc is)
 first_means Decoding u m is p means = absurd (cc is)
 first_means Reset u m is p means = absurd (cc is)
 
--- a later one ends the wait behind a flush
+-- a later one ends the wait after a flush
 pub later_behind : (st : State) (u : Unit) → awaits_stream_info st ≡ false → is_awaited st ≡ false → resumes u ≡ true → state_behind st u ≡ Decoding
 later_behind AwaitingStreamInfo u first awaited r = absurd (cc first)
 later_behind AwaitingFormat u first awaited r = absurd (cc awaited)

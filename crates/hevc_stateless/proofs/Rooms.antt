@@ -1,4 +1,4 @@
--- How many pictures come out of one call.
+-- How many pictures are output in one call.
 use Rattle.std.proofs.Common.{◌≡◌, ℕ, ◌+◌, ◌≤◌, length, arith, ap}
 use Rattle.std.proofs.lemmas.List.{length-map}
 use Rattle.hevc_dpb.specs.declared.dpb.Dpb.{Dpb}

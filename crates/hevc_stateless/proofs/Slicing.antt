@@ -95,7 +95,7 @@ module _ (o : Options) (k : Kept) (bytes : List ℕ) (h : UnitHeader) (parsed : 
       state = refused_moves T cause state state refl;
     }
 
-    -- but for want of memory
+    -- unless an allocation fails
     pub segment_refused : (e : ParseError) → (e ≡ parse.NoMemory → ⊥) → RefusesSet e reading → NamesNoSequenceSet e → TakesIn {T = T} (Err (refusal_of e)) t (unit_at o k h bytes).meaning state (record { traces = a; standing = s; state = before }) (record { traces = a; standing = s; state = state })
     segment_refused parse.WrongNaluType isnt why names = absurd why
     segment_refused parse.OutOfBits isnt why names = refused_for causes.OutOfBits (slice_means (refuses out_of_bits why.0) why.1)

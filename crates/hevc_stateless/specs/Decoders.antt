@@ -21,7 +21,7 @@ kept_in d = kept_of d.kept
 abbrev pub set_for : {B H P : Type 0} → StatelessDecoder B H P → Options
 set_for d = options_in d.kept
 
--- all of it, where backends tell these logs, and this that they were handed
+-- all of it, where backends expose these logs, and this as what they were handed
 abbrev pub seen_by : {B H P : Type 0} → (B → Option (List (Call H))) → (B → Option (List Handed))
     → StatelessDecoder B H P → Seen B H
 seen_by log handed d = seen (log d.session.backend) (handed d.session.backend) d.session d.kept

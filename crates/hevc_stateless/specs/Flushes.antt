@@ -10,7 +10,7 @@ use Rattle.hevc_driver.specs.Takes.{Fills, Stays}
 use Rattle.hevc_stateless.specs.declared.state.State.{State}
 use Rattle.hevc_stateless.specs.States.{is_awaited}
 
--- The open picture was finished, and all that waited came out;
+-- The open picture was finished, and all that waited was output;
 -- a format that was awaited is forgotten.
 pub record Ends {H : Type 0} (given : Given) (old new : Traces H) (state : State)
     (before standing : Standing) : Type 0 where

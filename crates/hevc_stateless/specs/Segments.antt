@@ -22,7 +22,7 @@ abbrev pub own_header : Options → Kept → (bytes : List ℕ) → Option Plain
 own_header options kept bytes =
     header_in (content options (record kept { has_sequence_set = true }) bytes)
 
--- the latest independent header behind a unit
+-- the latest independent header after a unit
 abbrev pub latest_at : Meaning → (own latest : Option PlainSliceSegmentHeader)
     → Option PlainSliceSegmentHeader
 latest_at (CodedSlice coded) (Some own) latest = latest_behind latest own

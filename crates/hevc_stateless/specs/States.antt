@@ -35,7 +35,7 @@ is_sequence_set m = false
 abbrev pub resumes : Unit → Bool
 resumes u = u.is_wanted && (is_idr u.nal_unit_type || is_sequence_set u.meaning)
 
--- it ends the wait behind `flush`
+-- it ends the wait after `flush`
 abbrev pub state_behind : State → Unit → State
 state_behind Reset u = if resumes u then Decoding else Reset
 state_behind state u = state
@@ -44,7 +44,7 @@ state_behind state u = state
 abbrev pub is_parameter_set : ℕ → Bool
 is_parameter_set nal_unit_type = nat_le 32 nal_unit_type && nat_le nal_unit_type 34
 
--- a sequence set behind the first one opens no negotiation
+-- a sequence set after the first one opens no negotiation
 abbrev pub later_meaning : Meaning → Meaning
 later_meaning (SequenceSet format) = Other
 later_meaning m = m
@@ -76,7 +76,7 @@ abbrev pub is_decoding : State → Bool
 is_decoding Decoding = true
 is_decoding state = false
 
--- the wait behind `flush` is over at a slice of an IDR picture
+-- the wait after `flush` is over at a slice of an IDR picture
 abbrev pub state_at : Bool → State → State
 state_at true Reset = Decoding
 state_at at_idr state = state

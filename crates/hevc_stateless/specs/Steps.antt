@@ -27,8 +27,8 @@ abbrev pub with_read_set : Content → Kept → Kept
 with_read_set (sequence_set set) kept = with_sequence_set set kept
 with_read_set other kept = kept
 
--- What is kept behind a unit by the answer to it. A sequence set stays kept where its format is
--- refused or awaited, and where memory is wanted as the units that wait are read.
+-- What is kept after a unit by the answer to it. A sequence set stays kept where its format is
+-- refused or awaited, and where an allocation fails as the units that wait are read.
 abbrev pub KeepsBehind : {T : Type 0} → Result T DecodeError → Options → List ℕ → Kept → Kept
     → Type 0
 KeepsBehind (Ok value) options bytes old new = new ≡ kept_behind options old bytes
@@ -67,7 +67,7 @@ pub record Acts {H T : Type 0} (result : Result T DecodeError) (given : Given) (
   pub part : Takes result given old.traces new.traces u old.standing new.standing
   pub state : MovesBy result behind new.state
 
--- it was, or nothing has changed, since memory was wanted before a call of the backend
+-- it was, or nothing has changed, since an allocation failed before a call of the backend
 abbrev pub TakesIn : {H T : Type 0} → Result T DecodeError → Given → Meaning → State → Moment H
     → Moment H → Type 0
 TakesIn {H} {T} (Err errors.NoMemory) given u behind old new =
@@ -116,7 +116,7 @@ StepsBehind (Err fault) result timestamp options bytes old new =
 StepsBehind (Ok header) result timestamp options bytes old new =
     StepsIn result timestamp options header bytes old new
 
--- The first of these units was taken, and the answer is the place behind it; or there is none.
+-- The first of these units was taken, and the answer is the place after it; or there is none.
 abbrev pub TakesFirst : {B H : Type 0} → List NalUnit → Result ℕ DecodeError → ℕ → Options
     → Seen B H → Seen B H → Type 0
 TakesFirst [] result timestamp options old new = (result ≡ Err errors.NoNal) × (new ≡ old)

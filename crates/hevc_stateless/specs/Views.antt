@@ -16,7 +16,7 @@ pub record View (B H : Type 0) : Type 0 where
   pub state : State
   -- what the pictures so far mean for those to come; a format that is awaited counts as accepted
   pub standing : Standing
-  -- the pictures that came out and weren't taken yet
+  -- the pictures that were output and weren't taken yet
   pub queue : List (Frame H)
   -- the numbers of the stored pictures, with their handles
   pub tickets : List (ℕ × H)
@@ -34,7 +34,7 @@ at_beginning backend = record {
   latest = None;
 }
 
--- all that decoding may change, where the backend tells this log, and this that it was handed
+-- all that decoding may change, where the backend exposes this log, and this as what it was handed
 abbrev pub traces_of : {B H : Type 0} → Option (List (Call H)) → Option (List Handed) → View B H
     → Traces H
 traces_of log handed v =
@@ -51,7 +51,7 @@ abbrev pub moment_of : {B H : Type 0} → Option (List (Call H)) → Option (Lis
 moment_of log handed v =
     record { traces = traces_of log handed v; standing = v.standing; state = v.state }
 
--- At most 17 pictures came out: the 16 that may be stored, and one more.
+-- At most 17 pictures were output: the 16 that may be stored, and one more.
 abbrev pub OutputsFew : {B H : Type 0} → View B H → View B H → Type 0
 OutputsFew old new = length new.queue ≤ length old.queue + 17
 

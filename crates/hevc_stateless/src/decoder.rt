@@ -59,7 +59,7 @@ impl<B: StatelessH265DecoderBackend> StatelessDecoder<B> {
     }
 
     /// Takes the first unit of the input, of less than 2^60 bytes, with the time at which its picture is to be output, in the caller's
-    /// unit. The answer is the place behind the unit, in bytes: 3 at least.
+    /// unit. The answer is the place after the unit, in bytes: 3 at least.
     ///
     /// Errors: `NoNal`, there is none; those of the unit's header; `CheckEvents`, a format is awaited, from here on where the unit opened
     /// its negotiation, and the unit is to be given once more when it is accepted; else those of the unit. `DecodeError` names each.
@@ -106,7 +106,7 @@ impl<B: StatelessH265DecoderBackend> StatelessDecoder<B> {
         self.take_unit(timestamp, nalu.copy())
     }
 
-    /// The stream ends, or is left: the open picture is over, and all that waits comes out. Behind it an IDR picture or a sequence
+    /// The stream ends, or is left: the open picture is over, and all that waits is output. After it an IDR picture or a sequence
     /// parameter set is waited for. A format that is awaited is forgotten, and the next picture negotiates again.
     ///
     /// Errors: `NoMemory`, `Backend`, `DpbFull`. The state and the stored pictures stay; where a call of the backend was refused the
@@ -130,7 +130,7 @@ impl<B: StatelessH265DecoderBackend> StatelessDecoder<B> {
         self.session.flush()
     }
 
-    /// The next picture that came out, which leaves the queue; else, while a format is awaited, that it is.
+    /// The next picture that was output, which leaves the queue; else, while a format is awaited, that it is.
     pub fn next_event(&mut self) -> Option<DecoderEvent<B::Handle>>
         ensures event { TellsNext result (view_of self.old).state
             (view_of self.old).queue (view_of self.new).queue }
@@ -193,6 +193,19 @@ impl<B: StatelessH265DecoderBackend> StatelessDecoder<B> {
         ensures { result.now ≡ (view_of self.now).backend }
     {
         self.session.backend()
+    }
+
+    /// Another backend takes the place of the backend, which is the answer: one that was handed what this one was, as its log
+    /// says. So a backend can be given out whose calls were kept, and one that keeps none yet goes on.
+    pub fn replace_backend(&mut self, backend: B) -> B
+        requires log { B.log backend ≡ B.log (view_of self.old).backend }
+        requires handed { B.handed backend ≡ B.handed (view_of self.old).backend }
+        ensures former { result ≡ (view_of self.old).backend }
+        ensures view { view_of self.new ≡ record (view_of self.old) { backend = backend } }
+        ensures kept { kept_in self.new ≡ kept_in self.old }
+        ensures options { set_for self.new ≡ set_for self.old }
+    {
+        self.session.replace_backend(backend)
     }
 
     /// The backend, and nothing else of the decoder.

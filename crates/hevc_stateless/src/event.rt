@@ -4,7 +4,7 @@ use hevc_driver::Frame;
 /// What a decoder tells its caller.
 #[derive(Drop)]
 pub enum DecoderEvent<H: Copy> {
-    /// A picture came out.
+    /// A picture was output.
     FrameReady(Frame<H>),
     /// Another format was negotiated, and is to be accepted.
     FormatChanged,

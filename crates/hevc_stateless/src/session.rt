@@ -79,6 +79,16 @@ impl<B: StatelessH265DecoderBackend> Session<B> {
         &self.driver.backend
     }
 
+    /// Another backend, of the same log, takes the place of the backend, which is the answer.
+    pub(crate) fn replace_backend(&mut self, backend: B) -> B
+        requires log { B.log backend ≡ B.log self.old.backend }
+        requires handed { B.handed backend ≡ B.handed self.old.backend }
+        ensures former { result ≡ self.old.backend }
+        ensures view { self.new ≡ record self.old { backend = backend } }
+    {
+        std::mem::replace(&mut self.driver.backend, backend)
+    }
+
     /// The backend, and nothing else.
     pub(crate) fn into_backend(self) -> B
         ensures { result ≡ self.backend }
@@ -147,7 +157,7 @@ impl<B: StatelessH265DecoderBackend> Session<B> {
         self.driver.open_picture()
     }
 
-    /// The next picture that came out.
+    /// The next picture that was output.
     pub(crate) fn next_frame(&mut self) -> Option<Frame<B::Handle>>
         ensures frame { PopsFrame result self.old.queue self.new.queue }
         ensures others { self.new ≡ record self.old { queue = self.new.queue } }
@@ -228,7 +238,7 @@ impl<B: StatelessH265DecoderBackend> Session<B> {
         self.driver.end_bitstream();
     }
 
-    /// The open picture is over, and all that waits comes out. A format that is awaited is forgotten.
+    /// The open picture is over, and all that waits is output. A format that is awaited is forgotten.
     ///
     /// Errors: `NoMemory`, `Backend`, `DpbFull`; where a call of the backend was refused the open picture is given up.
     pub(crate) fn flush(&mut self) -> Result<(), DecodeError>

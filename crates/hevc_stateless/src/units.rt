@@ -48,7 +48,7 @@ impl<B: StatelessH265DecoderBackend> StatelessDecoder<B> {
         }
     }
 
-    /// Takes the unit of a sequence set. The first one opens a negotiation; behind a later one the units that wait are read.
+    /// Takes the unit of a sequence set. The first one opens a negotiation; after a later one the units that wait are read.
     pub(crate) fn take_sequence_set(
         &mut self,
         nalu: &Nalu<'_, NaluHeader>,

@@ -67,7 +67,7 @@ first_given : (t : ℕ) (a : Option Format) (m : Meaning) (segment : Option Segm
 first_given t None m segment s = refl
 first_given t (Some f) m segment s = later_given t m segment s
 
--- ---- where a decoder stands after some units
+-- ---- where a decoder is after some units
 
 module _ {B H : Type 0} (o : Options) (us : List NalUnit) (u : NalUnit) (h : UnitHeader) (old : Seen B H) (after : StandsAfter o us old) (parsed : unit_header u.bytes ≡ Ok h) where
   abbrev a : Option Format
@@ -130,7 +130,7 @@ opened_given t x segment s (Some w) is negotiates =
     ∙ picture_twice w segment x s
     ∙ ap (λ (o : Option Slice). picture_at o segment s) (sym is))
 
--- ---- where a decoder stands between both calls
+-- ---- where a decoder is between both calls
 
 module _ {B H : Type 0} (o : Options) (us : List NalUnit) (u : NalUnit) (h : UnitHeader) (old : Seen B H) (between : StandsBetween o us u old) (parsed : unit_header u.bytes ≡ Ok h) (meant_is : (unit_at o old.kept h u.bytes).meaning ≡ meaning o (kept_after o us) u.bytes) (decoding : old.view.state ≡ Decoding) where
   abbrev k : Kept

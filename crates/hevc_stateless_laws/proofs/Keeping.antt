@@ -1,4 +1,4 @@
--- What units mean and keep, one behind the other.
+-- What units mean and keep, one after the other.
 use Rattle.std.proofs.Common.{drop, ◌≡◌, ℕ, List, [], ◌∷◌, ◌++◌, length, suc, refl, sym, ◌∙◌, ap, arith, Option, Some, None, Ok, Bool, true, false, not}
 use Rattle.std.specs.Prelude.{nat_lt, fold, ◌==◌, ◌||◌, if◌then◌else◌}
 use Rattle.std.proofs.lemmas.Bool.Decides.{nat_tests}

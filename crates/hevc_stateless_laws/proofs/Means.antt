@@ -15,7 +15,7 @@ use Rattle.hevc_stateless.specs.States.{Unit, unit_at, is_parameter_set, later_m
 use Rattle.hevc_stateless_laws.specs.Stands.{state_by, first_meaning}
 use Rattle.hevc_stateless_laws.proofs.Keeping.{set_is_same, other_is_nothing}
 
--- What a unit means in a state is what it means where a decoder stands.
+-- What a unit means in a state is what it means where a decoder is.
 pub record Means (x y : Meaning) (s : Standing) : Type 0 where
   pub part : step_part x s ≡ unit_part y s
   pub refusal : refusal_at x s ≡ refusal_at y s

@@ -53,7 +53,7 @@ module _ (x w : Slice) (s : Standing) (whole : whole_slice s.kept x ≡ Some w) 
   abbrev m : Standing
   m = (finish_current k).next
 
-  -- what stands once the format is accepted
+  -- the standing once the format is accepted
   abbrev n : Standing
   n = (on_store (change_format w.format) m).next
 

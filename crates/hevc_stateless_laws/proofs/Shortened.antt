@@ -1,4 +1,4 @@
--- The units behind the first one are those of the bytes behind it.
+-- The units after the first one are those of the bytes after it.
 use Rattle.std.proofs.Common.{◌≡◌, ℕ, zero, suc, ◌+◌, ◌-◌, ◌≤◌, Bool, true, false, List, [], ◌∷◌, length, drop, map, refl, ap, sym, subst, ◌∙◌, arith}
 use Rattle.std.proofs.Math.ListN.{length-take}
 use Rattle.std.specs.Prelude.{◌&&◌, ◌==◌, nat_le}
@@ -58,7 +58,7 @@ kept_short bytes = by_test (nat_le 2 (length bytes) && is_end (nal_unit_type byt
 
 -- ---- the first unit, and the others
 
--- behind a start code the others are those of the bytes behind its unit
+-- after a start code the others are those of the bytes after its unit
 started : (place : ℕ) (byte : ℕ) (bytes : List ℕ) → begins_with_start_code (byte ∷ bytes) ≡ true
     → units_at kept_bytes (place + 1) bytes
     ≡ units_at kept_bytes (place + 3 + length (kept_bytes (without_trailing_zeros (before_start_code (drop 2 bytes)))))

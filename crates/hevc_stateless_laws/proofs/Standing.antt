@@ -159,7 +159,7 @@ module _ {B H : Type 0} (t : ℕ) (o : Options) (us : List NalUnit) (u : NalUnit
   asked_is : flat_map call_in (step_part (meaning_in (state_by a) taken) old.view.standing).events ≡ map asked (calls_of_unit (length us) (calls (meant o (us ++ u ∷ []))))
   asked_is = ap (λ (q : Part Standing). flat_map call_in q.events) part_is ∙ sym (calls_are (length ms) (unit_part y (standing_after ms)).events) ∙ sym (ap (map asked) (calls-at ms y [] after.goes_on)) ∙ sym (here (λ n l. map asked (calls_of_unit n (calls l))))
 
-  -- A unit was taken behind some units.
+  -- A unit was taken after some units.
   pub took : Took t o us u old new
   took = record {
     stands = record {
@@ -185,7 +185,7 @@ module _ {B H : Type 0} (t : ℕ) (o : Options) (us : List NalUnit) (u : NalUnit
     };
   }
 
--- no format is awaited where a decoder stands
+-- no format is awaited where a decoder is
 pub going_by : (a : Option Format) → is_awaited (state_by a) ≡ false
 going_by None = refl
 going_by (Some f) = refl

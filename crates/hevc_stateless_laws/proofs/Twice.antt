@@ -59,7 +59,7 @@ twice_whole x s (Some w) whole e = subst (λ (q : Part Standing). TwiceBy q (Cod
 twice_set : (f : Format) (s : Standing) → s.store.accepted ≡ None → TwiceBy (opening (SequenceSet f) s) Other (SequenceSet f) s
 twice_set f s none = record { part = rw none refl; refusal = refl; full = refl; once = refl; accepted = refl }
 
--- where a decoder stands
+-- where a decoder is
 pub twice : (a : Option Format) (y : Meaning) (s : Standing) → s.store.accepted ≡ a → negotiates (first_meaning a y) s ≡ true → TwiceBy (opening (first_meaning a y) s) (later_meaning y) y s
 twice None (SequenceSet f) s is e = twice_set f s is
 twice (Some g) (SequenceSet f) s is e = absurd (cc e)
@@ -74,7 +74,7 @@ twice (Some g) Other s is e = absurd (cc e)
 twice None (Refused c) s is e = absurd (cc e)
 twice (Some g) (Refused c) s is e = absurd (cc e)
 
--- ---- behind a negotiation nothing is output
+-- ---- after a negotiation nothing is output
 
 marked_none : (p : Head) (w : Slice) → with_marks p w [] ≡ []
 unfolding with_marks

@@ -15,13 +15,13 @@ use Rattle.hevc_backend.specs.Handed.{Segment, Handed}
 use Rattle.hevc_driver.specs.Given.{Given, handed_by}
 use Rattle.hevc_stateless.specs.Segments.{latest_at, own_header, segment_at, given_with}
 
--- the latest independent header (7.4.7.1) behind a unit of these bytes
+-- the latest independent header (7.4.7.1) after a unit of these bytes
 abbrev pub latest_behind_unit : Options → Kept → (latest : Option PlainSliceSegmentHeader)
     → (bytes : List ℕ) → Option PlainSliceSegmentHeader
 latest_behind_unit options kept latest bytes =
     latest_at (meaning options kept bytes) (own_header options kept bytes) latest
 
--- and behind some units
+-- and after some units
 abbrev pub latest_from : Options → Kept → (latest : Option PlainSliceSegmentHeader) → List NalUnit
     → Option PlainSliceSegmentHeader
 latest_from options kept latest [] = latest
@@ -32,7 +32,7 @@ latest_from options kept latest (u ∷ us) =
 abbrev pub latest_after : Options → List NalUnit → Option PlainSliceSegmentHeader
 latest_after options us = latest_from options none_kept None us
 
--- the segment of each unit, None where it is none, behind these sets and this latest header
+-- the segment of each unit, None where it is none, after these sets and this latest header
 abbrev pub segments_from : Options → Kept → (latest : Option PlainSliceSegmentHeader)
     → List NalUnit → List (Option Segment)
 segments_from options kept latest [] = []

@@ -1,4 +1,4 @@
--- When a decoder stands after some units, and what each unit more brings.
+-- When a decoder is after some units, and what each unit more brings.
 use Rattle.std.specs.Prelude.{◌≡◌, ℕ, is_some, true, false, List, [], ◌∷◌, ◌++◌, map, length, Option, Some, None, Ok, Err}
 use Rattle.std.specs.List.{AllByRecursion, flat_map}
 use Rattle.hevc_spec.specs.Units.{NalUnit}
@@ -39,15 +39,15 @@ state_by (Some format) = Decoding
 abbrev pub meant : Options → List NalUnit → List Meaning
 meant options us = meanings_behind options none_kept us
 
--- what is kept behind some units
+-- what is kept after some units
 abbrev pub kept_after : Options → List NalUnit → Kept
 kept_after options us = kept_behind_all options none_kept us
 
--- what stands after some units
+-- the standing after some units
 abbrev pub standing_after : List Meaning → Standing
 standing_after ms = joined.standing (stream ms)
 
--- A decoder stands after these units of its stream; none of them was refused.
+-- A decoder is after these units of its stream; none of them was refused.
 pub record StandsAfter {B H : Type 0} (options : Options) (us : List NalUnit) (seen : Seen B H)
     : Type 0 where
   pub goes_on : stop (meant options us) ≡ None
@@ -76,7 +76,7 @@ pub record Logged {B H : Type 0} (given : Given) (old new : Seen B H) (calls : L
   pub timed : AllByRecursion (IsTimed given.timestamp) made
   pub handed : new.handed ≡ logged old.handed (flat_map (handed_by given) calls)
 
--- what comes with a unit behind some units
+-- what comes with a unit after some units
 abbrev pub given_next : (timestamp : ℕ) → Options → List NalUnit → NalUnit → Given
 given_next timestamp options us u =
     given_with timestamp (meaning options (kept_after options us) u.bytes)
@@ -90,7 +90,7 @@ pub record Queued {B H : Type 0} (k : ℕ) (old new : Seen B H) (outputs : List 
   pub queue : new.view.queue ≡ old.view.queue ++ out
   pub outputs_are : map (frame_at k) out ≡ outputs
 
--- A unit was taken behind some units: the decoder stands after it too,
+-- A unit was taken after some units: the decoder is after it too,
 -- and it made its calls and gave its outputs.
 pub record Took {B H : Type 0} (timestamp : ℕ) (options : Options) (us : List NalUnit) (u : NalUnit)
     (old new : Seen B H) : Type 0 where
@@ -107,7 +107,7 @@ abbrev pub first_meaning : Option Format → Meaning → Meaning
 first_meaning None m = m
 first_meaning (Some format) m = later_meaning m
 
--- what a unit means to a decoder that stands after some units
+-- what a unit means to a decoder that is after some units
 abbrev pub meant_next : Options → List NalUnit → NalUnit → Meaning
 meant_next options us u =
     first_meaning (standing_after (meant options us)).store.accepted
@@ -118,7 +118,7 @@ abbrev pub first_calls : Options → List NalUnit → NalUnit → List walk.Call
 first_calls options us u =
     flat_map call_in (opening (meant_next options us u) (standing_after (meant options us))).events
 
--- A decoder stands behind these units and the negotiation that the next one opened.
+-- A decoder is after these units and the negotiation that the next one opened.
 pub record StandsBetween {B H : Type 0} (options : Options) (us : List NalUnit) (u : NalUnit)
     (seen : Seen B H) : Type 0 where
   pub goes_on : stop (meant options us) ≡ None
@@ -177,7 +177,7 @@ pub record RefusedUnit {B H : Type 0} (error : DecodeError) (timestamp : ℕ) (o
       refusal (stream (meant options us)) (meaning options (kept_after options us) u.bytes)
       ≡ Some cause
   pub named : error_of cause ≡ error
-  -- whatever comes behind it, that is the answer to the stream
+  -- whatever comes after it, that is the answer to the stream
   pub verdict : (back : List NalUnit)
       → verdict (meant options (us ++ u ∷ back)) ≡ Err (record { unit = length us; cause = cause })
   pub calls : Logged (given_next timestamp options us u) old new
@@ -187,7 +187,7 @@ pub record RefusedUnit {B H : Type 0} (error : DecodeError) (timestamp : ℕ) (o
 
 -- ---- the end
 
--- The stream ended behind these units: the calls and outputs at its end were made, and the answer
+-- The stream ended after these units: the calls and outputs at its end were made, and the answer
 -- is the number of its pictures.
 pub record Ended {B H : Type 0} (given : Given) (options : Options) (us : List NalUnit)
     (old new : Seen B H) : Type 0 where

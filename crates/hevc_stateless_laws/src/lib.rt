@@ -1,4 +1,4 @@
-//! What stands after each unit of a stream, and the moment of each call and output.
+//! The standing after each unit of a stream, and the moment of each call and output.
 #![tactic(auto)]
 
 ghost use Rattle.std.specs.Prelude.{◌≡◌, ◌+◌, ◌∷◌, ◌++◌, [], ℕ, List, drop, length, map, Ok, Err};
@@ -17,14 +17,14 @@ ghost use Rattle.hevc_driver.specs.declared.decode_error.DecodeError.{DecodeErro
 ghost use Rattle.hevc_driver.specs.declared.decode_error.DecodeError.TheVariants.{CheckEvents, DpbFull};
 ghost use Rattle.hevc_stateless.specs.declared.state.State.TheVariants.{Decoding};
 
-/// A decoder at the beginning of a stream stands after no units.
+/// A decoder at the beginning of a stream is after no units.
 pub fn stands_at_the_beginning<B, H>()
     ensures { (options : Options) (seen : Seen B H) (backend : B)
         → seen.view ≡ at_beginning backend → seen.kept ≡ none_kept
         → StandsAfter options [] seen }
 {}
 
-/// Where a decoder stands after some units of a stream and takes the next one, it stands after that one too. Its log grew by exactly
+/// Where a decoder is after some units of a stream and takes the next one, it is after that one too. Its log grew by exactly
 /// the calls at that unit, each new picture with the timestamp given, and its queue by exactly the pictures that are output there.
 pub fn takes_the_next_unit<B, H>()
     ensures { (timestamp : ℕ) (options : Options) (us others : List NalUnit) (u : NalUnit)
@@ -50,7 +50,7 @@ pub fn opens_a_negotiation<B, H>()
         → Opened timestamp options us u old new }
 {}
 
-/// Where its format was accepted and the unit is given again, the decoder stands after it. Nothing is output twice, and both calls
+/// Where its format was accepted and the unit is given again, the decoder is after it. Nothing is output twice, and both calls
 /// together made its calls.
 pub fn takes_the_unit_again<B, H>()
     ensures { (timestamp : ℕ) (options : Options) (us others : List NalUnit) (u : NalUnit)
@@ -61,7 +61,7 @@ pub fn takes_the_unit_again<B, H>()
 {}
 
 /// Where a unit is refused for what it is, the stream's definitions refuse it there for a cause of that name: that is the answer to
-/// the stream, whatever comes behind. What comes before the refusal was done.
+/// the stream, whatever comes after. What comes before the refusal was done.
 pub fn refuses_a_unit<B, H>()
     ensures { (error : DecodeError) (timestamp : ℕ) (options : Options)
         (us others : List NalUnit) (u : NalUnit) (old new : Seen B H) → IsRefusal error
@@ -70,7 +70,7 @@ pub fn refuses_a_unit<B, H>()
         → RefusedUnit error timestamp options us u old new }
 {}
 
-/// Where a picture is to be stored into a full buffer at a unit, that is the answer to the stream, whatever comes behind.
+/// Where a picture is to be stored into a full buffer at a unit, that is the answer to the stream, whatever comes after.
 pub fn fills_the_buffer<B, H>()
     ensures { (timestamp : ℕ) (options : Options) (us others back : List NalUnit) (u : NalUnit)
         (old new : Seen B H) → StandsAfter options us old
@@ -79,7 +79,7 @@ pub fn fills_the_buffer<B, H>()
         ≡ Err (record { unit = length us; cause = full_buffer }) }
 {}
 
-/// Where a decoder stands after all units of a stream and is flushed, the answer to the stream is the number of its pictures, and the
+/// Where a decoder is after all units of a stream and is flushed, the answer to the stream is the number of its pictures, and the
 /// calls and outputs at its end were made.
 pub fn ends_the_stream<B, H>()
     ensures { (given : Given) (options : Options) (us : List NalUnit) (old new : Seen B H)

@@ -1,4 +1,4 @@
--- The content of a unit (7.4.2.2, Table 7-1) where it stands in a stream: what it means behind the
+-- The content of a unit (7.4.2.2, Table 7-1) where it is in a stream: what it means after the
 -- parameter sets that are kept there.
 use Rattle.std.specs.Prelude.{ℕ, ◌==◌, nat_lt, not, List, drop, if◌then◌else◌, Result, Ok, Err}
 use Rattle.hevc_spec.specs.UnitTypes.{is_slice}

@@ -43,6 +43,6 @@ abbrev pub with_picture_set : PlainPps → Kept → Kept
 with_picture_set set kept =
     record kept { picture_sets = with_set set.pic_parameter_set_id set kept.picture_sets }
 
--- a unit waits behind those that wait already
+-- a unit waits after those that wait already
 abbrev pub with_waiting : List ℕ → Kept → Kept
 with_waiting bytes kept = record kept { waiting = kept.waiting ++ bytes ∷ [] }

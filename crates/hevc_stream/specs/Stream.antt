@@ -1,5 +1,5 @@
 -- What the units of a stream mean for its pictures,
--- each behind the parameter sets that are kept at it (7.4.2.4.2).
+-- each after the parameter sets that are kept at it (7.4.2.4.2).
 use Rattle.std.specs.Prelude.{ℕ, List, [], ◌∷◌, fold}
 use Rattle.hevc_spec.specs.Units.{NalUnit, units}
 use Rattle.hevc_walk.specs.Meanings.{Meaning, SequenceSet, EndOfSequence, EndOfBitstream, Other, Refused}
@@ -12,7 +12,7 @@ use Rattle.hevc_stream.specs.Slices.{slice_segment_meaning}
 
 -- ---- what is kept
 
--- behind a unit of a picture set: the set, or the unit, which waits
+-- after a unit of a picture set: the set, or the unit, which waits
 abbrev pub with_picture_set_unit : List ℕ → Content → Kept → Kept
 with_picture_set_unit bytes (picture_set set) kept = with_picture_set set kept
 with_picture_set_unit bytes unread_picture_set kept = with_waiting bytes kept
@@ -27,14 +27,14 @@ abbrev pub with_all_waited : Options → Kept → Kept
 with_all_waited options kept =
     fold (with_waited options) (record kept { waiting = [] }) kept.waiting
 
--- behind a unit of these bytes and this content
+-- after a unit of these bytes and this content
 abbrev pub with_content : Options → List ℕ → Content → Kept → Kept
 with_content options bytes (video_set set) kept = with_video_set set kept
 with_content options bytes (sequence_set set) kept =
     with_all_waited options (with_sequence_set set kept)
 with_content options bytes other kept = with_picture_set_unit bytes other kept
 
--- what is kept behind a unit of these bytes
+-- what is kept after a unit of these bytes
 unfoldable pub kept_behind : Options → Kept → List ℕ → Kept
 kept_behind options kept bytes = with_content options bytes (content options kept bytes) kept
 
@@ -55,13 +55,13 @@ meaning_of options kept bytes other = Other
 unfoldable pub meaning : Options → Kept → List ℕ → Meaning
 meaning options kept bytes = meaning_of options kept bytes (content options kept bytes)
 
--- what units mean behind these sets
+-- what units mean after these sets
 abbrev pub meanings_behind : Options → Kept → List NalUnit → List Meaning
 meanings_behind options kept [] = []
 meanings_behind options kept (u ∷ us) =
     meaning options kept u.bytes ∷ meanings_behind options (kept_behind options kept u.bytes) us
 
--- what is kept behind the units
+-- what is kept after the units
 abbrev pub kept_behind_all : Options → Kept → List NalUnit → Kept
 kept_behind_all options kept us = fold (λ k u. kept_behind options k u.bytes) kept us
 

@@ -1,2 +1,2 @@
-//! What a stream means for its pictures, behind the parameter sets that are kept: definitions alone.
+//! What a stream means for its pictures, after the parameter sets that are kept: definitions alone.
 #![tactic(auto)]

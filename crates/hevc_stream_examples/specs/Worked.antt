@@ -44,20 +44,22 @@ tight_sps_bytes =
 -- one, reordering and latency plus 1; MaxPicOrderCntLsb 32
 abbrev pub two_layers_sps_bytes : List ℕ
 two_layers_sps_bytes =
-    66 ∷ 1 ∷ 3 ∷ 1 ∷ 96 ∷ 0 ∷ 0 ∷ 3 ∷ 0 ∷ 144 ∷ 0 ∷ 0 ∷ 3 ∷ 0 ∷ 0 ∷ 3 ∷ 0 ∷ 60 ∷ 0 ∷ 0 ∷ 160 ∷ 136 ∷ 69
-    ∷ 170 ∷ 202 ∷ 201 ∷ 87 ∷ 132 ∷ 16 ∷ []
+    66 ∷ 1 ∷ 3 ∷ 1 ∷ 96 ∷ 0 ∷ 0 ∷ 3 ∷ 0 ∷ 144 ∷ 0 ∷ 0 ∷ 3 ∷ 0 ∷ 0 ∷ 3 ∷ 0 ∷ 60 ∷ 0 ∷ 0 ∷ 160 ∷ 136
+    ∷ 69 ∷ 170 ∷ 202 ∷ 201 ∷ 87 ∷ 132 ∷ 16 ∷ []
 
 -- 352 by 240 samples at level 2
 abbrev pub large_sps_bytes : List ℕ
 large_sps_bytes =
-    66 ∷ 1 ∷ 1 ∷ 1 ∷ 96 ∷ 0 ∷ 0 ∷ 3 ∷ 0 ∷ 144 ∷ 0 ∷ 0 ∷ 3 ∷ 0 ∷ 0 ∷ 3 ∷ 0 ∷ 60 ∷ 160 ∷ 11 ∷ 8 ∷ 15 ∷ 23
-    ∷ 149 ∷ 106 ∷ 240 ∷ 130 ∷ []
+    66 ∷ 1 ∷ 1 ∷ 1 ∷ 96 ∷ 0 ∷ 0 ∷ 3 ∷ 0 ∷ 144 ∷ 0 ∷ 0 ∷ 3 ∷ 0 ∷ 0 ∷ 3 ∷ 0 ∷ 60 ∷ 160 ∷ 11 ∷ 8 ∷ 15
+    ∷ 23 ∷ 149 ∷ 106 ∷ 240 ∷ 130 ∷ []
 
 -- id 2, 32 by 16 samples, two short-term sets and a long-term picture
 abbrev pub referring_sps_bytes : List ℕ
-referring_sps_bytes = 66 ∷ 1 ∷ 1 ∷ 1 ∷ 96 ∷ 0 ∷ 0 ∷ 3 ∷ 0 ∷ 144 ∷ 0 ∷ 0 ∷ 3 ∷ 0 ∷ 0 ∷ 3 ∷ 0 ∷ 60 ∷ 104 ∷ 16 ∷ 132 ∷ 94 ∷ 85 ∷ 171 ∷ 193 ∷ 174 ∷ 73 ∷ 90 ∷ 166 ∷ 16 ∷ []
+referring_sps_bytes =
+    66 ∷ 1 ∷ 1 ∷ 1 ∷ 96 ∷ 0 ∷ 0 ∷ 3 ∷ 0 ∷ 144 ∷ 0 ∷ 0 ∷ 3 ∷ 0 ∷ 0 ∷ 3 ∷ 0 ∷ 60 ∷ 104 ∷ 16 ∷ 132
+    ∷ 94 ∷ 85 ∷ 171 ∷ 193 ∷ 174 ∷ 73 ∷ 90 ∷ 166 ∷ 16 ∷ []
 
--- id 3, with ordered lists, in which the current picture may stand
+-- id 3, with ordered lists, in which the current picture may be
 abbrev pub referring_pps_bytes : List ℕ
 referring_pps_bytes = 68 ∷ 1 ∷ 35 ∷ 1 ∷ 198 ∷ 0 ∷ 209 ∷ 9 ∷ []
 
@@ -136,7 +138,7 @@ eob_bytes = 74 ∷ 1 ∷ []
 
 -- ---- streams
 
--- units one after another, each behind its start code
+-- units one after another, each after its start code
 abbrev pub stream_of : List (List ℕ) → List ℕ
 stream_of [] = []
 stream_of (unit ∷ units) = 0 ∷ 0 ∷ 1 ∷ unit ++ stream_of units
@@ -146,7 +148,7 @@ abbrev pub padded_stream_of : List (List ℕ) → List ℕ
 padded_stream_of [] = []
 padded_stream_of (unit ∷ units) = 0 ∷ 0 ∷ 0 ∷ 1 ∷ unit ++ padded_stream_of units
 
--- behind a sequence set and a picture set
+-- after a sequence set and a picture set
 abbrev pub behind_sets : List (List ℕ) → List ℕ
 behind_sets units = stream_of (sps_bytes ∷ pps_bytes ∷ units)
 
@@ -181,7 +183,7 @@ in_order_stream =
 abbrev pub not_read_again_stream : List ℕ
 not_read_again_stream = behind_sets (deep_sps_bytes ∷ low_quantiser_bytes ∷ [])
 
--- a picture set that comes again behind a replaced sequence set
+-- a picture set that comes again after a replaced sequence set
 abbrev pub read_again_stream : List ℕ
 read_again_stream = behind_sets (deep_sps_bytes ∷ pps_bytes ∷ idr_bytes ∷ [])
 
@@ -193,7 +195,7 @@ resized_stream = behind_sets (idr_bytes ∷ wide_sps_bytes ∷ pps_bytes ∷ idr
 abbrev pub mid_picture_stream : List ℕ
 mid_picture_stream = behind_sets (idr_bytes ∷ wide_sps_bytes ∷ pps_bytes ∷ later_idr_bytes ∷ [])
 
--- seven pictures that wait
+-- seven pictures that are needed for output
 abbrev pub crowded_stream : List ℕ
 crowded_stream = stream_of (tight_sps_bytes ∷ pps_bytes ∷ idr_bytes ∷ replicate 6 t0_bytes)
 
@@ -285,7 +287,7 @@ cra_within_stream = behind_sets (idr_bytes ∷ p4_bytes ∷ cra_bytes ∷ [])
 abbrev pub sub_layers_stream : List ℕ
 sub_layers_stream = behind_sets (idr_bytes ∷ p4_bytes ∷ sub_layer_bytes ∷ [])
 
--- two sets that are not read behind two that are, and what comes of it
+-- two sets that are not read after two that are, and what comes of it
 abbrev pub cut_sets_stream : List ℕ
 cut_sets_stream = behind_sets (cut_pps_bytes ∷ other_pps_bytes ∷ sps_bytes ∷ [])
 
@@ -303,7 +305,7 @@ video_set_stream = stream_of ((64 ∷ 1 ∷ 92 ∷ drop 3 vps_bytes) ∷ [])
 abbrev pub idr_of : Format → Meaning
 idr_of format = idr (plain_sets format)
 
--- a sequence set of a format and a picture set, and what stands behind them
+-- a sequence set of a format and a picture set, and the standing after them
 abbrev pub sets_then : Format → List Meaning → List Meaning
 sets_then format us = SequenceSet format ∷ Other ∷ us
 
@@ -365,7 +367,7 @@ referring_slices =
     referring_slice referring_bytes referring_header
     ∷ referring_slice referring_p_bytes referring_p_header ∷ []
 
--- a slice that begins behind the first block of a picture
+-- a slice that begins after the first block of a picture
 abbrev pub later_idr_at_1 : Format → Meaning
 later_idr_at_1 format =
     CodedSlice
@@ -391,11 +393,11 @@ cra_as_bla = record default_options { handle_cra_as_bla = true }
 abbrev pub up_to : ℕ → Options
 up_to highest_tid = record default_options { highest_tid = highest_tid }
 
--- the units that wait behind the units of a stream
+-- the units that wait after the units of a stream
 abbrev pub waiting_behind : List ℕ → List (List ℕ)
 waiting_behind stream = (kept_behind_all default_options none_kept (units stream)).waiting
 
--- whether the video set of an id is kept behind the units of a stream
+-- whether the video set of an id is kept after the units of a stream
 abbrev pub has_video_set : List ℕ → ℕ → Bool
 has_video_set stream id =
     is_some ((kept_behind_all default_options none_kept (units stream)).video_sets id)

@@ -167,7 +167,7 @@ pub fn kinds_of_units()
     ensures ends { filter is_end (35 ∷ 36 ∷ 37 ∷ 38 ∷ []) ≡ 36 ∷ 37 ∷ [] }
 {}
 
-/// Seven pictures that wait in a buffer of six.
+/// Seven pictures that are needed for output in a buffer of six.
 pub fn full_buffer()
     ensures crowded { meanings default_options crowded_stream ≡ crowded }
     ensures verdict { verdict (meanings default_options crowded_stream)
@@ -206,7 +206,7 @@ pub fn refused_sets()
         ≡ Refused (OutOfRange 5 19) ∷ [] }
 {}
 
-/// A stream that begins at a CRA picture, and CRA pictures behind ends.
+/// A stream that begins at a CRA picture, and CRA pictures after ends.
 pub fn random_access()
     ensures leading { meanings default_options leading_stream ≡ leading }
     ensures sequence_ends { meanings default_options sequence_ends_stream ≡ ended_by EndOfSequence }
@@ -228,13 +228,13 @@ pub fn long_term_references()
         ≡ sets_then wide_format referring_slices }
 {}
 
-/// A dependent slice alone, and behind an independent one.
+/// A dependent slice alone, and after an independent one.
 pub fn dependent_slices()
     ensures dependent_alone { meanings default_options dependent_alone_stream ≡ dependent_alone }
     ensures dependent_behind { meanings default_options dependent_behind_stream ≡ dependent_behind }
 {}
 
-/// A CRA picture handled as a BLA picture discards what waits; a unit above the wanted sub-layers is passed over.
+/// A CRA picture handled as a BLA picture discards what is needed for output; a unit above the wanted sub-layers is passed over.
 pub fn options()
     ensures as_cra { meanings default_options cra_within_stream
         ≡ sets_then plain_format (idr_of plain_format ∷ p4 ∷ cra ∷ []) }

@@ -82,7 +82,7 @@ unfolding either
 of_either P true t s g h = g refl
 of_either P false t s g h = h refl
 
--- rows that are repeated keep what holds before and behind each time
+-- rows that are repeated keep what holds before and after each time
 repeated_from : {S : Type 0} (P : ℕ → S → Type 0) (body : ℕ → S → Table S) (i n : ℕ) (s : S) → P i s → ((k : ℕ) (x : S) → i ≤ k → k < i + n → P k x → Gives (body k x) (P (k + 1))) → Gives (repeat body i n s) (P (i + n))
 unfolding repeat
 repeated_from P body i zero s h step = let same : i + 0 ≡ i = omega arith in rw same (of_done (P i) s h)
@@ -95,6 +95,6 @@ of_repeat P body n s h step =
     let same : 0 + n ≡ n = omega arith in
     subst (λ (m : ℕ). Gives (repeat body 0 n s) (P m)) same (repeated_from P body 0 n s h (λ k x low high p. step k x (omega arith) p))
 
--- behind lines of which nothing is asked
+-- after lines of which nothing is asked
 pub free : {A B : Type 0} {t : Table A} {k : A → Table B} (Q : B → Type 0) → ((x : A) → Gives (k x) Q) → Gives (part t k) Q
 free {t = t} {k = k} Q h = of_part k Q (any t) (λ x _. h x)

@@ -107,7 +107,7 @@ all_well options us = behind_well options none_kept us none_are none_well
 
 -- ---- a sequence set that comes twice
 
--- the content of a sequence set's unit is the same behind any sets
+-- the content of a sequence set's unit is the same after any sets
 same_set : (options : Options) (kept other : Kept) (bytes : List ℕ) (set : PlainSps) → Means options kept bytes (sequence_set set) → Means options other bytes (sequence_set set)
 same_set options kept other bytes set (is_faulty fault e m) = absurd cc
 same_set options kept other bytes set (is_unwanted h e above m) = absurd cc

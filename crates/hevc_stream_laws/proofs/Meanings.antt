@@ -1,4 +1,4 @@
--- What units mean behind the sets that are kept.
+-- What units mean after the sets that are kept.
 use Rattle.std.proofs.Common.{◌≡◌, ℕ, ◌+◌, ◌^◌, ◌≤◌, ◌<◌, Bool, true, false, List, [], ◌∷◌, length, Some, None, Ok, Err, refl, arith, pow_pos}
 use Rattle.std.specs.Prelude.{All, IfSome, Option, Result, option_map, option_and_then, ◌==◌, if◌then◌else◌, fold, nat_lt, not, drop}
 use Rattle.std.proofs.lemmas.Bool.Decides.{nat_tests}
@@ -190,7 +190,7 @@ module _ (kept : Kept) (are : AreKept kept) where
   unfolding content
   content_is options bytes = headed_is options bytes (unit_header bytes)
 
--- ---- what is kept behind a unit
+-- ---- what is kept after a unit
 
 pub with_picture_unit_are : (kept : Kept) (bytes : List ℕ) (c : Content) → AreKept kept → IsContent kept c → AreKept (with_picture_set_unit bytes c kept)
 with_picture_unit_are kept bytes (picture_set set) are is = record {

@@ -18,7 +18,7 @@ pub record Orders (reorders latencies bufferings : List ℕ) (log2_minus4 : ℕ)
   pub buffering : All (λ n. n ≤ 16) bufferings
   pub log2 : log2_minus4 ≤ 12
 
--- what the rows behind them give: the short-term sets, and low bits of long-term pictures
+-- what the rows after them give: the short-term sets, and low bits of long-term pictures
 pub record References (log2_minus4 number : ℕ) (all_sets : List PlainShortTermRefPicSet) (all_lsbs : List ℕ) : Type 0 where
   pub count : length all_sets ≡ number
   pub sets : All IsSet all_sets

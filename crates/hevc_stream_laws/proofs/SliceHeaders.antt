@@ -85,7 +85,7 @@ module _ (kept : ℕ → Option ActiveSets) (sets : ActiveSets) (are : AreSets s
   abbrev A : PlainSliceSegmentHeader → Type 0
   A h = Base h × (h.ref_pic_list_modification ≡ default_ref_pic_list_modification)
 
-  -- behind them
+  -- after them
   abbrev B : PlainSliceSegmentHeader → Type 0
   B h = Base h × Changed h.num_ref_idx_l0_active_minus1 h.num_ref_idx_l1_active_minus1 h.ref_pic_list_modification
 

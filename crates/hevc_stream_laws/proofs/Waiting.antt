@@ -14,7 +14,7 @@ use Rattle.hevc_stream.specs.Stream.{with_picture_set_unit, with_waited, with_co
 use Rattle.hevc_stream_laws.specs.UnitMeans.{MeansBy, spells, breaks_off, unread, is_video_set, is_sequence_set, is_picture_set, is_slice_segment, ends_sequence, ends_bitstream, comes_first, is_other, Means, is_faulty, is_unwanted, is_wanted}
 use Rattle.hevc_stream_laws.proofs.OneContent.{means_content, only_content}
 
--- a unit that can't be read is one that can't be read behind the same sequence sets
+-- a unit that can't be read is one that can't be read after the same sequence sets
 unread_by : (options : Options) (kept other : Kept) (bytes : List ℕ) → kept.sequence_sets ≡ other.sequence_sets → Means options kept bytes unread_picture_set → Means options other bytes unread_picture_set
 unread_by options kept other bytes same (is_faulty fault e m) = absurd cc
 unread_by options kept other bytes same (is_unwanted h e above m) = absurd cc

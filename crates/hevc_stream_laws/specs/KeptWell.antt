@@ -7,7 +7,7 @@ use Rattle.hevc_spec.specs.Payload.{payload}
 use Rattle.hevc_stream.specs.Kept.{Kept}
 
 pub record IsKeptWell (kept : Kept) : Type 0 where
-  -- each set stands under its own id,
+  -- each set is under its own id,
   pub video_ids : (id : ℕ) → IfSome (kept.video_sets id) (λ set. set.video_parameter_set_id ≡ id)
   pub sequence_ids : (id : ℕ)
       → IfSome (kept.sequence_sets id) (λ set. set.seq_parameter_set_id ≡ id)

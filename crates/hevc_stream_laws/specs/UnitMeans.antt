@@ -63,7 +63,7 @@ pub data MeansByType (kept : Kept) (h : UnitHeader) (bytes : List ℕ) (c : Cont
       → (is_slice h.nal_unit_type || is_end h.nal_unit_type) ≡ false → nothing ≡ c
       → MeansByType kept h bytes c
 
--- the content of a unit of these bytes, behind the sets that are kept
+-- the content of a unit of these bytes, after the sets that are kept
 pub data Means (options : Options) (kept : Kept) (bytes : List ℕ) (c : Content) : Type 0 where
   is_faulty : (fault : HeaderFault) → unit_header bytes ≡ Err fault
       → refused (header_cause fault) ≡ c → Means options kept bytes c

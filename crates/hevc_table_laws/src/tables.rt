@@ -106,7 +106,7 @@ pub fn one_pps_scc_extension_meaning()
     ensures { (format : SampleFormat) (most : ℕ) → HasOneMeaning (pps_scc_extension format most) }
 {}
 
-/// A slice segment header (table 14), with the type of its unit, the bytes behind the unit's header, and the sets that the ids of kept
+/// A slice segment header (table 14), with the type of its unit, the bytes after the unit's header, and the sets that the ids of kept
 /// picture sets make active.
 #[tactic(auto, using(crate::proofs::Laws::one_meaning))]
 pub fn one_slice_header_meaning()

@@ -69,7 +69,7 @@ buffering hrd = do
   hrd ← when hrd.sub_pic_hrd_params_present_flag hrd (decoding_units hrd)
   scales hrd
 
--- rows 1 to 9: rows 2 to 9 stand there if one of the flags of row 1 is set
+-- rows 1 to 9: rows 2 to 9 are there if one of the flags of row 1 is set
 unfoldable pub common_parameters : PlainHrdParams → Table PlainHrdParams
 common_parameters hrd = do
   let hrd = record hrd { nal_hrd_parameters_present_flag = (← flag_row (row 3 1)) }

@@ -190,7 +190,7 @@ merging sps pps = do
   let pps = record pps { slice_segment_header_extension_present_flag = (← flag_row (row 11 28)) }
   done pps
 
--- ---- rows 28 to 35: extensions, whose flags all stand before the first body
+-- ---- rows 28 to 35: extensions, whose flags all are before the first body
 
 -- rows 29 to 33: which extensions the set has;
 -- those for several layers and for three dimensions it may not have
@@ -247,7 +247,7 @@ coding sps pps = do
   pps ← tools pps
   when pps.tiles_enabled_flag pps (tiles sps pps)
 
--- rows 3 to 35, behind those that name the sequence set
+-- rows 3 to 35, after those that name the sequence set
 unfoldable pub picture_set_of : PlainSps → PlainPps → Table PlainPps
 picture_set_of sps pps = do
   pps ← coding sps pps

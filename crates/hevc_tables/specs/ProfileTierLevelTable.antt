@@ -17,8 +17,8 @@ abbrev pub row_of : Scope → ℕ → Row
 row_of general number = row 2 number
 row_of sub_layer number = row 2 30
 
--- What rows 1 to 15 tell of a layer (7.4.4): the elements of these names behind general_ for the
--- whole stream, and behind sub_layer_ for a sub-layer.
+-- What rows 1 to 15 tell of a layer (7.4.4): the elements of these names after general_ for the
+-- whole stream, and after sub_layer_ for a sub-layer.
 pub record LayerProfile : Type 0 where
   pub profile_space : ℕ
   pub tier_flag : Bool
@@ -112,7 +112,7 @@ formats scope l = do
   let l = record l { lower_bit_rate_constraint_flag = (← flag_row (row_of scope 6)) }
   done l
 
--- general_max_14bit_constraint_flag stands among those of row 6 (7.3.3): the layer conforms to one
+-- general_max_14bit_constraint_flag is among those of row 6 (7.3.3): the layer conforms to one
 -- of the profiles 5, 9, 10 and 11.
 abbrev pub has_14bit_flag : LayerProfile → Bool
 has_14bit_flag l =

@@ -6,7 +6,7 @@ use Rattle.hevc_spec.specs.Rows.{row, flag_row, bits_row, when, repeat}
 use Rattle.hevc_records.specs.RefPicListModification.{PlainRefPicListModification, default_ref_pic_list_modification}
 use Rattle.hevc_tables.specs.MathFunctions.{ceil_log2}
 
--- the entry of one more place, behind those before it: one of so many pictures
+-- the entry of one more place, after those before it: one of so many pictures
 unfoldable pub list_entry : Row → ℕ → ℕ → List ℕ → Table (List ℕ)
 list_entry r num_pic_total_curr i entries = do
   entry ← bits_row r (ceil_log2 num_pic_total_curr) 0 (num_pic_total_curr - 1)

@@ -72,7 +72,7 @@ pub record Matrices : Type 0 where
   pub dc_coef_minus8 : List ℤ
   pub entries : List (List ℕ)
 
--- what stands where nothing was read
+-- the value where nothing was read
 abbrev pub no_matrices : Size → Matrices
 no_matrices size = record {
   dc_coef_minus8 = replicate 6 (pos 0);

@@ -155,7 +155,7 @@ last_delta [] = pos 0
 last_delta (m ∷ []) = m.delta_poc
 last_delta (m ∷ n ∷ ms) = last_delta (n ∷ ms)
 
--- rows 9 and 10 of one member, behind a difference (7-65, 7-67, 7-69)
+-- rows 9 and 10 of one member, after a difference (7-65, 7-67, 7-69)
 unfoldable pub member_before : ℤ → Table ShortTermMember
 member_before last = do
   delta_poc_s0_minus1 ← ue_row (row 7 9) 0 32767
@@ -170,7 +170,7 @@ next_member_before i ms = do
   m ← member_before (last_delta ms)
   done (ms ++ m ∷ [])
 
--- rows 11 and 12 of one member, behind a difference (7-66, 7-68, 7-70)
+-- rows 11 and 12 of one member, after a difference (7-66, 7-68, 7-70)
 unfoldable pub member_after : ℤ → Table ShortTermMember
 member_after last = do
   delta_poc_s1_minus1 ← ue_row (row 7 11) 0 32767

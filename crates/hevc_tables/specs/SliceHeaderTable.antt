@@ -79,11 +79,11 @@ kind sps pps h = do
   }
   done h
 
--- how many low bits of order counts are told
+-- how many low bits of order counts are signalled
 abbrev pub lsb_bits : PlainSps → ℕ
 lsb_bits sps = sps.log2_max_pic_order_cnt_lsb_minus4 + 4
 
--- row 12: a set of the header's own, which stands behind all of the sequence set,
+-- row 12: a set of the header's own, which comes after all of the sequence set,
 -- and its size in payload bits
 unfoldable pub own_short_term_set : PlainSps → PlainSliceSegmentHeader
     → Table PlainSliceSegmentHeader
@@ -371,7 +371,7 @@ abbrev pub is_chroma_offset : ℤ → ℤ → Bool
 is_chroma_offset offset of_picture_set =
     int_le (neg_ℤ (pos 12)) (offset +ℤ of_picture_set) && int_le (offset +ℤ of_picture_set) (pos 12)
 
--- slice_cb_qp_offset or slice_cr_qp_offset, and the check behind it
+-- slice_cb_qp_offset or slice_cr_qp_offset, and the check after it
 unfoldable pub chroma_offset : ℕ → ℤ → Table ℤ
 chroma_offset number of_picture_set = do
   offset ← se_row (row 14 number) (neg_ℤ (pos 12)) (pos 12)
@@ -468,7 +468,7 @@ independent_segment nal_unit_type sps pps h = do
 
 -- ---- rows 48 to 53
 
--- how many entry points a segment can have behind its first: one for each tile, each row of blocks,
+-- how many entry points a segment can have after its first: one for each tile, each row of blocks,
 -- or each row of blocks of a tile column (7.4.7.1)
 abbrev pub most_entry_points : PlainSps → PlainPps → ℕ
 most_entry_points sps pps =
@@ -477,7 +477,7 @@ most_entry_points sps pps =
     else pps.num_tile_rows_minus1 + 1)
     - 1
 
--- row 50 of entry point i, of so many bits, behind those before it
+-- row 50 of entry point i, of so many bits, after those before it
 unfoldable pub entry_point : ℕ → ℕ → List ℕ → Table (List ℕ)
 entry_point bits i offsets = do
   offset ← bits_row (row 14 50) bits 0 (2 ^ bits - 1)
@@ -553,7 +553,7 @@ pub record Sized (A : Type 0) : Type 0 where
 abbrev pub with_size : {A : Type 0} → Table A → Table (Sized A)
 with_size t = sized t (λ x size. record { value = x; size = size })
 
--- Row 53, behind lines that begin at a whole byte: byte_alignment( ) (7.3.2.12), a bit and as many
+-- Row 53, after lines that begin at a whole byte: byte_alignment( ) (7.3.2.12), a bit and as many
 -- as end the byte, of any value.
 unfoldable pub aligned : {A : Type 0} → Table A → Table A
 aligned t = do
@@ -562,7 +562,7 @@ aligned t = do
   _ ← skip_row (row 14 53) ((8 - (h.size + 1) % 8) % 8)
   done h.value
 
--- How many emulation_prevention_three_bytes of a unit stand before the byte with the last of its
+-- How many emulation_prevention_three_bytes of a unit are before the byte with the last of its
 -- first payload bits (7.3.1.1)
 unfoldable pub emulation_prevention_bytes : List ℕ → ℕ → ℕ
 emulation_prevention_bytes payload_bytes size =
@@ -576,7 +576,7 @@ with_sizes payload_bytes h size = record h {
   n_emulation_prevention_bytes = emulation_prevention_bytes payload_bytes size;
 }
 
--- Table 14 (7.3.6.1) in a unit of this type, whose bytes behind its own header are these, with the
+-- Table 14 (7.3.6.1) in a unit of this type, whose bytes after its own header are these, with the
 -- sets that the ids of kept picture sets make active
 unfoldable pub slice_segment_header : ℕ → List ℕ → (ℕ → Option ActiveSets)
     → Table PlainSliceSegmentHeader

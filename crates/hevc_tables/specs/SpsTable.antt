@@ -199,7 +199,7 @@ tools sps = do
 abbrev pub highest_buffering : PlainSps → ℕ
 highest_buffering sps = slice_index_or sps.max_dec_pic_buffering_minus1 sps.max_sub_layers_minus1 0
 
--- row 36 of set i, behind those before it
+-- row 36 of set i, after those before it
 unfoldable pub short_term_set : ℕ → ℕ → ℕ → List PlainShortTermRefPicSet
     → Table (List PlainShortTermRefPicSet)
 short_term_set count buffering i sets = do
@@ -256,7 +256,7 @@ usability sps = do
   let sps = record sps { vui_parameters_present_flag = (← flag_row (row 5 41)) }
   when sps.vui_parameters_present_flag sps (usability_information sps)
 
--- ---- rows 43 to 50: extensions, whose flags all stand before the first body
+-- ---- rows 43 to 50: extensions, whose flags all are before the first body
 
 -- rows 44 to 48: which extensions the set has;
 -- those for several layers and for three dimensions it may not have

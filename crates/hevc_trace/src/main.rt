@@ -1,5 +1,5 @@
 //! The program: decodes an H.265 byte stream from standard input, and prints the calls that a backend is asked for and
-//! the pictures that come out.
+//! the pictures that are output.
 #![tactic(auto)]
 
 use hevc_io::{StdSink, StdSource, StdWords, command_line};

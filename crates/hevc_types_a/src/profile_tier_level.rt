@@ -20,7 +20,7 @@ pub struct ProfileTierLevel {
     pub general_progressive_source_flag: bool,
     /// Whether the source of the pictures is interlaced.
     pub general_interlaced_source_flag: bool,
-    /// Whether no frame packing or segmented rectangular frame packing message is there.
+    /// Whether no frame packing or segmented rectangular frame packing message is present.
     pub general_non_packed_constraint_flag: bool,
     /// Whether each picture is a frame and none a field.
     pub general_frame_only_constraint_flag: bool,
@@ -48,9 +48,9 @@ pub struct ProfileTierLevel {
     pub general_inbld_flag: bool,
     /// The level that the stream conforms to.
     pub general_level_idc: Level,
-    /// For each sub-layer, whether its profile is there.
+    /// For each sub-layer, whether its profile is present.
     pub sub_layer_profile_present_flag: [bool; 6],
-    /// For each sub-layer, whether its level is there.
+    /// For each sub-layer, whether its level is present.
     pub sub_layer_level_present_flag: [bool; 6],
     /// For each sub-layer, how its profile number and compatibility flags are understood: 0 to 3.
     pub sub_layer_profile_space: [u8; 6],
@@ -64,7 +64,7 @@ pub struct ProfileTierLevel {
     pub sub_layer_progressive_source_flag: [bool; 6],
     /// For each sub-layer, whether the source of the pictures is interlaced.
     pub sub_layer_interlaced_source_flag: [bool; 6],
-    /// For each sub-layer, whether no frame packing or segmented rectangular frame packing message is there.
+    /// For each sub-layer, whether no frame packing or segmented rectangular frame packing message is present.
     pub sub_layer_non_packed_constraint_flag: [bool; 6],
     /// For each sub-layer, whether each picture is a frame and none a field.
     pub sub_layer_frame_only_constraint_flag: [bool; 6],
@@ -219,7 +219,7 @@ impl ProfileTierLevel {
         self.general_interlaced_source_flag
     }
 
-    /// Whether no frame packing or segmented rectangular frame packing message is there.
+    /// Whether no frame packing or segmented rectangular frame packing message is present.
     pub fn general_non_packed_constraint_flag(&self) -> bool
         ensures { result ≡ self.now.general_non_packed_constraint_flag }
     {
@@ -317,14 +317,14 @@ impl ProfileTierLevel {
         self.general_level_idc
     }
 
-    /// For each sub-layer, whether its profile is there.
+    /// For each sub-layer, whether its profile is present.
     pub fn sub_layer_profile_present_flag(&self) -> [bool; 6]
         ensures { result ≡ self.now.sub_layer_profile_present_flag }
     {
         self.sub_layer_profile_present_flag
     }
 
-    /// For each sub-layer, whether its level is there.
+    /// For each sub-layer, whether its level is present.
     pub fn sub_layer_level_present_flag(&self) -> [bool; 6]
         ensures { result ≡ self.now.sub_layer_level_present_flag }
     {
@@ -373,7 +373,7 @@ impl ProfileTierLevel {
         self.sub_layer_interlaced_source_flag
     }
 
-    /// For each sub-layer, whether no frame packing or segmented rectangular frame packing message is there.
+    /// For each sub-layer, whether no frame packing or segmented rectangular frame packing message is present.
     pub fn sub_layer_non_packed_constraint_flag(&self) -> [bool; 6]
         ensures { result ≡ self.now.sub_layer_non_packed_constraint_flag }
     {

@@ -9,7 +9,7 @@ ghost use Rattle.hevc_records.specs.ShortTermRefPicSet.{Fall, Rise};
 pub struct ShortTermRefPicSet {
     /// Whether the set is predicted from an earlier one.
     pub inter_ref_pic_set_prediction_flag: bool,
-    /// How far back the set that predicts this one stands, less 1: 0 to 63.
+    /// How far back the set that predicts this one is, less 1: 0 to 63.
     pub delta_idx_minus1: u8,
     /// Whether the shift of a predicted set is negative.
     pub delta_rps_sign: bool,
@@ -65,7 +65,7 @@ impl ShortTermRefPicSet {
         self.inter_ref_pic_set_prediction_flag
     }
 
-    /// How far back the set that predicts this one stands, less 1.
+    /// How far back the set that predicts this one is, less 1.
     pub fn delta_idx_minus1(&self) -> u8
         ensures { result ≡ self.now.delta_idx_minus1 }
     {

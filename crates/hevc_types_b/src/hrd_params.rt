@@ -9,9 +9,9 @@ use crate::sublayer_hrd_parameters::SublayerHrdParameters;
 /// The arrays of seven have a place for each sub-layer.
 #[derive(Clone, Copy, PartialEq, Eq)]
 pub struct HrdParams {
-    /// Whether `nal_hrd` is there.
+    /// Whether `nal_hrd` is present.
     pub nal_hrd_parameters_present_flag: bool,
-    /// Whether `vcl_hrd` is there.
+    /// Whether `vcl_hrd` is present.
     pub vcl_hrd_parameters_present_flag: bool,
     /// Whether buffers may work by decoding units.
     pub sub_pic_hrd_params_present_flag: bool,
@@ -85,14 +85,14 @@ impl HrdParams {
         }
     }
 
-    /// Whether `nal_hrd` is there.
+    /// Whether `nal_hrd` is present.
     pub fn nal_hrd_parameters_present_flag(&self) -> bool
         ensures { result ≡ self.now.nal_hrd_parameters_present_flag }
     {
         self.nal_hrd_parameters_present_flag
     }
 
-    /// Whether `vcl_hrd` is there.
+    /// Whether `vcl_hrd` is present.
     pub fn vcl_hrd_parameters_present_flag(&self) -> bool
         ensures { result ≡ self.now.vcl_hrd_parameters_present_flag }
     {

@@ -14,7 +14,7 @@ pub struct Vps {
     pub video_parameter_set_id: u8,
     /// Whether the base layer is in the stream.
     pub base_layer_internal_flag: bool,
-    /// Whether the base layer is there at all.
+    /// Whether the base layer is present at all.
     pub base_layer_available_flag: bool,
     /// The most layers in the stream, less 1: 0 to 63.
     pub max_layers_minus1: u8,
@@ -36,7 +36,7 @@ pub struct Vps {
     pub max_layer_id: u8,
     /// The number of layer sets, less 1: 0 to 1023.
     pub num_layer_sets_minus1: u32,
-    /// Whether the length of a tick is there.
+    /// Whether the length of a tick is present.
     pub timing_info_present_flag: bool,
     /// The length of a tick in units of the clock.
     pub num_units_in_tick: u32,
@@ -149,7 +149,7 @@ impl Vps {
         self.base_layer_internal_flag
     }
 
-    /// Whether the base layer is there at all.
+    /// Whether the base layer is present at all.
     pub fn base_layer_available_flag(&self) -> bool
         ensures { result ≡ self.now.base_layer_available_flag }
     {
@@ -226,7 +226,7 @@ impl Vps {
         self.num_layer_sets_minus1
     }
 
-    /// Whether the length of a tick is there.
+    /// Whether the length of a tick is present.
     pub fn timing_info_present_flag(&self) -> bool
         ensures { result ≡ self.now.timing_info_present_flag }
     {

@@ -6,7 +6,7 @@ use crate::hrd_params::HrdParams;
 /// Video usability information of a sequence parameter set (H.265 E.2.1, E.3.1).
 #[derive(Clone, Copy, PartialEq, Eq)]
 pub struct VuiParams {
-    /// Whether the sample aspect ratio is there.
+    /// Whether the sample aspect ratio is present.
     pub aspect_ratio_info_present_flag: bool,
     /// The number of the sample aspect ratio: 0 to 255, 255 for one given by `sar_width` and `sar_height`.
     pub aspect_ratio_idc: u32,
@@ -14,17 +14,17 @@ pub struct VuiParams {
     pub sar_width: u32,
     /// The height of a sample in the same unit: 0 to 65535.
     pub sar_height: u32,
-    /// Whether `overscan_appropriate_flag` is there.
+    /// Whether `overscan_appropriate_flag` is present.
     pub overscan_info_present_flag: bool,
     /// Whether the pictures are suitable for display with overscan.
     pub overscan_appropriate_flag: bool,
-    /// Whether the type of the signal is there.
+    /// Whether the type of the signal is present.
     pub video_signal_type_present_flag: bool,
     /// The format of the video before it was coded: 0 to 7, 5 for none said.
     pub video_format: u8,
     /// Whether samples use the full range.
     pub video_full_range_flag: bool,
-    /// Whether the description of colours is there.
+    /// Whether the description of colours is present.
     pub colour_description_present_flag: bool,
     /// The number of the colour primaries: 0 to 255, 2 for none said.
     pub colour_primaries: u32,
@@ -44,7 +44,7 @@ pub struct VuiParams {
     pub field_seq_flag: bool,
     /// Whether picture timing messages say how pictures are shown.
     pub frame_field_info_present_flag: bool,
-    /// Whether the default display window is there.
+    /// Whether the default display window is present.
     pub default_display_window_flag: bool,
     /// The left offset of the default display window in chroma samples.
     pub def_disp_win_left_offset: u32,
@@ -54,7 +54,7 @@ pub struct VuiParams {
     pub def_disp_win_top_offset: u32,
     /// The bottom offset of the default display window in chroma samples.
     pub def_disp_win_bottom_offset: u32,
-    /// Whether the length of a tick is there.
+    /// Whether the length of a tick is present.
     pub timing_info_present_flag: bool,
     /// The length of a tick in units of the clock.
     pub num_units_in_tick: u32,
@@ -64,7 +64,7 @@ pub struct VuiParams {
     pub poc_proportional_to_timing_flag: bool,
     /// The number of ticks for a difference of 1 in order counts, less 1.
     pub num_ticks_poc_diff_one_minus1: u32,
-    /// Whether `hrd` is there.
+    /// Whether `hrd` is present.
     pub hrd_parameters_present_flag: bool,
     /// The parameters of the hypothetical reference decoder.
     pub hrd: HrdParams,
@@ -140,7 +140,7 @@ impl VuiParams {
         }
     }
 
-    /// Whether the sample aspect ratio is there.
+    /// Whether the sample aspect ratio is present.
     pub fn aspect_ratio_info_present_flag(&self) -> bool
         ensures { result ≡ self.now.aspect_ratio_info_present_flag }
     {
@@ -168,7 +168,7 @@ impl VuiParams {
         self.sar_height
     }
 
-    /// Whether `overscan_appropriate_flag` is there.
+    /// Whether `overscan_appropriate_flag` is present.
     pub fn overscan_info_present_flag(&self) -> bool
         ensures { result ≡ self.now.overscan_info_present_flag }
     {
@@ -182,7 +182,7 @@ impl VuiParams {
         self.overscan_appropriate_flag
     }
 
-    /// Whether the type of the signal is there.
+    /// Whether the type of the signal is present.
     pub fn video_signal_type_present_flag(&self) -> bool
         ensures { result ≡ self.now.video_signal_type_present_flag }
     {
@@ -203,7 +203,7 @@ impl VuiParams {
         self.video_full_range_flag
     }
 
-    /// Whether the description of colours is there.
+    /// Whether the description of colours is present.
     pub fn colour_description_present_flag(&self) -> bool
         ensures { result ≡ self.now.colour_description_present_flag }
     {
@@ -273,7 +273,7 @@ impl VuiParams {
         self.frame_field_info_present_flag
     }
 
-    /// Whether the default display window is there.
+    /// Whether the default display window is present.
     pub fn default_display_window_flag(&self) -> bool
         ensures { result ≡ self.now.default_display_window_flag }
     {
@@ -308,7 +308,7 @@ impl VuiParams {
         self.def_disp_win_bottom_offset
     }
 
-    /// Whether the length of a tick is there.
+    /// Whether the length of a tick is present.
     pub fn timing_info_present_flag(&self) -> bool
         ensures { result ≡ self.now.timing_info_present_flag }
     {
@@ -343,7 +343,7 @@ impl VuiParams {
         self.num_ticks_poc_diff_one_minus1
     }
 
-    /// Whether `hrd` is there.
+    /// Whether `hrd` is present.
     pub fn hrd_parameters_present_flag(&self) -> bool
         ensures { result ≡ self.now.hrd_parameters_present_flag }
     {

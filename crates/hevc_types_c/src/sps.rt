@@ -109,15 +109,15 @@ pub struct Sps {
     pub temporal_mvp_enabled_flag: bool,
     /// Whether strong smoothing may be used in intra prediction.
     pub strong_intra_smoothing_enabled_flag: bool,
-    /// Whether `vui_parameters` is there.
+    /// Whether `vui_parameters` is present.
     pub vui_parameters_present_flag: bool,
     /// Video usability information.
     pub vui_parameters: VuiParams,
     /// Whether the flags of extensions are there.
     pub extension_present_flag: bool,
-    /// Whether `range_extension` is there.
+    /// Whether `range_extension` is present.
     pub range_extension_flag: bool,
-    /// Whether `scc_extension` is there.
+    /// Whether `scc_extension` is present.
     pub scc_extension_flag: bool,
     /// The range extension.
     pub range_extension: SpsRangeExtension,

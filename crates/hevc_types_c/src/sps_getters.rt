@@ -330,7 +330,7 @@ impl Sps {
         self.strong_intra_smoothing_enabled_flag
     }
 
-    /// Whether `vui_parameters` is there.
+    /// Whether `vui_parameters` is present.
     pub fn vui_parameters_present_flag(&self) -> bool
         ensures { result ≡ self.now.vui_parameters_present_flag }
     {
@@ -351,14 +351,14 @@ impl Sps {
         self.extension_present_flag
     }
 
-    /// Whether `range_extension` is there.
+    /// Whether `range_extension` is present.
     pub fn range_extension_flag(&self) -> bool
         ensures { result ≡ self.now.range_extension_flag }
     {
         self.range_extension_flag
     }
 
-    /// Whether `scc_extension` is there.
+    /// Whether `scc_extension` is present.
     pub fn scc_extension_flag(&self) -> bool
         ensures { result ≡ self.now.scc_extension_flag }
     {

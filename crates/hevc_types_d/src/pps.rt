@@ -86,9 +86,9 @@ pub struct Pps {
     pub slice_segment_header_extension_present_flag: bool,
     /// Whether extensions may follow.
     pub extension_present_flag: bool,
-    /// Whether the range extension is there.
+    /// Whether the range extension is present.
     pub range_extension_flag: bool,
-    /// Whether the screen content coding extension is there.
+    /// Whether the screen content coding extension is present.
     pub scc_extension_flag: bool,
     /// The range extension.
     pub range_extension: PpsRangeExtension,
@@ -453,14 +453,14 @@ impl Pps {
         self.extension_present_flag
     }
 
-    /// Whether the range extension is there.
+    /// Whether the range extension is present.
     pub fn range_extension_flag(&self) -> bool
         ensures { result ≡ self.now.range_extension_flag }
     {
         self.range_extension_flag
     }
 
-    /// Whether the screen content coding extension is there.
+    /// Whether the screen content coding extension is present.
     pub fn scc_extension_flag(&self) -> bool
         ensures { result ≡ self.now.scc_extension_flag }
     {

@@ -16,7 +16,7 @@ use std::alloc::{AllocError, Global};
 pub struct SliceHeader {
     /// Whether the segment is the first of its picture.
     pub first_slice_segment_in_pic_flag: bool,
-    /// Whether earlier pictures that still wait for output are dropped.
+    /// Whether earlier pictures that are still needed for output are dropped.
     pub no_output_of_prior_pics_flag: bool,
     /// The number of the picture set: 0 to 63.
     pub pic_parameter_set_id: u8,
@@ -70,7 +70,7 @@ pub struct SliceHeader {
     pub mvd_l1_zero_flag: bool,
     /// Whether the first contexts of P and B slices are exchanged.
     pub cabac_init_flag: bool,
-    /// Whether the picture that motion vectors are predicted from stands in list 0.
+    /// Whether the picture that motion vectors are predicted from is in list 0.
     pub collocated_from_l0_flag: bool,
     /// The place of that picture in its list: 0 to 14.
     pub collocated_ref_idx: u8,
@@ -104,19 +104,19 @@ pub struct SliceHeader {
     pub tc_offset_div2: i8,
     /// Whether in-loop filters go across the upper and left boundary of the slice.
     pub loop_filter_across_slices_enabled_flag: bool,
-    /// The number of entry points behind the first.
+    /// The number of entry points after the first.
     pub num_entry_point_offsets: u32,
     /// The bits of an entry of `entry_point_offset_minus1`, less 1: 0 to 31.
     pub offset_len_minus1: u8,
     /// The bytes from each entry point to the next one, less 1.
     pub entry_point_offset_minus1: Items<u32>,
-    /// Which short-term set the picture has: one of the sequence set's, or the header's own behind them: 0 to 64.
+    /// Which short-term set the picture has: one of the sequence set's, or the header's own after them: 0 to 64.
     pub curr_rps_idx: u8,
     /// For P and B slices, the number of pictures that the picture may refer to.
     pub num_pic_total_curr: u32,
     /// The bits of the header: the 16 of the unit's header, and the payload bits of this one.
     pub header_bit_size: u32,
-    /// How many emulation prevention bytes of the unit stand in front of the byte in which the header ends.
+    /// How many emulation prevention bytes of the unit are before the byte in which the header ends.
     pub n_emulation_prevention_bytes: u32,
     /// The payload bits of the header's own short-term set.
     pub st_rps_bits: u32,
@@ -215,7 +215,7 @@ impl SliceHeader {
         self.use_integer_mv_flag = motion_vector_resolution_control_idc != 0;
     }
 
-    /// Completes the header of a dependent segment by that of the independent one before it (7.4.7.1). What stands before the slice
+    /// Completes the header of a dependent segment by that of the independent one before it (7.4.7.1). What is before the slice
     /// type stays, and so do the entry points, the bit size and the number of emulation prevention bytes; all else is taken over.
     pub fn complete(&mut self, independent: &SliceHeader)
         ensures { plain_slice_header self.new

@@ -13,7 +13,7 @@ impl SliceHeader {
         self.first_slice_segment_in_pic_flag
     }
 
-    /// Whether earlier pictures that still wait for output are dropped.
+    /// Whether earlier pictures that are still needed for output are dropped.
     pub fn no_output_of_prior_pics_flag(&self) -> bool
         ensures { result ≡ self.now.no_output_of_prior_pics_flag }
     {
@@ -209,7 +209,7 @@ impl SliceHeader {
         self.cabac_init_flag
     }
 
-    /// Whether the picture that motion vectors are predicted from stands in list 0.
+    /// Whether the picture that motion vectors are predicted from is in list 0.
     pub fn collocated_from_l0_flag(&self) -> bool
         ensures { result ≡ self.now.collocated_from_l0_flag }
     {
@@ -328,7 +328,7 @@ impl SliceHeader {
         self.loop_filter_across_slices_enabled_flag
     }
 
-    /// The number of entry points behind the first.
+    /// The number of entry points after the first.
     pub fn num_entry_point_offsets(&self) -> u32
         ensures { result ≡ self.now.num_entry_point_offsets }
     {
@@ -349,7 +349,7 @@ impl SliceHeader {
         self.entry_point_offset_minus1.as_slice()
     }
 
-    /// Which short-term set the picture has: one of the sequence set's, or the header's own behind them.
+    /// Which short-term set the picture has: one of the sequence set's, or the header's own after them.
     pub fn curr_rps_idx(&self) -> u8
         ensures { result ≡ self.now.curr_rps_idx }
     {
@@ -370,7 +370,7 @@ impl SliceHeader {
         self.header_bit_size
     }
 
-    /// How many emulation prevention bytes of the unit stand in front of the byte in which the header ends.
+    /// How many emulation prevention bytes of the unit are before the byte in which the header ends.
     pub fn n_emulation_prevention_bytes(&self) -> u32
         ensures { result ≡ self.now.n_emulation_prevention_bytes }
     {

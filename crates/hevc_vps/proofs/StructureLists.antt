@@ -1,4 +1,4 @@
--- Structures behind one another.
+-- Structures one after another.
 use Rattle.std.proofs.Common.{◌-◌}
 use Rattle.std.proofs.lemmas.List.{map-append, length-map}
 

@@ -73,7 +73,7 @@ fn read_structure(r: &mut NaluReader<'_>, i: u32, vps: &mut Vps) -> Result<(), P
     Ok(())
 }
 
-/// Row 24 of table 1, for the structure behind these.
+/// Row 24 of table 1, for the structure after these.
 #[tactic(auto, using(crate::proofs::StructureLists::lasts))]
 fn read_next(
     r: &mut NaluReader<'_>,

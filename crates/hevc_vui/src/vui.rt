@@ -17,7 +17,7 @@ use hevc_types_b::VuiParams;
 /// An element that is absent has its value of `VuiParams::new`.
 ///
 /// Errors: `OutOfBits` where the payload ends within an element, and `OutOfRange` with table and row of the first element that
-/// isn't allowed. The reader then stands where that element begins.
+/// isn't allowed. The reader then is where that element begins.
 #[tactic(auto, using(hevc_elements::proofs::Meaning::meanings))]
 pub fn read_vui_parameters(
     r: &mut NaluReader<'_>,

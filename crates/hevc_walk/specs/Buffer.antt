@@ -31,7 +31,7 @@ Buffer = List Entry
 abbrev pub is_needed : Entry → Bool
 is_needed e = e.needed_for_output || is_reference e.mark
 
--- an entry put into a list of rising order counts, in front of those of its own count
+-- an entry put into a list of rising order counts, before those of its own count
 abbrev pub placed : Entry → Buffer → List Entry
 placed e [] = e ∷ []
 placed e (f ∷ fs) = if int_lt f.order_count e.order_count then f ∷ placed e fs else e ∷ f ∷ fs
@@ -66,7 +66,7 @@ shortest_front passes [] = []
 shortest_front passes (x ∷ xs) =
     if passes [] then [] else x ∷ shortest_front (λ front. passes (x ∷ front)) xs
 
--- What is output, and the buffer behind it.
+-- What is output, and the buffer after it.
 pub record Bumped : Type 0 where
   pub outputs : List Entry
   pub left : Buffer
@@ -115,7 +115,7 @@ entry_of p = record {
   latency_count = 0;
 }
 
--- one picture more is stored behind it; where limits are bytes no rule sees that the count stops
+-- one picture more is stored after it; where limits are bytes no rule sees that the count stops
 abbrev pub with_latency : Entry → Entry
 with_latency e = record e { latency_count = min (e.latency_count + 1) (2 ^ 31 - 1) }
 

@@ -2,7 +2,7 @@
 use Rattle.std.specs.Prelude.{ℕ, Bool, ◌==◌, ◌&&◌, nat_le, length, if◌then◌else◌, Option, Some, None}
 use Rattle.hevc_walk.specs.Meanings.{Slice, SliceHeader}
 
--- What is kept of an independent slice for the dependent ones behind it.
+-- What is kept of an independent slice for the dependent ones after it.
 pub record KeptHeader : Type 0 where
   pub pic_parameter_set_id : ℕ
   pub header : SliceHeader
@@ -23,7 +23,7 @@ with_kept (Some kept) s =
 abbrev pub whole_slice : Option KeptHeader → Slice → Option Slice
 whole_slice latest s = if s.dependent_slice_segment_flag then with_kept latest s else Some s
 
--- the latest independent slice's header behind a slice
+-- the latest independent slice's header after a slice
 abbrev pub kept_header : Option KeptHeader → Slice → Option KeptHeader
 kept_header latest s =
     if s.dependent_slice_segment_flag then latest

@@ -12,7 +12,7 @@ waiting_numbers [] = []
 waiting_numbers (e ∷ es) =
     if e.needed_for_output then e.number ∷ waiting_numbers es else waiting_numbers es
 
--- what waits for output as a picture with NoOutputOfPriorPicsFlag empties the buffer (C.5.2.2)
+-- what is needed for output as a picture with NoOutputOfPriorPicsFlag empties the buffer (C.5.2.2)
 abbrev pub discarded_by : Head → Store → List ℕ
 discarded_by p s =
     if is_decoded p && p.no_output_of_prior_pics then waiting_numbers s.buffer else []
@@ -60,7 +60,7 @@ abbrev pub one : Bool → ℕ
 one true = 1
 one false = 0
 
--- how often a number stands in a list
+-- how often a number is in a list
 abbrev pub times : ℕ → List ℕ → ℕ
 times n [] = 0
 times n (m ∷ ms) = one (m == n) + times n ms

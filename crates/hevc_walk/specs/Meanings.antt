@@ -111,7 +111,7 @@ pub data UnitCause : Type 0 where
   OutOfRange : (table row : ℕ) → UnitCause
   MissingPps : (pic_parameter_set_id : ℕ) → UnitCause
 
--- What a unit means behind the units before it.
+-- What a unit means after the units before it.
 pub data Meaning : Type 0 where
   SequenceSet : Format → Meaning
   CodedSlice : Slice → Meaning

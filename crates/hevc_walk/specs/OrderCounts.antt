@@ -21,7 +21,7 @@ unfoldable pub nearest : ℕ → ℤ → ℕ → ℤ
 nearest modulus earlier lsb =
     earlier +ℤ centred_difference modulus (int_rem_euclid (pos lsb -ℤ earlier) (pos modulus))
 
--- PicOrderCntVal behind the count of prevTid0Pic, if there is such a picture
+-- PicOrderCntVal after the count of prevTid0Pic, if there is such a picture
 abbrev pub count_behind : ℕ → Option ℤ → ℕ → ℤ
 count_behind modulus None lsb = pos lsb
 count_behind modulus (Some earlier) lsb = nearest modulus earlier lsb

@@ -82,11 +82,11 @@ head c s = record {
 unfoldable pub order_count_in_range : Head → Bool
 order_count_in_range p = is_i32 p.order_count && is_i32 (p.order_count -ℤ pos p.pic_order_cnt_lsb)
 
--- the pictures behind it may take their order counts from its own: it can be prevTid0Pic
+-- the pictures after it may take their order counts from its own: it can be prevTid0Pic
 abbrev pub is_tid0 : Head → Bool
 is_tid0 p = not p.skipped && p.valid_for_prev_tid0
 
--- A picture: its slices, each with its unit, and the ends that stand before the next picture.
+-- A picture: its slices, each with its unit, and the ends that are before the next picture.
 pub record Picture : Type 0 where
   pub head : Head
   pub open head use *
@@ -150,7 +150,7 @@ pub record Stream : Type 0 where
   -- latest first
   pub pictures : List Picture
 
--- no slice is read before the first sequence set, so none that stands behind a picture is the first
+-- no slice is read before the first sequence set, so none that comes after a picture is the first
 abbrev pub with_set : ℕ → Format → Option (ℕ × Format) → List Picture → Option (ℕ × Format)
 with_set k format None [] = Some (k, format)
 with_set k format None (p ∷ before) = None

@@ -26,7 +26,7 @@ no_references = record {
 }
 
 -- number CurrRpsIdx of the sequence set's short-term sets,
--- or the header's own behind them (7.4.7.1)
+-- or the header's own after them (7.4.7.1)
 abbrev pub short_term_set : Slice → ShortTermRefPicSet
 short_term_set s = get_or s.short_term_ref_pic_sets s.curr_rps_idx s.short_term_ref_pic_set
 
@@ -94,7 +94,7 @@ is_curr_short_term m = m.used_by_curr_pic
 abbrev pub is_curr_long_term : LongTermMember → Bool
 is_curr_long_term m = m.used_by_curr_pic
 
--- over the entries before long-term members are marked, and over those behind it
+-- over the entries before long-term members are marked, and over those after it
 abbrev pub five_lists : Head → Slice → ShortTermRefPicSet → Buffer → Buffer → RefPicSet
 five_lists p first set es marked = record {
   st_curr_before = map (short_term_entry p marked) (filter is_curr_short_term set.negative_pics);

@@ -8,7 +8,7 @@ use Rattle.hevc_walk.specs.Refusals.{Refusal, DpbFull, stop, covered_stream}
 abbrev pub walk_events : Stream → List (ℕ × Event)
 walk_events v = picture_events v.first_set v.pictures
 
--- behind the last unit, if nothing stops before; k is the number of units
+-- after the last unit, if nothing stops before; k is the number of units
 abbrev pub ending : Option Refusal → ℕ → Stream → List (ℕ × Event)
 ending None k v = at_unit k (closing (latest_head v.pictures) (store v.first_set v.pictures)).events
 ending (Some refusal) k v = []
@@ -46,7 +46,7 @@ calls us = calls_in (events us)
 abbrev pub outputs : List Meaning → List OutputPicture
 outputs us = outputs_in (events us)
 
--- what is asked and output before unit k, at it, and behind it
+-- what is asked and output before unit k, at it, and after it
 abbrev pub calls_below : ℕ → List (ℕ × Call) → List (ℕ × Call)
 calls_below k cs = filter (λ c. nat_lt c.0 k) cs
 

@@ -22,7 +22,7 @@ pub data Event : Type 0 where
   Called : Call → Event
   Output : (number : ℕ) (order_count : ℤ) → Event
 
--- Some events, and what stands behind them.
+-- Some events, and the standing after them.
 pub record Part (S : Type 0) : Type 0 where
   pub events : List Event
   pub next : S
@@ -70,8 +70,8 @@ is_accepted format (Some accepted) = same_format accepted format
 abbrev pub open_sequence : Format → Store → Part Store
 open_sequence format s = call (NewSequence format) (record s { accepted = Some format })
 
--- Where the format of a picture differs from the accepted one, what waits is output before it is
--- negotiated, in every case: no NoOutputOfPriorPicsFlag is looked at.
+-- Where the format of a picture differs from the accepted one, what is needed for output is output
+-- before it is negotiated, in every case: no NoOutputOfPriorPicsFlag is looked at.
 unfoldable pub change_format : Format → Store → Part Store
 change_format format s =
     if is_accepted format s.accepted then nothing s
@@ -126,17 +126,17 @@ abbrev pub latest_head : List Picture → Option Head
 latest_head [] = None
 latest_head (p ∷ before) = Some p.head
 
--- what stands before the first picture
+-- the standing before the first picture
 abbrev pub first_store : Option (ℕ × Format) → Store
 first_store None = record { accepted = None; buffer = [] }
 first_store (Some set) = record { accepted = Some set.1; buffer = [] }
 
--- what stands once the latest picture has begun, behind a first sequence set
+-- the standing once the latest picture has begun, after a first sequence set
 abbrev pub store : Option (ℕ × Format) → List Picture → Store
 store set [] = first_store set
 store set (p ∷ before) = (picture_part (latest_head before) p.head p.first (store set before)).next
 
--- what stands as a picture is to begin
+-- the standing as a picture is to begin
 abbrev pub store_before : Option (ℕ × Format) → Picture → List Picture → Store
 store_before set p before = (prepare (latest_head before) p.head (store set before)).next
 
@@ -172,7 +172,8 @@ picture_events set (p ∷ before) =
     ++ at_unit p.unit (picture_part (latest_head before) p.head p.first (store set before)).events
     ++ decode_slices p.head (reference_set_of set p before) p.slices
 
--- behind the last unit the last picture is over, and all that waits is output (C.5.2.2)
+-- after the last unit the last picture is over, and all that is needed for output is output
+-- (C.5.2.2)
 abbrev pub closing : Option Head → Store → Part Store
 closing before s = finish before s >>= output_by draining
 

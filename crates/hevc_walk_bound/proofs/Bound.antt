@@ -212,7 +212,7 @@ has_of n es h = by_test (has_number n es) (has-as n es)
 eqb-same : (n : ℕ) → eqb n n ≡ true
 eqb-same n = grind (arith, nat_tests)
 
--- once all that waits is output, only what has a mark is left
+-- once all that is needed for output is output, only what has a mark is left
 left-few : (output xs : List Entry) → ((n : ℕ) → 1 ≤ waits_as n xs → has_number n output ≡ true) → length (after_output output (filter is_needed xs)) ≤ marks xs
 unfolding marks
 left-few output [] h = omega arith

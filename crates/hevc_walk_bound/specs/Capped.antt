@@ -10,7 +10,7 @@ capped e = record e { latency_count = min e.latency_count (2 ^ 31 - 1) }
 abbrev pub capped_bumped : Bumped → Bumped
 capped_bumped b = record { outputs = map capped b.outputs; left = map capped b.left }
 
--- one picture more is stored behind it, and its count goes on
+-- one picture more is stored after it, and its count goes on
 abbrev pub with_uncapped_latency : Entry → Entry
 with_uncapped_latency e = record e { latency_count = e.latency_count + 1 }
 

@@ -196,7 +196,7 @@ bumps_on rule es e rest distinct is holds =
 pub due_ended : (rule : Buffer → Bool) (es : Buffer) → rule es ≡ false → after_output (due_outputs rule es) es ≡ es
 due_ended rule es holds = ap (λ l. after_output l es) (due_none rule es holds) ∙ output_none es
 
--- nothing waits
+-- nothing is needed for output
 pub none_waits : (rule : Buffer → Bool) (es : Buffer) → in_output_order es ≡ [] → due_outputs rule es ≡ []
 unfolding due_outputs
 none_waits rule es is = ap (shortest_front (λ outputs. not (rule (after_output outputs es)))) is

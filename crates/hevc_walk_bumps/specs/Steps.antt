@@ -7,12 +7,12 @@ abbrev pub Absent : ℕ → List Entry → Type 0
 Absent n [] = Unit {0}
 Absent n (e ∷ es) = (e.number ≢ n) × Absent n es
 
--- no number stands twice
+-- no number is there twice
 abbrev pub Distinct : List Entry → Type 0
 Distinct [] = Unit {0}
 Distinct (e ∷ es) = Absent e.number es × Distinct es
 
--- the buffer once the first entry in output order was output, if one waits
+-- the buffer once the first entry in output order was output, if one is needed for output
 abbrev pub after_one : Buffer → Buffer
 after_one es = after_output (take 1 (in_output_order es)) es
 

@@ -19,7 +19,7 @@ abbrev placed_verdict : (ℕ → ℕ) → Result ℕ Refusal → Result ℕ Refu
 placed_verdict g (Ok n) = Ok n
 placed_verdict g (Err r) = Err (record r { unit = g r.unit })
 
--- unit i comes to stand at j, and those after it by the flags
+-- unit i comes to be at j, and those after it by the flags
 abbrev Places : (ℕ → ℕ) → ℕ → ℕ → List Bool → Type 0
 Places g i j flags = (d : ℕ) → g (i + d) ≡ j + kept_before flags d
 

@@ -7,7 +7,8 @@ use Rattle.hevc_walk_examples.specs.Streams.{plain_format, deep_format, tight_fo
 use Rattle.hevc_walk_examples.specs.Corners.{sets, limited, intra, trailing}
 use Rattle.hevc_walk_examples.specs.References.{referring}
 
--- two pictures wait under a reordering of 2; the next sequence, which discards them, has one of 0
+-- two pictures are needed for output under a reordering of 2; the next sequence, which discards
+-- them, has one of 0
 abbrev pub discarded_waiting : List Meaning
 discarded_waiting =
     SequenceSet plain_format ∷ Other ∷ idr (limited 2 0 4) ∷ trailing (limited 2 0 4) 4
@@ -83,7 +84,8 @@ skipped_deeper =
     SequenceSet plain_format ∷ Other ∷ cra ∷ rasl6 ∷ SequenceSet deep_format ∷ Other
     ∷ CodedSlice (later_slice 9 [] (plain_sets deep_format) (plain_header I 6 [] [] 0)) ∷ []
 
--- two pictures wait, and a CRA picture that would discard them has an order count of 2 ^ 31
+-- two pictures are needed for output, and a CRA picture that would discard them has an order count
+-- of 2 ^ 31
 abbrev pub far_discard : List Meaning
 far_discard =
     SequenceSet plain_format ∷ Other ∷ idr (limited 2 0 4) ∷ trailing (limited 2 0 4) 4

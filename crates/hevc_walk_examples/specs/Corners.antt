@@ -77,7 +77,7 @@ screen_sets = record sets { pps_curr_pic_ref_enabled_flag = true }
 abbrev pub screen_header : SliceHeader
 screen_header = plain_header P 1 (negsuc 0 ∷ []) [] 2
 
--- the current picture may be referred to: a picture of four slices behind an IDR picture
+-- the current picture may be referred to: a picture of four slices after an IDR picture
 abbrev pub screen : List Meaning
 screen = SequenceSet plain_format ∷ Other ∷ idr sets
     ∷ CodedSlice (first_slice 1 [] screen_sets (record screen_header { list0 = places 1 }))
@@ -92,7 +92,7 @@ screen = SequenceSet plain_format ∷ Other ∷ idr sets
     }))
     ∷ []
 
--- SpsMaxLatencyPictures is 3: hidden pictures are stored behind the first
+-- SpsMaxLatencyPictures is 3: hidden pictures are stored after the first
 abbrev pub latent : List Meaning
 latent =
     SequenceSet plain_format ∷ Other ∷ CodedSlice (intra 19 (limited 2 2 4) 0)
@@ -117,7 +117,7 @@ without_prior = SequenceSet plain_format ∷ Other ∷ idr sets ∷ p4 ∷ idr_w
 abbrev pub with_prior : List Meaning
 with_prior = SequenceSet plain_format ∷ Other ∷ idr sets ∷ p4 ∷ idr sets ∷ []
 
--- no IRAP picture stands before these RASL pictures
+-- no IRAP picture is before these RASL pictures
 abbrev pub rasl_first : List Meaning
 rasl_first = SequenceSet plain_format ∷ Other ∷ rasl6 ∷ rasl4 ∷ []
 
@@ -149,7 +149,7 @@ handled_cra = SequenceSet plain_format ∷ Other ∷ idr sets ∷ handled 21 8 �
 abbrev pub handled_rasl : List Meaning
 handled_rasl = SequenceSet plain_format ∷ Other ∷ idr sets ∷ cra ∷ handled 9 6 ∷ []
 
--- a dependent slice behind the P slice
+-- a dependent slice after the P slice
 abbrev pub dependent_p : List Meaning
 dependent_p =
     SequenceSet plain_format ∷ Other ∷ idr sets ∷ p4

@@ -25,7 +25,7 @@ two_sequences =
     SequenceSet plain_format ∷ Other ∷ p4 ∷ p2 ∷ idr (plain_sets plain_format) ∷ p4 ∷ p2 ∷ []
 
 -- under the same sets order counts 0, 4, 2 and 1: two pictures precede the last,
--- and are to be output behind it
+-- and are to be output after it
 abbrev pub reordered_too_far : List Meaning
 reordered_too_far =
     SequenceSet plain_format ∷ Other ∷ idr (plain_sets plain_format) ∷ p4 ∷ i2 ∷ i1 ∷ []
@@ -48,7 +48,7 @@ i_picture sets lsb = CodedSlice (first_slice 1 [] sets (plain_header I lsb [] []
 abbrev pub counts_under : NamedSets → List ℕ → List Meaning
 counts_under sets counts = SequenceSet plain_format ∷ Other ∷ idr sets ∷ map (i_picture sets) counts
 
--- order counts 0, 4, 8, 2 and 3: two pictures stand between those of 4 and 3
+-- order counts 0, 4, 8, 2 and 3: two pictures are between those of 4 and 3
 abbrev pub late_stream : ℕ → List Meaning
 late_stream increase = counts_under (sets_of increase 4) (4 ∷ 8 ∷ 2 ∷ 3 ∷ [])
 

@@ -215,11 +215,11 @@ dependent_alone = SequenceSet plain_format ∷ Other ∷ dependent ∷ []
 abbrev pub dependent_behind : List Meaning
 dependent_behind = SequenceSet plain_format ∷ Other ∷ idr (plain_sets plain_format) ∷ dependent ∷ []
 
--- seven pictures that wait, in a buffer of six
+-- seven pictures that are needed for output, in a buffer of six
 abbrev pub crowded : List Meaning
 crowded = SequenceSet tight_format ∷ Other ∷ idr tight_sets ∷ replicate 6 (t0 tight_sets)
 
--- one more, and a refused unit behind them
+-- one more, and a refused unit after them
 abbrev pub crowded_refused : List Meaning
 crowded_refused =
     SequenceSet tight_format ∷ Other ∷ idr tight_sets ∷ replicate 7 (t0 tight_sets)
@@ -281,6 +281,6 @@ waiting number order_count = record {
   latency_count = 0;
 }
 
--- three pictures that wait, two of one order count
+-- three pictures that are needed for output, two of one order count
 abbrev pub three_waiting : Buffer
 three_waiting = waiting 7 (pos 4) ∷ waiting 8 (pos 0) ∷ waiting 9 (pos 0) ∷ []

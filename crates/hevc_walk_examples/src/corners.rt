@@ -50,7 +50,7 @@ pub fn long_term_pictures()
         ∷ [] }
 {}
 
-/// The current picture stands last in the bases, and takes the last place of a list 0 that has no place for it.
+/// The current picture is last in the bases, and takes the last place of a list 0 that has no place for it.
 pub fn current_picture()
     ensures { slice_lists screen
         ≡ (0, [], []) ∷ (1, Some CurrentPicture ∷ [], []) ∷
@@ -59,7 +59,7 @@ pub fn current_picture()
         ∷ (1, Some CurrentPicture ∷ [], Some (DpbEntry 0) ∷ Some CurrentPicture ∷ []) ∷ [] }
 {}
 
-/// A picture is output once as many were stored behind it as SpsMaxLatencyPictures says, hidden ones too.
+/// A picture is output once as many were stored after it as SpsMaxLatencyPictures says, hidden ones too.
 pub fn latency()
     ensures outputs { told_outputs latent ≡ (0, pos 0, 6) ∷ [] }
     ensures fates { fates latent ≡ Hidden ∷ Hidden ∷ Hidden ∷ Hidden ∷ ForOutput ∷ [] }
@@ -71,7 +71,7 @@ pub fn room()
     ensures left { told_outputs unneeded ≡ (0, pos 0, 5) ∷ (2, pos 2, 5) ∷ [] }
 {}
 
-/// An IDR picture discards what waits where its flag says so.
+/// An IDR picture discards what is needed for output where its flag says so.
 pub fn prior_pictures()
     ensures without { told_outputs without_prior ≡ (0, pos 0, 4) ∷ (2, pos 0, 5) ∷ [] }
     ensures without_fates { fates without_prior ≡ ForOutput ∷ Discarded ∷ ForOutput ∷ [] }
@@ -91,7 +91,7 @@ pub fn earlier_pictures()
         (4, 1, negsuc 6, true) ∷ [] }
 {}
 
-/// At a BLA picture what waits is output, and its RASL pictures are skipped; those of a CRA picture within a sequence aren't.
+/// At a BLA picture what is needed for output is output, and its RASL pictures are skipped; those of a CRA picture within a sequence aren't.
 pub fn random_access()
     ensures broken_link { told_outputs broken_link ≡ (0, pos 0, 4) ∷ (1, pos 4, 4) ∷ (2, pos 8, 6) ∷ [] }
     ensures skipped { fates broken_link ≡ Skipped ∷ ForOutput ∷ ForOutput ∷ ForOutput ∷ [] }
@@ -101,7 +101,7 @@ pub fn random_access()
         ≡ (0, pos 0, 4) ∷ (2, pos 6, 5) ∷ (1, pos 8, 5) ∷ [] }
 {}
 
-/// A CRA picture within a sequence that is handled as a BLA picture discards what waits, and its RASL pictures are skipped;
+/// A CRA picture within a sequence that is handled as a BLA picture discards what is needed for output, and its RASL pictures are skipped;
 /// at other pictures the flag says nothing.
 pub fn handled_as_bla()
     ensures pictures { new_pictures handled_cra ≡ (0, 19, pos 0, true) ∷ (1, 21, pos 8, true) ∷ [] }

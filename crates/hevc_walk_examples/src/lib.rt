@@ -50,7 +50,7 @@ pub fn skipped_leading()
     ensures verdict { verdict leading ≡ Ok 3 }
 {}
 
-/// A CRA picture behind an end of sequence discards what waits; behind an end of bitstream it doesn't.
+/// A CRA picture after an end of sequence discards what is needed for output; after an end of bitstream it doesn't.
 pub fn ends()
     ensures sequence { told_outputs (ended_by EndOfSequence) ≡ (0, pos 0, 5) ∷ (2, pos 8, 6) ∷ [] }
     ensures sequence_verdict { verdict (ended_by EndOfSequence) ≡ Ok 3 }
@@ -113,7 +113,7 @@ pub fn dependent_slices()
     ensures verdict { verdict dependent_behind ≡ Ok 1 }
 {}
 
-/// Seven pictures that wait don't fit into a buffer of six.
+/// Seven pictures that are needed for output don't fit into a buffer of six.
 pub fn full_buffer()
     ensures nothing_yet { so_far 9 crowded ≡ [] }
     ensures last_calls { calls_of_unit 9 (calls crowded) ≡ (9, SubmitPicture 6) ∷ [] }
@@ -121,7 +121,7 @@ pub fn full_buffer()
     ensures before_refusal { verdict crowded_refused ≡ Err (record { unit = 9; cause = DpbFull }) }
 {}
 
-/// Another bit depth is another format: it is negotiated anew, what waits is output before it whatever the picture's flag
+/// Another bit depth is another format: it is negotiated anew, what is needed for output is output before it whatever the picture's flag
 /// says, and within a picture it is refused.
 pub fn changed_depth()
     ensures calls { calls deeper ≡ (0, NewSequence plain_format)

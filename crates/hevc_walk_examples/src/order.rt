@@ -26,7 +26,7 @@ pub fn kept_order()
 {}
 
 /// An IDR picture, a P picture of order count 4, and I pictures of 2 and 1: two pictures precede the last and follow
-/// it in output order, where one is declared. It is output behind a picture of a greater order count.
+/// it in output order, where one is declared. It is output after a picture of a greater order count.
 pub fn broken_order()
     ensures breaks { All (λ q. FewPrecede q.first.limits.max_num_reorder_pics (pictures_for_output q) → ⊥)
         (sequences reordered_too_far) }
@@ -60,7 +60,7 @@ pub fn broken_latency()
     ensures verdict { verdict (late_stream 1) ≡ Ok 5 }
 {}
 
-/// A picture is output for want of room, and the order is kept.
+/// A picture is output because the buffer is full, and the order is kept.
 pub fn kept_room()
     ensures keeps { All (KeepsOrder full_stream) (sequences full_stream) }
     ensures tested { map (keeps_order full_stream) (sequences full_stream) ≡ true ∷ [] }
@@ -69,7 +69,7 @@ pub fn kept_room()
     ensures verdict { verdict full_stream ≡ Ok 3 }
 {}
 
-/// A picture is output for want of room before one of a lower order count comes.
+/// A picture is output because the buffer is full before one of a lower order count comes.
 pub fn broken_room()
     ensures breaks { All (λ q. KeepsOrder overfull_stream q → ⊥) (sequences overfull_stream) }
     ensures tested { map (keeps_order overfull_stream) (sequences overfull_stream) ≡ false ∷ [] }

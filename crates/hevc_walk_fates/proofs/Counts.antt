@@ -125,7 +125,7 @@ needed-as n (e ∷ es) = by_test e.needed_for_output (is_reference e.mark) refl 
     by_test false true is h = ap (λ (b : Bool). one (b && eqb e.number n) + waits_as n (filter is_needed es)) is ∙ omega (arith, h)
     by_test false false is h = omega (arith, h)
 
--- marks change nothing of what waits
+-- marks change nothing of what is needed for output
 Keeps : (Entry → Entry) → Type 0
 Keeps f = (e : Entry) → ((f e).needed_for_output ≡ e.needed_for_output) × ((f e).number ≡ e.number)
 

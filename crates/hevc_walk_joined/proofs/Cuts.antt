@@ -1,4 +1,4 @@
--- What some units have done, and what those behind them do.
+-- What some units have done, and what those after them do.
 use Rattle.std.proofs.Common.{◌≡◌, ℕ, ◌+◌, ◌<◌, ◌≤◌, Bool, true, false, cond, List, [], ◌∷◌, ◌++◌, length, filter, refl, sym, ◌∙◌, ap, subst, append_assoc, append-nil, arith, Option, Some, None, is_some, add-zero, zero-add}
 use Rattle.std.specs.Prelude.{nat_lt, nat_eq}
 use Rattle.std.proofs.lemmas.Bool.Decides.{nat_tests}
@@ -41,7 +41,7 @@ pub AllFrom-at : (k j : ℕ) (es : List Event) → k ≤ j → AllFrom k (at_uni
 AllFrom-at k j [] h = tt
 AllFrom-at k j (e ∷ es) h = (h, AllFrom-at k j es h)
 
--- what the units from the k-th on do stands at k or behind
+-- what the units from the k-th on do is at k or after
 pub events_from-from : (k j : ℕ) (s : Standing) (us : List Meaning) → k ≤ j → AllFrom k (events_from s j us)
 events_from-from k j s [] h = AllFrom-at k j (closing_part s).events h
 events_from-from k j s (u ∷ us) h = AllFrom-append k (at_unit j (unit_part u s).events) _ (AllFrom-at k j (unit_part u s).events h) (by_test (is_some (refusal_at u s)) (events_from-from k (j + 1) (unit_part u s).next us (omega (arith, h))))
@@ -55,7 +55,7 @@ goes_on : (k : ℕ) (v : Stream) (part : Part Standing) (fills : Bool) (w : Stre
 goes_on k v part fills w None later takes none = (refl, takes, none)
 goes_on k v part fills w (Some cause) later takes none = absurd (cc none)
 
--- what some units have done stands before the next one
+-- what some units have done is before the next one
 pub stream-below : (k : ℕ) (v : Stream) (us : List Meaning) → stop_from k v us ≡ None → AllBelow k (walk_events v) → AllBelow (k + length us) (walk_events (stream_from k v us))
 stream-below k v [] none h = AllBelow-more k (k + 0) (walk_events v) (omega arith) h
 stream-below k v (u ∷ us) none h =
@@ -65,7 +65,7 @@ stream-below k v (u ∷ us) none h =
     let done : AllBelow (k + 1) (walk_events w) = subst (λ (l : List (ℕ × Event)). AllBelow (k + 1) l) (sym on.1.events) (AllBelow-append (k + 1) (walk_events v) (at_unit k part.events) (AllBelow-more k (k + 1) (walk_events v) (omega arith) h) (AllBelow-at (k + 1) k part.events (omega arith))) in
     subst (λ (n : ℕ). AllBelow n (walk_events (stream_from (k + 1) w us))) (next-place k u us) (stream-below (k + 1) w us on.2 done)
 
--- the units in front first, then those behind
+-- the first units, then those after them
 cut-from : (k : ℕ) (v : Stream) (front back : List Meaning) → stop_from k v front ≡ None
     → walk_events v ++ events_from (standing v) k (front ++ back) ≡ walk_events (stream_from k v front) ++ events_from (standing (stream_from k v front)) (k + length front) back
 cut-from k v [] back none = ap (λ (n : ℕ). walk_events v ++ events_from (standing v) n back) (sym (add-zero k))
@@ -95,7 +95,7 @@ verdict-cut-from k v (u ∷ front) back none =
     ∙ verdict-cut-from (k + 1) w front back on.2
     ∙ ap (λ (n : ℕ). full_or (full_by (stream_from (k + 1) w front)) (verdict_from (standing (stream_from (k + 1) w front)) n back)) (next-place k u front)
 
--- the events of units that aren't refused, then those of the units behind them
+-- the events of units that aren't refused, then those of the units after them
 pub events-cut : (front back : List Meaning) → stop front ≡ None → events (front ++ back) ≡ walk_events (stream front) ++ events_from (standing (stream front)) (length front) back
 events-cut front back none =
     sym (events-same (front ++ back))
@@ -203,7 +203,7 @@ outputs_of_unit-in k ((j, Called call) ∷ es) = outputs_of_unit-in k es ∙ by_
     by_test true = refl
     by_test false = refl
 
--- what stands below the unit behind the front is what the front has done
+-- what is below the unit after the first ones is what these have done
 pub below-cut : (front back : List Meaning) → stop front ≡ None → below (length front) (events (front ++ back)) ≡ walk_events (stream front)
 below-cut front back none =
     let k = length front in
@@ -215,7 +215,7 @@ below-cut front back none =
     ∙ ap (λ l. walk_events (stream front) ++ l) (below-none k rest (events_from-from k k (standing (stream front)) back (omega arith)))
     ∙ append-nil (walk_events (stream front))
 
--- what stands at the unit behind the front is what that unit does
+-- what is at the unit after the first ones is what that unit does
 pub of_unit-cut : (front : List Meaning) (x : Meaning) (back : List Meaning) → stop front ≡ None → of_unit (length front) (events (front ++ x ∷ back)) ≡ at_unit (length front) (unit_part x (standing (stream front))).events
 of_unit-cut front x back none =
     let k = length front in

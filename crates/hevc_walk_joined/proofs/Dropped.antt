@@ -23,7 +23,7 @@ above k u h = grind (arith, nat_tests)
 below : (k u : ℕ) → u + 1 ≤ k → raised k u ≡ u
 below k u h = grind (arith, nat_tests)
 
--- one unit's events, and what comes behind them
+-- one unit's events, and what comes after them
 step-raised : (k u v : ℕ) (es : List Event) (b : Bool) (later later' : List (ℕ × Event)) → raised k u ≡ v → later ≡ map (raised_event k) later'
     → at_unit v es ++ cond b [] later ≡ map (raised_event k) (at_unit u es ++ cond b [] later')
 step-raised k u v es true later later' h is = ap (λ l. l ++ []) (at-raised k u v es h) ∙ sym (map-append (raised_event k) (at_unit u es) [])

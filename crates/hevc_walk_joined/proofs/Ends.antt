@@ -1,4 +1,4 @@
--- Where a list of units stops, and that nothing is asked behind its end.
+-- Where a list of units stops, and that nothing is asked after its end.
 use Rattle.std.proofs.Common.{◌≡◌, ℕ, ◌+◌, Bool, true, false, cond, List, [], ◌∷◌, ◌++◌, length, sym, ◌∙◌, ap, subst, arith, Option, Some, None, is_some, add-zero, zero-add}
 use Rattle.hevc_walk.specs.Meanings.{Meaning}
 use Rattle.hevc_walk.specs.Pictures.{Stream, with_unit, nothing_yet, stream, stream_from}
@@ -39,7 +39,7 @@ events_from-below k s (u ∷ us) =
 all-below : (us : List Meaning) → AllBelow (length us + 1) (events us)
 all-below us = subst (λ l. AllBelow (length us + 1) l) (events-same us) (subst (λ (n : ℕ). AllBelow (n + 1) (events_from units.at_first 0 us)) (zero-add (length us)) (events_from-below 0 units.at_first us))
 
--- nothing comes behind the end
+-- nothing comes after the end
 pub calls-below : (us : List Meaning) → calls_below (length us + 1) (calls us) ≡ calls us
 calls-below us = calls_below-in (length us + 1) (events us) ∙ ap calls_in (below-all (length us + 1) (events us) (all-below us))
 

@@ -140,7 +140,7 @@ behind-submits j k es more h s = record {
   later_from = s.later_from;
 }
 
--- a store comes at its own unit or behind it
+-- a store comes at its own unit or after it
 full_from-from : (j k : ℕ) (s : Standing) (us : List Meaning) → full_from s k us ≡ Some j → k ≤ j
 full_from-from j k s [] h = by_full (is_full_now s) h
   where
@@ -175,7 +175,7 @@ submits_from j k s (u ∷ us) h = by_full (is_full_at u s) refl (is_some (refusa
     by_full false is true further h = absurd (cc h)
     by_full false is false further h = behind-submits j k (unit_part u s).events (events_from (unit_part u s).next (k + 1) us) (let e = full_from-from j (k + 1) (unit_part u s).next us h in omega (arith, e)) (further h)
 
--- the calls below j, the submission, and what comes at j or behind it
+-- the calls below j, the submission, and what comes at j or after it
 pub full-calls : (us : List Meaning) (j : ℕ) → full us ≡ Some j → SubmitsFirst j (calls us)
 full-calls us j h = record { number = s.number; later = calls_in s.later; whole = whole ∙ ap (λ l. l ++ (j, SubmitPicture s.number) ∷ calls_in s.later) (sym front); later_from = calls_below-in j s.later ∙ ap calls_in (below-none j s.later s.later_from) }
   where

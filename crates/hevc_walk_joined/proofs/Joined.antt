@@ -1,4 +1,4 @@
--- The walk unit by unit stands, behind some units, where the walk over their pictures stands.
+-- The walk unit by unit is, after some units, where the walk over their pictures is.
 use Rattle.std.proofs.Common.{◌≡◌, ℕ, ◌+◌, Bool, true, false, not, cond, ◌&&◌, ◌||◌, List, [], ◌∷◌, ◌++◌, length, refl, sym, ◌∙◌, ap, subst, append_assoc, append-nil, arith, Option, Some, None, is_some, Result, Ok, Err, add-zero, zero-add}
 use Rattle.std.proofs.lemmas.List.{map-append}
 use Rattle.hevc_walk.specs.Meanings.{Format, Slice, Meaning, CodedSlice, Refused, SequenceSet, EndOfSequence, EndOfBitstream, Other, same_format}
@@ -247,7 +247,7 @@ whole-outcome : (k : ℕ) (v : Stream) (kept : Option KeptHeader) (s : Option Sl
 whole-outcome k v kept None = record { events = refl; full = refl }
 whole-outcome k v kept (Some slice) = slice-outcome k v.first_set v.kept kept v.pictures slice
 
--- a sequence set behind which pictures have begun
+-- a sequence set after which pictures have begun
 told-takes : (k : ℕ) (set : Option (ℕ × Format)) (kept : Option KeptHeader) (p : Picture) (before : List Picture) (format : Format)
     → Takes k (stream_of set kept (p ∷ before)) (units.sequence_part (store set (p ∷ before)).accepted format (standing (stream_of set kept (p ∷ before)))) false (stream_of set kept (p ∷ before))
 told-takes k set kept p before format =
@@ -307,7 +307,7 @@ refusal-same v (Refused cause) = refl
 closing-same : (v : Stream) → (units.closing_part (standing v)).events ≡ (closing (latest_head v.pictures) (store v.first_set v.pictures)).events
 closing-same v = ap (λ (f : Part Store). (f >>= output_by draining).events) (finish-latest v.first_set v.pictures (store v.first_set v.pictures))
 
--- what happens from the unit k on, by units, behind what the pictures before did
+-- what happens from the unit k on, by units, after what the pictures before did
 EventsJoin : ℕ → Stream → List (ℕ × Event) → Option Refusal → ℕ → Stream → Type 0
 EventsJoin k v rest stopped n last = walk_events v ++ rest ≡ walk_events last ++ ending stopped n last
 

@@ -1,4 +1,4 @@
--- Calls and outputs stand in the order of their units.
+-- Calls and outputs are in the order of their units.
 use Rattle.std.proofs.Common.{◌≡◌, ⊎_elim, ℕ, ◌+◌, ◌<◌, ◌≤◌, Bool, true, false, cond, List, [], ◌∷◌, ◌++◌, filter, refl, sym, ◌∙◌, ap, subst, append_assoc, append-nil, arith, is_some}
 use Rattle.std.specs.Prelude.{nat_lt, nat_eq}
 use Rattle.std.proofs.lemmas.Bool.{cases_order}
@@ -62,7 +62,7 @@ parts_below k j es more h m = record {
   rest_above = m.rest_above;
 }
 
--- the events of one unit, and those of the units behind it
+-- the events of one unit, and those of the units after it
 step-parts : (k j : ℕ) (es : List Event) (more : List (ℕ × Event)) → AllFrom (j + 1) more → Parts k more → Parts k (at_unit j es ++ more)
 step-parts k j es more from m = ⊎_elim
     (λ is. subst (λ (n : ℕ). AllFrom (n + 1) more → Parts k (at_unit n es ++ more)) (sym is) (parts_at k es more) from)

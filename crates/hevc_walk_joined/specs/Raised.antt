@@ -1,4 +1,4 @@
--- The places of units once there is one more in front of them.
+-- The places of units once there is one more before them.
 use Rattle.std.specs.Prelude.{ℕ, ◌+◌, nat_le, if◌then◌else◌, Result, Ok, Err}
 use Rattle.hevc_walk.specs.Walk.{Call}
 use Rattle.hevc_walk.specs.Refusals.{Refusal}

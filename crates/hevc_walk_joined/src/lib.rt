@@ -27,15 +27,15 @@ pub fn same_verdict()
     ensures { (us : List Meaning) → verdict_by_units us ≡ verdict us }
 {}
 
-/// One more unit that isn't refused does what the standing behind the units before it asks, and leads to the standing
-/// behind all of them.
+/// One more unit that isn't refused does what the standing after the units before it asks, and leads to the standing
+/// after all of them.
 pub fn next_moment()
     ensures { (us : List Meaning) (x : Meaning) → refusal (stream us) x ≡ None
         → Takes (length us) (stream us) (unit_part x (standing (stream us)))
         (is_full_at x (standing (stream us))) (stream (us ++ x ∷ [])) }
 {}
 
-/// Before a unit, what the units in front of it ask is done: nothing of it depends on what comes.
+/// Before a unit, what the units before it ask is done: nothing of it depends on what comes.
 pub fn done_before()
     ensures calls { (front back : List Meaning) → stop front ≡ None
         → calls_below (length front) (calls (front ++ back))
@@ -70,7 +70,7 @@ pub fn done_from()
         (verdict_from (standing (stream front)) (length front) back) }
 {}
 
-/// Calls and outputs stand in the order of their units: those below a unit, those at it, and those above.
+/// Calls and outputs are in the order of their units: those below a unit, those at it, and those above.
 pub fn in_unit_order()
     ensures calls { (us : List Meaning) (k : ℕ)
         → calls us ≡ calls_below k (calls us) ++ calls_of_unit k (calls us)
@@ -80,7 +80,7 @@ pub fn in_unit_order()
         ++ outputs_above k (outputs us) }
 {}
 
-/// A unit that means nothing may be taken out: the units behind it come one place earlier.
+/// A unit that means nothing may be taken out: the units after it come one place earlier.
 pub fn dropped_unit()
     ensures calls { (front back : List Meaning)
         → calls (front ++ Other ∷ back) ≡ map (raised_call (length front)) (calls (front ++ back)) }
@@ -104,7 +104,7 @@ pub fn next_stop()
         → stop (us ++ x ∷ []) ≡ first_refusal (length us) (refusal (stream us) x) None }
 {}
 
-/// Nothing is asked or output behind the end of the stream, whose place is the number of units.
+/// Nothing is asked or output after the end of the stream, whose place is the number of units.
 pub fn done_by_the_end()
     ensures calls { (us : List Meaning) → calls_below (length us + 1) (calls us) ≡ calls us }
     ensures outputs { (us : List Meaning) → so_far (length us + 1) us ≡ outputs us }

@@ -1,4 +1,4 @@
--- Which pictures stand in a reference picture list (8.3.4).
+-- Which pictures are in a reference picture list (8.3.4).
 use Rattle.std.specs.Prelude.{ℕ, Bool, false, ◌||◌, ◌==◌, List, [], ◌∷◌, Option, Some, None}
 use Rattle.hevc_walk.specs.ReferenceLists.{RefPicListEntry, CurrentPicture, DpbEntry}
 

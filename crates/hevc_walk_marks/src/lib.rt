@@ -12,7 +12,7 @@ ghost use Rattle.hevc_walk_marks.specs.Listed.{lists};
 ghost use Rattle.hevc_walk_bumps.specs.Steps.{Distinct};
 ghost use Rattle.hevc_walk_marks.specs.Marked.{has_reference, short_term_members, long_term_members};
 
-/// Behind a picture's reference picture set each picture that a list names is used for reference, and what no list names
+/// After a picture's reference picture set each picture that a list names is used for reference, and what no list names
 /// isn't. No picture is a short-term and a long-term member.
 pub fn marked_are_named()
     ensures each { (p : Head) (first : Slice) (es : Buffer) (n : ℕ)

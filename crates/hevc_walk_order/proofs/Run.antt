@@ -20,7 +20,7 @@ use Rattle.hevc_walk_order.proofs.Waiting.{key, keys, keys-append, Aged, aged_ke
 use Rattle.hevc_walk_order.proofs.Parts.{outs, outs-append, outs_in, outs_in-append, outs_in-at, outs_in-slices, Gives, drain-gives, then-gives, stored, stored_due, finish-skipped, finish-stored, change-same, change-gives, begin-not, begin-within, kept, aged-kept, kept_due, begin-starts, begin-discards, EachOf, OfHead, each-picture}
 use Rattle.hevc_walk_order.proofs.Heads.{IsHead, decoded, not_decoded}
 
--- the outputs whose numbers pass a test, and what waits, once the latest picture has begun
+-- the outputs whose numbers pass a test, and what is needed for output, once the latest picture has begun
 abbrev pub passing : (ℕ → Bool) → List Key → List Key
 passing test ks = filter (λ k. test k.0) ks
 
@@ -74,7 +74,7 @@ output-before test set (p ∷ before) h =
     let e = output-others test set p before (latest-of (Outside test) before h.1) ih.1 in
     (e.0 ∙ ih.0, e.1)
 
--- nothing waits as a sequence begins
+-- nothing is needed for output as a sequence begins
 none-of : (ws : List Aged) → Each (λ k. ⊥) (keys_of ws) → ws ≡ []
 none-of [] h = refl
 none-of (w ∷ ws) h = absurd h.0
@@ -101,7 +101,7 @@ wait-begins set p (q ∷ before) h is = wait-starts set p (q ∷ before) h is
 abbrev pub keys_for_output : List Picture → List Key
 keys_for_output ps = map picture_key (filter is_for_output ps)
 
--- how many of these pictures behind a number aren't skipped
+-- how many of these pictures after a number aren't skipped
 abbrev pub after : ℕ → List Picture → ℕ
 after n [] = 0
 after n (p ∷ ps) = cond (not p.skipped && nat_lt n p.number) 1 0 + after n ps
@@ -130,7 +130,7 @@ pub record IsOwn (limits : Limits) (format : Format) (test : ℕ → Bool) (p : 
   pub head_is : IsHead p.head
   pub own : test p.number ≡ true
 
--- and of its place behind those before it
+-- and of its place after those before it
 pub record Fits (limits : Limits) (p : Picture) (ps : List Picture) : Type 0 where
   pub numbers : Each (λ b. b.number < p.number) ps
   pub differs : is_for_output p ≡ true → Each (Differ (picture_key p)) (keys_for_output ps)
@@ -252,7 +252,7 @@ early limits room ps out es w ages gone x rest e c may due = by_test (int_lt x.o
     by_test true h = below_if h
     by_test false h = absurd (⊎_elim (λ holds. clash (is_due limits left) (sym (rule-is limits (after_output gone es)) ∙ holds) (never (not_below h))) (λ refuted. refuted (above (not_below h))) due)
 
--- what stands once what is due is output
+-- the standing once what is due is output
 bump-stands : (limits : Limits) (room : ℤ → Type 0) (test : ℕ → Bool) (ps : List Picture) (out : List Key) (rule : Buffer → Bool) (es : Buffer) → Waits (Allowed limits room ps) (keys_for_output ps) out (waiting es) → Each (IsAged ps) (aged es) → Each (Inside test) (keys_for_output ps)
     → ((gone : List Entry) → rule (after_output gone es) ≡ true → (c : ℤ) → Allowed limits room ps c → Due limits es gone c) → ((bs : Buffer) → rule bs ≡ false → needs_additional_bumping limits bs ≡ false)
     → Stands limits room ps (out ++ passing test (keys (due_outputs rule es))) (aged (after_output (due_outputs rule es) es))
@@ -405,7 +405,7 @@ needed-each (e ∷ es) = by_test (is_needed e) refl (needed-each es)
     by_test true is h = (is, h)
     by_test false is h = h
 
--- what stands once a picture of the sequence begins
+-- the standing once a picture of the sequence begins
 begin-behind : (limits : Limits) (room more : ℤ → Type 0) → ((c : ℤ) → more c → room c) → (format : Format) (test : ℕ → Bool) (p : Picture) (ps : List Picture) (out : List Key) (s : Store) → IsOwn limits format test p → p.starts_sequence ≡ false
     → ((c : ℤ) → more c → p.skipped ≡ false → length (needed_behind c (kept p.head p.first s)) < p.limits.max_dec_pic_buffering_minus1 + 1)
     → Each (Inside test) (keys_for_output ps) → Stands limits room ps out (aged s.buffer) → Stands limits more ps (out ++ passing test (outs (begin_picture p.head p.first s).events)) (aged (begin_picture p.head p.first s).next.buffer)

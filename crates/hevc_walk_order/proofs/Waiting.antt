@@ -1,4 +1,4 @@
--- What waits in a buffer: numbers with order counts and latency counts, in stored order.
+-- What is needed for output in a buffer: numbers with order counts and latency counts, in stored order.
 use Rattle.std.proofs.Common.{◌≡◌, ◌⊎◌, inl, inr, ⊎_elim, ℕ, ℤ, ◌+◌, ◌-◌, ◌^◌, min, ◌≤◌, ◌≤ℤ◌, Bool, true, false, not, cond, ◌&&◌, ◌||◌, eqb, List, [], ◌∷◌, ◌++◌, length, map, filter, refl, sym, ◌∙◌, ap, subst, arith, Option, append-nil, length-append}
 use Rattle.std.specs.Prelude.{int_le, int_lt, nat_lt, nat_le, count_by}
 use Rattle.std.specs.List.{AllByRecursion as Each, list_any}
@@ -166,11 +166,11 @@ has_number-keys : (n : ℕ) (es : List Entry) → has_number n es ≡ has n (key
 has_number-keys n [] = refl
 has_number-keys n (e ∷ es) = ap (λ (b : Bool). eqb e.number n || b) (has_number-keys n es)
 
--- those whose numbers don't stand in a list
+-- those whose numbers aren't in a list
 abbrev pub others_than : List Key → List Aged → List Aged
 others_than out ws = filter (λ a. not (has a.0.0 out)) ws
 
--- whether an entry is output, whether it waits, and whether it is referred to
+-- whether an entry is output, whether it is needed for output, and whether it is referred to
 aged-left : (e : Entry) (b w r : Bool) → e.needed_for_output ≡ w → aged (cond b (cond r (record e { needed_for_output = false } ∷ []) []) (e ∷ [])) ≡ cond w (cond (not b) ((key e, e.latency_count) ∷ []) []) []
 aged-left e true true true is = refl
 aged-left e true true false is = refl
@@ -210,7 +210,7 @@ keys-others out (a ∷ ws) = by_test (not (has a.0.0 out)) (keys-others out ws)
 pub waiting-after : (out : List Entry) (es : Buffer) → waiting (after_output out es) ≡ without (keys out) (waiting es)
 waiting-after out es = ap keys_of (aged-after out es) ∙ keys-others (keys out) (aged es)
 
--- the additional rule, by what waits
+-- the additional rule, by what is needed for output
 abbrev pub late : Limits → Aged → Bool
 late limits a = nat_le (latency_pictures limits) a.1
 
@@ -290,7 +290,7 @@ front-ends {X = X} passes (x ∷ xs) = by_test (passes []) refl (front-ends (λ 
     by_test true is h = inl is
     by_test false is h = ⊎_elim (λ k. inl k) (λ k. inr (ap (λ l. x ∷ l) k)) h
 
--- what is due by a rule is a front of what waits, in output order
+-- what is due by a rule is a prefix of what is needed for output, in output order
 pub due_rest : (Buffer → Bool) → Buffer → List Entry
 due_rest rule es = rest_of (λ out. not (rule (after_output out es))) (in_output_order es)
 
@@ -342,7 +342,7 @@ due-quiet limits rule es differ holds = ⊎_elim
     none : out ≡ in_output_order es → length (waiting (after_output out es)) ≡ 0
     none h = ap length (waiting-after out es) ∙ length_permutation [] (without (keys out) (waiting es)) (left-moves (waiting es) (keys out) [] differ (append-nil (keys out) ∙ ap keys h ∙ keys-in_output_order es))
 
--- the buffer once some were output, where those that still wait aren't output before an order count
+-- the buffer once some were output, where those that are still needed for output aren't output before an order count
 pub after-few : (c : ℤ) (out : List Entry) (es : Buffer) → Each (λ e. is_needed e ≡ true) es → Each (λ k. c ≤ℤ k.1) (waiting (after_output out es)) → length (after_output out es) ≤ length (needed_behind c es)
 after-few c out [] needed h = omega arith
 after-few c out (e ∷ es) needed h = by_tests (has_number e.number out) e.needed_for_output (is_reference e.mark) refl needed.0 own (after-few c out es needed.1 (each-right (λ k. c ≤ℤ k.1) (waiting (left_of (has_number e.number out) e)) (waiting (after_output out es)) parts))

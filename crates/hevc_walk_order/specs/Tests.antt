@@ -55,7 +55,7 @@ never_full set (p ∷ ps) before =
     (p.limits.max_dec_pic_buffering_minus1 + 1))
     && never_full set ps before
 
--- the next sequence, if there is one, doesn't discard what waits
+-- the next sequence, if there is one, doesn't discard what is needed for output
 abbrev pub keeps_prior : Option Picture → Bool
 keeps_prior None = true
 keeps_prior (Some p) = not p.no_output_of_prior_pics

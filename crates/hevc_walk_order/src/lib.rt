@@ -30,7 +30,7 @@ pub fn display_order()
         → ComeInOrder us (outputs us) }
 {}
 
-/// Plainer bounds do for it: no latency is declared, no picture is output for want of room, and no two have one order
+/// Plainer bounds do for it: no latency is declared, no picture is output because the buffer is full, and no two have one order
 /// count.
 pub fn bounds_keep_order()
     ensures order { (us : List Meaning) (q : Sequence) → KeepsBounds us q → KeepsOrder us q }

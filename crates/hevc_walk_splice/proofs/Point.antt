@@ -1,4 +1,4 @@
--- At an IDR or BLA picture of temporal id 0 what stood before is forgotten.
+-- At an IDR or BLA picture of temporal id 0 what was before is forgotten.
 use Rattle.std.proofs.Common.{◌≡◌, ℕ, pos, ◌+◌, Bool, true, false, not, cond, ◌&&◌, ◌||◌, eqb, List, [], ◌∷◌, ◌++◌, map, filter, refl, sym, ◌∙◌, ap, ap₂, arith, Option, Some, None, append_assoc}
 use Rattle.std.specs.Prelude.{◌==◌, if◌then◌else◌}
 use Rattle.std.proofs.lemmas.Bool.Decides.{nat_tests}

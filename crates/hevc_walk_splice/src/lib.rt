@@ -39,7 +39,7 @@ pub fn spliced_stream()
         ≡ map (moved_back_output p.number p.unit (length sets)) (outputs (spliced sets p us)) }
 {}
 
-/// A stream that meets each premise, with its second IDR picture, which discards what waits.
+/// A stream that meets each premise, with its second IDR picture, which discards what is needed for output.
 pub fn second_point()
     ensures real { AreMeanings two_points }
     ensures sets { All IsOfSet its_sets }

@@ -180,7 +180,7 @@ abbrev pub is_full_at : Meaning → Standing → Bool
 is_full_at (CodedSlice slice) s = fills_by (whole_slice s.kept slice) s
 is_full_at u s = false
 
--- behind the last unit
+-- after the last unit
 abbrev pub closing_part : Standing → Part Standing
 closing_part s = on_store (closing (open_head s.current)) s
 

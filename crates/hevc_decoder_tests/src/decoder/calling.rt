@@ -46,7 +46,7 @@ fn give_first<B: StatelessH265DecoderBackend>(
     decoder.decode(0, rest)
 }
 
-/// Takes the pictures that came out.
+/// Takes the pictures that were output.
 fn take_events<B: StatelessH265DecoderBackend>(
     decoder: &mut StatelessDecoder<B>,
     numbers: &mut Vec<u64>,

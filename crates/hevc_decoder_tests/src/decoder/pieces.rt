@@ -31,7 +31,7 @@ impl Source for Drip<'_> {
     }
 }
 
-/// What a source's stream of at most `limit` bytes ends with, how many calls the backend got, and how many pictures came out.
+/// What a source's stream of at most `limit` bytes ends with, how many calls the backend got, and how many pictures were output.
 fn ends<S: Source>(
     rt: &impl Abort,
     alloc: Global,
@@ -70,7 +70,7 @@ fn a_stream_may_come_in_pieces(rt: HostRuntime) -> Result<(), Fail> {
 #[test]
 fn a_refused_stream_is_read_to_its_end(rt: HostRuntime) -> Result<(), Fail> {
     let alloc = rt.alloc();
-    // A unit of one byte, and two pictures behind it.
+    // A unit of one byte, and two pictures after it.
     let rest = &[0, 0, 1, 0x26, 0, 0, 1, 0x26, 0x01, 0xaf, 0x80];
     let mut source = Drip { rest, most: 2 };
     let unit = 0;

@@ -5,8 +5,8 @@ use std::alloc::Global;
 use std::process::Abort;
 use std::test::Fail;
 
-/// A sequence set of 16 by 16 luma samples of which one picture may wait, a picture set, an IDR
-/// picture, and P pictures of order counts 4 and 2, every unit behind a start code.
+/// A sequence set of 16 by 16 luma samples of which one picture may be needed for output, a picture set, an IDR
+/// picture, and P pictures of order counts 4 and 2, every unit after a start code.
 const THREE_PICTURES: &[u8] = &[
     0x00, 0x00, 0x01, 0x42, 0x01, 0x01, 0x01, 0x60, 0x00, 0x00, 0x03, 0x00, 0x90, 0x00, 0x00, 0x03,
     0x00, 0x00, 0x03, 0x00, 0x3c, 0xa0, 0x88, 0x45, 0xe5, 0x5a, 0xbc, 0x20, 0x80, 0x00, 0x00, 0x01,
@@ -37,7 +37,7 @@ const OUTPUTS: &[Shown<u64>] = &[
 ];
 
 /// Where one of these calls fails, the first being 1, the stream has this answer, and these pictures
-/// came out.
+/// were output.
 fn ends(
     rt: &impl Abort,
     alloc: Global,
@@ -74,7 +74,7 @@ fn each_call_in_turn_fails(rt: HostRuntime) -> Result<(), Fail> {
     ends(&rt, alloc, 14, 14, Ok(3), OUTPUTS)
 }
 
-/// An IDR picture, a P picture of order count 4, and I pictures of 2 and 1, where one picture may wait.
+/// An IDR picture, a P picture of order count 4, and I pictures of 2 and 1, where one picture may be needed for output.
 const REORDERED_TOO_FAR: &[u8] = &[
     0x00, 0x00, 0x01, 0x42, 0x01, 0x01, 0x01, 0x60, 0x00, 0x00, 0x03, 0x00, 0x90, 0x00, 0x00, 0x03,
     0x00, 0x00, 0x03, 0x00, 0x3c, 0xa0, 0x88, 0x45, 0xe5, 0x5a, 0xbc, 0x20, 0x80, 0x00, 0x00, 0x01,

@@ -19,7 +19,7 @@ const IDR: &[u8] = &[0x00, 0x00, 0x01, 0x26, 0x01, 0xaf, 0x80];
 /// A picture of order count 4.
 const LATER: &[u8] = &[0x00, 0x00, 0x01, 0x02, 0x01, 0xd2, 0x14, 0x97, 0x80];
 
-/// The number of the next picture that came out.
+/// The number of the next picture that was output.
 fn next_number(decoder: &mut StatelessDecoder<Backend>) -> Option<u64> {
     match decoder.next_event() {
         Some(DecoderEvent::FrameReady(frame)) => Some(frame.number),
@@ -53,7 +53,7 @@ fn waits_for_a_format(rt: &impl Abort, decoder: &mut StatelessDecoder<Backend>) 
     assert!(rt; !decoder.awaiting_format());
 }
 
-/// Behind a flush, an IDR picture or a sequence set.
+/// After a flush, an IDR picture or a sequence set.
 fn waits_behind_a_flush(rt: &impl Abort, decoder: &mut StatelessDecoder<Backend>) {
     assert!(rt; decoder.flush() == Ok(()));
     assert!(rt; decoder.decode(0, LATER) == Ok(9));
@@ -72,7 +72,7 @@ fn negotiates_anew(rt: &impl Abort, decoder: &mut StatelessDecoder<Backend>) {
     assert_eq!(rt; decoder.num_pictures(), 1);
 }
 
-/// The next pictures that come out have these numbers, and no more do.
+/// The next pictures that are output have these numbers, and no more do.
 fn come_out(rt: &impl Abort, decoder: &mut StatelessDecoder<Backend>, numbers: &[u64]) {
     for number in numbers {
         assert!(rt; next_number(decoder) == Some(*number));
@@ -93,7 +93,7 @@ fn four_states_by_hand(rt: HostRuntime) -> Result<(), Fail> {
     assert!(rt; decoder.flush() == Ok(()));
     come_out(&rt, &mut decoder, &[0]);
 
-    // And once more behind a flush.
+    // And once more after a flush.
     assert!(rt; decoder.decode(8, IDR) == Ok(7));
     assert!(rt; decoder.decode(9, LATER) == Ok(9));
     assert!(rt; decoder.flush() == Ok(()));

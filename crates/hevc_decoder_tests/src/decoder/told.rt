@@ -4,7 +4,7 @@ use hevc_decoder::decode_stream;
 use std::test::Fail;
 
 /// A sequence set of 16 by 16 luma samples, a picture set with `dependent_slice_segments_enabled_flag`, an IDR picture whose
-/// slice has `slice_qp_delta` 1, and a dependent slice segment of it, every unit behind a start code.
+/// slice has `slice_qp_delta` 1, and a dependent slice segment of it, every unit after a start code.
 const DEPENDENT_SEGMENT: &[u8] = &[
     0x00, 0x00, 0x01, 0x42, 0x01, 0x01, 0x01, 0x60, 0x00, 0x00, 0x03, 0x00, 0x90, 0x00, 0x00, 0x03,
     0x00, 0x00, 0x03, 0x00, 0x3c, 0xa0, 0x88, 0x45, 0xe5, 0x5a, 0xbc, 0x20, 0x80, 0x00, 0x00, 0x01,

@@ -10,7 +10,7 @@ use hevc_types_c::Sps;
 use hevc_types_d::{Pps, Slice, SliceHeader};
 use std::alloc::Global;
 
-/// A slice of an IDR picture behind its start code.
+/// A slice of an IDR picture after its start code.
 pub(crate) const IDR: &[u8] = &[0, 0, 1, 38, 1, 175, 128];
 
 /// The first slice of a picture, in the first unit of the stream.

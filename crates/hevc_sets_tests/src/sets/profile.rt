@@ -3,7 +3,7 @@ use hevc_bits::NaluReader;
 use hevc_sets::{ParseError, read_profile_tier_level};
 use hevc_types_a::{Level, ProfileTierLevel};
 
-/// A stream of the range extensions' profile with a sub-layer of the Main 10 profile below its highest; a byte more stands behind it:
+/// A stream of the range extensions' profile with a sub-layer of the Main 10 profile below its highest; a byte more comes after it:
 ///
 /// - rows 1 to 5: 00 1 00100 00001000000000000000000000000000 1011
 /// - rows 6 to 15: 110100101, 34 ones, 1; row 27: 01111011; row 28: 1 1; row 29: 14 ones

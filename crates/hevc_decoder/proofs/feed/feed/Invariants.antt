@@ -6,7 +6,7 @@ use Rattle.hevc_decoder.specs.Sources.{Fed}
 use Rattle.hevc_bits.specs.StartCode.{NoneStands}
 use Rattle.hevc_decoder.proofs.feed.feed.Given as goal
 
--- the units in front of the window were taken
+-- the units before the window were taken
 abbrev pub invariant-loop-count : goal.invariant-loop-count
 invariant-loop-count g l = record {
   fed : (given : List ℕ) × Consumes (g.S.Source.left l.fn.source) (g.S.Source.left l.source) given × (length given + l.left ≡ l.fn.left)

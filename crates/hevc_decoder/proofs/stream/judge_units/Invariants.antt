@@ -6,7 +6,7 @@ use Rattle.hevc_decoder.specs.Stepping.{StandsIn}
 use Rattle.hevc_decoder.proofs.Stepping.{Along}
 use Rattle.hevc_decoder.proofs.stream.judge_units.Given as goal
 
--- so many units were taken, and the rest of the stream stands from the position on
+-- so many units were taken, and the rest of the stream is from the position on
 abbrev pub invariant-loop-shown : goal.invariant-loop-shown
 invariant-loop-shown g l = record {
   within : l.position ≤ length l.stream;

@@ -3,7 +3,7 @@ use Rattle.hevc_stateless.specs.Decoders.{view_of, kept_in, set_for}
 use Rattle.hevc_decoder.proofs.Delivering.{MovesTo}
 use Rattle.hevc_decoder.proofs.units.deliver.Given as goal
 
--- a front of the queue was moved
+-- a prefix of the queue was moved
 abbrev pub invariant-loop-frame : goal.invariant-loop-frame
 invariant-loop-frame g l = record {
   so_far : MovesTo l.unit (view_of l.fn.decoder).queue (view_of l.decoder).queue l.fn.shown.items l.shown.items;

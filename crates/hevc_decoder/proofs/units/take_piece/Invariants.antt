@@ -5,7 +5,7 @@ use Rattle.hevc_decoder.specs.Scenes.{Scene, scene}
 use Rattle.hevc_decoder.specs.Runs.{Reached}
 use Rattle.hevc_decoder.proofs.units.take_piece.Given as goal
 
--- so many units were taken, and the rest of the piece stands from the position on
+-- so many units were taken, and the rest of the piece is from the position on
 abbrev pub invariant-loop-nalu : goal.invariant-loop-nalu
 invariant-loop-nalu g l = record {
   within : l.position ≤ length l.piece;

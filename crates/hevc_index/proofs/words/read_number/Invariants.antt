@@ -2,7 +2,7 @@ use Rattle.std.proofs.Common.{◌≡◌, ◌<◌, ◌^◌, drop}
 use Rattle.hevc_index.specs.Requests.{digits_behind, picture_number}
 use Rattle.hevc_index.proofs.words.read_number.Given as goal
 
--- the digits that are left stand behind the number
+-- the digits that are left come after the number
 abbrev pub invariant-loop-digit : goal.invariant-loop-digit
 invariant-loop-digit l = record {
   few : l.number < 2 ^ 64;

@@ -4,7 +4,7 @@ use Rattle.hevc_made.specs.Groups.{are_rising}
 use Rattle.hevc_made.specs.Slices.{members, spelled_elements}
 use Rattle.hevc_made.proofs.slice.write_members.Given as goal
 
--- what is left goes on behind the last distance
+-- what is left goes on after the last distance
 abbrev pub invariant-loop-distance : goal.invariant-loop-distance
 invariant-loop-distance l = record {
   rising : are_rising l.last (drop l.distance-index l.members) ≡ true;

@@ -11,7 +11,7 @@ use Rattle.hevc_refs.proofs.short_term.find_short_term.Goals as goal
 from_empty : {X : Type 0} (first now rest : List X) → first ≡ [] → now ≡ first ++ rest → now ≡ rest
 from_empty first now rest none is = is ∙ ap (λ l. l ++ rest) none
 
--- one half behind the other
+-- one half after the other
 both_halves : {X : Type 0} (f : ShortTermMember → X) (p : ShortTermMember → Bool) (xs ys : List ShortTermMember) (first mid now : List X) → first ≡ []
     → mid ≡ first ++ map f (filter p xs) → now ≡ mid ++ map f (filter p ys) → now ≡ map f (filter p (xs ++ ys))
 both_halves f p xs ys first mid now none a b =

@@ -7,7 +7,7 @@ use Rattle.hevc_bits.proofs.reader.NaluReader.read_behind.Goals as goal
 pub returns-then-not-has-clause-read : goal.returns-then-not-has-clause-read
 returns-then-not-has-clause-read c = refuses c.args.num_bits c.args.front c.args.self.now c.self.inside.word c.has.new.self c.self.view_is c.if-not-has.ensures
 
--- a front of at most one bit is not cut off
+-- a prefix of at most one bit is not cut off
 whole : (front num : ℕ) → front ≤ 1 → num ≤ 31 → front * 2 ^ num % 4294967296 ≡ front * 2 ^ num
 whole front num small few =
     let most : 2 ^ num ≤ 2 ^ 31 = pow_mono {i = num} {j = 31} few in

@@ -22,7 +22,7 @@ returns-in_err-read_bits-2-clause-read c =
     (skip_refused {X = Unit {0}} (λ _. number (take c.args.num_bits (bits c.args.self.now))) c.in_err-read_bits-2.field-0.0 c.args.num_bits 31 (31 * c.loop.counter) (bits c.args.self.now) c.loop.ahead c.read_bits-in-loop.new.self c.args.self.now c.loop.invariant.same (omega (arith, c.loop-test.true))
     (c.in_err-read_bits-2.ensures.read (omega arith)))
 
--- as many times 31 bits as there are were passed, and the rest of the bits are behind
+-- as many times 31 bits as there are were passed, and the rest of the bits are after
 whole : (n i : ℕ) → n / 31 ≤ i → i ≤ n / 31 → 31 * i + n % 31 ≡ n
 whole n i low high = omega arith
 

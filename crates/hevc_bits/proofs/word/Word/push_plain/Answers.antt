@@ -2,7 +2,7 @@ use Rattle.std.proofs.Common.{◌≡◌, ◌≢◌, ℕ, List, ◌∷◌, ◌≤
 use Rattle.hevc_spec.specs.Payload.{low_bits, loading}
 use Rattle.hevc_bits.proofs.word.Word.push_plain.Goals as goal
 
--- a byte that is loaded as it stands
+-- a byte that is loaded as it is
 plain : (run d byte : ℕ) (bytes behind : List ℕ) → run ≤ 1 → byte ≢ 0 → bytes ≡ byte ∷ behind → loading run d bytes ≡ Some (record { loaded = low_bits 8 byte; zero_run = 0; behind = behind; dropped = d })
 plain run d byte bytes behind few some is =
     let kept : eqb run 2 ≡ false = grind arith in
