@@ -4,7 +4,7 @@ use Rattle.hevc_walk.specs.Meanings.{TruncatedNalu, InvalidNaluType, OutOfBits, 
 use Rattle.hevc_stream.specs.Options.{default_options}
 use Rattle.hevc_stream.specs.Stream.{meanings}
 use Rattle.hevc_walk_examples.specs.Streams.{plain_format, deep_format, p4, cra, dependent, plain, encoded, crowded, leading, ended_by, equal_counts, without_reference, dependent_alone, dependent_behind}
-use Rattle.hevc_stream_examples.specs.Worked.{plain_stream, encoded_stream, waiting_stream, still_waiting_stream, read_later_stream, in_order_stream, cut_sets_stream, cut_set_stream, not_read_again_stream, read_again_stream, resized_stream, mid_picture_stream, crowded_stream, ends_early_stream, missing_set_stream, no_sets_yet_stream, truncated_stream, unspecified_stream, no_temporal_id_stream, end_cut_stream, many_sub_layers_stream, no_level_stream, long_latency_stream, leading_stream, sequence_ends_stream, bitstream_ends_stream, equal_counts_stream, without_reference_stream, dependent_alone_stream, dependent_behind_stream, before_sets_stream, cut_video_set_stream, two_layers_stream, large_stream, referring_stream, referring_slices, cra_within_stream, sub_layers_stream, cut_pps_bytes, other_pps_bytes, idr_of, sets_then, waiting_behind, video_set_stream, has_video_set, wide_format, large_format, idr_under, later_idr_at_1, sub_layer_p2, handled, cra_as_bla, up_to}
+use Rattle.hevc_stream_examples.specs.Worked.{plain_stream, encoded_stream, waiting_stream, still_waiting_stream, read_later_stream, in_order_stream, cut_sets_stream, cut_set_stream, not_read_again_stream, read_again_stream, resized_stream, mid_picture_stream, ended_within_stream, crowded_stream, ends_early_stream, missing_set_stream, no_sets_yet_stream, truncated_stream, unspecified_stream, no_temporal_id_stream, end_cut_stream, many_sub_layers_stream, no_level_stream, long_latency_stream, leading_stream, sequence_ends_stream, bitstream_ends_stream, equal_counts_stream, without_reference_stream, dependent_alone_stream, dependent_behind_stream, before_sets_stream, cut_video_set_stream, two_layers_stream, large_stream, referring_stream, referring_slices, cra_within_stream, sub_layers_stream, cut_pps_bytes, other_pps_bytes, idr_of, sets_then, waiting_behind, video_set_stream, has_video_set, wide_format, large_format, idr_under, later_idr_at_1, sub_layer_p2, handled, cra_as_bla, up_to}
 use Rattle.hevc_spec.specs.Bits as bits
 use Rattle.hevc_spec.specs.Payload as payload
 use Rattle.hevc_spec.specs.Rows as rows
@@ -45,6 +45,7 @@ pub record Rows : Type 0 where
   pub read_again : meanings default_options read_again_stream ≡ sets_then plain_format (sets_then deep_format (idr_of deep_format ∷ []))
   pub resized : meanings default_options resized_stream ≡ sets_then plain_format (idr_of plain_format ∷ sets_then wide_format (idr_of wide_format ∷ []))
   pub mid_picture : meanings default_options mid_picture_stream ≡ sets_then plain_format (idr_of plain_format ∷ sets_then wide_format (later_idr_at_1 wide_format ∷ []))
+  pub ended_within : meanings default_options ended_within_stream ≡ sets_then wide_format (idr_of wide_format ∷ EndOfSequence ∷ later_idr_at_1 wide_format ∷ [])
   pub crowded : meanings default_options crowded_stream ≡ crowded
   pub ends_early : meanings default_options ends_early_stream ≡ sets_then plain_format (idr_of plain_format ∷ Refused OutOfBits ∷ [])
   pub missing_set : meanings default_options missing_set_stream ≡ sets_then plain_format (Refused (MissingPps 5) ∷ [])
@@ -181,6 +182,7 @@ computed = record {
   read_again = refl;
   resized = refl;
   mid_picture = refl;
+  ended_within = refl;
   crowded = refl;
   ends_early = refl;
   missing_set = refl;

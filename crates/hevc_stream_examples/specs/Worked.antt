@@ -195,6 +195,11 @@ resized_stream = behind_sets (idr_bytes ∷ wide_sps_bytes ∷ pps_bytes ∷ idr
 abbrev pub mid_picture_stream : List ℕ
 mid_picture_stream = behind_sets (idr_bytes ∷ wide_sps_bytes ∷ pps_bytes ∷ later_idr_bytes ∷ [])
 
+-- an end of sequence between two slices of a picture
+abbrev pub ended_within_stream : List ℕ
+ended_within_stream =
+    stream_of (wide_sps_bytes ∷ pps_bytes ∷ idr_bytes ∷ eos_bytes ∷ later_idr_bytes ∷ [])
+
 -- seven pictures that are needed for output
 abbrev pub crowded_stream : List ℕ
 crowded_stream = stream_of (tight_sps_bytes ∷ pps_bytes ∷ idr_bytes ∷ replicate 6 t0_bytes)
@@ -305,7 +310,7 @@ video_set_stream = stream_of ((64 ∷ 1 ∷ 92 ∷ drop 3 vps_bytes) ∷ [])
 abbrev pub idr_of : Format → Meaning
 idr_of format = idr (plain_sets format)
 
--- a sequence set of a format and a picture set, and the standing after them
+-- a sequence set of a format and a picture set, and what follows them
 abbrev pub sets_then : Format → List Meaning → List Meaning
 sets_then format us = SequenceSet format ∷ Other ∷ us
 

@@ -16,7 +16,7 @@ ghost use Rattle.hevc_walk.specs.Results.{calls, verdict};
 ghost use Rattle.hevc_stream.specs.Options.{default_options};
 ghost use Rattle.hevc_stream.specs.Stream.{meanings};
 ghost use Rattle.hevc_walk_examples.specs.Streams.{plain_format, deep_format, p4, cra, dependent, plain, encoded, crowded, leading, ended_by, equal_counts, without_reference, dependent_alone, dependent_behind, told_outputs, new_pictures, idr_bytes, p4_bytes, p2_bytes};
-ghost use Rattle.hevc_stream_examples.specs.Worked.{plain_stream, encoded_stream, waiting_stream, still_waiting_stream, read_later_stream, in_order_stream, cut_sets_stream, cut_set_stream, not_read_again_stream, read_again_stream, resized_stream, mid_picture_stream, crowded_stream, ends_early_stream, missing_set_stream, no_sets_yet_stream, truncated_stream, unspecified_stream, no_temporal_id_stream, end_cut_stream, many_sub_layers_stream, no_level_stream, long_latency_stream, leading_stream, sequence_ends_stream, bitstream_ends_stream, equal_counts_stream, without_reference_stream, dependent_alone_stream, dependent_behind_stream, before_sets_stream, cut_video_set_stream, two_layers_stream, large_stream, referring_stream, referring_slices, cra_within_stream, sub_layers_stream, cut_pps_bytes, other_pps_bytes, idr_of, sets_then, waiting_behind, video_set_stream, has_video_set, wide_format, large_format, idr_under, later_idr_at_1, sub_layer_p2, handled, cra_as_bla, up_to};
+ghost use Rattle.hevc_stream_examples.specs.Worked.{plain_stream, encoded_stream, waiting_stream, still_waiting_stream, read_later_stream, in_order_stream, cut_sets_stream, cut_set_stream, not_read_again_stream, read_again_stream, resized_stream, mid_picture_stream, ended_within_stream, later_idr_bytes, crowded_stream, ends_early_stream, missing_set_stream, no_sets_yet_stream, truncated_stream, unspecified_stream, no_temporal_id_stream, end_cut_stream, many_sub_layers_stream, no_level_stream, long_latency_stream, leading_stream, sequence_ends_stream, bitstream_ends_stream, equal_counts_stream, without_reference_stream, dependent_alone_stream, dependent_behind_stream, before_sets_stream, cut_video_set_stream, two_layers_stream, large_stream, referring_stream, referring_slices, cra_within_stream, sub_layers_stream, cut_pps_bytes, other_pps_bytes, idr_of, sets_then, waiting_behind, video_set_stream, has_video_set, wide_format, large_format, idr_under, later_idr_at_1, sub_layer_p2, handled, cra_as_bla, up_to};
 
 /// An IDR picture and two P pictures: what the units mean, and what the walk makes of it.
 pub fn plain_pictures()
@@ -98,6 +98,19 @@ pub fn changed_sizes()
         ≡ (0, pos 0, 5) ∷ (1, pos 0, 6) ∷ [] }
     ensures mid_picture_verdict { verdict (meanings default_options mid_picture_stream)
         ≡ Err (record { unit = 5; cause = ChangedMidPicture plain_format wide_format }) }
+{}
+
+/// An end of sequence between two slices of a picture doesn't end it: the later slice is decoded as one of the same picture.
+pub fn ends_within_pictures()
+    ensures meant { meanings default_options ended_within_stream
+        ≡ sets_then wide_format
+        (idr_of wide_format ∷ EndOfSequence ∷ later_idr_at_1 wide_format ∷ []) }
+    ensures calls { calls (meanings default_options ended_within_stream)
+        ≡ (0, NewSequence wide_format)
+        ∷ (2, NewPicture 0 19 (pos 0) true 0) ∷ (2, BeginPicture 0 no_references)
+        ∷ (2, DecodeSlice 0 0 idr_bytes [] [])
+        ∷ (4, DecodeSlice 0 1 later_idr_bytes [] [])
+        ∷ (5, SubmitPicture 0) ∷ [] }
 {}
 
 /// A sequence set declares its numbers for each sub-layer: those of the highest that is wanted are meant.

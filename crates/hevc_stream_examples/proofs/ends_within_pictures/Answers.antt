@@ -1,0 +1,17 @@
+use Rattle.std.proofs.Common.{ap}
+use Rattle.hevc_walk.specs.OrderCounts.{nearest}
+use Rattle.hevc_walk.specs.Pictures.{head, order_count_in_range}
+use Rattle.hevc_walk.specs.Buffer.{due_outputs, needs_additional_bumping, needs_bumping, with_stored}
+use Rattle.hevc_walk.specs.ReferenceSets.{reference_set, with_marks}
+use Rattle.hevc_walk.specs.ReferenceLists.{ref_pic_list0, ref_pic_list1}
+use Rattle.hevc_walk.specs.Walk.{finish, store_picture, change_format, begin_picture, make_room, start_decoding}
+use Rattle.hevc_walk.specs.Results.{calls}
+use Rattle.hevc_stream_examples.proofs.Computed.{computed}
+use Rattle.hevc_stream_examples.proofs.ends_within_pictures.Goals as goal
+
+pub returns-clause-meant : goal.returns-clause-meant
+returns-clause-meant c = computed.ended_within
+
+pub returns-clause-calls : goal.returns-clause-calls
+unfolding head order_count_in_range nearest due_outputs needs_additional_bumping needs_bumping with_stored reference_set with_marks ref_pic_list0 ref_pic_list1 finish store_picture change_format begin_picture make_room start_decoding
+returns-clause-calls c = ap calls computed.ended_within
