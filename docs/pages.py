@@ -163,11 +163,11 @@ def wrong_fields():
 
 def wrong_crates(page):
     """What MAP.md lacks, or has too much or in another place."""
-    listed = re.findall(r"^\| `(hevc_\w+)` \|", page, re.M)
+    listed = re.findall(r"^- `(hevc_\w+)`:", page, re.M)
     for crate in sorted(set(crates()) ^ set(listed)):
         yield f"MAP.md: {crate} is missing" if crate in crates() else f"MAP.md: {crate} is no crate"
     if sorted(crates()) == sorted(listed) and crates() != listed:
-        yield "MAP.md: the crates stand in another order than in crates.txt"
+        yield "MAP.md: the crates are in another order than in crates.txt"
 
 
 def wrong_edits(page):
