@@ -4,14 +4,12 @@ use Rattle.std.proofs.lemmas.Bool.Decides.{nat_tests}
 use Rattle.std.specs.Prelude.{option_map, length, IfSome}
 use Rattle.std.specs.Ordering.{nat_cmp}
 use Rattle.std.specs.Map.{lookup}
-use Rattle.std.specs.BTreeMap.{BTreeMap, get, is_at, btree_map_len}
+use Rattle.std.specs.BTreeMap.{is_at}
 use Rattle.hevc_spec.specs.Payload.{payload}
 use Rattle.hevc_spec.specs.Table.{Reading, gives, refuses, read}
 use Rattle.hevc_records.specs.Sps.{PlainSps}
-use Rattle.hevc_records.specs.SetsById.{sets_by_id}
 use Rattle.hevc_tables.specs.SpsTable.{sequence_parameter_set}
 use Rattle.hevc_types_c.specs.Sps.{plain_sps}
-use Rattle.hevc_types_c.specs.declared.sps.Sps.{Sps}
 use Rattle.hevc_stream.specs.Kept.{Kept, with_sequence_set}
 use Rattle.hevc_slice.specs.declared.parser.Parser.{Parser}
 use Rattle.hevc_slice.specs.Kept.{kept_by}

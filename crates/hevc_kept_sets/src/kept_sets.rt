@@ -1,6 +1,7 @@
 //! Sets that are kept, and units of picture sets that wait.
-ghost use Rattle.std.specs.Prelude.{◌≡◌, ◌<◌, ◌≤◌, ◌^◌, ◌∷◌, ℕ, List, length, drop, IsTrue, IsSome, IfSome, OnOk, OnErr, Some};
+ghost use Rattle.std.specs.Prelude.{◌≡◌, ◌<◌, ◌≤◌, ◌^◌, ◌∷◌, ℕ, List, length, drop, IsTrue, IsSome, IfSome, OnOk, OnErr, Some, Ok};
 ghost use Rattle.std.specs.List.{list_all};
+ghost use Rattle.hevc_spec.specs.UnitHeader.{unit_header};
 ghost use Rattle.hevc_bits.specs.FoundUnit.{bytes_of};
 ghost use Rattle.hevc_records.specs.Sps.{PlainSps};
 ghost use Rattle.hevc_stream.specs.Kept.{none_kept};
@@ -123,6 +124,19 @@ impl KeptSets {
         if let Some(id) = self.repeated(nalu.as_ref()) {
             return Ok(id);
         }
+        self.read_sequence_set(nalu)
+    }
+
+    /// Reads the sequence set of a unit, keeps it, and gives its id.
+    fn read_sequence_set(&mut self, nalu: &Nalu<'_, NaluHeader>) -> Result<u8, ParseError>
+        requires short { length nalu.now.stream < STREAM_LIMIT }
+        requires typed { nalu.now.header.nal_unit_type ≡ 33 }
+        requires wanted { temporal_id nalu.now.header ≤ (options_in self.old).highest_tid }
+        requires parsed { unit_header (bytes_of nalu.now) ≡ Ok nalu.now.header }
+        ensures keeps { KeepsSequenceSet (options_in self.old) (bytes_of nalu.now) result
+            (kept_of self.old) (kept_of self.new) }
+        ensures options { options_in self.new ≡ options_in self.old }
+    {
         let set = read_sps(self.alloc, nalu)?;
         let id = set.seq_parameter_set_id;
         if self.parser.keep_sequence_set(set)? {
