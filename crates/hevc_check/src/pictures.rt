@@ -24,6 +24,7 @@ use hevc_bumping::{Frame, bump_additionally, bump_for_room};
 use hevc_dpb::{Dpb, DpbFull};
 use hevc_driver::{Context, Head, complete_header, head_of_first, keep_header, reference_set};
 use hevc_options::Options;
+use hevc_refs::RefPicSet;
 use hevc_types_c::Sps;
 use hevc_types_d::{Slice, SliceHeader};
 use std::alloc::{AllocError, Global};
@@ -178,7 +179,8 @@ impl Pictures {
                 filled: None,
             };
         }
-        let _set = reference_set(&mut self.dpb, head, slice, sps);
+        let mut set = RefPicSet::new();
+        reference_set(&mut self.dpb, head, slice, sps, &mut set);
         self.dpb.remove_unused();
         let stored = Stored {
             num: self.dpb.len(),

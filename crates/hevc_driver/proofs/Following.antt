@@ -111,7 +111,7 @@ pub hand_changed : {H T : Type 0} (r : Result T DecodeError) (e : DecodeError) (
 hand_changed r e t a b w s is changed same = follow_changed r e t a b w s (given_up_by r s) is changed same (refused_given_up r (λ y. y ≡ e) s is)
 
 -- the open picture is the newest, and the backend's last one
-pub open_newest : {H P : Type 0} (w : driver.Standing H P) (o : Open P) → w.current ≡ code.OpenPicture o → IsOpenNewest w.current w → IsNewest o.head o.set w
+pub open_newest : {H P : Type 0} (w : driver.Standing H P) (o : Open P) → w.current ≡ code.OpenPicture o → IsOpenNewest w.current w → IsNewest o.head w
 open_newest w o is h = subst (λ (c : CodeCurrent _). IsOpenNewest c w) is h
 
 pub open_announced : {H P : Type 0} (handed : Option (List Handed)) (w : driver.Standing H P) (o : Open P) → w.current ≡ code.OpenPicture o → IsOpenAnnounced handed w.current → IsAmong handed o.head.number o.head.picture

@@ -34,6 +34,9 @@ use Rattle.hevc_driver.specs.declared.current.Current.{Current}
 use Rattle.hevc_driver.specs.declared.current.Current.TheVariants.{NoPicture, SkippedPicture, OpenPicture}
 use Rattle.hevc_driver.specs.declared.standing.Standing as driver
 use Rattle.hevc_driver.specs.Standings.{current_of}
+use Rattle.hevc_refs.specs.declared.ref_pic_set.RefPicSet.{RefPicSet}
+use Rattle.hevc_refs.specs.Sets.{plain_set}
+use Rattle.hevc_walk.specs.ReferenceSets.{names, all_members}
 use Rattle.hevc_backend.specs.Trait.{logged}
 use Rattle.hevc_backend.specs.Handed.{Handed, stored_pictures}
 use Rattle.hevc_backend.proofs.HandedLaws.{announced_same, announced_more, among_more}
@@ -41,20 +44,26 @@ use Rattle.hevc_driver.specs.Sound.{AsAnnounced, IsOpenAnnounced, AreBelow, IsAc
 
 -- ---- no picture is open
 
-pub none_newest : {H P : Type 0} (c : Current P) (w : driver.Standing H P) → current_of c ≡ units.NoPicture → IsOpenNewest c w
-none_newest NoPicture w is = tt
-none_newest SkippedPicture w is = tt
-none_newest (OpenPicture o) w is = absurd (cc is)
+pub none_newest : {H P : Type 0} (set : RefPicSet) (c : Current P) (w : driver.Standing H P) → current_of set c ≡ units.NoPicture → IsOpenNewest c w
+none_newest set NoPicture w is = tt
+none_newest set SkippedPicture w is = tt
+none_newest set (OpenPicture o) w is = absurd (cc is)
 
-pub none_latest : {P : Type 0} (c : Current P) (picture : Option BegunPicture) → current_of c ≡ units.NoPicture → IsLatest c picture
-none_latest NoPicture picture is = tt
-none_latest SkippedPicture picture is = tt
-none_latest (OpenPicture o) picture is = absurd (cc is)
+pub none_latest : {P : Type 0} (set : RefPicSet) (c : Current P) (picture : Option BegunPicture) → current_of set c ≡ units.NoPicture → IsLatest c picture
+none_latest set NoPicture picture is = tt
+none_latest set SkippedPicture picture is = tt
+none_latest set (OpenPicture o) picture is = absurd (cc is)
 
-pub none_announced : {P : Type 0} (handed : Option (List Handed)) (c : Current P) → current_of c ≡ units.NoPicture → IsOpenAnnounced handed c
-none_announced handed NoPicture is = tt
-none_announced handed SkippedPicture is = tt
-none_announced handed (OpenPicture o) is = absurd (cc is)
+pub none_announced : {P : Type 0} (handed : Option (List Handed)) (set : RefPicSet) (c : Current P) → current_of set c ≡ units.NoPicture → IsOpenAnnounced handed c
+none_announced handed set NoPicture is = tt
+none_announced handed set SkippedPicture is = tt
+none_announced handed set (OpenPicture o) is = absurd (cc is)
+
+-- none is, whatever set is there
+pub none_with : {P : Type 0} (set other : RefPicSet) (c : Current P) → current_of set c ≡ units.NoPicture → current_of other c ≡ units.NoPicture
+none_with set other NoPicture is = refl
+none_with set other SkippedPicture is = absurd (cc is)
+none_with set other (OpenPicture o) is = absurd (cc is)
 
 -- ---- numbers
 
@@ -63,17 +72,17 @@ below_part n m ts us below more part = λ t k. let l = below t (part t k) in ome
 
 -- ---- pictures are output, and some leave
 
-pub left_sound : {H P : Type 0} (log : Option (List (Call H))) (handed : Option (List Handed)) (old new : driver.Standing H P) → IsSound log handed old → current_of old.current ≡ units.NoPicture → Leaves old new → old.next.number ≤ new.next.number → IsSound log handed new
+pub left_sound : {H P : Type 0} (log : Option (List (Call H))) (handed : Option (List Handed)) (old new : driver.Standing H P) → IsSound log handed old → current_of old.set old.current ≡ units.NoPicture → Leaves old new → old.next.number ≤ new.next.number → IsSound log handed new
 left_sound log handed old new s none l more = record {
-  announced = record { stored = announced_same handed handed (stored_entries new.dpb) (stored_entries old.dpb) refl l.pictures s.announced.stored; current = none_announced handed new.current (ap current_of l.current ∙ none) };
+  announced = record { stored = announced_same handed handed (stored_entries new.dpb) (stored_entries old.dpb) refl l.pictures s.announced.stored; current = none_announced handed old.set new.current (ap (current_of old.set) l.current ∙ none) };
   sized = l.size ∙ s.sized ∙ ap (λ (a : Option NegotiationInfo). accepted_size (option_map format_of a)) (sym l.accepted);
   latency = l.latency;
   below = below_part old.next.number new.next.number (tickets (stored_entries old.dpb)) (tickets (stored_entries new.dpb)) s.below more l.handles;
-  newest = none_newest new.current new (ap current_of l.current ∙ none);
+  newest = none_newest old.set new.current new (ap (current_of old.set) l.current ∙ none);
   told = told_same refl s.told (λ t h. record {
     handles = λ x k. h.handles x (l.handles x k);
     sequence = subst (λ (a : Option NegotiationInfo). IsAccepted a t.sequence) (sym l.accepted) h.sequence;
-    picture = none_latest new.current t.picture (ap current_of l.current ∙ none);
+    picture = none_latest old.set new.current t.picture (ap (current_of old.set) l.current ∙ none);
   });
 }
 
@@ -92,26 +101,26 @@ is_format named format (Some a) is same = ap Some (ap info_of (same_format-equal
 pub part_same : {H : Type 0} (es fs : List (DpbEntry H)) → fs ≡ es → IsPartOf (tickets fs) (tickets es)
 part_same {H} es fs same = λ x k. subst (λ (l : List (DpbEntry H)). Contains (tickets l) x) same k
 
-kept_newest : {H P : Type 0} (c : Current P) (old new : driver.Standing H P) → stored_entries new.dpb ≡ stored_entries old.dpb → new.accepted ≡ old.accepted → new.next.number ≡ old.next.number → IsOpenNewest c old → IsOpenNewest c new
-kept_newest NoPicture old new entries accepted number h = tt
-kept_newest SkippedPicture old new entries accepted number h = tt
-kept_newest (OpenPicture o) old new entries accepted number h = record {
+kept_newest : {H P : Type 0} (c : Current P) (old new : driver.Standing H P) → new.set ≡ old.set → stored_entries new.dpb ≡ stored_entries old.dpb → new.accepted ≡ old.accepted → new.next.number ≡ old.next.number → IsOpenNewest c old → IsOpenNewest c new
+kept_newest NoPicture old new set entries accepted number h = tt
+kept_newest SkippedPicture old new set entries accepted number h = tt
+kept_newest (OpenPicture o) old new set entries accepted number h = record {
   newer = below_part o.head.number o.head.number (tickets (stored_entries old.dpb)) (tickets (stored_entries new.dpb)) h.newer (omega arith) (part_same (stored_entries old.dpb) (stored_entries new.dpb) entries);
   counted = (let l = h.counted in omega (arith, l, number));
-  references = λ n k. subst (λ es. Contains (numbers es) n) (sym entries) (h.references n k);
+  references = λ n k. subst (λ es. Contains (numbers es) n) (sym entries) (h.references n (subst (λ (x : RefPicSet). names n (all_members (plain_set x)) ≡ true) set k));
   accepted = accepted ∙ h.accepted;
 }
 
 pub same_pictures : {H : Type 0} (es fs : List (DpbEntry H)) → fs ≡ es → IsPartOf (stored_pictures fs) (stored_pictures es)
 same_pictures {H} es fs same = λ x k. subst (λ (l : List (DpbEntry H)). Contains (stored_pictures l) x) same k
 
-pub kept_sound : {H P : Type 0} (log : Option (List (Call H))) (handed : Option (List Handed)) (old new : driver.Standing H P) → IsSound log handed old → stored_entries new.dpb ≡ stored_entries old.dpb → max_num_pics_of new.dpb ≡ max_num_pics_of old.dpb → new.accepted ≡ old.accepted → new.current ≡ old.current → new.next.number ≡ old.next.number → IsSound log handed new
-kept_sound log handed old new s entries size accepted current number = record {
+pub kept_sound : {H P : Type 0} (log : Option (List (Call H))) (handed : Option (List Handed)) (old new : driver.Standing H P) → IsSound log handed old → new.set ≡ old.set → stored_entries new.dpb ≡ stored_entries old.dpb → max_num_pics_of new.dpb ≡ max_num_pics_of old.dpb → new.accepted ≡ old.accepted → new.current ≡ old.current → new.next.number ≡ old.next.number → IsSound log handed new
+kept_sound log handed old new s set entries size accepted current number = record {
   announced = record { stored = announced_same handed handed (stored_entries new.dpb) (stored_entries old.dpb) refl (same_pictures (stored_entries old.dpb) (stored_entries new.dpb) entries) s.announced.stored; current = subst (IsOpenAnnounced handed) (sym current) s.announced.current };
   sized = size ∙ s.sized ∙ ap (λ (a : Option NegotiationInfo). accepted_size (option_map format_of a)) (sym accepted);
   latency = subst HaveLatency (sym entries) s.latency;
   below = below_part old.next.number new.next.number (tickets (stored_entries old.dpb)) (tickets (stored_entries new.dpb)) s.below (omega (arith, number)) (part_same (stored_entries old.dpb) (stored_entries new.dpb) entries);
-  newest = subst (λ c. IsOpenNewest c new) (sym current) (kept_newest old.current old new entries accepted number s.newest);
+  newest = subst (λ c. IsOpenNewest c new) (sym current) (kept_newest old.current old new set entries accepted number s.newest);
   told = told_same refl s.told (λ t h. record {
     handles = λ x k. h.handles x (part_same (stored_entries old.dpb) (stored_entries new.dpb) entries x k);
     sequence = subst (λ (a : Option NegotiationInfo). IsAccepted a t.sequence) (sym accepted) h.sequence;
@@ -160,11 +169,11 @@ pub both_told : {H : Type 0} (P Q : Told H → Type 0) (log : Option (List (Call
 both_told P Q None p q = record { of_log = tt }
 both_told P Q (Some log) p q = record { of_log = (p.of_log, q.of_log) }
 
-pub fits_none : {H P : Type 0} (w : driver.Standing H P) (t u : Told H) → current_of w.current ≡ units.NoPicture → u.submitted ≡ t.submitted → u.sequence ≡ t.sequence → Fits w t → Fits w u
+pub fits_none : {H P : Type 0} (w : driver.Standing H P) (t u : Told H) → current_of w.set w.current ≡ units.NoPicture → u.submitted ≡ t.submitted → u.sequence ≡ t.sequence → Fits w t → Fits w u
 fits_none w t u none submitted sequence h = record {
   handles = λ x k. subst (λ ts. Contains ts x) (sym submitted) (h.handles x k);
   sequence = subst (IsAccepted w.accepted) (sym sequence) h.sequence;
-  picture = none_latest w.current u.picture none;
+  picture = none_latest w.set w.current u.picture none;
 }
 
 pub sound_told : {H P : Type 0} (log now : Option (List (Call H))) (handed new : Option (List Handed)) (w : driver.Standing H P) → IsSound log handed w → WhereTold now (Fits w) → AsAnnounced new w → IsSound now new w

@@ -1,5 +1,5 @@
 -- The headers of slice segments, whole (7.4.7.1).
-use Rattle.std.specs.Prelude.{Bool, true, false, Option, Some, None, option_map, if◌then◌else◌}
+use Rattle.std.specs.Prelude.{Bool, true, false, Option, Some, option_map, if◌then◌else◌}
 use Rattle.hevc_records.specs.SliceHeader.{PlainSliceSegmentHeader, completed_header, default_slice_header}
 use Rattle.hevc_types_c.specs.declared.sps.Sps.{Sps}
 use Rattle.hevc_types_c.specs.Sps.{plain_sps}

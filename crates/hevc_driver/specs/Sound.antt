@@ -11,7 +11,6 @@ use Rattle.hevc_types_d.specs.declared.pps.Pps.{Pps}
 use Rattle.hevc_types_d.specs.declared.slice.Slice.{Slice}
 use Rattle.hevc_types_d.specs.declared.slice_header.SliceHeader.{SliceHeader}
 use Rattle.hevc_dpb.specs.Entries.{IsPartOf, numbers, tickets}
-use Rattle.hevc_refs.specs.declared.ref_pic_set.RefPicSet.{RefPicSet}
 use Rattle.hevc_dpb.specs.Plain.{HaveLatency}
 use Rattle.hevc_dpb.specs.Views.{stored_entries, max_num_pics_of, room_of, buffer_of}
 use Rattle.hevc_bumping.specs.Bumps.{num_waiting}
@@ -51,19 +50,18 @@ pub record Fits {H P : Type 0} (w : driver.Standing H P) (t : Told H) : Type 0 w
   pub sequence : IsAccepted w.accepted t.sequence
   pub picture : IsLatest w.current t.picture
 
--- A picture of this head and this reference picture set is newer than all that are stored, and
--- refers to none but those.
-pub record IsNewest {H P : Type 0} (head : Head) (set : RefPicSet) (w : driver.Standing H P)
-    : Type 0 where
+-- A picture of this head, and of the reference picture set that is there, is newer than all that are
+-- stored, and refers to none but those.
+pub record IsNewest {H P : Type 0} (head : Head) (w : driver.Standing H P) : Type 0 where
   pub newer : AreBelow head.number (tickets (stored_entries w.dpb))
   pub counted : head.number < w.next.number
-  pub references : SetNamesAmong (numbers (stored_entries w.dpb)) set
+  pub references : SetNamesAmong (numbers (stored_entries w.dpb)) w.set
   pub accepted : w.accepted ≡ Some head.format
 
 abbrev pub IsOpenNewest : {H P : Type 0} → Current P → driver.Standing H P → Type 0
 IsOpenNewest NoPicture w = Unit {0}
 IsOpenNewest SkippedPicture w = Unit {0}
-IsOpenNewest (OpenPicture open_) w = IsNewest open_.head open_.set w
+IsOpenNewest (OpenPicture open_) w = IsNewest open_.head w
 
 -- the open picture was announced
 abbrev pub IsOpenAnnounced : {P : Type 0} → Option (List Handed) → Current P → Type 0
@@ -141,7 +139,7 @@ AreNamed slice sps pps =
 pub record MayBegin {H P : Type 0} (has_frame : Bool) (log : Option (List (Call H)))
     (handed : Option (List Handed)) (slice : Slice) (sps : Sps) (pps : Pps)
     (w : driver.Standing H P) : Type 0 where
-  pub none : current_of w.current ≡ units.NoPicture
+  pub none : current_of w.set w.current ≡ units.NoPicture
   pub accepted :
       is_accepted (format_of_set (plain_sps sps)) (option_map format_of w.accepted) ≡ true
   pub named : AreNamed slice sps pps

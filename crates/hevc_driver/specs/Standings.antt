@@ -5,6 +5,7 @@ use Rattle.hevc_walk_units.specs.Units.{Standing}
 use Rattle.hevc_dpb.specs.Entries.{tickets}
 use Rattle.hevc_dpb.specs.Views.{stored_entries, buffer_of}
 use Rattle.hevc_refs.specs.Sets.{plain_set}
+use Rattle.hevc_refs.specs.declared.ref_pic_set.RefPicSet.{RefPicSet}
 use Rattle.hevc_backend.specs.declared.call.Call.{Call}
 use Rattle.hevc_backend.specs.Handed.{Handed}
 use Rattle.hevc_backend.specs.Negotiation.{format_of}
@@ -16,16 +17,17 @@ use Rattle.hevc_driver.specs.Heads.{head_of, context_of}
 use Rattle.hevc_driver.specs.Slices.{kept_of}
 use Rattle.hevc_driver.specs.Does.{Traces}
 
-abbrev pub current_of : {P : Type 0} → Current P → units.Current
-current_of code.NoPicture = units.NoPicture
-current_of code.SkippedPicture = units.SkippedPicture
-current_of (code.OpenPicture open_) = units.OpenPicture (head_of open_.head) (plain_set open_.set)
+-- the picture whose slices come, with the reference picture set of an open one
+abbrev pub current_of : {P : Type 0} → RefPicSet → Current P → units.Current
+current_of set code.NoPicture = units.NoPicture
+current_of set code.SkippedPicture = units.SkippedPicture
+current_of set (code.OpenPicture open_) = units.OpenPicture (head_of open_.head) (plain_set set)
 
 -- a format that is awaited counts as accepted
 abbrev pub standing : {H P : Type 0} → driver.Standing H P → Standing
 standing w = record {
   store = record { accepted = option_map format_of w.accepted; buffer = buffer_of w.dpb };
-  current = current_of w.current;
+  current = current_of w.set w.current;
   kept = option_map kept_of w.kept;
   next = context_of w.next;
 }
@@ -39,7 +41,7 @@ traces log handed w = record {
   tickets = tickets (stored_entries w.dpb);
 }
 
--- with this picture open
-abbrev pub with_open : {P : Type 0} → Open P → Standing → Standing
-with_open open_ s =
-    record s { current = units.OpenPicture (head_of open_.head) (plain_set open_.set) }
+-- with this picture open, of this reference picture set
+abbrev pub with_open : {P : Type 0} → Open P → RefPicSet → Standing → Standing
+with_open open_ set s =
+    record s { current = units.OpenPicture (head_of open_.head) (plain_set set) }

@@ -4,14 +4,11 @@ ghost use Rattle.hevc_walk.specs.Walk.{is_decoded};
 ghost use Rattle.hevc_driver.specs.Heads.{head_of};
 
 use crate::head::Head;
-use hevc_refs::RefPicSet;
 
 /// A picture that is decoded: its order count is in range, and it isn't skipped.
 #[derive(Drop)]
 pub struct Open<P> {
     pub head: Head,
-    /// Its reference picture set over what is stored (8.3.2).
-    pub set: RefPicSet,
     /// The backend's.
     pub picture: P,
     ghost decoded: { is_decoded (head_of head) ≡ true },

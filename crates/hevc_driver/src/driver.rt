@@ -14,7 +14,7 @@ use crate::head::{Context, Head};
 use crate::standing::Standing;
 use hevc_backend::StatelessH265DecoderBackend;
 use hevc_dpb::Dpb;
-use hevc_refs::ReferencePicLists;
+use hevc_refs::{RefPicSet, ReferencePicLists};
 use std::alloc::{AllocError, Global};
 use std::collections::VecDeque;
 
@@ -48,6 +48,7 @@ impl<B: StatelessH265DecoderBackend> Driver<B> {
                 accepted: None,
                 dpb: Dpb::new(alloc),
                 current: Current::NoPicture,
+                set: RefPicSet::new(),
                 kept: None,
                 next: Context {
                     number: 0,

@@ -44,7 +44,7 @@ impl<B: StatelessH265DecoderBackend> Driver<B> {
 
     /// No format is accepted any more: the next picture negotiates one.
     pub fn forget_format(&mut self)
-        requires none { current_of self.old.standing.current ≡ NoPicture }
+        requires none { current_of self.old.standing.set self.old.standing.current ≡ NoPicture }
         requires sound { IsSound (B.log self.old.backend) (B.handed self.old.backend)
             self.old.standing }
         ensures sound { IsSound (B.log self.new.backend) (B.handed self.new.backend)

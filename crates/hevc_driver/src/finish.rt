@@ -41,8 +41,8 @@ impl<B: StatelessH265DecoderBackend> Driver<B> {
 
     /// Submits a picture and stores it; what is then due is output.
     fn store(&mut self, opened: Open<B::Picture>) -> Result<(), DecodeError>
-        requires none { current_of self.old.standing.current ≡ NoPicture }
-        requires newest { IsNewest opened.head opened.set self.old.standing }
+        requires none { current_of self.old.standing.set self.old.standing.current ≡ NoPicture }
+        requires newest { IsNewest opened.head self.old.standing }
         requires announced { IsAmong (B.handed self.old.backend) opened.head.number
             opened.head.picture }
         requires sound { IsSound (B.log self.old.backend) (B.handed self.old.backend)
@@ -56,13 +56,10 @@ impl<B: StatelessH265DecoderBackend> Driver<B> {
         ensures part { (given : Given) → Finishes result given
             (traces (B.log self.old.backend) (B.handed self.old.backend) self.old.standing)
             (traces (B.log self.new.backend) (B.handed self.new.backend) self.new.standing)
-            (with_open opened (standing self.old.standing)) (standing self.new.standing) }
+            (with_open opened self.old.standing.set (standing self.old.standing))
+            (standing self.new.standing) }
     {
-        let Open {
-            head,
-            set: _,
-            picture,
-        } = opened;
+        let Open { head, picture } = opened;
         let handle = self.backend.submit_picture(head.number, picture)?;
         self.standing.next.prev_tid0_count = tid0_behind(&head, self.standing.next.prev_tid0_count);
         self.standing

@@ -38,7 +38,7 @@ impl<B: StatelessH265DecoderBackend> Driver<B> {
         sps: &Sps,
         pps: &Pps,
     ) -> Result<(), DecodeError>
-        requires none { current_of self.old.standing.current ≡ NoPicture }
+        requires none { current_of self.old.standing.set self.old.standing.current ≡ NoPicture }
         requires named { AreNamed slice.now sps.now pps.now }
         requires sound { IsSound (B.log self.old.backend) (B.handed self.old.backend)
             self.old.standing }
@@ -70,7 +70,7 @@ impl<B: StatelessH265DecoderBackend> Driver<B> {
 
     /// Another format is negotiated: what is needed for output is output before.
     fn negotiate(&mut self, sps: &Sps) -> Result<(), DecodeError>
-        requires none { current_of self.old.standing.current ≡ NoPicture }
+        requires none { current_of self.old.standing.set self.old.standing.current ≡ NoPicture }
         requires sound { IsSound (B.log self.old.backend) (B.handed self.old.backend)
             self.old.standing }
         requires room { HasRoom 0 self.old.standing }
@@ -93,7 +93,7 @@ impl<B: StatelessH265DecoderBackend> Driver<B> {
     ///
     /// Errors: `Backend`, `NoMemory`; nothing has changed then.
     pub fn open_sequence(&mut self, sps: &Sps) -> Result<(), DecodeError>
-        requires none { current_of self.old.standing.current ≡ NoPicture }
+        requires none { current_of self.old.standing.set self.old.standing.current ≡ NoPicture }
         requires sound { IsSound (B.log self.old.backend) (B.handed self.old.backend)
             self.old.standing }
         ensures stays { StaysSound 0

@@ -22,7 +22,6 @@ use crate::head::Head;
 use crate::references::build_lists;
 use hevc_backend::StatelessH265DecoderBackend;
 use hevc_options::Options;
-use hevc_refs::RefPicSet;
 use hevc_types_c::Sps;
 use hevc_types_d::{Pps, Slice};
 
@@ -97,8 +96,8 @@ impl<B: StatelessH265DecoderBackend> Driver<B> {
             (standing self.old.standing)).next))
             (standing self.new.standing) }
     {
-        let set = self.standing.enter(head, slice, sps);
-        self.hand_over(timestamp, head, set, slice, sps, pps)
+        self.standing.enter(head, slice, sps);
+        self.hand_over(timestamp, head, slice, sps, pps)
     }
 
     /// The backend gets a picture with its first slice.
@@ -106,7 +105,6 @@ impl<B: StatelessH265DecoderBackend> Driver<B> {
         &mut self,
         timestamp: u64,
         head: &Head,
-        set: RefPicSet,
         slice: &Slice<'_>,
         sps: &Sps,
         pps: &Pps,
@@ -114,7 +112,7 @@ impl<B: StatelessH265DecoderBackend> Driver<B> {
         requires ready { MayBegin (B.room self.old.backend) (B.log self.old.backend)
             (B.handed self.old.backend) slice.now
             sps.now pps.now self.old.standing }
-        requires newest { IsNewest head.now set self.old.standing }
+        requires newest { IsNewest head.now self.old.standing }
         requires decoded { is_decoded (head_of head.now) ≡ true }
         ensures stays { StaysSound 0
             (B.log self.new.backend) (B.handed self.new.backend) self.old.standing
@@ -126,7 +124,7 @@ impl<B: StatelessH265DecoderBackend> Driver<B> {
             (segment_of slice.now sps.now pps.now))
             (traces (B.log self.old.backend) (B.handed self.old.backend) self.old.standing)
             (traces (B.log self.new.backend) (B.handed self.new.backend) self.new.standing)
-            (hands_over (head_of head.now) (plain_set set)
+            (hands_over (head_of head.now) (plain_set self.old.standing.set)
             (slice_of o slice.now sps.now pps.now) (standing self.old.standing))
             (λ call. LeftStarted call × (standing self.new.standing ≡ standing self.old.standing))
             (standing self.new.standing) }
@@ -141,10 +139,10 @@ impl<B: StatelessH265DecoderBackend> Driver<B> {
             sps,
             pps,
             dpb,
-            &set,
+            &self.standing.set,
             slice,
         )?;
-        build_lists(&mut self.lists, slice, pps, &set);
+        build_lists(&mut self.lists, slice, pps, &self.standing.set);
         self.backend.decode_slice(
             number,
             &mut picture,
@@ -157,7 +155,6 @@ impl<B: StatelessH265DecoderBackend> Driver<B> {
         )?;
         self.standing.current = Current::OpenPicture(Open {
             head: *head,
-            set,
             picture,
         });
         Ok(())

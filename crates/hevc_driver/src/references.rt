@@ -19,7 +19,7 @@ ghost use Rattle.hevc_driver.specs.Slices.{slice_of};
 use crate::beginning::max_pic_order_cnt_lsb;
 use crate::head::Head;
 use hevc_dpb::Dpb;
-use hevc_refs::{RefPicSet, ReferencePicLists, derive_and_mark};
+use hevc_refs::{RefPicSet, ReferencePicLists, derive_into};
 use hevc_types_a::ShortTermRefPicSet;
 use hevc_types_c::Sps;
 use hevc_types_d::{Pps, Slice, SliceHeader};
@@ -37,28 +37,36 @@ fn short_term_set<'a>(header: &'a SliceHeader, sps: &'a Sps) -> &'a ShortTermRef
     }
 }
 
-/// The reference picture set of a picture over what is stored, which is marked by it (8.3.2).
+/// Makes `out` the reference picture set of a picture over what is stored, which is marked by it (8.3.2).
 pub fn reference_set<H: Copy>(
     dpb: &mut Dpb<H>,
     head: &Head,
     slice: &Slice<'_>,
     sps: &Sps,
-) -> RefPicSet
-    ensures set { (o : Options) (pps : code_pps.Pps) → plain_set result
+    out: &mut RefPicSet,
+)
+    ensures set { (o : Options) (pps : code_pps.Pps) → plain_set out.new
         ≡ reference_set (head_of head.now) (slice_of o slice.now sps.now pps)
         (buffer_of dpb.old) }
     ensures marks { (o : Options) (pps : code_pps.Pps) → buffer_of dpb.new
         ≡ with_marks (head_of head.now) (slice_of o slice.now sps.now pps) (buffer_of dpb.old) }
     // What it names is used for reference, and a picture that begins a sequence names nothing.
-    ensures named { (n : ℕ) → names n (all_members (plain_set result)) ≡ true
+    ensures named { (n : ℕ) → names n (all_members (plain_set out.new)) ≡ true
         → has_reference n (buffer_of dpb.new) ≡ true }
     ensures nothing { (n : ℕ) → (head_of head.now).starts_sequence ≡ true
-        → names n (all_members (plain_set result)) ≡ false }
+        → names n (all_members (plain_set out.new)) ≡ false }
     ensures kept { KeepsAllButMarks dpb.old dpb.new }
 {
     let header = slice.header();
     let set = short_term_set(header, sps);
-    derive_and_mark(dpb, &head.picture, header, set, max_pic_order_cnt_lsb(sps))
+    derive_into(
+        dpb,
+        &head.picture,
+        header,
+        set,
+        max_pic_order_cnt_lsb(sps),
+        out,
+    );
 }
 
 /// Makes `lists` the two reference picture lists of a slice (8.3.4).

@@ -18,7 +18,6 @@ use crate::head::Head;
 use crate::references::reference_set;
 use crate::standing::Standing;
 use hevc_bumping::{bump_for_room, output_all};
-use hevc_refs::RefPicSet;
 use hevc_types_c::Sps;
 use hevc_types_d::Slice;
 
@@ -29,7 +28,8 @@ impl<H: Copy, P> Standing<H, P> {
     ghost use Rattle.hevc_driver.specs.Does.{Completes};
     ghost use Rattle.hevc_driver.specs.Given.{Given};
     ghost use Rattle.hevc_driver.specs.Moments.{enters};
-    ghost use Rattle.hevc_driver.specs.Standings.{standing, traces};
+    ghost use Rattle.hevc_walk_units.specs.Units.{NoPicture};
+    ghost use Rattle.hevc_driver.specs.Standings.{standing, traces, current_of};
     ghost use Rattle.hevc_driver.specs.Sound.{HasRoom, Leaves};
 
     /// All that is needed for output is output, and nothing is left.
@@ -56,6 +56,7 @@ impl<H: Copy, P> Standing<H, P> {
             (on_store (make_room (head_of head.now)) (standing self.old)) (standing self.new) }
         ensures leaves { Leaves self.old self.new }
         ensures next { self.new.next ≡ self.old.next }
+        ensures set { self.new.set ≡ self.old.set }
     {
         if head.picture.no_output_of_prior_pics_flag {
             self.dpb.clear();
@@ -67,12 +68,13 @@ impl<H: Copy, P> Standing<H, P> {
         }
     }
 
-    /// Entries are marked for a picture (8.3.2), and leave. Its reference picture set, over those that are left.
-    pub(crate) fn enter(&mut self, head: &Head, slice: &Slice<'_>, sps: &Sps) -> RefPicSet
+    /// Entries are marked for a picture (8.3.2), and leave; its reference picture set names some of those that are left.
+    pub(crate) fn enter(&mut self, head: &Head, slice: &Slice<'_>, sps: &Sps)
+        requires none { current_of self.old.set self.old.current ≡ NoPicture }
         requires number { head.now.number < 2 ^ 64 - 1 }
         requires latency { HaveLatency (stored_entries self.old.dpb) }
         requires room { HasRoom 0 self.old }
-        ensures set { (o : Options) (pps : Pps) → plain_set result
+        ensures set { (o : Options) (pps : Pps) → plain_set self.new.set
             ≡ reference_set (head_of head.now) (slice_of o slice.now sps.now pps)
             (buffer_of self.old.dpb) }
         ensures part { (log : Option (List (Call H)))
@@ -80,13 +82,12 @@ impl<H: Copy, P> Standing<H, P> {
             → Completes given (traces log handed self.old) (traces log handed self.new)
             (enters (head_of head.now) (slice_of o slice.now sps.now pps) (standing self.old))
             (standing self.new) }
-        ensures references { SetNamesAmong (numbers (stored_entries self.new.dpb)) result }
+        ensures references { SetNamesAmong (numbers (stored_entries self.new.dpb)) self.new.set }
         ensures leaves { Leaves self.old self.new }
         ensures number { self.new.next.number ≡ head.now.number + 1 }
     {
         self.next = behind(&self.next, head);
-        let set = reference_set(&mut self.dpb, head, slice, sps);
+        reference_set(&mut self.dpb, head, slice, sps, &mut self.set);
         self.make_room(head);
-        set
     }
 }

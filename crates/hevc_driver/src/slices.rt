@@ -1,4 +1,5 @@
 //! A slice segment is taken: it begins a picture, or is a later one of the current picture (7.4.2.4.5).
+ghost use Rattle.hevc_refs.specs.declared.ref_pic_set.RefPicSet.{RefPicSet};
 ghost use Rattle.std.specs.Prelude.{◌≡◌, Some, option_map};
 ghost use Rattle.hevc_walk.specs.Meanings.{CodedSlice, same_format};
 ghost use Rattle.hevc_walk.specs.DependentSlices.{whole_slice};
@@ -31,8 +32,9 @@ use hevc_types_d::{Pps, Slice};
 /// Whether a slice begins a picture.
 #[tactic(auto, unfolding(crate::specs::Slices::slice_of))]
 fn begins<P>(current: &Current<P>, slice: &Slice<'_>) -> bool
-    ensures { (o : code_options.Options) (sps : code_sps.Sps) (pps : code_pps.Pps) → result
-        ≡ begins_picture (current_of current.now) (slice_of o slice.now sps pps) }
+    ensures { (o : code_options.Options) (sps : code_sps.Sps) (pps : code_pps.Pps)
+        (set : RefPicSet) → result
+        ≡ begins_picture (current_of set current.now) (slice_of o slice.now sps pps) }
 {
     matches!(current, Current::NoPicture) || slice.header().first_slice_segment_in_pic_flag
 }
@@ -192,7 +194,7 @@ impl<B: StatelessH265DecoderBackend> Driver<B> {
             Current::NoPicture => return Ok(()),
         };
         check_format(&opened.head.format, &sps.into())?;
-        build_lists(&mut self.lists, slice, pps, &opened.set);
+        build_lists(&mut self.lists, slice, pps, &self.standing.set);
         self.backend.decode_slice(
             opened.head.number,
             &mut opened.picture,

@@ -4,6 +4,7 @@ use crate::head::Context;
 use hevc_backend::NegotiationInfo;
 use hevc_bumping::Frame;
 use hevc_dpb::Dpb;
+use hevc_refs::RefPicSet;
 use hevc_types_d::SliceHeader;
 use std::collections::VecDeque;
 
@@ -16,6 +17,8 @@ pub struct Standing<H: Copy, P> {
     pub dpb: Dpb<H>,
     /// The picture whose slices come.
     pub current: Current<P>,
+    /// The reference picture set of the open picture over what is stored (8.3.2). Its room is used again.
+    pub set: RefPicSet,
     /// The header of the latest independent slice segment (7.4.7.1).
     pub kept: Option<SliceHeader>,
     /// The context of the next picture.

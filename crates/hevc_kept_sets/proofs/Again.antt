@@ -1,5 +1,5 @@
 -- Units that wait can't be read for as long as the sequence sets that they name stay.
-use Rattle.std.proofs.Common.{◌≡◌, ℕ, Bool, true, false, List, [], ◌∷◌, ◌++◌, Option, Some, None, Ok, refl, ap, sym, subst, ◌∙◌, append_assoc, arith}
+use Rattle.std.proofs.Common.{◌≡◌, ◌≤◌, ℕ, Bool, true, false, List, [], ◌∷◌, ◌++◌, Option, Some, None, Ok, refl, ap, sym, subst, ◌∙◌, append_assoc, arith}
 use Rattle.std.specs.Prelude.{◌||◌, ◌&&◌, ◌==◌, min, fold, IfSome, option_to_list, if◌then◌else◌}
 use Rattle.std.specs.List.{list_all}
 use Rattle.std.proofs.lemmas.List.{append-nil}
@@ -19,6 +19,7 @@ use Rattle.hevc_stream.specs.Stream.{with_picture_set_unit, with_waited, with_al
 use Rattle.hevc_stream_laws.specs.UnitMeans.{spells, breaks_off, is_video_set, is_sequence_set, is_picture_set, is_slice_segment, ends_sequence, ends_bitstream, comes_first, is_other, Means, is_faulty, is_unwanted, is_wanted}
 use Rattle.hevc_stream_laws.proofs.OneContent.{means_content}
 use Rattle.hevc_stream_laws.proofs.KeptWell.{same_picture_set}
+use Rattle.hevc_kept_sets.specs.CutUnits as cut
 use Rattle.hevc_kept_sets.specs.Settled.{named_set, has_id, is_none_or_among, is_id, is_named_by, names_no_other, is_among, is_unread, is_settled}
 use Rattle.hevc_kept_sets.proofs.Named.{any_temporal_id}
 
@@ -59,6 +60,15 @@ all_by_both p q r by (x ∷ xs) e f =
 all_push : {A : Type 0} (p : A → Bool) (xs : List A) (x : A) → list_all p xs ≡ true → p x ≡ true → list_all p (xs ++ x ∷ []) ≡ true
 all_push p [] x all one = rw one refl
 all_push p (y ∷ xs) x all one = both (p y) (p y) (list_all p xs) (list_all p (xs ++ x ∷ [])) (λ e. e) (λ more. all_push p xs x more one) all
+
+-- ---- a unit of a wanted sub-layer waits after others
+
+pub wanted_pushed : (highest_tid : ℕ) (units items : List (List ℕ)) (unit bytes : List ℕ) (header : UnitHeader) (pushed : Bool) → list_all (cut.is_wanted highest_tid) units ≡ true → unit_header bytes ≡ Ok header → temporal_id header ≤ highest_tid → unit ≡ bytes
+    → items ≡ (if pushed then units ++ unit ∷ [] else units) → list_all (cut.is_wanted highest_tid) items ≡ true
+wanted_pushed highest_tid units items unit bytes header true all parsed low same to =
+    let this : cut.is_wanted highest_tid bytes ≡ true = ap (cut.is_wanted_header highest_tid) parsed ∙ grind (arith, nat_tests) in
+    ap (list_all (cut.is_wanted highest_tid)) (to ∙ ap (λ (u : List ℕ). units ++ u ∷ []) same) ∙ all_push (cut.is_wanted highest_tid) units bytes all this
+wanted_pushed highest_tid units items unit bytes header false all parsed low same to = ap (list_all (cut.is_wanted highest_tid)) to ∙ all
 
 -- ---- the ids that units name
 

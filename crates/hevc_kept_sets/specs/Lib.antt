@@ -1,4 +1,5 @@
 pub mod CutUnits
 pub mod Kept
+pub mod ReadUnits
 pub mod Settled
 pub mod Takes

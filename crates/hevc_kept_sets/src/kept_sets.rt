@@ -1,17 +1,21 @@
 //! Sets that are kept, and units of picture sets that wait.
-ghost use Rattle.std.specs.Prelude.{◌≡◌, ◌<◌, ◌≤◌, ◌^◌, ◌∷◌, ℕ, List, length, drop, IsTrue, IsSome, OnOk, OnErr};
+ghost use Rattle.std.specs.Prelude.{◌≡◌, ◌<◌, ◌≤◌, ◌^◌, ◌∷◌, ℕ, List, length, drop, IsTrue, IsSome, IfSome, OnOk, OnErr, Some, Ok};
 ghost use Rattle.std.specs.List.{list_all};
+ghost use Rattle.hevc_spec.specs.UnitHeader.{unit_header};
 ghost use Rattle.hevc_bits.specs.FoundUnit.{bytes_of};
+ghost use Rattle.hevc_records.specs.Sps.{PlainSps};
 ghost use Rattle.hevc_stream.specs.Kept.{none_kept};
 ghost use Rattle.hevc_stream.specs.Slices.{temporal_id};
 ghost use Rattle.hevc_stream.specs.Stream.{kept_behind, with_all_waited};
 ghost use Rattle.hevc_options.specs.Options.{options_of};
 ghost use Rattle.hevc_slice.specs.Kept.{kept_by};
 ghost use Rattle.hevc_kept_sets.specs.CutUnits.{is_wanted};
+ghost use Rattle.hevc_kept_sets.specs.ReadUnits.{set_read, IsKeptAsRead, IsKeptAsRead-prop};
 ghost use Rattle.hevc_kept_sets.specs.Settled.{names_no_other, is_settled};
 ghost use Rattle.hevc_kept_sets.specs.Takes.{ReadsPictureSet};
 ghost use Rattle.hevc_bits.specs.declared.stream_limit.TheConstants.{STREAM_LIMIT};
 
+use crate::read_unit::ReadUnit;
 use crate::set_ids::{is_among, with_id, with_named};
 use crate::waiting_unit::{WaitingUnit, named_by};
 use hevc_bits::{Nalu, NaluHeader};
@@ -35,6 +39,9 @@ pub struct KeptSets {
     named: u16,
     /// The ids of the sequence sets that changed since all units that wait were tried: a bit for each.
     changed: u16,
+    /// The unit of the sequence set that was read last, if there was room for a copy.
+    last_read: Option<ReadUnit>,
+    ghost repeated: { IsKeptAsRead (kept_by parser) last_read } by { IsKeptAsRead-prop (kept_by parser) last_read },
     ghost wanted: { IsTrue (list_all (is_wanted options.highest_tid) waiting.items) },
     ghost covered: { IsTrue (list_all (names_no_other named) waiting.items) },
     ghost settled: { IsTrue (list_all (is_settled changed (options_of options) (kept_by parser)) waiting.items) },
@@ -56,6 +63,7 @@ impl KeptSets {
             waiting: VecDeque::new(alloc),
             named: 0,
             changed: 0,
+            last_read: None,
         }
     }
 
@@ -113,12 +121,43 @@ impl KeptSets {
     {
         // That its bytes parse to its header, `header` says.
         let _header = nalu.header();
+        if let Some(id) = self.repeated(nalu.as_ref()) {
+            return Ok(id);
+        }
+        self.read_sequence_set(nalu)
+    }
+
+    /// Reads the sequence set of a unit, keeps it, and gives its id.
+    fn read_sequence_set(&mut self, nalu: &Nalu<'_, NaluHeader>) -> Result<u8, ParseError>
+        requires short { length nalu.now.stream < STREAM_LIMIT }
+        requires typed { nalu.now.header.nal_unit_type ≡ 33 }
+        requires wanted { temporal_id nalu.now.header ≤ (options_in self.old).highest_tid }
+        requires parsed { unit_header (bytes_of nalu.now) ≡ Ok nalu.now.header }
+        ensures keeps { KeepsSequenceSet (options_in self.old) (bytes_of nalu.now) result
+            (kept_of self.old) (kept_of self.new) }
+        ensures options { options_in self.new ≡ options_in self.old }
+    {
         let set = read_sps(self.alloc, nalu)?;
         let id = set.seq_parameter_set_id;
         if self.parser.keep_sequence_set(set)? {
             self.changed = with_id(self.changed, id);
         }
+        self.last_read = ReadUnit::copy_of(self.alloc, nalu.as_ref(), id);
         Ok(id)
+    }
+
+    /// The id of the sequence set as which these bytes were read, where they are those that were read last, and the set is kept.
+    fn repeated(&self, bytes: &[u8]) -> Option<u8>
+        ensures { IfSome result (λ id. (set : PlainSps) × ((set_read bytes.now ≡ Some set)
+            × ((kept_by self.now.parser).sequence_sets id ≡ Some set)
+            × (set.seq_parameter_set_id ≡ id))) }
+    {
+        let last = self.last_read.as_ref()?;
+        if last.bytes.as_slice() != bytes {
+            return None;
+        }
+        let set = self.parser.get_sps(last.id)?;
+        Some(set.seq_parameter_set_id)
     }
 
     /// Tries all units that wait once more, in their order: each is read now and its set kept, or waits on. One whose sequence set is

@@ -2,6 +2,7 @@
 #![tactic(auto)]
 
 mod kept_sets;
+mod read_unit;
 mod set_ids;
 mod waiting_unit;
 

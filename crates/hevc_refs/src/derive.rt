@@ -44,33 +44,26 @@ fn derive_members<T: Copy>(
     header: &SliceHeader,
     set: &ShortTermRefPicSet,
     max_pic_order_cnt_lsb: i32,
-) -> RefPicSet
+    out: &mut RefPicSet,
+)
     requires { IsMaxPicOrderCntLsb max_pic_order_cnt_lsb }
     ensures lists { (p : Head) (first : Slice) → RefersAs p pic.now
         → HasMembers first header.now set.now max_pic_order_cnt_lsb
-        → plain_set result
+        → plain_set out.new
         ≡ five_lists p first (short_term_set first) (buffer_of dpb.old)
         (with_long_term p first (buffer_of dpb.old)) }
     ensures marks { (p : Head) (first : Slice) → RefersAs p pic.now
         → HasMembers first header.now set.now max_pic_order_cnt_lsb
         → buffer_of dpb.new
-        ≡ map (marked_if (all_members (plain_set result)))
+        ≡ map (marked_if (all_members (plain_set out.new)))
         (with_long_term p first (buffer_of dpb.old)) }
     ensures kept { KeepsAllButMarks dpb.old dpb.new }
 {
     let order_count = pic.pic_order_cnt_val;
-    let long_term = find_long_term(dpb, order_count, header, max_pic_order_cnt_lsb);
-    mark_long_term(dpb, long_term.curr.as_slice(), long_term.foll.as_slice());
-    let short_term = find_short_term(dpb, order_count, set);
-    let sets = RefPicSet {
-        st_curr_before: short_term.before,
-        st_curr_after: short_term.after,
-        st_foll: short_term.foll,
-        lt_curr: long_term.curr,
-        lt_foll: long_term.foll,
-    };
-    unmark_others(dpb, &sets);
-    sets
+    find_long_term(dpb, order_count, header, max_pic_order_cnt_lsb, out);
+    mark_long_term(dpb, out.lt_curr(), out.lt_foll());
+    find_short_term(dpb, order_count, set, out);
+    unmark_others(dpb, out);
 }
 
 /// The set, and the marks, of a picture of any type.
@@ -80,11 +73,12 @@ fn derive<T: Copy>(
     header: &SliceHeader,
     set: &ShortTermRefPicSet,
     max_pic_order_cnt_lsb: i32,
-) -> RefPicSet
+    out: &mut RefPicSet,
+)
     requires { IsMaxPicOrderCntLsb max_pic_order_cnt_lsb }
     ensures set { (p : Head) (first : Slice) → RefersAs p pic.now
         → HasMembers first header.now set.now max_pic_order_cnt_lsb
-        → plain_set result ≡ reference_set p first (buffer_of dpb.old) }
+        → plain_set out.new ≡ reference_set p first (buffer_of dpb.old) }
     ensures marks { (p : Head) (first : Slice) → RefersAs p pic.now
         → HasMembers first header.now set.now max_pic_order_cnt_lsb
         → buffer_of dpb.new ≡ with_marks p first (buffer_of dpb.old) }
@@ -93,9 +87,48 @@ fn derive<T: Copy>(
     unmark_before_sequence(dpb, pic);
     if is_idr(pic) {
         dpb.mark_all_as_unused_for_ref();
-        return RefPicSet::new();
+        out.clear();
+        return;
     }
-    derive_members(dpb, pic, header, set, max_pic_order_cnt_lsb)
+    derive_members(dpb, pic, header, set, max_pic_order_cnt_lsb, out);
+}
+
+/// Makes `out` the reference picture set of a picture, as `derive_and_mark` gives it, and marks what is stored by it (8.3.2). So a
+/// set that is kept in one place isn't moved.
+///
+/// `header` is that of the picture's first slice, `set` the short-term set that it means, and `max_pic_order_cnt_lsb`
+/// MaxPicOrderCntLsb of its sequence set.
+pub fn derive_into<T: Copy>(
+    dpb: &mut Dpb<T>,
+    pic: &PictureData,
+    header: &SliceHeader,
+    set: &ShortTermRefPicSet,
+    max_pic_order_cnt_lsb: i32,
+    out: &mut RefPicSet,
+)
+    requires { IsMaxPicOrderCntLsb max_pic_order_cnt_lsb }
+    ensures set { (p : Head) (first : Slice) → RefersAs p pic.now
+        → HasMembers first header.now set.now max_pic_order_cnt_lsb
+        → plain_set out.new ≡ reference_set p first (buffer_of dpb.old) }
+    ensures marks { (p : Head) (first : Slice) → RefersAs p pic.now
+        → HasMembers first header.now set.now max_pic_order_cnt_lsb
+        → buffer_of dpb.new ≡ with_marks p first (buffer_of dpb.old) }
+    ensures kept { KeepsAllButMarks dpb.old dpb.new }
+    // What a list names is used for reference, and nothing else is; no picture is a short-term and a long-term member.
+    ensures named { (p : Head) (first : Slice) → RefersAs p pic.now
+        → HasMembers first header.now set.now max_pic_order_cnt_lsb
+        → (n : ℕ) → names n (all_members (plain_set out.new)) ≡ true
+        → has_reference n (buffer_of dpb.new) ≡ true }
+    ensures exactly { (p : Head) (first : Slice) → RefersAs p pic.now
+        → HasMembers first header.now set.now max_pic_order_cnt_lsb
+        → All (λ e. is_reference e.mark ≡ names e.number (all_members (plain_set out.new)))
+        (buffer_of dpb.new) }
+    ensures apart { (p : Head) (first : Slice) → RefersAs p pic.now
+        → HasMembers first header.now set.now max_pic_order_cnt_lsb
+        → (n : ℕ) → names n (short_term_members (plain_set out.new)) ≡ true
+        → names n (long_term_members (plain_set out.new)) ≡ false }
+{
+    derive(dpb, pic, header, set, max_pic_order_cnt_lsb, out);
 }
 
 /// The reference picture set of a picture over what is stored (8.3.2). What is stored is marked by it: long-term members
@@ -132,5 +165,7 @@ pub fn derive_and_mark<T: Copy>(
         → (n : ℕ) → names n (short_term_members (plain_set result)) ≡ true
         → names n (long_term_members (plain_set result)) ≡ false }
 {
-    derive(dpb, pic, header, set, max_pic_order_cnt_lsb)
+    let mut out = RefPicSet::new();
+    derive_into(dpb, pic, header, set, max_pic_order_cnt_lsb, &mut out);
+    out
 }

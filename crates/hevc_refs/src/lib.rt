@@ -10,7 +10,7 @@ mod ref_pic_lists;
 mod ref_pic_set;
 mod short_term;
 
-pub use derive::derive_and_mark;
+pub use derive::{derive_and_mark, derive_into};
 pub use ref_pic_list::{RefPicList, RefPicListEntry, ReferencePicLists};
 pub use ref_pic_lists::build_ref_pic_lists;
 pub use ref_pic_set::RefPicSet;

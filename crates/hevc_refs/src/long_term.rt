@@ -12,8 +12,7 @@ ghost use Rattle.hevc_pictures.specs.OrderCounts.{IsMaxPicOrderCntLsb};
 ghost use Rattle.hevc_dpb.specs.Sought.{fits, HasModulus};
 ghost use Rattle.hevc_dpb.specs.Views.{buffer_of};
 
-use crate::ref_pic_set::push_if;
-use arrayvec::ArrayVec;
+use crate::ref_pic_set::{RefPicSet, push_if};
 use hevc_dpb::{Dpb, Sought};
 use hevc_types_d::SliceHeader;
 
@@ -84,39 +83,33 @@ fn number_of<T: Copy>(
     dpb.find(sought(order_count, header, i, modulus))
 }
 
-/// RefPicSetLtCurr and RefPicSetLtFoll.
-#[derive(Drop)]
-pub(crate) struct LongTermPics {
-    pub curr: ArrayVec<Option<u64>, 16>,
-    pub foll: ArrayVec<Option<u64>, 16>,
-}
-
-/// The long-term members, those that the picture itself may refer to apart.
+/// RefPicSetLtCurr and RefPicSetLtFoll: the long-term members, those that the picture itself may refer to apart.
 pub(crate) fn find_long_term<T: Copy>(
     dpb: &Dpb<T>,
     order_count: i32,
     header: &SliceHeader,
     modulus: i32,
-) -> LongTermPics
+    out: &mut RefPicSet,
+)
     requires { IsMaxPicOrderCntLsb modulus }
     ensures curr { (p : Head) (first : Slice) → order_count ≡ p.order_count
         → modulus ≡ pos first.max_pic_order_cnt_lsb
-        → result.curr.items ≡ map (long_term_entry p first (buffer_of dpb.now))
+        → out.new.lt_curr.items ≡ map (long_term_entry p first (buffer_of dpb.now))
         (filter is_curr_long_term (long_term_members (plain_slice_header header.now))) }
     ensures foll { (p : Head) (first : Slice) → order_count ≡ p.order_count
         → modulus ≡ pos first.max_pic_order_cnt_lsb
-        → result.foll.items ≡ map (long_term_entry p first (buffer_of dpb.now))
+        → out.new.lt_foll.items ≡ map (long_term_entry p first (buffer_of dpb.now))
         (filter (λ m. not (is_curr_long_term m))
         (long_term_members (plain_slice_header header.now))) }
 {
-    let mut curr = ArrayVec::new();
-    let mut foll = ArrayVec::new();
+    let (curr, foll) = (&mut out.lt_curr, &mut out.lt_foll);
+    curr.clear();
+    foll.clear();
     let num_members = header.num_long_term_sps as usize + header.num_long_term_pics as usize;
     for i in 0..num_members {
         let number = number_of(dpb, order_count, header, i, modulus);
         let is_used = header.used_by_curr_pic_lt[i];
-        push_if(&mut curr, number, is_used);
-        push_if(&mut foll, number, !is_used);
+        push_if(curr, number, is_used);
+        push_if(foll, number, !is_used);
     }
-    LongTermPics { curr, foll }
 }

@@ -31,6 +31,17 @@ impl RefPicSet {
         }
     }
 
+    /// All five lists are emptied.
+    pub(crate) fn clear(&mut self)
+        ensures { plain_set self.new ≡ no_references }
+    {
+        self.st_curr_before.clear();
+        self.st_curr_after.clear();
+        self.st_foll.clear();
+        self.lt_curr.clear();
+        self.lt_foll.clear();
+    }
+
     /// RefPicSetStCurrBefore: short-term pictures that the picture may refer to, and that precede it in output order.
     pub fn st_curr_before(&self) -> &[Option<u64>]
         ensures value { result.now ≡ (plain_set self.now).st_curr_before }

@@ -9,7 +9,7 @@ ghost use Rattle.hevc_walk.specs.ReferenceSets.{first_number, is_short_term, sho
 ghost use Rattle.hevc_dpb.specs.Views.{buffer_of};
 ghost use Rattle.hevc_refs.specs.Marking.{is_wanted};
 
-use crate::ref_pic_set::push_if;
+use crate::ref_pic_set::{RefPicSet, push_if};
 use arrayvec::ArrayVec;
 use hevc_dpb::{Dpb, Sought};
 use hevc_types_a::ShortTermRefPicSet;
@@ -53,33 +53,32 @@ fn push_members<T: Copy>(
     }
 }
 
-/// RefPicSetStCurrBefore, RefPicSetStCurrAfter and RefPicSetStFoll.
-#[derive(Drop)]
-pub(crate) struct ShortTermPics {
-    pub before: ArrayVec<Option<u64>, 16>,
-    pub after: ArrayVec<Option<u64>, 16>,
-    pub foll: ArrayVec<Option<u64>, 16>,
-}
-
-/// The short-term members, those that the picture itself may refer to apart.
+/// RefPicSetStCurrBefore, RefPicSetStCurrAfter and RefPicSetStFoll: the short-term members, those that the picture itself may refer
+/// to apart.
 pub(crate) fn find_short_term<T: Copy>(
     dpb: &Dpb<T>,
     order_count: i32,
     set: &ShortTermRefPicSet,
-) -> ShortTermPics
+    out: &mut RefPicSet,
+)
     ensures before { (p : Head) → order_count ≡ p.order_count
-        → result.before.items ≡ map (short_term_entry p (buffer_of dpb.now))
+        → out.new.st_curr_before.items ≡ map (short_term_entry p (buffer_of dpb.now))
         (filter is_curr_short_term
         (short_term_set_of (plain_short_term_ref_pic_set set.now)).negative_pics) }
     ensures after { (p : Head) → order_count ≡ p.order_count
-        → result.after.items ≡ map (short_term_entry p (buffer_of dpb.now))
+        → out.new.st_curr_after.items ≡ map (short_term_entry p (buffer_of dpb.now))
         (filter is_curr_short_term
         (short_term_set_of (plain_short_term_ref_pic_set set.now)).positive_pics) }
     ensures foll { (p : Head) → order_count ≡ p.order_count
-        → result.foll.items ≡ map (short_term_entry p (buffer_of dpb.now))
+        → out.new.st_foll.items ≡ map (short_term_entry p (buffer_of dpb.now))
         (filter (λ m. not (is_curr_short_term m))
         ((short_term_set_of (plain_short_term_ref_pic_set set.now)).negative_pics
         ++ (short_term_set_of (plain_short_term_ref_pic_set set.now)).positive_pics)) }
+    ensures others { out.new ≡ record out.old {
+      st_curr_before = out.new.st_curr_before;
+      st_curr_after = out.new.st_curr_after;
+      st_foll = out.new.st_foll;
+    } }
 {
     let (num_negative, num_positive) = (
         set.num_negative_pics as usize,
@@ -87,48 +86,14 @@ pub(crate) fn find_short_term<T: Copy>(
     );
     let (deltas0, used0) = (&set.delta_poc_s0, &set.used_by_curr_pic_s0);
     let (deltas1, used1) = (&set.delta_poc_s1, &set.used_by_curr_pic_s1);
-    let mut before = ArrayVec::new();
-    push_members(
-        dpb,
-        order_count,
-        deltas0,
-        used0,
-        num_negative,
-        true,
-        &mut before,
-    );
-    let mut after = ArrayVec::new();
-    push_members(
-        dpb,
-        order_count,
-        deltas1,
-        used1,
-        num_positive,
-        true,
-        &mut after,
-    );
-    let mut foll = ArrayVec::new();
-    push_members(
-        dpb,
-        order_count,
-        deltas0,
-        used0,
-        num_negative,
-        false,
-        &mut foll,
-    );
-    push_members(
-        dpb,
-        order_count,
-        deltas1,
-        used1,
-        num_positive,
-        false,
-        &mut foll,
-    );
-    ShortTermPics {
-        before,
-        after,
-        foll,
-    }
+    let before = &mut out.st_curr_before;
+    before.clear();
+    push_members(dpb, order_count, deltas0, used0, num_negative, true, before);
+    let after = &mut out.st_curr_after;
+    after.clear();
+    push_members(dpb, order_count, deltas1, used1, num_positive, true, after);
+    let foll = &mut out.st_foll;
+    foll.clear();
+    push_members(dpb, order_count, deltas0, used0, num_negative, false, foll);
+    push_members(dpb, order_count, deltas1, used1, num_positive, false, foll);
 }

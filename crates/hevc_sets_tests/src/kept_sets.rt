@@ -75,6 +75,22 @@ fn stand(rt: &impl Abort, sets: &KeptSets, waiting: usize, kept: Option<bool>) {
     assert_eq!(rt; picture_set_kept(sets), kept);
 }
 
+/// How many bits above 8 the luma samples have by the sequence set of id 0, if it is kept.
+fn depth_kept(sets: &KeptSets) -> Option<u8> {
+    let set = sets.parser().get_sps(0)?;
+    Some(set.bit_depth_luma_minus8)
+}
+
+#[test]
+fn a_repeated_sequence_set_is_the_one_that_was_read(rt: HostRuntime) -> Result<(), Fail> {
+    let mut sets = KeptSets::new(rt.alloc(), Options::new());
+    take(&mut sets, &[SEQUENCE_SET, DEEP_SET, DEEP_SET])?;
+    assert_eq!(rt; depth_kept(&sets), Some(2));
+    take(&mut sets, &[SEQUENCE_SET, OTHER_DEEP_SET, SEQUENCE_SET])?;
+    assert_eq!(rt; depth_kept(&sets), Some(0));
+    Ok(())
+}
+
 #[test]
 fn a_picture_set_waits_for_its_sequence_set(rt: HostRuntime) -> Result<(), Fail> {
     let mut sets = KeptSets::new(rt.alloc(), Options::new());

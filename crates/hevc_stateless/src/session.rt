@@ -48,7 +48,7 @@ impl<B: StatelessH265DecoderBackend> Model for Session<B> {
 
     ghost view = { λ s. record { backend = s.driver.backend; state = s.state; standing = standing s.driver.standing; queue = s.driver.standing.queue.items; tickets = tickets (stored_entries s.driver.standing.dpb); latest = latest_of s.driver.standing.kept } };
 
-    ghost invariant = { λ s. IsSound (B.log s.driver.backend) (B.handed s.driver.backend) s.driver.standing × IsIdleBefore s.state (current_of s.driver.standing.current) };
+    ghost invariant = { λ s. IsSound (B.log s.driver.backend) (B.handed s.driver.backend) s.driver.standing × IsIdleBefore s.state (current_of s.driver.standing.set s.driver.standing.current) };
 }
 
 /// The state that follows a unit of this type, no parameter set: a slice of an IDR picture ends the wait after `flush`.

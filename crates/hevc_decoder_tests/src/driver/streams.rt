@@ -32,7 +32,7 @@ pub(crate) fn start<B: StatelessH265DecoderBackend>(
     driver: &mut Driver<B>,
     sps: &Sps,
 ) -> Result<(), DecodeError>
-    requires none { current_of driver.old.standing.current ≡ NoPicture }
+    requires none { current_of driver.old.standing.set driver.old.standing.current ≡ NoPicture }
     requires sound { IsSound (B.log driver.old.backend)
         (B.handed driver.old.backend) driver.old.standing }
     ensures sound { IsSound (B.log driver.new.backend)

@@ -9,7 +9,7 @@ use Rattle.hevc_refs.proofs.DeriveLaws.{idr_set, idr_marks, other_set, other_mar
 use Rattle.hevc_refs.proofs.derive.derive.Goals as goal
 
 pub returns-then-is_idr-clause-set : goal.returns-then-is_idr-clause-set
-returns-then-is_idr-clause-set g c p first is_head has = c.new.ensures ∙ sym (idr_set p first (buffer_of c.args.dpb.now) (sym (c.is_idr.ensures p is_head) ∙ c.if-is_idr.true))
+returns-then-is_idr-clause-set g c p first is_head has = c.clear.ensures ∙ sym (idr_set p first (buffer_of c.args.dpb.now) (sym (c.is_idr.ensures p is_head) ∙ c.if-is_idr.true))
 
 pub returns-then-is_idr-clause-marks : goal.returns-then-is_idr-clause-marks
 returns-then-is_idr-clause-marks g c p first is_head has =
@@ -27,5 +27,5 @@ returns-clause-marks g c p first is_head has =
     ∙ ap (λ (b : Buffer). five_lists p first (short_term_set first) b (with_long_term p first b)) (c.unmark_before_sequence.ensures.buffer p is_head)
     ∙ sym (other_set p first (buffer_of c.args.dpb.now) (sym (c.is_idr.ensures p is_head) ∙ c.if-is_idr.false)) in
     c.derive_members.ensures.marks p first is_head (subst (λ (x : ℤ). HasMembers first c.args.header.now c.args.set.now x) (sym (to_z-of_z w32 c.args.max_pic_order_cnt_lsb c.ranges.max_pic_order_cnt_lsb)) has)
-    ∙ ap (λ (b : Buffer). map (marked_if (all_members (plain_set c.derive_members.result))) (with_long_term p first b)) (c.unmark_before_sequence.ensures.buffer p is_head)
-    ∙ other_marks p first (buffer_of c.args.dpb.now) (plain_set c.derive_members.result) set
+    ∙ ap (λ (b : Buffer). map (marked_if (all_members (plain_set c.derive_members.new.out))) (with_long_term p first b)) (c.unmark_before_sequence.ensures.buffer p is_head)
+    ∙ other_marks p first (buffer_of c.args.dpb.now) (plain_set c.derive_members.new.out) set

@@ -1,39 +1,19 @@
-use Rattle.std.proofs.Common.{◌≡◌, ℤ, w32, subst, sym, ap, ◌∙◌}
-use Rattle.std.specs.Prelude.{All}
+use Rattle.std.proofs.Common.{ℤ, w32, subst, sym}
 use Rattle.std.proofs.lemmas.Int.{to_z-of_z}
-use Rattle.hevc_walk.specs.Buffer.{Buffer, is_reference}
-use Rattle.hevc_walk.specs.ReferenceSets.{RefPicSet, names, all_members, with_marks}
-use Rattle.hevc_walk_marks.specs.Marked.{has_reference, short_term_members, long_term_members}
-use Rattle.hevc_walk_marks.proofs.Marks.{each_marked, exactly_marked, kinds_apart}
-use Rattle.hevc_dpb.specs.Views.{stored_entries, buffer_of}
-use Rattle.hevc_refs.specs.Sets.{plain_set}
 use Rattle.hevc_refs.specs.Marking.{HasMembers}
-use Rattle.hevc_refs.proofs.MarkingLaws.{plain_distinct}
 use Rattle.hevc_refs.proofs.derive.derive_and_mark.Goals as goal
 
 pub returns-clause-set : goal.returns-clause-set
-returns-clause-set g c p first is_head has =
-    c.derive.ensures.set p first is_head (subst (λ (x : ℤ). HasMembers first c.args.header.now c.args.set.now x) (sym (to_z-of_z w32 c.args.max_pic_order_cnt_lsb c.ranges.max_pic_order_cnt_lsb)) has)
+returns-clause-set g c p first is_head has = c.derive_into.ensures.set p first is_head (subst (λ (x : ℤ). HasMembers first c.args.header.now c.args.set.now x) (sym (to_z-of_z w32 c.args.max_pic_order_cnt_lsb c.ranges.max_pic_order_cnt_lsb)) has)
 
 pub returns-clause-marks : goal.returns-clause-marks
-returns-clause-marks g c p first is_head has =
-    c.derive.ensures.marks p first is_head (subst (λ (x : ℤ). HasMembers first c.args.header.now c.args.set.now x) (sym (to_z-of_z w32 c.args.max_pic_order_cnt_lsb c.ranges.max_pic_order_cnt_lsb)) has)
+returns-clause-marks g c p first is_head has = c.derive_into.ensures.marks p first is_head (subst (λ (x : ℤ). HasMembers first c.args.header.now c.args.set.now x) (sym (to_z-of_z w32 c.args.max_pic_order_cnt_lsb c.ranges.max_pic_order_cnt_lsb)) has)
 
 pub returns-clause-named : goal.returns-clause-named
-returns-clause-named g c p first is_head has n h =
-    let has_members = subst (λ (x : ℤ). HasMembers first c.args.header.now c.args.set.now x) (sym (to_z-of_z w32 c.args.max_pic_order_cnt_lsb c.ranges.max_pic_order_cnt_lsb)) has in
-    ap (has_reference n) (c.derive.ensures.marks p first is_head has_members)
-    ∙ each_marked p first (buffer_of c.args.dpb.now) n (sym (ap (λ (s : RefPicSet). names n (all_members s)) (c.derive.ensures.set p first is_head has_members)) ∙ h)
+returns-clause-named g c p first is_head has n h = c.derive_into.ensures.named p first is_head (subst (λ (x : ℤ). HasMembers first c.args.header.now c.args.set.now x) (sym (to_z-of_z w32 c.args.max_pic_order_cnt_lsb c.ranges.max_pic_order_cnt_lsb)) has) n h
 
 pub returns-clause-exactly : goal.returns-clause-exactly
-returns-clause-exactly g c p first is_head has =
-    let has_members = subst (λ (x : ℤ). HasMembers first c.args.header.now c.args.set.now x) (sym (to_z-of_z w32 c.args.max_pic_order_cnt_lsb c.ranges.max_pic_order_cnt_lsb)) has in
-    subst (λ (b : Buffer). All (λ e. is_reference e.mark ≡ names e.number (all_members (plain_set c.derive.result))) b) (sym (c.derive.ensures.marks p first is_head has_members))
-    (subst (λ (s : RefPicSet). All (λ e. is_reference e.mark ≡ names e.number (all_members s)) (with_marks p first (buffer_of c.args.dpb.now))) (sym (c.derive.ensures.set p first is_head has_members))
-    (exactly_marked p first (buffer_of c.args.dpb.now) (plain_distinct (stored_entries c.args.dpb.now) c.args.dpb.now.distinct)))
+returns-clause-exactly g c p first is_head has = c.derive_into.ensures.exactly p first is_head (subst (λ (x : ℤ). HasMembers first c.args.header.now c.args.set.now x) (sym (to_z-of_z w32 c.args.max_pic_order_cnt_lsb c.ranges.max_pic_order_cnt_lsb)) has)
 
 pub returns-clause-apart : goal.returns-clause-apart
-returns-clause-apart g c p first is_head has n h =
-    let has_members = subst (λ (x : ℤ). HasMembers first c.args.header.now c.args.set.now x) (sym (to_z-of_z w32 c.args.max_pic_order_cnt_lsb c.ranges.max_pic_order_cnt_lsb)) has in
-    ap (λ (s : RefPicSet). names n (long_term_members s)) (c.derive.ensures.set p first is_head has_members)
-    ∙ kinds_apart p first (buffer_of c.args.dpb.now) n (sym (ap (λ (s : RefPicSet). names n (short_term_members s)) (c.derive.ensures.set p first is_head has_members)) ∙ h)
+returns-clause-apart g c p first is_head has n h = c.derive_into.ensures.apart p first is_head (subst (λ (x : ℤ). HasMembers first c.args.header.now c.args.set.now x) (sym (to_z-of_z w32 c.args.max_pic_order_cnt_lsb c.ranges.max_pic_order_cnt_lsb)) has) n h

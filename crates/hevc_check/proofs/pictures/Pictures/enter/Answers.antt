@@ -23,10 +23,10 @@ returns-then-head-clause-left c o pps range =
 pub invariant_of-self : goal.invariant_of-self
 invariant_of-self c =
     let w = c.self.inside in
-    let m = c.reference_set-set.ensures.kept in
+    let m = c.reference_set.ensures.kept in
     let r = c.remove_unused.ensures in
     left_sound w.accepted w.accepted w.dpb c.remove_unused.new.self w.out w.out w.latest w.next c.self.invariant (r.size ∙ m.size ∙ c.self.invariant.sized) (r.latency (m.latency c.self.invariant.latency)) (r.room ∙ m.room) refl
-    (λ x k. keeps_all (tickets (stored_entries w.dpb)) (tickets (stored_entries c.reference_set-set.new.dpb)) m.handles x (sublist_part r.handles x k))
+    (λ x k. keeps_all (tickets (stored_entries w.dpb)) (tickets (stored_entries c.reference_set.new.dpb)) m.handles x (sublist_part r.handles x k))
 
 pub returns-clause-left : goal.returns-clause-left
 returns-clause-left c o pps range =
@@ -34,7 +34,7 @@ returns-clause-left c o pps range =
     let p = head_of c.args.head.now in
     let s = slice_of o c.args.slice.now c.args.sps.now pps in
     let decoded = decoded_is p range c.if-head.false in
-    let there = c.remove_unused.ensures.buffer ∙ ap needed_entries (c.reference_set-set.ensures.marks o pps) in
+    let there = c.remove_unused.ensures.buffer ∙ ap needed_entries (c.reference_set.ensures.marks o pps) in
     let w : Place = record { store = record { accepted = option_map format_of c.self.inside.accepted; buffer = buffer_of c.self.inside.dpb }; latest = v.latest; next = v.next; kept = v.kept } in
     c.make_room.ensures
     ∙ with_store _ v _ _ c.self.view_is

@@ -35,12 +35,12 @@ returns-clause-stays g c =
         sized = c.set_max_num_pics.ensures.size;
         latency = subst HaveLatency (sym entries) s.latency;
         below = below_part _ _ _ _ s.below (omega arith) (part_same _ _ entries);
-        newest = none_newest _ _ c.requires.none;
-        announced = record { stored = announced_same _ _ _ _ c.in_ok-new_sequence.ensures.handed (same_pictures _ _ entries) s.announced.stored; current = none_announced _ _ c.requires.none };
+        newest = none_newest _ _ _ c.requires.none;
+        announced = record { stored = announced_same _ _ _ _ c.in_ok-new_sequence.ensures.handed (same_pictures _ _ entries) s.announced.stored; current = none_announced _ _ _ c.requires.none };
         told = told_call (new_sequence_call c.args.sps.now) c.in_ok-new_sequence.ensures.log s.told (λ t h. record {
           handles = λ x k. h.handles x (part_same _ _ entries x k);
           sequence = ap (λ i. Some (format_of i)) (sym c.from-format.ensures);
-          picture = none_latest _ _ c.requires.none;
+          picture = none_latest _ _ _ c.requires.none;
         });
       };
       grows = search rules;

@@ -1,4 +1,9 @@
-use Rattle.std.proofs.Common.{refl, ap, arith, subst, rules}
+use Rattle.std.proofs.Common.{◌≡◌, refl, ap, arith, subst, rules, Result, Ok, Err}
+use Rattle.std.specs.Prelude.{IsErrAnd}
+use Rattle.hevc_backend.specs.Trait.{Counts}
+use Rattle.hevc_driver.specs.declared.decode_error.DecodeError.{DecodeError}
+use Rattle.hevc_driver.specs.declared.decode_error.DecodeError.TheVariants as errors
+use Rattle.hevc_driver.specs.Answers.{IsFair}
 use Rattle.hevc_walk.specs.Pictures.{Context}
 use Rattle.hevc_walk_units.specs.Units.{SkippedPicture}
 use Rattle.hevc_backend.proofs.ToldLaws.{told_same}
@@ -12,6 +17,15 @@ use Rattle.hevc_driver.proofs.HeadViews.{decoded_is}
 use Rattle.hevc_driver.proofs.PictureBegins.{skips_at, starts_at, head_number}
 use Rattle.hevc_driver.proofs.Soundness.{below_part, same_grows}
 use Rattle.hevc_driver.proofs.driver.Driver.start.Goals as goal
+
+-- a count out of range blames no backend
+unblamed : {B I T : Type 0} (counts : B → Counts) (is_faultless : B → Type 0) (tells : B → I) (b : B) (r : Result T DecodeError) → IsErrAnd r (λ e. e ≡ errors.PocOutOfRange)
+    → IsFair counts is_faultless tells b b r
+unblamed counts is_faultless tells b (Ok value) is = absurd is
+unblamed counts is_faultless tells b (Err e) is = rw is (record { blames = record { cause = refl; faultless = λ k. (k, λ x. x) }; info = refl })
+
+pub returns-in_err-head-clause-fair : goal.returns-in_err-head-clause-fair
+returns-in_err-head-clause-fair g c = unblamed _ _ _ _ _ c.from_residual.ensures.1
 
 pub behind-self-requires : goal.behind-self-requires
 behind-self-requires g c = let h = head_number _ _ _ (c.in_ok-head.ensures.head c.args.pps.now) in omega arith

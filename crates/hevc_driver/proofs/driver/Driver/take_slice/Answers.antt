@@ -35,7 +35,7 @@ returns-then-begins-clause-part g c =
     subst (λ (t : Given). Takes c.change_picture.result t (traces (g.B.StatelessH265DecoderBackend.log c.args.self.now.backend) (g.B.StatelessH265DecoderBackend.handed c.args.self.now.backend) c.args.self.now.standing) (traces (g.B.StatelessH265DecoderBackend.log c.change_picture.new.self.backend) (g.B.StatelessH265DecoderBackend.handed c.change_picture.new.self.backend) c.change_picture.new.self.standing)
     (CodedSlice v) s (standing c.change_picture.new.self.standing))
     (given_whole c.args.timestamp v w _ segment s whole (segment_whole _ _ c.args.slice.now c.complete_header.new.slice c.args.sps.now c.args.pps.now c.if-not-complete_header.false c.complete_header.ensures.header))
-    (takes_first _ _ _ v w s _ whole (sym (c.begins.ensures c.args.options c.args.sps.now c.args.pps.now) ∙ c.if-begins.true) c.change_picture.result
+    (takes_first _ _ _ v w s _ whole (sym (c.begins.ensures c.args.options c.args.sps.now c.args.pps.now _) ∙ c.if-begins.true) c.change_picture.result
     (subst (λ (k : Option KeptHeader). Changes c.change_picture.result given (traces (g.B.StatelessH265DecoderBackend.log c.args.self.now.backend) (g.B.StatelessH265DecoderBackend.handed c.args.self.now.backend) c.args.self.now.standing) (traces (g.B.StatelessH265DecoderBackend.log c.change_picture.new.self.backend) (g.B.StatelessH265DecoderBackend.handed c.change_picture.new.self.backend) c.change_picture.new.self.standing)
     w (record s { kept = k }) (standing c.change_picture.new.self.standing))
     (c.keep_header.ensures.kept c.args.options c.args.sps.now c.args.pps.now ∙ c.complete_header.ensures.kept c.args.options c.args.pps.now _) c.change_picture.ensures.part))
@@ -51,7 +51,7 @@ returns-else-begins-clause-part g c =
     let w = slice_of c.args.options c.complete_header.new.slice c.args.sps.now c.args.pps.now in
     let given = given_at c.args.timestamp v (whole_segment (latest_of c.args.self.now.standing.kept) c.args.slice.now c.args.sps.now c.args.pps.now) s in
     takes_later _ _ _ v w s _
-    (c.complete_header.ensures.whole c.args.options c.args.pps.now ∙ ap (λ (b : Bool). if b then Some w else None) c.if-not-complete_header.false) (sym (c.begins.ensures c.args.options c.args.sps.now c.args.pps.now) ∙ c.if-begins.false) c.follow.result
+    (c.complete_header.ensures.whole c.args.options c.args.pps.now ∙ ap (λ (b : Bool). if b then Some w else None) c.if-not-complete_header.false) (sym (c.begins.ensures c.args.options c.args.sps.now c.args.pps.now _) ∙ c.if-begins.false) c.follow.result
     (subst (λ (k : Option KeptHeader). Follows c.follow.result given (traces (g.B.StatelessH265DecoderBackend.log c.args.self.now.backend) (g.B.StatelessH265DecoderBackend.handed c.args.self.now.backend) c.args.self.now.standing) (traces (g.B.StatelessH265DecoderBackend.log c.follow.new.self.backend) (g.B.StatelessH265DecoderBackend.handed c.follow.new.self.backend) c.follow.new.self.standing)
     w (record s { kept = k }) (standing c.follow.new.self.standing))
     (c.keep_header.ensures.kept c.args.options c.args.sps.now c.args.pps.now ∙ c.complete_header.ensures.kept c.args.options c.args.pps.now _) (c.follow.ensures.part given c.args.options (segment_whole _ _ c.args.slice.now c.complete_header.new.slice c.args.sps.now c.args.pps.now c.if-not-complete_header.false c.complete_header.ensures.header)))

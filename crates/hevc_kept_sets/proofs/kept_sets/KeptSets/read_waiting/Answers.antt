@@ -17,12 +17,14 @@ invariant_of-self c =
           let new = w.try_all.new.self in
           let all = all_settled options 0 (kept_of old) (kept_of new) w.in_ok-try_all.ensures.tried in
           rw w.self-is (record {
+            repeated = new.repeated;
             wanted = new.wanted;
             covered = covered_by_names w.named_by-self.result new.waiting.items w.named_by-self.ensures;
             settled = subst (λ (o : Options). list_all (is_settled 0 o (kept_by new.parser)) new.waiting.items ≡ true) (sym w.try_all.ensures.options)
                 (settled_by_sets options 0 (kept_of new) (kept_by new.parser) refl new.waiting.items all);
           })
       | else-self-ne0 w ↦ rw w.self-is (record {
+        repeated = old.repeated;
         wanted = old.wanted;
         covered = old.covered;
         settled = settled_apart options old.changed old.named w.if-self-ne0.false (kept_by old.parser) old.waiting.items old.settled old.covered;

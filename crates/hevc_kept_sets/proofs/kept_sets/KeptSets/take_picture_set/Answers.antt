@@ -7,8 +7,9 @@ use Rattle.hevc_options.specs.Options.{options_of}
 use Rattle.std.specs.Result.{is_ok}
 use Rattle.std.specs.Prelude.{◌||◌}
 use Rattle.hevc_kept_sets.specs.Settled.{has_id, is_id}
-use Rattle.hevc_kept_sets.proofs.Again.{settled_by_sets, settled_pushed, covered_pushed}
+use Rattle.hevc_kept_sets.proofs.Again.{settled_by_sets, settled_pushed, covered_pushed, wanted_pushed}
 use Rattle.hevc_kept_sets.proofs.CutAgain.{has_header}
+use Rattle.hevc_kept_sets.proofs.ReadUnits.{still_read}
 use Rattle.hevc_kept_sets.proofs.Waiting.{waited_by}
 use Rattle.hevc_kept_sets.proofs.Sets.{behind_read, behind_unread, behind_picture_set, unread_behind, sets_stay}
 use Rattle.hevc_kept_sets.proofs.kept_sets.KeptSets.take_picture_set.Goals as goal
@@ -59,3 +60,22 @@ invariant_of-self-then-not-branch-clause-covered c =
     let unit = c.in_ok-unit.unit in
     covered_pushed self.named c.with_named-self.result unit (subst (λ (id : Option ℕ). (k : ℕ) → has_id c.with_named-self.result k ≡ (is_id k id || has_id self.named k)) c.named.ensures.value c.with_named-self.ensures)
     self.waiting.items c.push_back.new.self.items unit (is_ok c.push_back.result) self.covered refl c.push_back.ensures.items
+
+pub invariant_of-self-then-not-branch-clause-repeated : goal.invariant_of-self-then-not-branch-clause-repeated
+invariant_of-self-then-not-branch-clause-repeated c =
+    let old = kept_by c.args.self.now.parser in
+    let new = kept_by c.read_picture_set.new.parser in
+    still_read old new c.args.self.now.last_read (sets_stay c.args.nalu.now.header (bytes_of c.args.nalu.now) c.read_picture_set.result old new c.read_picture_set.ensures) c.args.self.now.repeated
+
+pub invariant_of-self-else-not-branch-clause-repeated : goal.invariant_of-self-else-not-branch-clause-repeated
+invariant_of-self-else-not-branch-clause-repeated c =
+    let old = kept_by c.args.self.now.parser in
+    let new = kept_by c.read_picture_set.new.parser in
+    still_read old new c.args.self.now.last_read (sets_stay c.args.nalu.now.header (bytes_of c.args.nalu.now) c.read_picture_set.result old new c.read_picture_set.ensures) c.args.self.now.repeated
+
+pub invariant_of-self-then-not-branch-clause-wanted : goal.invariant_of-self-then-not-branch-clause-wanted
+invariant_of-self-then-not-branch-clause-wanted c =
+    let self = c.args.self.now in
+    let bytes = bytes_of c.args.nalu.now in
+    let header = has_header bytes c.args.nalu.now.header c.header-header.result.now c.header-header.ensures.parsed c.header-header.ensures.value in
+    wanted_pushed self.options.highest_tid self.waiting.items c.push_back.new.self.items c.in_ok-unit.unit bytes c.args.nalu.now.header (is_ok c.push_back.result) self.wanted header c.requires.wanted c.in_ok-unit.ensures.same c.push_back.ensures.items

@@ -8,6 +8,7 @@ use Rattle.hevc_stream.specs.Kept.{Kept}
 use Rattle.hevc_options.specs.Options.{options_of}
 use Rattle.hevc_kept_sets.proofs.Again.{settled_by_sets}
 use Rattle.hevc_kept_sets.proofs.CutAgain.{has_header}
+use Rattle.hevc_kept_sets.proofs.ReadUnits.{still_read}
 use Rattle.hevc_kept_sets.proofs.Sets.{kept_where_ok, stays_where_err, video_set_taken, video_set_refused}
 use Rattle.hevc_kept_sets.proofs.kept_sets.KeptSets.take_video_set.Goals as goal
 
@@ -28,3 +29,8 @@ pub invariant_of-self-clause-settled : goal.invariant_of-self-clause-settled
 invariant_of-self-clause-settled c =
     let kept = kept_where_ok (λ set. with_video_set (plain_vps set.now)) c.parse_vps.result c.in_ok-parse_vps.field-0 c.args.self.now.parser c.parse_vps.follows.lender-at-none c.in_ok-parse_vps.was c.parse_vps.follows.holds-at-none in
     settled_by_sets (options_of c.args.self.now.options) c.args.self.now.changed (kept_by c.args.self.now.parser) (kept_by c.parse_vps.follows.lender-at-none) (sym (ap (λ (k : Kept). k.sequence_sets) kept)) c.args.self.now.waiting.items c.args.self.now.settled
+
+pub invariant_of-self-clause-repeated : goal.invariant_of-self-clause-repeated
+invariant_of-self-clause-repeated c =
+    let kept = kept_where_ok (λ set. with_video_set (plain_vps set.now)) c.parse_vps.result c.in_ok-parse_vps.field-0 c.args.self.now.parser c.parse_vps.follows.lender-at-none c.in_ok-parse_vps.was c.parse_vps.follows.holds-at-none in
+    still_read (kept_by c.args.self.now.parser) (kept_by c.parse_vps.follows.lender-at-none) c.args.self.now.last_read (sym (ap (λ (k : Kept). k.sequence_sets) kept)) c.args.self.now.repeated

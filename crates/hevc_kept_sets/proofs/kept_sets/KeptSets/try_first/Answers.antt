@@ -7,6 +7,7 @@ use Rattle.hevc_kept_sets.specs.Takes.{ReadsPictureSet}
 use Rattle.hevc_kept_sets.proofs.Again.{settled_by_sets, settled_rest, first_unread}
 use Rattle.hevc_kept_sets.proofs.Waiting.{waited_by, untried}
 use Rattle.hevc_kept_sets.proofs.Sets.{behind_read, behind_unread, first_tried, first_is_wanted, sets_stay}
+use Rattle.hevc_kept_sets.proofs.ReadUnits.{still_read}
 use Rattle.hevc_kept_sets.proofs.kept_sets.KeptSets.try_first.Goals as goal
 
 pub returns-in-Ok-true-clause-tried : goal.returns-in-Ok-true-clause-tried
@@ -55,3 +56,10 @@ invariant_of-self-in-Ok-true-clause-settled c =
     let rest = settled_rest options c.args.self.now.changed old c.args.self.now.waiting.items c.pop_front.new.self.items bytes c.pop_front.result c.pop_front.ensures.items c.unwrap-unit.ensures c.args.self.now.settled in
     let reads = subst (λ (bs : List ℕ). ReadsPictureSet c.nalu.result.header bs c.read_picture_set.result old new) c.nalu.ensures.bytes c.read_picture_set.ensures in
     settled_by_sets options c.args.self.now.changed old new (sets_stay c.nalu.result.header bytes c.read_picture_set.result old new reads) c.pop_front.new.self.items rest
+
+pub invariant_of-self-in-Ok-true-clause-repeated : goal.invariant_of-self-in-Ok-true-clause-repeated
+invariant_of-self-in-Ok-true-clause-repeated c =
+    let old = kept_by c.args.self.now.parser in
+    let new = kept_by c.read_picture_set.new.parser in
+    let reads = subst (λ (bs : List ℕ). ReadsPictureSet c.nalu.result.header bs c.read_picture_set.result old new) c.nalu.ensures.bytes c.read_picture_set.ensures in
+    still_read old new c.args.self.now.last_read (sets_stay c.nalu.result.header c.unwrap-unit.result c.read_picture_set.result old new reads) c.args.self.now.repeated
