@@ -50,8 +50,8 @@ pub record Fits {H P : Type 0} (w : driver.Standing H P) (t : Told H) : Type 0 w
   pub sequence : IsAccepted w.accepted t.sequence
   pub picture : IsLatest w.current t.picture
 
--- A picture of this head, and of the reference picture set that is there, is newer than all that are
--- stored, and refers to none but those.
+-- A picture of this head, and of the reference picture set that is there, is newer than all that
+-- are stored, and refers to none but those.
 pub record IsNewest {H P : Type 0} (head : Head) (w : driver.Standing H P) : Type 0 where
   pub newer : AreBelow head.number (tickets (stored_entries w.dpb))
   pub counted : head.number < w.next.number
