@@ -173,8 +173,8 @@ def wrong_crates(page):
 def wrong_edits(page):
     """The crates whose number of edits in STRENGTH.md isn't that of their folder."""
     told = {}
-    for names, numbers in re.findall(r"^\| (`hevc_[^|]*`) \| ([\d, ]+) \|", page, re.M):
-        told.update(zip(re.findall(r"`(\w+)`", names), numbers.split(", ")))
+    for first in re.findall(r"^\| (`\w+` \d[^|]*) \|", page, re.M):
+        told.update(re.findall(r"`(\w+)` (\d+)", first))
     for crate in crates():
         edits = len(list((CRATES / crate / "must-fail").glob("*.edit")))
         if int(told.get(crate, 0)) != edits:
