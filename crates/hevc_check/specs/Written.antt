@@ -6,6 +6,7 @@ use Rattle.hevc_decoder.specs.declared.decoded.Refused.{Refused}
 use Rattle.hevc_report.specs.Report.{ending_of, refusal_line}
 use Rattle.hevc_check_laws.specs.Breaches.{Breach, Changed, Latency, SameCount, Full, Discards, Reorder}
 use Rattle.hevc_check_laws.specs.Checks.{Checked, Yes, No}
+use Rattle.hevc_runs.specs.Answers.{Program}
 use Rattle.hevc_check.specs.declared.table.Table.{Table}
 use Rattle.hevc_check.specs.Tables.{checked_by}
 
@@ -58,3 +59,8 @@ IsAnswer status = (status ≡ 0) ⊎ (status ≡ 1) ⊎ (status ≡ 7)
 -- or 5
 abbrev pub IsDone : ℕ → Type 0
 IsDone status = IsAnswer status ⊎ (status ≡ 5)
+
+-- the checker, as a program
+abbrev pub check_program : Program Table
+check_program =
+    record { text = written_of; status = status_of; IsAnswer = IsAnswer; IsDone = IsDone }

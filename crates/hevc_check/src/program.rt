@@ -8,7 +8,8 @@ ghost use Rattle.hevc_stream.specs.Options.{default_options};
 ghost use Rattle.hevc_stream.specs.Stream.{meanings};
 ghost use Rattle.hevc_check.specs.Answers.{AreAllInOrder};
 ghost use Rattle.hevc_check.specs.Requests.{asked_table};
-ghost use Rattle.hevc_check.specs.Written.{status_of, written_of, IsAnswer, IsDone};
+ghost use Rattle.hevc_runs.specs.Answers.{Answers};
+ghost use Rattle.hevc_check.specs.Written.{status_of, written_of, IsAnswer, check_program};
 
 use crate::answer::answer_to;
 use crate::table::Table;
@@ -41,39 +42,20 @@ pub fn run_check<S: Source, K: Sink>(
 ) -> u8
     ensures statuses { result ≤ 7 }
 
-    // On 0, 1 and 7 all was read, and the line of the answer or of the refusal was written.
-    ensures whole { IfSome (asked_table words.now) (λ table. IsAnswer result
-        → IsAtEnd (S.left source.new) × IfSome (S.left source.old) (λ s.
-        Appends (K.written sink.old) (K.written sink.new) (written_of table s)
-        × (result ≡ status_of table s))) }
+    // What is read and written, by the status. On 0, 1 and 7 the line of the answer or of the refusal.
+    ensures answers { Answers
+        (record {
+          left = S.left;
+          failed_reads = S.faults;
+          written = K.written;
+          failed_writes = K.faults;
+        })
+        check_program INPUT_LIMIT (asked_table words.now)
+        (record { source = source.old; sink = sink.old })
+        (record { source = source.new; sink = sink.new }) result }
     // On 0 the outputs of each sequence are its pictures that are to be output, in order.
     ensures order { result ≡ 0 → IfSome (S.left source.old)
         (λ s. AreAllInOrder (meanings default_options s)) }
-    // That is so for no longer input than may be.
-    ensures limit { IfSome (asked_table words.now) (λ _. IsAnswer result
-        → IfSome (S.left source.old) (λ s. length s ≤ INPUT_LIMIT)) }
-    // Whatever the status, what was written is a prefix of that; on 4 not the whole.
-    ensures part { IfSome (asked_table words.now) (λ table. IfSome (S.left source.old) (λ s.
-        AppendsPrefix (K.written sink.old) (K.written sink.new) (written_of table s))) }
-    ensures less { IfSome (asked_table words.now) (λ table. result ≡ 4
-        → IfSome (S.left source.old) (λ s.
-        AppendsLess (K.written sink.old) (K.written sink.new) (written_of table s))) }
-
-    // 2 exactly where the words are others, and then nothing is read or written.
-    ensures no_table { (result ≡ 2) ↔ (asked_table words.now ≡ None) }
-    ensures untouched { result ≡ 2 → (source.new ≡ source.old) × (sink.new ≡ sink.old) }
-
-    ensures read { result ≡ 3
-        → Rose (S.faults source.old) (S.faults source.new) × (sink.new ≡ sink.old) }
-    ensures write { result ≡ 4 → Rose (K.faults sink.old) (K.faults sink.new) }
-    ensures long { result ≡ 6
-        → (sink.new ≡ sink.old) × IfSome (S.left source.old) (λ s. INPUT_LIMIT < length s) }
-
-    // Such words, ends that don't fail, and an input within the limit.
-    ensures completes { IfSome (asked_table words.now) (λ _.
-        (s : List ℕ) → S.left source.old ≡ Some s → length s ≤ INPUT_LIMIT
-        → ¬ (Rose (S.faults source.old) (S.faults source.new))
-        → ¬ (Rose (K.faults sink.old) (K.faults sink.new)) → IsDone result) }
 {
     let Some(table) = read_table(words) else {
         return 2;

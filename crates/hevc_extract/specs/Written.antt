@@ -1,8 +1,9 @@
 -- What is written of a stream, and the status.
-use Rattle.std.specs.Prelude.{◌≡◌, ℕ, ◌⊎◌, List, ◌++◌, codes, decimal, Option, Some, None}
+use Rattle.std.specs.Prelude.{◌≡◌, ◌≤◌, ℕ, ◌⊎◌, List, ◌++◌, codes, decimal, Option, Some, None}
 use Rattle.hevc_spec.specs.Units.{units}
 use Rattle.hevc_bits.specs.declared.header.UnitError.{UnitError}
 use Rattle.hevc_bits.specs.declared.header.UnitError.TheVariants.{NoNal, TruncatedNalu, InvalidNaluType, TemporalIdZero}
+use Rattle.hevc_runs.specs.Answers.{Program}
 use Rattle.hevc_extract.specs.Extracting.{extracted, first_refused}
 use Rattle.hevc_extract.specs.declared.words.Targets.{Targets}
 
@@ -36,3 +37,16 @@ status_of (Some refused) = 1
 -- 0, 1 or 5
 abbrev pub IsDone : ℕ → Type 0
 IsDone status = (status ≡ 0) ⊎ (status ≡ 1) ⊎ (status ≡ 5)
+
+-- 0 or 1: all was written
+abbrev pub IsAnswer : ℕ → Type 0
+IsAnswer status = status ≤ 1
+
+-- the extractor, as a program
+abbrev pub extract_program : Program Targets
+extract_program = record {
+  text = written_of;
+  status = λ targets stream. status_of (first_refused 0 (units stream));
+  IsAnswer = IsAnswer;
+  IsDone = IsDone;
+}

@@ -8,7 +8,8 @@ ghost use Rattle.hevc_spec.specs.Units.{units};
 ghost use Rattle.hevc_extract.specs.Alike.{DecodesAlike, HoldsKept};
 ghost use Rattle.hevc_extract.specs.Extracting.{extracted, first_refused};
 ghost use Rattle.hevc_extract.specs.Targets.{asked_targets};
-ghost use Rattle.hevc_extract.specs.Written.{IsDone, status_of, written_of};
+ghost use Rattle.hevc_runs.specs.Answers.{Answers};
+ghost use Rattle.hevc_extract.specs.Written.{extract_program, written_of};
 
 use crate::extraction::{ExtractError, extract_layer};
 use crate::line::refusal_line;
@@ -43,11 +44,17 @@ pub fn run_extract<S: Source, K: Sink>(
 ) -> u8
     ensures statuses { result ≤ 6 }
 
-    // On 0 and 1 all was read, and the units or the line of the refused one were written.
-    ensures whole { IfSome (asked_targets words.now) (λ targets. result ≤ 1
-        → IsAtEnd (S.left source.new) × IfSome (S.left source.old) (λ s.
-        Appends (K.written sink.old) (K.written sink.new) (written_of targets s)
-        × (result ≡ status_of (first_refused 0 (units s))))) }
+    // What is read and written, by the status. On 0 and 1 the kept units or the line of the refused one.
+    ensures answers { Answers
+        (record {
+          left = S.left;
+          failed_reads = S.faults;
+          written = K.written;
+          failed_writes = K.faults;
+        })
+        extract_program INPUT_LIMIT (asked_targets words.now)
+        (record { source = source.old; sink = sink.old })
+        (record { source = source.new; sink = sink.new }) result }
     // On 0 the kept units are found in the bytes, and are decoded as in the stream.
     ensures holds { IfSome (asked_targets words.now) (λ targets. result ≡ 0
         → IfSome (S.left source.old) (λ s.
@@ -55,31 +62,6 @@ pub fn run_extract<S: Source, K: Sink>(
     ensures alike { IfSome (asked_targets words.now) (λ targets. result ≡ 0
         → targets.highest_layer ≡ 63 → IfSome (S.left source.old) (λ s.
         DecodesAlike targets.highest_tid s (written_of targets s))) }
-    // That is so for no longer input than may be.
-    ensures limit { IfSome (asked_targets words.now) (λ _. result ≤ 1
-        → IfSome (S.left source.old) (λ s. length s ≤ INPUT_LIMIT)) }
-    // Whatever the status, what was written is a prefix of that; on 4 not the whole.
-    ensures part { IfSome (asked_targets words.now) (λ targets. IfSome (S.left source.old) (λ s.
-        AppendsPrefix (K.written sink.old) (K.written sink.new) (written_of targets s))) }
-    ensures less { IfSome (asked_targets words.now) (λ targets. result ≡ 4
-        → IfSome (S.left source.old) (λ s.
-        AppendsLess (K.written sink.old) (K.written sink.new) (written_of targets s))) }
-
-    // 2 exactly where the words are others, and then nothing is read or written.
-    ensures no_targets { (result ≡ 2) ↔ (asked_targets words.now ≡ None) }
-    ensures untouched { result ≡ 2 → (source.new ≡ source.old) × (sink.new ≡ sink.old) }
-
-    ensures read { result ≡ 3
-        → Rose (S.faults source.old) (S.faults source.new) × (sink.new ≡ sink.old) }
-    ensures write { result ≡ 4 → Rose (K.faults sink.old) (K.faults sink.new) }
-    ensures long { result ≡ 6
-        → (sink.new ≡ sink.old) × IfSome (S.left source.old) (λ s. INPUT_LIMIT < length s) }
-
-    // Such words, ends that don't fail, and an input within the limit.
-    ensures completes { IfSome (asked_targets words.now) (λ _.
-        (s : List ℕ) → S.left source.old ≡ Some s → length s ≤ INPUT_LIMIT
-        → ¬ (Rose (S.faults source.old) (S.faults source.new))
-        → ¬ (Rose (K.faults sink.old) (K.faults sink.new)) → IsDone result) }
 {
     let Some(targets) = read_targets(words) else {
         return 2;

@@ -8,6 +8,7 @@ use Rattle.hevc_decoder.specs.declared.decoded.Refused.{Refused}
 use Rattle.hevc_report.specs.Report.{refusal_line}
 use Rattle.hevc_index_laws.specs.Points.{points_of, PlainPoint}
 use Rattle.hevc_index_laws.specs.SplicedUnits.{spliced_bytes}
+use Rattle.hevc_runs.specs.Answers.{Program}
 use Rattle.hevc_index.specs.declared.words.Request.{Request}
 use Rattle.hevc_index.specs.declared.words.Request.TheVariants.{Points, Splice}
 use Rattle.hevc_index.specs.Indexing.{ending, point_at, BeginsAtPoint}
@@ -77,3 +78,8 @@ IsAnswer status = (status ≡ 0) ⊎ (status ≡ 1) ⊎ (status ≡ 7)
 -- or 5
 abbrev pub IsDone : ℕ → Type 0
 IsDone status = IsAnswer status ⊎ (status ≡ 5)
+
+-- points and splicing, as a program
+abbrev pub index_program : Program Request
+index_program =
+    record { text = written_of; status = status_of; IsAnswer = IsAnswer; IsDone = IsDone }

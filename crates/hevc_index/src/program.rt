@@ -5,7 +5,8 @@ ghost use Rattle.std.specs.Io.KnownBytes.{Appends, IsAtEnd};
 ghost use Rattle.hevc_faults.specs.Faults.{Rose};
 ghost use Rattle.hevc_io.specs.Prefix.{AppendsLess, AppendsPrefix};
 ghost use Rattle.hevc_index.specs.Requests.{asked_request};
-ghost use Rattle.hevc_index.specs.Written.{status_of, written_of, BeginsAsAsked, IsAnswer, IsDone};
+ghost use Rattle.hevc_runs.specs.Answers.{Answers};
+ghost use Rattle.hevc_index.specs.Written.{status_of, written_of, index_program, BeginsAsAsked, IsAnswer};
 
 use crate::answer::answer_to;
 use crate::words::{Request, read_request};
@@ -39,39 +40,20 @@ pub fn run_index<S: Source, K: Sink>(
 ) -> u8
     ensures statuses { result ≤ 7 }
 
-    // On 0, 1 and 7 all was read, and what is asked for or the line of a refusal was written.
-    ensures whole { IfSome (asked_request words.now) (λ request. IsAnswer result
-        → IsAtEnd (S.left source.new) × IfSome (S.left source.old) (λ s.
-        Appends (K.written sink.old) (K.written sink.new) (written_of request s)
-        × (result ≡ status_of request s))) }
+    // What is read and written, by the status. On 0, 1 and 7 what is asked for, or a refusal's line.
+    ensures answers { Answers
+        (record {
+          left = S.left;
+          failed_reads = S.faults;
+          written = K.written;
+          failed_writes = K.faults;
+        })
+        index_program INPUT_LIMIT (asked_request words.now)
+        (record { source = source.old; sink = sink.old })
+        (record { source = source.new; sink = sink.new }) result }
     // On 0 a stream that was asked for is decoded as the one that was read, from the point on.
     ensures begins { IfSome (asked_request words.now) (λ request. result ≡ 0
         → IfSome (S.left source.old) (λ s. BeginsAsAsked request s (written_of request s))) }
-    // That is so for no longer input than may be.
-    ensures limit { IfSome (asked_request words.now) (λ _. IsAnswer result
-        → IfSome (S.left source.old) (λ s. length s ≤ INPUT_LIMIT)) }
-    // Whatever the status, what was written is a prefix of that; on 4 not the whole.
-    ensures part { IfSome (asked_request words.now) (λ request. IfSome (S.left source.old) (λ s.
-        AppendsPrefix (K.written sink.old) (K.written sink.new) (written_of request s))) }
-    ensures less { IfSome (asked_request words.now) (λ request. result ≡ 4
-        → IfSome (S.left source.old) (λ s.
-        AppendsLess (K.written sink.old) (K.written sink.new) (written_of request s))) }
-
-    // 2 exactly where the words are others, and then nothing is read or written.
-    ensures no_request { (result ≡ 2) ↔ (asked_request words.now ≡ None) }
-    ensures untouched { result ≡ 2 → (source.new ≡ source.old) × (sink.new ≡ sink.old) }
-
-    ensures read { result ≡ 3
-        → Rose (S.faults source.old) (S.faults source.new) × (sink.new ≡ sink.old) }
-    ensures write { result ≡ 4 → Rose (K.faults sink.old) (K.faults sink.new) }
-    ensures long { result ≡ 6
-        → (sink.new ≡ sink.old) × IfSome (S.left source.old) (λ s. INPUT_LIMIT < length s) }
-
-    // Such words, ends that don't fail, and an input within the limit.
-    ensures completes { IfSome (asked_request words.now) (λ _.
-        (s : List ℕ) → S.left source.old ≡ Some s → length s ≤ INPUT_LIMIT
-        → ¬ (Rose (S.faults source.old) (S.faults source.new))
-        → ¬ (Rose (K.faults sink.old) (K.faults sink.new)) → IsDone result) }
 {
     let Some(request) = read_request(words) else {
         return 2;
