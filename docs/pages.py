@@ -15,10 +15,10 @@ TOP = Path(__file__).resolve().parent.parent
 DOCS = TOP / "docs"
 CRATES = TOP / "crates"
 
-# The pages with an example, and the file that has it.
+# The pages with an example, the file that has it, and its first line and the one after it ("": to the end).
 EXAMPLES = {
-    "BACKENDS.md": "hevc_decoder_tests/src/backend/over_device.rt",
-    "CALLING.md": "hevc_decoder_tests/src/decoder/calling.rt",
+    "BACKENDS.md": ("hevc_decoder_tests/src/backend/over_device.rt", "impl<D: Device> StatelessH265DecoderBackend", ""),
+    "CALLING.md": ("hevc_decoder_tests/src/decoder/calling.rt", "use hevc_backend", "/// The same of a whole stream."),
 }
 
 # Fields whose elements have another name in TABLES.md.
@@ -199,11 +199,18 @@ def wrong_files(path):
             yield f"{path.name}: no file {name}"
 
 
+def part_of(code, first, after):
+    """The code from the line that begins so to the one that begins so, or to its end."""
+    start = code.index("\n" + first) + 1
+    end = code.index("\n" + after, start) + 1 if after else len(code)
+    return code[start:end].rstrip("\n") + "\n"
+
+
 def with_example(page, example):
-    """The page with its example as it stands in the code."""
+    """The page with its example as it is in the code."""
     before, old = page.split("```rust\n")
-    behind = old.split("```\n")[1]
-    return f"{before}```rust\n{example.read_text()}```\n{behind}"
+    later = old.split("```\n")[1]
+    return f"{before}```rust\n{example}```\n{later}"
 
 
 def complaints():
@@ -218,9 +225,9 @@ def complaints():
 
 def main():
     pages = {}
-    for page, example in EXAMPLES.items():
+    for page, (example, first, after) in EXAMPLES.items():
         path = DOCS / page
-        pages[path] = with_example(path.read_text(), CRATES / example)
+        pages[path] = with_example(path.read_text(), part_of((CRATES / example).read_text(), first, after))
     stale = [path for path, text in pages.items() if path.read_text() != text]
     if sys.argv[1:] == ["--check"]:
         said = [f"{path.relative_to(TOP)} differs from what docs/pages.py makes" for path in stale] + list(complaints())
