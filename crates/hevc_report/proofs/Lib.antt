@@ -1,7 +1,6 @@
 pub mod Joined
 pub mod LineLaws
 pub mod Numbers
-pub mod OneField
 pub mod Order
 pub mod Pieces
 pub mod SameLine

@@ -3,7 +3,6 @@
 #![tactic(auto)]
 
 mod command;
-mod history;
 mod made;
 mod program;
 mod report;

@@ -7,9 +7,9 @@ ghost use Rattle.hevc_report.specs.Lines.{log_line};
 ghost use Rattle.hevc_report.specs.Reported.{Reported};
 
 use super::line::{push_picture, push_sequence, push_slice, push_submission};
-use crate::history::History;
 use hevc_backend::{BackendError, Call, NegotiationInfo, StatelessH265DecoderBackend, StreamInfo};
 use hevc_dpb::{Dpb, PictureData};
+use hevc_history::History;
 use hevc_refs::{RefPicList, RefPicSet};
 use hevc_types_c::Sps;
 use hevc_types_d::{Pps, Slice};

@@ -30,12 +30,12 @@ use denote.Triple.Spec.{Meets, triple_of}
 use denote.Triple.Table.{entered}
 use denote.Triple.Walked.{says, Stays, stay_dropped, walk_of, ends_at, walk_Meets, Goes-dropped}
 use Rattle.std.specs.contracts.marker.PhantomData as Mark
-use Rattle.hevc_report.proofs.OneField.{none, one, one_made}
-use Rattle.hevc_report.specs.contracts.history.History as History
-use Rattle.hevc_report.specs.contracts.history.History.and as F
-use Rattle.hevc_report.specs.contracts.history.History.and.Key.{name as #self}
-use Rattle.hevc_report.proofs.history.History.and.Statement as stated
-use Rattle.hevc_report.proofs.history.History.and.Code as code
+use Rattle.hevc_history.proofs.OneField.{none, one, one_made}
+use Rattle.hevc_history.specs.contracts.history.History as History
+use Rattle.hevc_history.specs.contracts.history.History.and as F
+use Rattle.hevc_history.specs.contracts.history.History.and.Key.{name as #self}
+use Rattle.hevc_history.proofs.history.History.and.Statement as stated
+use Rattle.hevc_history.proofs.history.History.and.Code as code
 
 module _ (T A : RattleType) where
   abbrev args : Args

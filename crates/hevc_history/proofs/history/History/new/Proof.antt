@@ -28,12 +28,12 @@ use denote.Triple.Spec.{Meets, triple_of}
 use denote.Triple.Table.{entered}
 use denote.Triple.Walked.{says, Stays, walk_of, ends_at, walk_Meets}
 use Rattle.std.specs.contracts.marker.PhantomData as Mark
-use Rattle.hevc_report.proofs.OneField.{none, one, one_made}
-use Rattle.hevc_report.specs.contracts.history.History as History
-use Rattle.hevc_report.specs.contracts.history.History.new as F
-use Rattle.hevc_report.specs.contracts.history.History.new.Key.{name as #self}
-use Rattle.hevc_report.proofs.history.History.new.Statement as stated
-use Rattle.hevc_report.proofs.history.History.new.Code as code
+use Rattle.hevc_history.proofs.OneField.{none, one, one_made}
+use Rattle.hevc_history.specs.contracts.history.History as History
+use Rattle.hevc_history.specs.contracts.history.History.new as F
+use Rattle.hevc_history.specs.contracts.history.History.new.Key.{name as #self}
+use Rattle.hevc_history.proofs.history.History.new.Statement as stated
+use Rattle.hevc_history.proofs.history.History.new.Code as code
 
 module _ (T : RattleType) where
   abbrev args : Args

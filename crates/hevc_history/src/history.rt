@@ -7,7 +7,7 @@ use std::marker::{Model, PhantomData};
 /// The values that proofs named, in order. A clause reads them as `items`. Nothing ties them to memory: they tell
 /// what the invariant of the struct around them says of them.
 #[derive(Drop)]
-pub(crate) struct History<T> {
+pub struct History<T> {
     of: PhantomData<T>,
     pub ghost items: { List T },
 }
@@ -18,14 +18,21 @@ impl<T> Model for History<T> {
 
 impl<T> History<T> {
     /// The history of nothing.
-    pub(crate) fn new() -> History<T>
+    pub fn new() -> History<T>
         ensures { result.items ≡ [] }
     {
         History { of: PhantomData }
     }
 
+    /// The same history once more.
+    pub fn again(&self) -> History<T>
+        ensures { result.items ≡ self.now.items }
+    {
+        History { of: PhantomData }
+    }
+
     /// The history with one more value. No code makes the value: a proof names it, by what is told.
-    pub(crate) fn and<A>(&self, _told: &A) -> History<T>
+    pub fn and<A>(&self, _told: &A) -> History<T>
         ghost item: { T }
         ensures { result.items ≡ self.now.items ++ item ∷ [] }
     {
