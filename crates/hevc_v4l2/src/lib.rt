@@ -1,0 +1,16 @@
+//! What Linux's stateless decoders take of a picture: sets, slices and the buffer as the structs of `linux/v4l2-controls.h`.
+#![tactic(auto)]
+
+mod arrays;
+mod error;
+mod flags;
+mod picture_set;
+mod scaling;
+mod scan;
+mod sequence_set;
+
+pub use error::ControlError;
+pub use picture_set::{V4l2CtrlHevcPps, pps_control};
+pub use scaling::{V4l2CtrlHevcScalingMatrix, scaling_control};
+pub use scan::scans_are_permutations;
+pub use sequence_set::{V4l2CtrlHevcSps, sps_control};
