@@ -1,5 +1,5 @@
 -- Arrays of a control.
-use Rattle.std.specs.Prelude.{ℕ, ℤ, pos, negsuc, ◌-◌, ◌&&◌, Bool, nat_le, int_le, List, ◌++◌, length, replicate}
+use Rattle.std.specs.Prelude.{ℕ, ℤ, pos, negsuc, ◌-◌, ◌&&◌, Bool, nat_le, int_le, List, [], ◌∷◌, ◌++◌, length, replicate}
 
 -- 0 to 255
 abbrev pub is_byte : ℕ → Bool
@@ -12,3 +12,6 @@ is_signed_byte n = int_le (negsuc 127) n && int_le n (pos 127)
 -- sixteen places, of which those that are left hold the last value
 abbrev pub padded : {X : Type 0} → X → List X → List X
 padded last items = items ++ replicate (16 - length items) last
+
+abbrev pub no_pair : List ℤ
+no_pair = pos 0 ∷ pos 0 ∷ []

@@ -4,3 +4,4 @@ pub mod PictureSet
 pub mod Scaling
 pub mod Scan
 pub mod SequenceSet
+pub mod Weights

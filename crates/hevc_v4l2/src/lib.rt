@@ -8,9 +8,11 @@ mod picture_set;
 mod scaling;
 mod scan;
 mod sequence_set;
+mod weights;
 
 pub use error::ControlError;
 pub use picture_set::{V4l2CtrlHevcPps, pps_control};
 pub use scaling::{V4l2CtrlHevcScalingMatrix, scaling_control};
 pub use scan::scans_are_permutations;
 pub use sequence_set::{V4l2CtrlHevcSps, sps_control};
+pub use weights::V4l2HevcPredWeightTable;
