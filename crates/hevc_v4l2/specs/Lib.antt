@@ -5,3 +5,6 @@ pub mod Scaling
 pub mod Scan
 pub mod SequenceSet
 pub mod Weights
+pub mod Buffer
+pub mod LongTerm
+pub mod Slice

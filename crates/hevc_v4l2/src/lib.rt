@@ -2,17 +2,22 @@
 #![tactic(auto)]
 
 mod arrays;
+mod buffer;
 mod error;
 mod flags;
+mod long_term;
 mod picture_set;
 mod scaling;
 mod scan;
 mod sequence_set;
+mod slice;
 mod weights;
 
+pub use buffer::V4l2HevcDpbEntry;
 pub use error::ControlError;
 pub use picture_set::{V4l2CtrlHevcPps, pps_control};
 pub use scaling::{V4l2CtrlHevcScalingMatrix, scaling_control};
 pub use scan::scans_are_permutations;
 pub use sequence_set::{V4l2CtrlHevcSps, sps_control};
+pub use slice::{V4l2CtrlHevcSliceParams, slice_control};
 pub use weights::V4l2HevcPredWeightTable;
