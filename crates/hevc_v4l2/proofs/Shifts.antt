@@ -1,5 +1,5 @@
 -- Shifts of signed numbers.
-use Rattle.std.proofs.Common.{ℕ, ◌^◌, ℤ, pos, negsuc, neg_ℤ, ◌≤ℤ◌, arith}
+use Rattle.std.proofs.Common.{ℕ, ℤ, pos, negsuc, ◌≤ℤ◌, arith}
 use Rattle.std.specs.Int.{int_shr}
 use Rattle.std.proofs.lemmas.Nat.{shr_le}
 use Rattle.std.proofs.lemmas.Int.{ints}

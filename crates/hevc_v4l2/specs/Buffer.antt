@@ -1,5 +1,5 @@
 -- The decoded picture buffer as Linux's stateless decoders take it.
-use Rattle.std.specs.Prelude.{ℕ, ◌==◌, ℤ, pos, Bool, true, false, List, Option, Some, None, position, unwrap_or}
+use Rattle.std.specs.Prelude.{ℕ, ◌==◌, pos, Bool, true, false, List, Option, Some, None, position, unwrap_or}
 use Rattle.hevc_pictures.specs.declared.reference.Reference.{Reference}
 use Rattle.hevc_pictures.specs.declared.reference.Reference.TheVariants.{None as Unmarked, ShortTerm, LongTerm}
 use Rattle.hevc_pictures.specs.Marks.{reference_of}

@@ -8,3 +8,4 @@ pub mod Weights
 pub mod Buffer
 pub mod LongTerm
 pub mod Slice
+pub mod Decode

@@ -98,7 +98,7 @@ filled_control slice order_count sps bit_size data_offset short_term_bits weight
     }
 
 -- Sizes and weights are those of the unit and its header, and each place of a list is where its
--- picture is among the reference pictures of the buffer, whose numbers these are; 255 stands where
+-- picture is among the reference pictures of the buffer, whose numbers these are; 255 where
 -- there is no such picture, and after the list.
 abbrev pub control_of_slice : Slice → (order_count : ℤ) → PlainSps → (numbers : List ℕ)
     → (places0 places1 : List (Option RefPicListEntry)) → V4l2CtrlHevcSliceParams

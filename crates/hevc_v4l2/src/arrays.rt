@@ -26,7 +26,9 @@ pub(crate) fn bytes_of<const N: usize>(numbers: &[u32; N]) -> [u8; N]
 pub(crate) fn are_signed_bytes(numbers: &[i16]) -> bool
     ensures { result ≡ list_all is_signed_byte numbers.now }
 {
-    numbers.iter().all(|number| -128 <= *number && *number <= 127)
+    numbers
+        .iter()
+        .all(|number| -128 <= *number && *number <= 127)
 }
 
 /// The same numbers, each as a signed byte.

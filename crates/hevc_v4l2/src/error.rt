@@ -11,7 +11,7 @@ pub enum ControlError {
     /// A tile row is higher than 256 coding tree blocks (7.4.3.3.1, row_height_minus1).
     #[error("a tile row is higher than 256 coding tree blocks")]
     TileRows,
-    /// The unit has 2^29 bytes or more, or its header ends behind 2^32 bytes.
+    /// The unit has 2^29 bytes or more, or 2^32 bytes or more are before its data.
     #[error("the size of the unit takes more than 32 bits")]
     UnitSize,
     /// The header's own short-term set takes 2^16 bits or more.

@@ -3,6 +3,7 @@
 
 mod arrays;
 mod buffer;
+mod decode;
 mod error;
 mod flags;
 mod long_term;
@@ -14,6 +15,7 @@ mod slice;
 mod weights;
 
 pub use buffer::V4l2HevcDpbEntry;
+pub use decode::{V4l2CtrlHevcDecodeParams, decode_control};
 pub use error::ControlError;
 pub use picture_set::{V4l2CtrlHevcPps, pps_control};
 pub use scaling::{V4l2CtrlHevcScalingMatrix, scaling_control};

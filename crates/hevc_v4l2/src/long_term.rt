@@ -28,7 +28,8 @@ fn long_term_bits(header: &SliceHeader, sps: &Sps) -> u32
     ensures few { result ≤ 2000 }
 {
     let count = usize::from(header.num_long_term_sps + header.num_long_term_pics);
-    let mut bits = candidate_count_bits(header, sps) + ue_bits(u64::from(header.num_long_term_pics));
+    let mut bits = candidate_count_bits(header, sps)
+        + ue_bits(u64::from(header.num_long_term_pics));
     for i in 0..count {
         bits += picture_bits(header, sps, i);
     }

@@ -28,7 +28,7 @@ use hevc_types_d::{Slice, SliceHeader};
 pub struct V4l2CtrlHevcSliceParams {
     /// The bits of the unit, its header's among them, without a start code.
     pub bit_size: u32,
-    /// The bytes of the unit in front of the slice's data, emulation prevention bytes among them.
+    /// The bytes of the unit before the data of the slice, emulation prevention bytes among them.
     pub data_byte_offset: u32,
     pub num_entry_point_offsets: u32,
     pub nal_unit_type: u8,
@@ -109,14 +109,7 @@ pub fn slice_control(
     let sizes = slice_sizes(slice)?;
     let weights = weights_control(&slice.header.pred_weight_table, half_range(sps))?;
     let indices = list_indices(dpb, ref_pic_list0, ref_pic_list1)?;
-    Ok(filled_control(
-        slice,
-        order_count,
-        sps,
-        sizes,
-        weights,
-        indices,
-    ))
+    Ok(filled_control(slice, order_count, sps, sizes, weights, indices))
 }
 
 /// The sizes, where they can be held.
@@ -144,7 +137,7 @@ fn slice_sizes(slice: &Slice<'_>) -> Result<Sizes, ControlError>
     })
 }
 
-/// The bytes in front of the slice's data.
+/// The bytes before the data of the slice.
 fn data_byte_offset(header: &SliceHeader) -> u64
     ensures { result ≡ data_byte_offset (plain_slice_header header.now) }
 {

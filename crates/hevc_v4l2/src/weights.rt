@@ -66,8 +66,16 @@ pub(crate) fn weights_control(
         half_range,
         log2_denominator: table.chroma_log2_weight_denom,
     };
-    let offsets_l0 = chroma_offsets(scale, &table.delta_chroma_weight_l0, &table.delta_chroma_offset_l0);
-    let offsets_l1 = chroma_offsets(scale, &table.delta_chroma_weight_l1, &table.delta_chroma_offset_l1);
+    let offsets_l0 = chroma_offsets(
+        scale,
+        &table.delta_chroma_weight_l0,
+        &table.delta_chroma_offset_l0,
+    );
+    let offsets_l1 = chroma_offsets(
+        scale,
+        &table.delta_chroma_weight_l1,
+        &table.delta_chroma_offset_l1,
+    );
     with_chroma_offsets(table, &offsets_l0, &offsets_l1)
 }
 

@@ -2,7 +2,7 @@ use Rattle.std.proofs.Common.{◌≡◌, ◌+◌, ◌*◌, ◌≤◌, map, sum}
 use Rattle.std.specs.List.{range_with_len}
 use Rattle.hevc_types_c.specs.Sps.{plain_sps}
 use Rattle.hevc_types_d.specs.SliceHeader.{plain_slice_header}
-use Rattle.hevc_v4l2.specs.LongTerm.{candidate_count_bits, picture_bits, ue_bits}
+use Rattle.hevc_v4l2.specs.LongTerm.{picture_bits}
 use Rattle.hevc_v4l2.proofs.long_term.long_term_bits.Given as goal
 
 abbrev pub invariant-loop-i : goal.invariant-loop-i
