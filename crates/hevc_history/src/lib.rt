@@ -1,0 +1,6 @@
+//! A history of values that only proofs read.
+#![tactic(auto)]
+
+mod history;
+
+pub use history::History;
