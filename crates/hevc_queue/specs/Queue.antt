@@ -1,0 +1,18 @@
+-- What a backend that queues its calls tells.
+use Rattle.std.specs.Prelude.{ℕ, Bool, List}
+use Rattle.hevc_backend.specs.declared.call.Call.{Call}
+use Rattle.hevc_backend.specs.Trait.{Counts}
+use Rattle.hevc_queue.specs.declared.event.Event.{Event}
+
+pub record Queue : Type 0 where
+  -- the calls that it took
+  pub log : List (Call ℕ)
+  -- how many of their events were taken from the queue
+  pub taken : ℕ
+  -- those that wait, in order
+  pub waiting : List Event
+  -- how many frames are free, as it was told, less the pictures that began since
+  pub free_frames : ℕ
+  pub counts : Counts
+  -- the last question for free frames found one, and no picture has begun since
+  pub room : Bool

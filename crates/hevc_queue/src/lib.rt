@@ -1,0 +1,8 @@
+//! A backend that puts its calls into a queue, as plain events that a caller takes one after another.
+#![tactic(auto)]
+
+mod asked;
+mod event;
+mod places;
+
+pub use event::{Event, Places};
