@@ -54,12 +54,7 @@ pub(crate) fn sequence_event(place: u64, info: &NegotiationInfo) -> Event
 }
 
 /// A picture begins.
-pub(crate) fn picture_event(
-    place: u64,
-    number: u64,
-    picture: &PictureData,
-    timestamp: u64,
-) -> Event
+pub(crate) fn picture_event(place: u64, number: u64, picture: &PictureData, timestamp: u64) -> Event
     ensures { result ≡ event_of place (new_picture_call number picture.now timestamp) }
 {
     let mut event = bare_event(place, 2);

@@ -2,7 +2,9 @@
 #![tactic(auto)]
 
 mod asked;
+mod backend;
 mod event;
 mod places;
 
+pub use backend::QueueBackend;
 pub use event::{Event, Places};
