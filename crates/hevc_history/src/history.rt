@@ -24,6 +24,13 @@ impl<T> History<T> {
         History { of: PhantomData }
     }
 
+    /// The same history once more.
+    pub fn again(&self) -> History<T>
+        ensures { result.items ≡ self.now.items }
+    {
+        History { of: PhantomData }
+    }
+
     /// The history with one more value. No code makes the value: a proof names it, by what is told.
     pub fn and<A>(&self, _told: &A) -> History<T>
         ghost item: { T }

@@ -1,5 +1,5 @@
 -- What a backend that queues its calls tells.
-use Rattle.std.specs.Prelude.{ℕ, Bool, false, List, []}
+use Rattle.std.specs.Prelude.{ℕ, ◌==◌, Bool, false, List, [], ◌∷◌}
 use Rattle.hevc_backend.specs.declared.call.Call.{Call}
 use Rattle.hevc_backend.specs.Trait.{Counts}
 use Rattle.hevc_queue.specs.declared.event.Event.{Event}
@@ -27,3 +27,8 @@ new_queue = record {
   counts = record { faults = 0; empty_answers = 0 };
   room = false;
 }
+
+-- a sequence begins by the first event
+abbrev pub begins_sequence : List Event → Bool
+begins_sequence [] = false
+begins_sequence (event ∷ events) = event.kind == 1

@@ -3,7 +3,7 @@ ghost use Rattle.std.specs.Prelude.{◌≡◌, ◌+◌, ◌<◌, ◌^◌, ◌↔
 ghost use Rattle.hevc_backend.specs.Trait.{CountsFaults};
 ghost use Rattle.hevc_backend.specs.declared.call.Call.{Call};
 ghost use Rattle.hevc_queue.specs.Events.{event_of, events_of};
-ghost use Rattle.hevc_queue.specs.Queue.{new_queue};
+ghost use Rattle.hevc_queue.specs.Queue.{begins_sequence, new_queue};
 
 use crate::asked::{picture_event, sequence_event, sets_event, slice_event, submission_event};
 use crate::event::Event;
@@ -73,6 +73,32 @@ impl QueueBackend {
             empty_answers: 0,
             room: false,
             history: History::new(),
+        }
+    }
+
+    /// A backend that took the same calls, and of which no event waits: one that stands in for this one while its events are taken.
+    pub fn stand_in(&self, alloc: Global) -> QueueBackend
+        ensures { result ≡ record self.now { taken = length self.now.log; waiting = [] } }
+    {
+        QueueBackend {
+            events: VecDeque::new(alloc),
+            taken: self.called,
+            called: self.called,
+            free_frames: self.free_frames,
+            faults: self.faults,
+            empty_answers: self.empty_answers,
+            room: self.room,
+            history: self.history.again(),
+        }
+    }
+
+    /// Whether a sequence begins by the first event that waits.
+    pub fn is_sequence_next(&self) -> bool
+        ensures { result ≡ begins_sequence self.now.waiting }
+    {
+        match self.events.front() {
+            Some(event) => event.kind == 1,
+            None => false,
         }
     }
 
