@@ -14,7 +14,7 @@ use hevc_refs::{RefPicList, RefPicSet};
 use hevc_types_d::Slice;
 
 /// An event of a kind, and nothing else.
-fn bare_event(place: u64, kind: u32) -> Event
+pub fn bare_event(place: u64, kind: u32) -> Event
     ensures { result ≡ bare_event place kind }
 {
     Event {

@@ -6,5 +6,6 @@ mod backend;
 mod event;
 mod places;
 
+pub use asked::bare_event;
 pub use backend::QueueBackend;
 pub use event::{Event, Places};
