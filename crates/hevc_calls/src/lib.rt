@@ -3,6 +3,8 @@
 
 mod calls;
 mod status;
+mod units;
 
 pub use calls::{DecodeCall, accept_format, decode, flush, next_event};
 pub use status::{FORMAT_NOT_AWAITED, TOO_LONG};
+pub use units::{UnitCall, next_unit};
