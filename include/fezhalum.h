@@ -65,7 +65,7 @@ typedef enum fezhalum_status {
     FEZHALUM_PICTURE_NUMBERS_SPENT = 14,/* there is no number for one more picture */
     FEZHALUM_BACKEND = 15,              /* 2^64 - 1 events were made */
     FEZHALUM_NOT_AWAITED = 16,          /* of fezhalum_accept_format: no format is awaited */
-    FEZHALUM_TOO_LONG = 17              /* there are 2^60 bytes or more: nothing was done */
+    FEZHALUM_TOO_LONG = 17              /* there are 2^60 bytes or more, or a place isn't among them: nothing was done */
 } fezhalum_status;
 
 static inline const char *fezhalum_status_string(uint32_t status) {
@@ -129,6 +129,22 @@ typedef struct fezhalum_event {
     fezhalum_places lists[5];        /* SETS: StCurrBefore, StCurrAfter, StFoll, LtCurr, LtFoll; SLICE: list 0, list 1 */
 } fezhalum_event;
 
+/* A unit of a stream, or why there is none. */
+typedef struct fezhalum_unit {
+    uint64_t offset;        /* the place of its first header byte in the bytes */
+    uint64_t size;          /* how many bytes it has, its header's among them */
+    uint32_t nal_unit_type; /* Table 7-1 */
+    uint32_t layer_id;      /* nuh_layer_id: 0 of the base layer */
+    uint32_t temporal_id;   /* TemporalId */
+    uint32_t table;         /* see the statuses */
+    uint32_t row;
+} fezhalum_unit;
+
+/* The first unit whose start code is at the place `from` of the bytes or after it; the next one is searched from offset + size on. Needs
+ * no decoder. Who wants the base layer alone gives a decoder the units of layer 0 alone. FEZHALUM_OK, FEZHALUM_NO_UNIT,
+ * FEZHALUM_TRUNCATED_UNIT, FEZHALUM_INVALID_UNIT_TYPE, FEZHALUM_OUT_OF_RANGE; FEZHALUM_TOO_LONG where `from` is above `size`. */
+uint32_t fezhalum_next_unit(const uint8_t *bytes, size_t size, size_t from, fezhalum_unit *unit);
+
 /* A decoder in memory of the caller's: fezhalum_size() bytes at a multiple of 16, which nobody else touches from fezhalum_init to
  * fezhalum_end. */
 size_t fezhalum_size(void);
@@ -156,6 +172,11 @@ uint32_t fezhalum_flush(fezhalum *decoder);
 
 /* Accepts the format that was negotiated. */
 uint32_t fezhalum_accept_format(fezhalum *decoder);
+
+/* For examples/c/layout.c: structs with another number in each field, and their sizes. */
+size_t fezhalum_layout_event(fezhalum_event *event);
+size_t fezhalum_layout_decode_call(fezhalum_decode_call *call);
+size_t fezhalum_layout_unit(fezhalum_unit *unit);
 
 #ifdef __cplusplus
 }

@@ -1,15 +1,19 @@
-//! The decoder for C.
+//! The decoder for C: each call of `hevc_calls` over the decoder that lies at a pointer.
 #![tactic(auto)]
+
+mod layout;
+
 
 ghost use Rattle.std.specs.Prelude.{◌≡◌};
 ghost use Rattle.std.specs.Borrow.{full_share, sem};
 ghost use Rattle.std.specs.Ptr.{lies_at, room_at};
 ghost use Rattle.hevc_pull.specs.contracts.decoder.PullDecoder.{the_row};
 ghost use Rattle.hevc_calls.specs.Calls.{Accepts, Decodes, FlushesAll, TakesNext};
+ghost use Rattle.hevc_calls.specs.Units.{FindsUnit};
 ghost use Rattle.fezhalum.specs.Handles.{Becomes};
 ghost use Rattle.fezhalum.specs.Fresh.{IsFresh};
 
-use hevc_calls::{DecodeCall, accept_format, decode, flush, next_event};
+use hevc_calls::{DecodeCall, UnitCall, accept_format, decode, flush, next_event, next_unit};
 use hevc_driver::Options;
 use hevc_pull::PullDecoder;
 use hevc_queue::Event;
@@ -128,4 +132,12 @@ pub unsafe extern "C" fn fezhalum_accept_format(d: *mut Fezhalum) -> u32
     ensures* { sem 𝓛 (Becomes the_row d (λ now. Accepts x now result)) }
 {
     accept_in(&mut *(d as *mut PullDecoder))
+}
+
+/// The first unit whose start code is at a place of the bytes or after it. Answers the status, 0 where there is one.
+#[unsafe(no_mangle)]
+pub extern "C" fn fezhalum_next_unit(bytes: &[u8], from: usize, unit: &mut UnitCall) -> u32
+    ensures { FindsUnit bytes.now from unit.old unit.new result }
+{
+    next_unit(bytes, from, unit)
 }
