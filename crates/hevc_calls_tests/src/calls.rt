@@ -65,7 +65,7 @@ fn decode_all(alloc: Global, stream: &[u8]) -> Result<Came, Fail> {
 fn nine_pictures_are_output_in_order(rt: HostRuntime) -> Result<(), Fail> {
     let stream = make_stream(rt.alloc(), 9)?;
     let came = decode_all(rt.alloc(), &stream)?;
-    assert!(rt; came.outputs.as_slice() == [0, 4, 3, 5, 2, 7, 6, 8, 1]);
+    assert!(rt; came.outputs.as_slice() == [0, 4, 3, 5, 2, 7, 6, 8, 1].as_slice());
     // A sequence, four calls for each picture, and the outputs.
     assert_eq!(rt; came.events, 1 + 4 * 9 + 9);
     Ok(())

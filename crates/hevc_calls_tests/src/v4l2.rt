@@ -82,8 +82,9 @@ fn a_slice_and_its_picture(rt: HostRuntime) -> Result<(), Fail> {
     assert!(rt; control.ref_idx_l0 == [255; 16]);
     let mut picture = PictureData::default();
     picture.is_irap = true;
-    let control =
-        decode_control(&picture, &slice, &sps, &dpb, &RefPicSet::new()).or(Err("refused"))?;
+    let control = decode_control(&picture, &slice, &sps, &dpb, &RefPicSet::new()).or(Err(
+        "refused",
+    ))?;
     assert_eq!(rt; control.num_active_dpb_entries, 0);
     assert_eq!(rt; control.flags, 1);
     Ok(())
