@@ -173,7 +173,7 @@ def wrong_crates(page):
 def wrong_edits(page):
     """The crates whose number of edits in STRENGTH.md isn't that of their folder."""
     told = {}
-    for names, numbers in re.findall(r"^\| (`hevc_[^|]*`) \| ([\d, ]+) \|", page, re.M):
+    for names, numbers in re.findall(r"^\| (`(?:hevc_|fezhalum)[^|]*`) \| ([\d, ]+) \|", page, re.M):
         told.update(zip(re.findall(r"`(\w+)`", names), numbers.split(", ")))
     for crate in crates():
         edits = len(list((CRATES / crate / "must-fail").glob("*.edit")))

@@ -34,15 +34,31 @@ compare() { # NAME COMMAND..: the report of each stream
 
 command -v gcc > /dev/null || { echo "gcc isn't installed: nothing can be built"; exit 1; }
 [ -x "$program" ] || { echo "$program isn't there: nothing to compare with"; exit 1; }
+each() { # NAME COMMAND..: a command on each stream, which says by its status whether all is as it should be
+    local name=$1 stream; shift
+    for stream in "${streams[@]}"; do
+        "$@" "$stream" > "$work/given" 2> "$work/said" || { echo "$name: $stream:"; cat "$work/given"; head -5 "$work/said"; exit 1; }
+    done
+    echo "$name: ${#streams[@]} of ${#streams[@]} well"
+}
+
+built layout -O2
+"$work/layout"
 built show -O2
 compare show "$work/show"
+built trials -O2
+each trials "$work/trials"
+built units -O2
 if built show-sanitized -g -fsanitize=address,undefined -fno-sanitize-recover=all 2> "$work/said"; then
     compare "show with AddressSanitizer" "$work/show-sanitized"
+    built trials-sanitized -g -fsanitize=address,undefined -fno-sanitize-recover=all
+    each "trials with AddressSanitizer" "$work/trials-sanitized"
 else
     echo "AddressSanitizer isn't installed: not checked"
 fi
 if command -v valgrind > /dev/null; then
     compare "show under valgrind" valgrind -q --leak-check=full --error-exitcode=9 "$work/show"
+    each "trials under valgrind" valgrind -q --leak-check=full --error-exitcode=9 "$work/trials"
 else
     echo "valgrind isn't installed: not checked"
 fi

@@ -8,13 +8,16 @@
 
 typedef struct stream { const uint8_t *bytes; size_t size; } stream;
 typedef struct way { int hungry, apart; uint64_t units; } way;
-typedef struct told { uint64_t events, outputs, sum; uint32_t status; } told;
+typedef struct told { uint64_t events, outputs, calls_sum, outputs_sum; uint32_t status; } told;
 
+/* The calls have one order and the outputs one; how they lie between each other hangs on when a picture is over. */
 static void add(told *so_far, const fezhalum_event *event) {
     const uint8_t *bytes = (const uint8_t *)event;
+    int is_output = event->kind == FEZHALUM_OUTPUT;
+    uint64_t *sum = is_output ? &so_far->outputs_sum : &so_far->calls_sum;
     so_far->events++;
-    so_far->outputs += event->kind == FEZHALUM_OUTPUT;
-    for (size_t i = 0; i < sizeof *event; i++) so_far->sum = so_far->sum * 1099511628211u + bytes[i];
+    so_far->outputs += (uint64_t)is_output;
+    for (size_t i = 0; i < sizeof *event; i++) *sum = *sum * 1099511628211u + bytes[i];
 }
 
 static void take(fezhalum *decoder, told *so_far) {
@@ -63,7 +66,8 @@ static told decode(stream input, way how) {
 }
 
 static int compare(const char *name, told given, told wanted) {
-    int same = given.sum == wanted.sum && given.status == wanted.status && given.events == wanted.events;
+    int same = given.calls_sum == wanted.calls_sum && given.outputs_sum == wanted.outputs_sum && given.status == wanted.status
+        && given.events == wanted.events;
     printf("%s: %" PRIu64 " events, %" PRIu64 " outputs, %s\n", name, given.events, given.outputs, same ? "the same" : "OTHERS");
     return !same;
 }
