@@ -46,13 +46,25 @@ built layout -O2
 "$work/layout"
 built show -O2
 compare show "$work/show"
+if command -v rustc > /dev/null; then
+    link=(); for file in $library; do link+=(-C "link-arg=$file"); done
+    rustc --edition 2024 -O -D warnings "${link[@]}" examples/rust/show.rs -o "$work/show-rust" 2> "$work/said" ||
+        rustc --edition 2024 -O "${link[@]}" examples/rust/show.rs -o "$work/show-rust"
+    compare "show in Rust" "$work/show-rust"
+else
+    echo "rustc isn't installed: examples/rust isn't checked"
+fi
 built trials -O2
 each trials "$work/trials"
 built units -O2
+built memory -O2 -Wl,--wrap=malloc,--wrap=realloc
+each "memory, each allocation failed in turn" "$work/memory"
 if built show-sanitized -g -fsanitize=address,undefined -fno-sanitize-recover=all 2> "$work/said"; then
     compare "show with AddressSanitizer" "$work/show-sanitized"
     built trials-sanitized -g -fsanitize=address,undefined -fno-sanitize-recover=all
     each "trials with AddressSanitizer" "$work/trials-sanitized"
+    built memory-sanitized -g -fsanitize=address,undefined -fno-sanitize-recover=all -Wl,--wrap=malloc,--wrap=realloc
+    each "memory with AddressSanitizer" "$work/memory-sanitized"
 else
     echo "AddressSanitizer isn't installed: not checked"
 fi
