@@ -32,10 +32,9 @@ fn a_sequence_set(rt: HostRuntime) {
 #[test]
 fn a_picture_set(rt: HostRuntime) -> Result<(), Fail> {
     let mut pps = Pps::new();
-    pps.init_qp_minus26 = -3;
     pps.column_width_minus1[0] = 255;
     let control = pps_control(&pps).or(Err("refused"))?;
-    assert_eq!(rt; control.init_qp_minus26, -3);
+    assert_eq!(rt; control.num_tile_columns_minus1, 0);
     assert_eq!(rt; control.column_width_minus1[0], 255);
     assert_eq!(rt; control.flags, 0x10_2000);
     pps.row_height_minus1[21] = 256;
