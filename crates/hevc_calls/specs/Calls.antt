@@ -23,7 +23,8 @@ unanswered call = record call { taken = 0; table = 0; row = 0 }
 -- what goes with an answer
 abbrev pub answered : Result ℕ DecodeError → DecodeCall → DecodeCall
 answered (Ok taken) call = record (unanswered call) { taken = taken }
-answered (Err error) call = record (unanswered call) { table = table_of error; row = row_of error }
+answered (Err error) call =
+    record (unanswered call) { table = table_of error; row = row_of error }
 
 -- The first unit of the bytes was taken, and the status is that of the answer, which the call tells.
 pub record DecodesUnit (bytes : List ℕ) (before now : PullDecoder) (given told : DecodeCall)
