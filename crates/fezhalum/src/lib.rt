@@ -1,0 +1,142 @@
+//! The decoder for C: each call of `hevc_calls` over the decoder that lies at a pointer.
+#![tactic(auto)]
+
+mod layout;
+
+ghost use Rattle.std.specs.Prelude.{◌≡◌};
+ghost use Rattle.std.specs.Borrow.{full_share, sem};
+ghost use Rattle.std.specs.Ptr.{lies_at, room_at};
+ghost use Rattle.hevc_pull.specs.contracts.decoder.PullDecoder.{the_row};
+ghost use Rattle.hevc_calls.specs.Calls.{Accepts, Decodes, FlushesAll, TakesNext};
+ghost use Rattle.hevc_calls.specs.Units.{FindsUnit};
+ghost use Rattle.fezhalum.specs.Handles.{Becomes};
+ghost use Rattle.fezhalum.specs.Fresh.{IsFresh};
+
+use hevc_calls::{DecodeCall, UnitCall, accept_format, decode, flush, next_event, next_unit};
+use hevc_driver::Options;
+use hevc_pull::PullDecoder;
+use hevc_queue::Event;
+use std::alloc::Global;
+
+/// A decoder, behind a pointer.
+#[repr(C)]
+pub struct Fezhalum {
+    byte: u8,
+}
+
+/// How many bytes a decoder takes. They have to lie at a multiple of 16.
+#[unsafe(no_mangle)]
+pub extern "C" fn fezhalum_size() -> usize {
+    std::mem::size_of::<PullDecoder>()
+}
+
+/// The version of the calls and the structs: 65536 times its first number, and its second.
+#[unsafe(no_mangle)]
+pub extern "C" fn fezhalum_api_version() -> u32
+    ensures { result ≡ 1 }
+{
+    1
+}
+
+fn fresh(alloc: Global) -> PullDecoder
+    ensures { IsFresh result }
+{
+    PullDecoder::new(alloc, Options::new())
+}
+
+/// Makes a decoder at the beginning of a stream.
+#[unsafe(no_mangle)]
+pub unsafe extern "C" fn fezhalum_init(d: *mut Fezhalum, alloc: Global)
+    requires* { sem 𝓛 (room_at the_row d) }
+    ensures* { sem 𝓛 (Becomes the_row d (λ now. IsFresh now)) }
+{
+    std::ptr::write(d as *mut PullDecoder, fresh(alloc));
+}
+
+fn end_in(_decoder: PullDecoder) {}
+
+/// Ends a decoder, with all that waits in it. The room is left.
+#[unsafe(no_mangle)]
+pub unsafe extern "C" fn fezhalum_end(d: *mut Fezhalum)
+    ghost x: { the_row.Denot }
+    requires* { sem 𝓛 (lies_at the_row full_share d x) }
+    ensures* { sem 𝓛 (room_at the_row d) }
+{
+    end_in(std::ptr::read(d as *mut PullDecoder));
+}
+
+fn decode_in(decoder: &mut PullDecoder, bytes: &[u8], call: &mut DecodeCall) -> u32
+    ensures { Decodes bytes.now decoder.old decoder.new call.old call.new result }
+{
+    decode(decoder, bytes, call)
+}
+
+/// Takes the first unit of the bytes. Answers the status, 0 where it was taken.
+#[unsafe(no_mangle)]
+pub unsafe extern "C" fn fezhalum_decode(
+    d: *mut Fezhalum,
+    bytes: &[u8],
+    call: &mut DecodeCall,
+) -> u32
+    ghost x: { the_row.Denot }
+    requires* { sem 𝓛 (lies_at the_row full_share d x) }
+    ensures* { sem 𝓛 (Becomes the_row d (λ now. Decodes bytes.now x now call.old call.new result)) }
+{
+    decode_in(&mut *(d as *mut PullDecoder), bytes, call)
+}
+
+fn next_in(decoder: &mut PullDecoder, event: &mut Event) -> u32
+    ensures { TakesNext decoder.old decoder.new event.old event.new result }
+{
+    next_event(decoder, event)
+}
+
+/// The next of what came of the units. Answers 1 where there was one, else 0.
+#[unsafe(no_mangle)]
+pub unsafe extern "C" fn fezhalum_next(d: *mut Fezhalum, event: &mut Event) -> u32
+    ghost x: { the_row.Denot }
+    requires* { sem 𝓛 (lies_at the_row full_share d x) }
+    ensures* { sem 𝓛 (Becomes the_row d (λ now. TakesNext x now event.old event.new result)) }
+{
+    next_in(&mut *(d as *mut PullDecoder), event)
+}
+
+fn flush_in(decoder: &mut PullDecoder) -> u32
+    ensures { FlushesAll decoder.old decoder.new result }
+{
+    flush(decoder)
+}
+
+/// The stream ends, or is left: all that waits is output. Answers the status.
+#[unsafe(no_mangle)]
+pub unsafe extern "C" fn fezhalum_flush(d: *mut Fezhalum) -> u32
+    ghost x: { the_row.Denot }
+    requires* { sem 𝓛 (lies_at the_row full_share d x) }
+    ensures* { sem 𝓛 (Becomes the_row d (λ now. FlushesAll x now result)) }
+{
+    flush_in(&mut *(d as *mut PullDecoder))
+}
+
+fn accept_in(decoder: &mut PullDecoder) -> u32
+    ensures { Accepts decoder.old decoder.new result }
+{
+    accept_format(decoder)
+}
+
+/// Accepts the format that is awaited. Answers the status.
+#[unsafe(no_mangle)]
+pub unsafe extern "C" fn fezhalum_accept_format(d: *mut Fezhalum) -> u32
+    ghost x: { the_row.Denot }
+    requires* { sem 𝓛 (lies_at the_row full_share d x) }
+    ensures* { sem 𝓛 (Becomes the_row d (λ now. Accepts x now result)) }
+{
+    accept_in(&mut *(d as *mut PullDecoder))
+}
+
+/// The first unit whose start code is at a place of the bytes or after it. Answers the status, 0 where there is one.
+#[unsafe(no_mangle)]
+pub extern "C" fn fezhalum_next_unit(bytes: &[u8], from: usize, unit: &mut UnitCall) -> u32
+    ensures { FindsUnit bytes.now from unit.old unit.new result }
+{
+    next_unit(bytes, from, unit)
+}

@@ -1,0 +1,103 @@
+//! A stream that is decoded by the calls for C.
+use hevc_calls::{DecodeCall, UnitCall, accept_format, decode, flush, next_event, next_unit};
+use hevc_driver::Options;
+use hevc_made::make_stream;
+use hevc_pull::PullDecoder;
+use hevc_queue::bare_event;
+use std::alloc::Global;
+use std::test::Fail;
+
+/// What came of a stream: how many events, and the numbers of the pictures that were output.
+#[derive(Drop)]
+struct Came {
+    events: u32,
+    outputs: Vec<u64>,
+}
+
+/// Takes all that waits.
+fn take_all(decoder: &mut PullDecoder, came: &mut Came) -> Result<(), Fail> {
+    for _ in 0..100 {
+        let mut event = bare_event(0, 0);
+        if next_event(decoder, &mut event) == 0 || event.kind == 7 {
+            break;
+        }
+        came.events = came.events.saturating_add(1);
+        if event.kind == 6 {
+            came.outputs.push(event.number)?;
+        }
+    }
+    Ok(())
+}
+
+/// Decodes a stream of a few units.
+fn decode_all(alloc: Global, stream: &[u8]) -> Result<Came, Fail> {
+    let mut decoder = PullDecoder::new(alloc, Options::new());
+    let mut came = Came {
+        events: 0,
+        outputs: Vec::new(alloc),
+    };
+    let mut call = DecodeCall {
+        timestamp: 0,
+        free_frames: 16,
+        taken: 0,
+        table: 0,
+        row: 0,
+    };
+    let mut at = 0usize;
+    for _ in 0..100 {
+        let rest = stream.get(at..).ok_or("past the end")?;
+        let status = decode(&mut decoder, rest, &mut call);
+        take_all(&mut decoder, &mut came)?;
+        if status == 2 {
+            let _accepted = accept_format(&mut decoder);
+        } else if status == 0 {
+            at = at.saturating_add(call.taken as usize);
+        } else {
+            break;
+        }
+    }
+    let _flushed = flush(&mut decoder);
+    take_all(&mut decoder, &mut came)?;
+    Ok(came)
+}
+
+#[test]
+fn nine_pictures_are_output_in_order(rt: HostRuntime) -> Result<(), Fail> {
+    let stream = make_stream(rt.alloc(), 9)?;
+    let came = decode_all(rt.alloc(), &stream)?;
+    assert!(rt; came.outputs.as_slice() == [0, 4, 3, 5, 2, 7, 6, 8, 1].as_slice());
+    // A sequence, four calls for each picture, and the outputs.
+    assert_eq!(rt; came.events, 1 + 4 * 9 + 9);
+    Ok(())
+}
+
+#[test]
+fn a_format_that_is_not_awaited(rt: HostRuntime) {
+    let mut decoder = PullDecoder::new(rt.alloc(), Options::new());
+    assert_eq!(rt; accept_format(&mut decoder), 16);
+}
+
+#[test]
+fn units_of_a_stream(rt: HostRuntime) -> Result<(), Fail> {
+    let stream = [0, 0, 1, 0x40, 1, 12, 0, 0, 1, 0x46, 0x0B, 0x50];
+    let mut unit = UnitCall {
+        offset: 0,
+        size: 0,
+        nal_unit_type: 0,
+        layer_id: 0,
+        temporal_id: 0,
+        table: 0,
+        row: 0,
+    };
+    assert_eq!(rt; next_unit(&stream, 0, &mut unit), 0);
+    assert!(rt; unit.offset == 3 && unit.size == 3 && unit.nal_unit_type == 32);
+    assert_eq!(rt; next_unit(&stream, 6, &mut unit), 0);
+    assert!(rt; unit.offset == 9 && unit.size == 3 && unit.nal_unit_type == 35);
+    assert!(rt; unit.layer_id == 1 && unit.temporal_id == 2);
+    assert_eq!(rt; next_unit(&stream, 12, &mut unit), 1);
+    assert_eq!(rt; next_unit(&stream, 13, &mut unit), 17);
+    assert_eq!(rt; next_unit(&[0, 0, 1, 0x42], 0, &mut unit), 5);
+    assert_eq!(rt; next_unit(&[0, 0, 1, 0x7C, 1], 0, &mut unit), 6);
+    assert_eq!(rt; unit.row, 62);
+    Ok(())
+}

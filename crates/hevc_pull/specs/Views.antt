@@ -1,0 +1,44 @@
+-- What contracts see of a decoder that calls nobody.
+use Rattle.std.specs.Prelude.{ℕ, Option, Some, None, List}
+use Rattle.hevc_stream.specs.Kept.{Kept}
+use Rattle.hevc_stream.specs.Options.{Options}
+use Rattle.hevc_backend.specs.declared.call.Call.{Call}
+use Rattle.hevc_backend.specs.Handed.{Handed}
+use Rattle.hevc_driver.specs.Does.{Traces}
+use Rattle.hevc_stateless.specs.Decoders.{kept_in, seen_by, set_for, view_of}
+use Rattle.hevc_stateless.specs.Steps.{Seen}
+use Rattle.hevc_stateless.specs.Views.{View, traces_of}
+use Rattle.hevc_queue.specs.Queue.{Queue}
+use Rattle.hevc_pull.specs.declared.decoder.PullDecoder.{PullDecoder}
+
+-- what its backend tells
+abbrev pub told_log : Queue → Option (List (Call ℕ))
+told_log q = Some q.log
+
+abbrev pub told_handed : Queue → Option (List Handed)
+told_handed q = None
+
+-- its queue of events, its state, and what the pictures so far mean
+abbrev pub view_in : PullDecoder → View Queue ℕ
+view_in p = view_of p.decoder
+
+-- the parameter sets that it keeps, and the units that wait
+abbrev pub kept_of : PullDecoder → Kept
+kept_of p = kept_in p.decoder
+
+-- what is set for decoding
+abbrev pub options_for : PullDecoder → Options
+options_for p = set_for p.decoder
+
+-- all of it
+abbrev pub seen_of : PullDecoder → Seen Queue ℕ
+seen_of p = seen_by told_log told_handed p.decoder
+
+abbrev pub traces_in : PullDecoder → Traces ℕ
+traces_in p = traces_of (told_log (view_in p).backend) (told_handed (view_in p).backend) (view_in p)
+
+-- so many frames are free
+abbrev pub with_free_frames : (free_frames : ℕ) → Seen Queue ℕ → Seen Queue ℕ
+with_free_frames free_frames s = record s {
+  view = record s.view { backend = record s.view.backend { free_frames = free_frames } };
+}

@@ -1,0 +1,194 @@
+//! The decoder and its calls.
+ghost use Rattle.std.specs.Prelude.{◌≡◌, ◌<◌, ◌≤◌, ◌↔◌, [], true, length, IfOk, IfNone, IsOk, OnErr, OnOk, MatchOption};
+ghost use Rattle.hevc_bits.specs.declared.stream_limit.TheConstants.{STREAM_LIMIT};
+ghost use Rattle.hevc_spec.specs.Units.{units};
+ghost use Rattle.hevc_stream.specs.Kept.{none_kept};
+ghost use Rattle.hevc_options.specs.Options.{options_of};
+ghost use Rattle.hevc_driver.specs.Given.{Given};
+ghost use Rattle.hevc_stateless.specs.declared.state.State.TheVariants.{AwaitingFormat, Decoding, Reset};
+ghost use Rattle.hevc_stateless.specs.Flushes.{Flushes};
+ghost use Rattle.hevc_stateless.specs.States.{is_awaited};
+ghost use Rattle.hevc_stateless.specs.Steps.{TakesFirst};
+ghost use Rattle.hevc_stateless.specs.Views.{at_beginning, OutputsFew, PopsFrame};
+ghost use Rattle.hevc_queue.specs.Queue.{new_queue};
+ghost use Rattle.hevc_pull.specs.Views.{kept_of, options_for, seen_of, traces_in, view_in, with_free_frames};
+ghost use Rattle.hevc_pull.specs.Pulling.{PullsNext, TakesEvent, outputs_are_due};
+
+use crate::pulled::Pulled;
+use hevc_driver::{DecodeError, Frame, Options};
+use hevc_queue::{Event, QueueBackend};
+use hevc_stateless::{DecoderEvent, StatelessDecoder};
+use std::alloc::Global;
+use thiserror::Error;
+
+/// No format is awaited.
+#[derive(Clone, Copy, Debug, PartialEq, Eq, Drop, Error)]
+#[error("no format is awaited")]
+pub struct NotAwaited;
+
+/// The decoder of a stream, which is given unit by unit and calls nobody: what it asks a backend for, and the pictures that are output,
+/// wait until they are taken.
+///
+/// Pictures and handles are numbers, from 0 in order of decoding.
+#[derive(Drop)]
+pub struct PullDecoder {
+    alloc: Global,
+    decoder: StatelessDecoder<QueueBackend>,
+}
+
+impl PullDecoder {
+    /// A decoder at the beginning of a stream, with what is set for decoding by external means (8.1.2, 8.1.3).
+    pub fn new(alloc: Global, options: Options) -> PullDecoder
+        ensures view { view_in result ≡ at_beginning new_queue }
+        ensures kept { kept_of result ≡ none_kept }
+        ensures options { options_for result ≡ options_of options }
+    {
+        PullDecoder {
+            alloc,
+            decoder: StatelessDecoder::new_with(alloc, QueueBackend::new(alloc), options),
+        }
+    }
+
+    /// Takes the first unit of the input, of less than 2^60 bytes, with the time at which its picture is to be output, in the caller's
+    /// unit, while so many frames are free. The answer is the place after the unit, in bytes: 3 at least.
+    ///
+    /// Errors: those of `decode` of `StatelessDecoder`.
+    pub fn decode(
+        &mut self,
+        free_frames: usize,
+        timestamp: u64,
+        bitstream: &[u8],
+    ) -> Result<usize, DecodeError>
+        requires short { length bitstream.now < STREAM_LIMIT }
+        ensures takes { TakesFirst (units bitstream.now) result timestamp (options_for self.old)
+            (with_free_frames free_frames (seen_of self.old)) (seen_of self.new) }
+        ensures few { OutputsFew (view_in self.old) (view_in self.new) }
+        ensures inside { IfOk result (λ place. (3 ≤ place) × (place ≤ length bitstream.now)) }
+        ensures options { options_for self.new ≡ options_for self.old }
+    {
+        self.set_free_frames(free_frames);
+        self.decoder.decode(timestamp, bitstream)
+    }
+
+    /// The stream ends, or is left: the open picture is over, and all that waits is output.
+    ///
+    /// Errors: those of `flush` of `StatelessDecoder`.
+    pub fn flush(&mut self) -> Result<(), DecodeError>
+        ensures flushes { (given : Given) → Flushes result given
+            (traces_in self.old) (traces_in self.new)
+            (view_in self.old).state (view_in self.old).standing (view_in self.new).standing }
+        ensures few { OutputsFew (view_in self.old) (view_in self.new) }
+        ensures latest { (view_in self.new).latest ≡ (view_in self.old).latest }
+        ensures state { OnOk result ((view_in self.new).state ≡ Reset) }
+        ensures stays { OnErr result ((view_in self.new).state ≡ (view_in self.old).state) }
+        ensures kept { kept_of self.new ≡ kept_of self.old }
+        ensures options { options_for self.new ≡ options_for self.old }
+    {
+        self.decoder.flush()
+    }
+
+    /// The next of what came of the units: calls in their order, the pictures that are output, and that a format is awaited. Pictures
+    /// come after the calls, but those that are output before a sequence begins come before that.
+    pub fn next(&mut self) -> Option<Pulled>
+        ensures next { PullsNext result (view_in self.old) (view_in self.new) }
+        ensures kept { kept_of self.new ≡ kept_of self.old }
+        ensures options { options_for self.new ≡ options_for self.old }
+    {
+        if !self.decoder.backend().is_sequence_next() {
+            if let Some(event) = self.take_event() {
+                return Some(Pulled::Asked(event));
+            }
+        }
+        self.next_output()
+    }
+
+    /// The next, where outputs are due.
+    fn next_output(&mut self) -> Option<Pulled>
+        requires { outputs_are_due (view_in self.old).backend.waiting ≡ true }
+        ensures next { PullsNext result (view_in self.old) (view_in self.new) }
+        ensures kept { kept_of self.new ≡ kept_of self.old }
+        ensures options { options_for self.new ≡ options_for self.old }
+    {
+        if let Some(frame) = self.next_frame() {
+            return Some(Pulled::Output(frame));
+        }
+        if let Some(event) = self.take_event() {
+            return Some(Pulled::Asked(event));
+        }
+        if self.decoder.awaiting_format() {
+            return Some(Pulled::FormatChanged);
+        }
+        None
+    }
+
+    /// Takes the first picture that was output.
+    fn next_frame(&mut self) -> Option<Frame<u64>>
+        ensures frame { PopsFrame result (view_in self.old).queue (view_in self.new).queue }
+        ensures others { view_in self.new
+            ≡ record (view_in self.old) { queue = (view_in self.new).queue } }
+        ensures unchanged { IfNone result (view_in self.new ≡ view_in self.old) }
+        ensures kept { kept_of self.new ≡ kept_of self.old }
+        ensures options { options_for self.new ≡ options_for self.old }
+    {
+        match self.decoder.next_event() {
+            Some(DecoderEvent::FrameReady(frame)) => Some(frame),
+            Some(DecoderEvent::FormatChanged) | None => None,
+        }
+    }
+
+    /// Takes the first event that waits.
+    fn take_event(&mut self) -> Option<Event>
+        ensures event { MatchOption result
+            (((view_in self.old).backend.waiting ≡ []) × (view_in self.new ≡ view_in self.old))
+            (λ event. TakesEvent event (view_in self.old).backend (view_in self.new).backend) }
+        ensures others { view_in self.new
+            ≡ record (view_in self.old) { backend = (view_in self.new).backend } }
+        ensures kept { kept_of self.new ≡ kept_of self.old }
+        ensures options { options_for self.new ≡ options_for self.old }
+    {
+        let stand_in = self.decoder.backend().stand_in(self.alloc);
+        let mut backend = self.decoder.replace_backend(stand_in);
+        let event = backend.take_event();
+        let _stand_in = self.decoder.replace_backend(backend);
+        event
+    }
+
+    /// So many frames are free.
+    fn set_free_frames(&mut self, free_frames: usize)
+        ensures view { view_in self.new ≡ record (view_in self.old) {
+          backend = record (view_in self.old).backend { free_frames = free_frames };
+        } }
+        ensures kept { kept_of self.new ≡ kept_of self.old }
+        ensures options { options_for self.new ≡ options_for self.old }
+        ensures seen { seen_of self.new ≡ with_free_frames free_frames (seen_of self.old) }
+    {
+        let stand_in = self.decoder.backend().stand_in(self.alloc);
+        let mut backend = self.decoder.replace_backend(stand_in);
+        backend.set_free_frames(free_frames);
+        let _stand_in = self.decoder.replace_backend(backend);
+    }
+
+    /// Whether a format was negotiated that isn't accepted yet.
+    pub fn awaiting_format(&self) -> bool
+        ensures { result ≡ is_awaited (view_in self.now).state }
+    {
+        self.decoder.awaiting_format()
+    }
+
+    /// Accepts the format that is awaited.
+    ///
+    /// Errors: none is.
+    pub fn accept_format(&mut self) -> Result<(), NotAwaited>
+        ensures accepted { IsOk result ↔ ((view_in self.old).state ≡ AwaitingFormat) }
+        ensures view { OnOk result (view_in self.new ≡ record (view_in self.old) { state = Decoding }) }
+        ensures unchanged { OnErr result (self.new ≡ self.old) }
+        ensures kept { kept_of self.new ≡ kept_of self.old }
+        ensures options { options_for self.new ≡ options_for self.old }
+    {
+        if !self.decoder.awaiting_format() {
+            return Err(NotAwaited);
+        }
+        self.decoder.accept_format();
+        Ok(())
+    }
+}

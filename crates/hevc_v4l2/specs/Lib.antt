@@ -1,0 +1,11 @@
+pub mod Arrays
+pub mod Flags
+pub mod PictureSet
+pub mod Scaling
+pub mod Scan
+pub mod SequenceSet
+pub mod Weights
+pub mod Buffer
+pub mod LongTerm
+pub mod Slice
+pub mod Decode

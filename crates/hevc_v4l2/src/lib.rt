@@ -1,0 +1,25 @@
+//! What Linux's stateless decoders take of a picture: sets, slices and the buffer as the structs of `linux/v4l2-controls.h`.
+#![tactic(auto)]
+
+mod arrays;
+mod buffer;
+mod decode;
+mod error;
+mod flags;
+mod long_term;
+mod picture_set;
+mod scaling;
+mod scan;
+mod sequence_set;
+mod slice;
+mod weights;
+
+pub use buffer::V4l2HevcDpbEntry;
+pub use decode::{V4l2CtrlHevcDecodeParams, decode_control};
+pub use error::ControlError;
+pub use picture_set::{V4l2CtrlHevcPps, pps_control};
+pub use scaling::{V4l2CtrlHevcScalingMatrix, scaling_control};
+pub use scan::scans_are_permutations;
+pub use sequence_set::{V4l2CtrlHevcSps, sps_control};
+pub use slice::{V4l2CtrlHevcSliceParams, slice_control};
+pub use weights::V4l2HevcPredWeightTable;

@@ -1,0 +1,32 @@
+/* Compares where the header has each field with where the library writes it. */
+#include "fezhalum.h"
+
+#include <stdio.h>
+
+static int wrong;
+
+static void same(const char *what, uint64_t given, uint64_t wanted) {
+    if (given == wanted) return;
+    printf("layout: %s is %llu, not %llu\n", what, (unsigned long long)given, (unsigned long long)wanted);
+    wrong = 1;
+}
+#define SAME(field, wanted) same(#field, (uint64_t)(field), wanted)
+
+int main(void) {
+    static fezhalum_event event;
+    static fezhalum_decode_call call;
+    static fezhalum_unit unit;
+    same("sizeof event", fezhalum_layout_event(&event), sizeof event);
+    SAME(event.place, 1); SAME(event.kind, 2); SAME(event.nal_unit_type, 3); SAME(event.number, 4); SAME(event.timestamp, 5);
+    SAME(event.order_count, 6); SAME(event.is_output, 7); SAME(event.width, 8); SAME(event.height, 9);
+    SAME(event.general_profile_idc, 10); SAME(event.bit_depth_luma_minus8, 11); SAME(event.bit_depth_chroma_minus8, 12);
+    SAME(event.chroma_format_idc, 13); SAME(event.max_num_pics, 14); SAME(event.address, 15); SAME(event.size, 16);
+    SAME(event.lists[0].count, 17); SAME(event.lists[0].numbers[15], 18); SAME(event.lists[0].kinds[15], 19); SAME(event.lists[4].count, 20);
+    same("sizeof call", fezhalum_layout_decode_call(&call), sizeof call);
+    SAME(call.timestamp, 1); SAME(call.free_frames, 2); SAME(call.taken, 3); SAME(call.table, 4); SAME(call.row, 5);
+    same("sizeof unit", fezhalum_layout_unit(&unit), sizeof unit);
+    SAME(unit.offset, 1); SAME(unit.size, 2); SAME(unit.nal_unit_type, 3); SAME(unit.layer_id, 4); SAME(unit.temporal_id, 5);
+    SAME(unit.table, 6); SAME(unit.row, 7);
+    if (!wrong) printf("layout: the same\n");
+    return wrong;
+}

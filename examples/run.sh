@@ -1,0 +1,76 @@
+#!/usr/bin/env bash
+# Builds the examples over the static library, and runs them on the stream of hevc_trace, or on the streams that are given: what they print
+# has to be what hevc_trace prints. Once more with AddressSanitizer and under valgrind, where these are installed.
+#
+#     (cd crates/fezhalum && rt lib)          makes out/libfezhalum.a
+#     (cd crates/hevc_trace && rt run)        makes out/hevc_trace
+#     examples/run.sh [STREAM..]
+set -eu
+cd "$(dirname "$0")/.."
+kit=${RATTLE_KIT:-$(dirname "$(dirname "$(readlink -f "$(command -v rt)")")")}
+library="crates/fezhalum/out/libfezhalum.a $kit/c/liblibc_c.a"
+program=${HEVC_TRACE:-crates/hevc_trace/out/hevc_trace}
+work=$(mktemp -d)
+trap 'rm -rf "$work"' EXIT
+streams=("$@")
+[ $# -gt 0 ] || streams=(crates/hevc_trace/stdin)
+
+built() { # NAME FLAGS..: an example with a compiler's checks
+    local name=$1; shift
+    gcc -std=c11 -Wall -Wextra -Werror -Iinclude "$@" "examples/c/${name%%-*}.c" $library -o "$work/$name"
+}
+
+compare() { # NAME COMMAND..: the report of each stream
+    local name=$1 stream status wanted; shift
+    for stream in "${streams[@]}"; do
+        wanted=0; "$program" < "$stream" > "$work/wanted" || wanted=$?
+        status=0; "$@" "$stream" > "$work/given" 2> "$work/said" || status=$?
+        if [ $status != $wanted ] || ! cmp -s "$work/given" "$work/wanted"; then
+            echo "$name: $stream: another report (status $status, wanted $wanted)"; head -5 "$work/said"; exit 1
+        fi
+    done
+    echo "$name: ${#streams[@]} of ${#streams[@]} the same"
+}
+
+command -v gcc > /dev/null || { echo "gcc isn't installed: nothing can be built"; exit 1; }
+[ -x "$program" ] || { echo "$program isn't there: nothing to compare with"; exit 1; }
+each() { # NAME COMMAND..: a command on each stream, which says by its status whether all is as it should be
+    local name=$1 stream; shift
+    for stream in "${streams[@]}"; do
+        "$@" "$stream" > "$work/given" 2> "$work/said" || { echo "$name: $stream:"; cat "$work/given"; head -5 "$work/said"; exit 1; }
+    done
+    echo "$name: ${#streams[@]} of ${#streams[@]} well"
+}
+
+built layout -O2
+"$work/layout"
+built show -O2
+compare show "$work/show"
+if command -v rustc > /dev/null; then
+    link=(); for file in $library; do link+=(-C "link-arg=$file"); done
+    rustc --edition 2024 -O -D warnings "${link[@]}" examples/rust/show.rs -o "$work/show-rust" 2> "$work/said" ||
+        rustc --edition 2024 -O "${link[@]}" examples/rust/show.rs -o "$work/show-rust"
+    compare "show in Rust" "$work/show-rust"
+else
+    echo "rustc isn't installed: examples/rust isn't checked"
+fi
+built trials -O2
+each trials "$work/trials"
+built units -O2
+built memory -O2 -Wl,--wrap=malloc,--wrap=realloc
+each "memory, each allocation failed in turn" "$work/memory"
+if built show-sanitized -g -fsanitize=address,undefined -fno-sanitize-recover=all 2> "$work/said"; then
+    compare "show with AddressSanitizer" "$work/show-sanitized"
+    built trials-sanitized -g -fsanitize=address,undefined -fno-sanitize-recover=all
+    each "trials with AddressSanitizer" "$work/trials-sanitized"
+    built memory-sanitized -g -fsanitize=address,undefined -fno-sanitize-recover=all -Wl,--wrap=malloc,--wrap=realloc
+    each "memory with AddressSanitizer" "$work/memory-sanitized"
+else
+    echo "AddressSanitizer isn't installed: not checked"
+fi
+if command -v valgrind > /dev/null; then
+    compare "show under valgrind" valgrind -q --leak-check=full --error-exitcode=9 "$work/show"
+    each "trials under valgrind" valgrind -q --leak-check=full --error-exitcode=9 "$work/trials"
+else
+    echo "valgrind isn't installed: not checked"
+fi

@@ -1,0 +1,58 @@
+"""The structs of crates/hevc_v4l2 are those of linux/v4l2-controls.h, field by field: name, type, dimensions, order.
+
+Both sides have C's layout, so equal fields lie at equal places. No compiler is needed. Where the header isn't there, nothing is compared.
+"""
+import pathlib
+import re
+import unittest
+
+TOP = pathlib.Path(__file__).resolve().parent.parent
+HEADER = pathlib.Path('/usr/include/linux/v4l2-controls.h')
+STRUCTS = {
+    'V4l2CtrlHevcSps': 'v4l2_ctrl_hevc_sps',
+    'V4l2CtrlHevcPps': 'v4l2_ctrl_hevc_pps',
+    'V4l2HevcDpbEntry': 'v4l2_hevc_dpb_entry',
+    'V4l2HevcPredWeightTable': 'v4l2_hevc_pred_weight_table',
+    'V4l2CtrlHevcSliceParams': 'v4l2_ctrl_hevc_slice_params',
+    'V4l2CtrlHevcDecodeParams': 'v4l2_ctrl_hevc_decode_params',
+    'V4l2CtrlHevcScalingMatrix': 'v4l2_ctrl_hevc_scaling_matrix',
+}
+NUMBERS = {'__u8': 'u8', '__u16': 'u16', '__u32': 'u32', '__u64': 'u64', '__s8': 'i8', '__s32': 'i32'}
+
+
+def header_fields(text, name):
+    body = re.search(r'^struct ' + name + r' \{(.*?)^\};', text, re.S | re.M).group(1)
+    body = re.sub(r'/\*.*?\*/', '', body, flags=re.S)
+    sizes = dict(re.findall(r'#define (V4L2_HEVC_DPB_ENTRIES_NUM_MAX)\s+(\d+)', text))
+    fields = []
+    for line in filter(None, (line.strip() for line in body.split(';'))):
+        kind, field, dimensions = re.fullmatch(r'(struct\s+\w+|\w+)\s+(\w+)((?:\[\w+\])*)', line).groups()
+        kind = re.sub(r'^struct\s+', '', kind)
+        fields.append((field, NUMBERS.get(kind, kind), [int(sizes.get(n, n)) for n in re.findall(r'\[(\w+)\]', dimensions)]))
+    return fields
+
+
+def code_fields(text, name):
+    body = re.search(r'#\[repr\(C\)\]\n#\[derive\([^)]*\)\]\npub struct ' + name + r' \{\n(.*?)^\}', text, re.S | re.M).group(1)
+    fields = []
+    for field, kind in re.findall(r'^    pub (\w+): (.*),$', body, re.M):
+        dimensions = []
+        while kind.startswith('['):
+            kind, size = re.fullmatch(r'\[(.*); (\d+)\]', kind).groups()
+            dimensions.append(int(size))
+        fields.append((field, STRUCTS.get(kind, kind), dimensions))
+    return fields
+
+
+class Layout(unittest.TestCase):
+    @unittest.skipUnless(HEADER.exists(), 'the header is not installed')
+    def test_each_struct(self):
+        header = HEADER.read_text()
+        code = ''.join(path.read_text() for path in sorted((TOP / 'crates/hevc_v4l2/src').glob('*.rt')))
+        for ours, theirs in STRUCTS.items():
+            with self.subTest(struct=theirs):
+                self.assertEqual(code_fields(code, ours), header_fields(header, theirs))
+
+
+if __name__ == '__main__':
+    unittest.main()
