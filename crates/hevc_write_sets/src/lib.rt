@@ -1,0 +1,8 @@
+//! Parameter sets, written (7.3.2).
+#![tactic(auto)]
+
+mod pps_range_extension;
+mod sps_range_extension;
+
+pub use pps_range_extension::write_pps_range_extension;
+pub use sps_range_extension::write_sps_range_extension;

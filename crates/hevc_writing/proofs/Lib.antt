@@ -1,0 +1,5 @@
+pub mod Fillings
+pub mod RowRules
+pub mod Parts
+pub mod Loops
+pub mod Deciding

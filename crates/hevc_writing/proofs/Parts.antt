@@ -1,0 +1,150 @@
+-- Parts of a table, and tables within tables.
+use Rattle.std.proofs.Common.{◌≡◌, ℕ, Bool, true, false, eqb, List, [], refl, sym, ap, subst, ◌∙◌}
+use Rattle.std.specs.Prelude.{ℤ, pos}
+use Rattle.std.proofs.lemmas.Bool.{eqb-true, eqb-false, true≢false}
+use Rattle.hevc_spec.specs.declared.Row.{Row}
+use Rattle.hevc_spec.specs.Table.{Table}
+use Rattle.hevc_spec.specs.Rows.{flag_row, zero_row, bits_row, ue_row, se_row, skip_row, when, either}
+use Rattle.hevc_writing.specs.Choices.{skipped}
+use Rattle.hevc_writing.specs.Filling.{EachFilling, Keeps, Writes, WritesTable, WritesIf, WritesEither, WritesFlag, WritesBits, WritesUe, WritesSe, WritesZeros}
+use Rattle.hevc_writing.proofs.Fillings.{weakened, beside, done_filled, then_filled}
+use Rattle.hevc_writing.proofs.RowRules.{IsKept, flag_written, zero_written, bits_written, ue_written, se_written, zeros_written, when_filled, either_filled}
+
+-- a field of equal records
+pub by : {A X : Type 0} {z x : A} → z ≡ x → (f : A → X) → f z ≡ f x
+by e f = ap f e
+
+-- ---- rows as tables
+
+-- some lines with the chosen values can always be written
+pub record IsFillable {A : Type 0} (t : Table A) : Type 0 where
+  pub fill : (w : List Bool) → EachFilling t w (λ _ _. Unit {0})
+
+pub filled : {A : Type 0} {t : Table A} {w : List Bool} {Q : A → List Bool → Type 0} → IsFillable t → ((x : A) (all : List Bool) → Q x all) → EachFilling t w Q
+filled {w = w} h f = weakened (h.fill w) (λ x all _. f x all)
+
+module _ (r : Row) (kept : IsKept r) where
+  pub flag_fillable : IsFillable (flag_row r)
+  flag_fillable = record { fill = λ w. flag_written r {old = []} kept {value = false} refl (λ v all h. tt) }
+
+  pub zero_fillable : IsFillable (zero_row r)
+  zero_fillable = record { fill = λ w. zero_written r {old = []} kept refl (λ all h. tt) }
+
+  pub bits_fillable : (n min max : ℕ) → IsFillable (bits_row r n min max)
+  bits_fillable n min max = record { fill = λ w. bits_written r {old = []} kept n min max {value = 0} refl (λ v is all h. tt) }
+
+  pub ue_fillable : (min max : ℕ) → IsFillable (ue_row r min max)
+  ue_fillable min max = record { fill = λ w. ue_written r {old = []} kept min max {value = 0} (λ _. refl) (λ v is all h. tt) }
+
+  pub se_fillable : (min max : ℤ) → IsFillable (se_row r min max)
+  se_fillable min max = record { fill = λ w. se_written r {old = []} kept min max {value = pos 0} (λ _. refl) (λ v all h. tt) }
+
+  module _ {old new : List Bool} where
+    pub flag_table : {value : Bool} → WritesFlag value old new → WritesTable (flag_row r) value old new
+    flag_table writes = record { written = λ w. flag_written r kept writes (λ v all h. h) }
+
+    pub bits_table : (n min max : ℕ) {value : ℕ} → WritesBits n value old new → WritesTable (bits_row r n min max) value old new
+    bits_table n min max writes = record { written = λ w. bits_written r kept n min max writes (λ v is all h. h) }
+
+    pub ue_table : (min max : ℕ) {value : ℕ} → WritesUe value old new → WritesTable (ue_row r min max) value old new
+    ue_table min max writes = record { written = λ w. ue_written r kept min max writes (λ v is all h. h) }
+
+    pub se_table : (min max : ℤ) {value : ℤ} → WritesSe value old new → WritesTable (se_row r min max) value old new
+    se_table min max writes = record { written = λ w. se_written r kept min max writes (λ v all h. h) }
+
+module _ (r : Row) (n : ℕ) (none : skipped r n ≡ 0) where
+  pub zeros_fillable : IsFillable (skip_row r n)
+  zeros_fillable = record { fill = λ w. zeros_written r {old = []} n none refl (λ all h. tt) }
+
+  pub zeros_table : {old new : List Bool} → WritesZeros n old new → WritesTable (skip_row r n) 0 old new
+  zeros_table writes = record { written = λ w. zeros_written r n none writes (λ all h _. h) }
+
+module _ {A : Type 0} {t : Table A} {w : List Bool} {Q : A → List Bool → Type 0} where
+  -- a table within a table
+  pub table_written : {x : A} {old new : List Bool} → WritesTable t x old new → ((z : A) (all : List Bool) → (z ≡ x → w ≡ old → all ≡ new) → Q z all) → EachFilling t w Q
+  table_written writes f = weakened (writes.written w) f
+
+pub when_fillable : {A : Type 0} {t : Table A} (c : Bool) (absent : A) → IsFillable t → IsFillable (when c absent t)
+when_fillable c absent h = record { fill = λ w. when_filled (λ _. h.fill w) (λ _. tt) }
+
+pub either_fillable : {A : Type 0} {t s : Table A} (c : Bool) → IsFillable t → IsFillable s → IsFillable (either c t s)
+either_fillable c h g = record { fill = λ w. either_filled (λ _. h.fill w) (λ _. g.fill w) }
+
+-- what is added under a condition is another thing as well
+pub where_present : {present : Bool} {P Q : List Bool → List Bool → Type 0} {old new : List Bool} → (P old new → Q old new) → WritesIf present P old new → WritesIf present Q old new
+where_present f h = record { there = λ e. f (h.there e); absent = h.absent }
+
+-- a table that is present only under a condition
+module _ {A : Type 0} (t : Table A) (c : Bool) (absent : A) {w : List Bool} {Q : A → List Bool → Type 0} where
+  pub when_written : {present : Bool} {x : A} {old new : List Bool} → IsFillable t → WritesIf present (WritesTable t x) old new
+      → ((z : A) (all : List Bool) → (c ≡ present → z ≡ x → w ≡ old → all ≡ new) → Q z all) → EachFilling (when c absent t) w Q
+  when_written {present = present} {x = x} {old = old} {new = new} fillable writes f = by_present present writes f
+    where
+      by_present : (present : Bool) → WritesIf present (WritesTable t x) old new → ((z : A) (all : List Bool) → (c ≡ present → z ≡ x → w ≡ old → all ≡ new) → Q z all) → EachFilling (when c absent t) w Q
+      by_present true h f = when_filled (λ is. weakened ((h.there refl).written w) (λ z all g. f z all (λ _. g))) (λ is. f absent w (λ e. absurd (true≢false (sym e ∙ is))))
+      by_present false h f = when_filled (λ is. filled fillable (λ z all. f z all (λ e. absurd (true≢false (sym is ∙ e))))) (λ is. f absent w (λ _ _ at. at ∙ sym (h.absent refl)))
+
+-- ---- parts
+
+module _ {A : Type 0} (p : A → Table A) (own : A → A → A) (keeps : Keeps p own) (y : A) {w : List Bool} {Q : A → List Bool → Type 0} where
+  -- what a part leaves, for what comes after it
+  pub part_kept : ((z : A) (all : List Bool) → Q (own z y) all) → EachFilling (p y) w Q
+  part_kept f = weakened (keeps.kept y w) (λ z all e. subst (λ u. Q u all) e (f z all))
+
+  pub when_kept : (c : Bool) → ((z : A) (all : List Bool) → Q (own z y) all) → EachFilling (when c y (p y)) w Q
+  when_kept c f = when_filled (λ _. part_kept f) (λ _. subst (λ u. Q u w) (keeps.same y) (f y w))
+
+  -- and what was written for it
+  pub part_written : {seen : A → A → A} {x : A} {old new : List Bool} → Writes p seen x old new
+      → ((z : A) (all : List Bool) → (seen (own z y) x ≡ x → w ≡ old → all ≡ new) → Q (own z y) all) → EachFilling (p y) w Q
+  part_written {seen = seen} {x = x} {old = old} {new = new} writes f =
+      weakened (beside (keeps.kept y w) (writes.written y w)) (λ z all h. subst (λ u. Q u all) h.0 (f z all (λ e. h.1 (ap (λ u. seen u x) (sym h.0) ∙ e))))
+
+  -- a part that is present only under a condition
+  pub when_part_written : {c present : Bool} {seen : A → A → A} {x : A} {old new : List Bool} → WritesIf present (Writes p seen x) old new
+      → ((z : A) (all : List Bool) → (c ≡ present → seen (own z y) x ≡ x → w ≡ old → all ≡ new) → Q (own z y) all) → EachFilling (when c y (p y)) w Q
+  when_part_written {c = c} {present = present} {seen = seen} {x = x} {old = old} {new = new} writes f = by_present present writes f
+    where
+      by_present : (present : Bool) → WritesIf present (Writes p seen x) old new → ((z : A) (all : List Bool) → (c ≡ present → seen (own z y) x ≡ x → w ≡ old → all ≡ new) → Q (own z y) all) → EachFilling (when c y (p y)) w Q
+      by_present true h f = when_filled (λ is. part_written (h.there refl) (λ z all g. f z all (λ _. g))) (λ is. subst (λ u. Q u w) (keeps.same y) (f y w (λ e. absurd (true≢false (sym e ∙ is)))))
+      by_present false h f = when_filled (λ is. part_kept (λ z all. f z all (λ e. absurd (true≢false (sym is ∙ e))))) (λ is. subst (λ u. Q u w) (keeps.same y) (f y w (λ _ _ at. at ∙ sym (h.absent refl))))
+
+-- one of two parts
+module _ {A : Type 0} (p q : A → Table A) (own : A → A → A) (keeps_p : Keeps p own) (keeps_q : Keeps q own) (y : A) (c : Bool) {w : List Bool} {Q : A → List Bool → Type 0} where
+  pub either_kept : ((z : A) (all : List Bool) → Q (own z y) all) → EachFilling (either c (p y) (q y)) w Q
+  either_kept f = either_filled (λ _. part_kept p own keeps_p y f) (λ _. part_kept q own keeps_q y f)
+
+  pub either_part_written : {which : Bool} {seen : A → A → A} {x : A} {old new : List Bool} → WritesEither which (Writes p seen x) (Writes q seen x) old new
+      → ((z : A) (all : List Bool) → (c ≡ which → seen (own z y) x ≡ x → w ≡ old → all ≡ new) → Q (own z y) all) → EachFilling (either c (p y) (q y)) w Q
+  either_part_written {which = which} {seen = seen} {x = x} {old = old} {new = new} writes f = by_which which writes f
+    where
+      by_which : (which : Bool) → WritesEither which (Writes p seen x) (Writes q seen x) old new → ((z : A) (all : List Bool) → (c ≡ which → seen (own z y) x ≡ x → w ≡ old → all ≡ new) → Q (own z y) all) → EachFilling (either c (p y) (q y)) w Q
+      by_which true h f = either_filled (λ is. part_written p own keeps_p y (h.first refl) (λ z all g. f z all (λ _. g))) (λ is. part_kept q own keeps_q y (λ z all. f z all (λ e. absurd (true≢false (sym e ∙ is)))))
+      by_which false h f = either_filled (λ is. part_kept p own keeps_p y (λ z all. f z all (λ e. absurd (true≢false (sym is ∙ e))))) (λ is. part_written q own keeps_q y (h.second refl) (λ z all g. f z all (λ _. g)))
+
+-- ---- one of a family of parts, or of tables, by a number that is an element of the record
+
+module _ {A : Type 0} (parts : ℕ → A → Table A) (own : A → A → A) (keeps : (n : ℕ) → Keeps (parts n) own) (n : ℕ) (y : A) {w : List Bool} {Q : A → List Bool → Type 0} where
+  pub counted_part_written : {count : ℕ} {seen : A → A → A} {x : A} {old new : List Bool} → Writes (parts count) seen x old new
+      → ((z : A) (all : List Bool) → (n ≡ count → seen (own z y) x ≡ x → w ≡ old → all ≡ new) → Q (own z y) all) → EachFilling (parts n y) w Q
+  counted_part_written {count = count} {seen = seen} {x = x} {old = old} {new = new} writes f = by_test (eqb n count) refl
+    where
+      by_test : (t : Bool) → eqb n count ≡ t → EachFilling (parts n y) w Q
+      by_test true e =
+          let is : count ≡ n = sym (eqb-true n count e) in
+          part_written (parts n) own (keeps n) y (subst (λ (k : ℕ). Writes (parts k) seen x old new) is writes) (λ z all g. f z all (λ _. g))
+      by_test false e = part_kept (parts n) own (keeps n) y (λ z all. f z all (λ is. absurd (eqb-false n count e is)))
+
+module _ {A : Type 0} (tables : ℕ → Table A) (fillable : (n : ℕ) → IsFillable (tables n)) (n : ℕ) {w : List Bool} {Q : A → List Bool → Type 0} where
+  pub counted_table_written : {count : ℕ} {x : A} {old new : List Bool} → WritesTable (tables count) x old new
+      → ((z : A) (all : List Bool) → (n ≡ count → z ≡ x → w ≡ old → all ≡ new) → Q z all) → EachFilling (tables n) w Q
+  counted_table_written {count = count} {x = x} {old = old} {new = new} writes f = by_test (eqb n count) refl
+    where
+      by_test : (t : Bool) → eqb n count ≡ t → EachFilling (tables n) w Q
+      by_test true e =
+          let is : count ≡ n = sym (eqb-true n count e) in
+          table_written (subst (λ (k : ℕ). WritesTable (tables k) x old new) is writes) (λ z all g. f z all (λ _. g))
+      by_test false e = filled (fillable n) (λ z all. f z all (λ is. absurd (eqb-false n count e is)))
+
+-- what a part keeps, by its rows
+pub ruleset kept_rows = (then_filled, done_filled, filled, flag_fillable, zero_fillable, bits_fillable, ue_fillable, se_fillable, zeros_fillable, when_fillable, either_fillable)
