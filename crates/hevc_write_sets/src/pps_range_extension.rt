@@ -54,6 +54,7 @@ fn write_offset_lists(w: &mut BitWriter, x: &PpsRangeExtension) -> Result<(), Al
 }
 
 /// Row 5 of table 12, for each pair.
+#[tactic(auto, using(hevc_writing::proofs::Loops::turns, crate::proofs::PpsRangeExtensionKeeps::offset_pairs_written))]
 fn write_offset_pairs(
     w: &mut BitWriter,
     count: usize,

@@ -75,15 +75,15 @@ module _ {S : Type 0} (body : ℕ → S → Table S) where
     unfolding repeat
     no_turns old = record { written = λ y w. done_filled (λ a e. e) }
 
-    pub one_more_turn : (n : ℕ) (old now next : List Bool) → WritesTurns body agrees n old now → WritesTurn body agrees n now next → WritesTurns body agrees (n + 1) old next
-    one_more_turn n old now next h f = record { written = λ y w. one_more_filled body n y (weakened (h.written y w) (λ z all p. weakened (f.written z all) (λ u more q a e. let b = q a in b.1 (p b.0 e)))) }
+    pub one_more_turn : {n : ℕ} {old now next : List Bool} → WritesTurns body agrees n old now → WritesTurn body agrees n now next → WritesTurns body agrees (n + 1) old next
+    one_more_turn {n} h f = record { written = λ y w. one_more_filled body n y (weakened (h.written y w) (λ z all p. weakened (f.written z all) (λ u more q a e. let b = q a in b.1 (p b.0 e)))) }
 
     -- all turns, where the elements agree as a whole
-    pub all_turns : (seen : S → S → S) (x : S) (n : ℕ) (old new : List Bool) → ((z : S) → seen z x ≡ x → agrees n z) → WritesTurns body agrees n old new → Writes (repeat body 0 n) seen x old new
-    all_turns seen x n old new agree h = record { written = λ y w. weakened (h.written y w) (λ z all p e. p (agree z e)) }
+    pub all_turns : {seen : S → S → S} {x : S} {n : ℕ} {old new : List Bool} → ((z : S) → seen z x ≡ x → agrees n z) → WritesTurns body agrees n old new → Writes (repeat body 0 n) seen x old new
+    all_turns agree h = record { written = λ y w. weakened (h.written y w) (λ z all p e. p (agree z e)) }
 
-    pub turns_table : (x : S) (n : ℕ) (old new : List Bool) → agrees n x → WritesTurns body agrees n old new → (y : S) → WritesTable (repeat body 0 n y) x old new
-    turns_table x n old new agree h y = record { written = λ w. weakened (h.written y w) (λ z all p e. p (subst (agrees n) (sym e) agree)) }
+    pub turns_table : {x : S} {n : ℕ} {old new : List Bool} → agrees n x → WritesTurns body agrees n old new → (y : S) → WritesTable (repeat body 0 n y) x old new
+    turns_table {n = n} agree h y = record { written = λ w. weakened (h.written y w) (λ z all p e. p (subst (agrees n) (sym e) agree)) }
 
 -- ---- lists that are set element by element
 
@@ -99,3 +99,6 @@ module _ {X : Type 0} where
         record { long = long; same = λ k e below. sym (get_or-set_other xs i k v e (omega arith)) ∙ h.same k e (omega arith) },
         sym (get_or-set_same xs i v d within) ∙ h.same i d (omega arith),
       )
+
+-- what a loop over repeated rows needs
+pub ruleset turns = (no_turns, one_more_turn)

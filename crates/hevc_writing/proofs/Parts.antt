@@ -86,6 +86,14 @@ module _ {A : Type 0} (t : Table A) (c : Bool) (absent : A) {w : List Bool} {Q :
 
 -- ---- parts
 
+-- What is known once a part was written: where its elements are those of x, as far as `seen` goes, the bits go on to be these. An
+-- equation of any record that says so will do.
+abbrev pub Follows : {A : Type 0} → (A → A → A) → A → A → List Bool → List Bool → List Bool → List Bool → Type 0
+Follows {A = A} seen z x w old all new = (u : A) → u ≡ x → seen u x ≡ seen z x → w ≡ old → all ≡ new
+
+follows : {A : Type 0} (seen : A → A → A) {z x : A} {w old all new : List Bool} → seen x x ≡ x → (seen z x ≡ x → w ≡ old → all ≡ new) → Follows seen z x w old all new
+follows seen {x = x} whole h u e same at = h (sym same ∙ ap (λ r. seen r x) e ∙ whole) at
+
 module _ {A : Type 0} (p : A → Table A) (own : A → A → A) (keeps : Keeps p own) (y : A) {w : List Bool} {Q : A → List Bool → Type 0} where
   -- what a part leaves, for what comes after it
   pub part_kept : ((z : A) (all : List Bool) → Q (own z y) all) → EachFilling (p y) w Q
@@ -94,45 +102,46 @@ module _ {A : Type 0} (p : A → Table A) (own : A → A → A) (keeps : Keeps p
   pub when_kept : (c : Bool) → ((z : A) (all : List Bool) → Q (own z y) all) → EachFilling (when c y (p y)) w Q
   when_kept c f = when_filled (λ _. part_kept f) (λ _. subst (λ u. Q u w) (keeps.same y) (f y w))
 
-  -- and what was written for it
-  pub part_written : {seen : A → A → A} {x : A} {old new : List Bool} → Writes p seen x old new
-      → ((z : A) (all : List Bool) → (seen (own z y) x ≡ x → w ≡ old → all ≡ new) → Q (own z y) all) → EachFilling (p y) w Q
-  part_written {seen = seen} {x = x} {old = old} {new = new} writes f =
-      weakened (beside (keeps.kept y w) (writes.written y w)) (λ z all h. subst (λ u. Q u all) h.0 (f z all (λ e. h.1 (ap (λ u. seen u x) (sym h.0) ∙ e))))
+  module _ {seen : A → A → A} {x : A} {old new : List Bool} where
+    -- and what was written for it
+    pub part_written : Writes p seen x old new → seen x x ≡ x → ((z : A) (all : List Bool) → Follows seen (own z y) x w old all new → Q (own z y) all) → EachFilling (p y) w Q
+    part_written writes whole f =
+        weakened (beside (keeps.kept y w) (writes.written y w)) (λ z all h. subst (λ u. Q u all) h.0 (f z all (follows seen whole (λ e. h.1 (ap (λ u. seen u x) (sym h.0) ∙ e)))))
 
-  -- a part that is present only under a condition
-  pub when_part_written : {c present : Bool} {seen : A → A → A} {x : A} {old new : List Bool} → WritesIf present (Writes p seen x) old new
-      → ((z : A) (all : List Bool) → (c ≡ present → seen (own z y) x ≡ x → w ≡ old → all ≡ new) → Q (own z y) all) → EachFilling (when c y (p y)) w Q
-  when_part_written {c = c} {present = present} {seen = seen} {x = x} {old = old} {new = new} writes f = by_present present writes f
-    where
-      by_present : (present : Bool) → WritesIf present (Writes p seen x) old new → ((z : A) (all : List Bool) → (c ≡ present → seen (own z y) x ≡ x → w ≡ old → all ≡ new) → Q (own z y) all) → EachFilling (when c y (p y)) w Q
-      by_present true h f = when_filled (λ is. part_written (h.there refl) (λ z all g. f z all (λ _. g))) (λ is. subst (λ u. Q u w) (keeps.same y) (f y w (λ e. absurd (true≢false (sym e ∙ is)))))
-      by_present false h f = when_filled (λ is. part_kept (λ z all. f z all (λ e. absurd (true≢false (sym is ∙ e))))) (λ is. subst (λ u. Q u w) (keeps.same y) (f y w (λ _ _ at. at ∙ sym (h.absent refl))))
+    -- a part that is present only under a condition
+    pub when_part_written : {c present : Bool} → WritesIf present (Writes p seen x) old new → seen x x ≡ x
+        → ((z : A) (all : List Bool) → (c ≡ present → Follows seen (own z y) x w old all new) → Q (own z y) all) → EachFilling (when c y (p y)) w Q
+    when_part_written {c = c} {present = present} writes whole f = by_present present writes f
+      where
+        by_present : (present : Bool) → WritesIf present (Writes p seen x) old new → ((z : A) (all : List Bool) → (c ≡ present → Follows seen (own z y) x w old all new) → Q (own z y) all) → EachFilling (when c y (p y)) w Q
+        by_present true h f = when_filled (λ is. part_written (h.there refl) whole (λ z all g. f z all (λ _. g))) (λ is. subst (λ u. Q u w) (keeps.same y) (f y w (λ e. absurd (true≢false (sym e ∙ is)))))
+        by_present false h f = when_filled (λ is. part_kept (λ z all. f z all (λ e. absurd (true≢false (sym is ∙ e))))) (λ is. subst (λ u. Q u w) (keeps.same y) (f y w (λ _ _ _ _ at. at ∙ sym (h.absent refl))))
 
 -- one of two parts
 module _ {A : Type 0} (p q : A → Table A) (own : A → A → A) (keeps_p : Keeps p own) (keeps_q : Keeps q own) (y : A) (c : Bool) {w : List Bool} {Q : A → List Bool → Type 0} where
   pub either_kept : ((z : A) (all : List Bool) → Q (own z y) all) → EachFilling (either c (p y) (q y)) w Q
   either_kept f = either_filled (λ _. part_kept p own keeps_p y f) (λ _. part_kept q own keeps_q y f)
 
-  pub either_part_written : {which : Bool} {seen : A → A → A} {x : A} {old new : List Bool} → WritesEither which (Writes p seen x) (Writes q seen x) old new
-      → ((z : A) (all : List Bool) → (c ≡ which → seen (own z y) x ≡ x → w ≡ old → all ≡ new) → Q (own z y) all) → EachFilling (either c (p y) (q y)) w Q
-  either_part_written {which = which} {seen = seen} {x = x} {old = old} {new = new} writes f = by_which which writes f
-    where
-      by_which : (which : Bool) → WritesEither which (Writes p seen x) (Writes q seen x) old new → ((z : A) (all : List Bool) → (c ≡ which → seen (own z y) x ≡ x → w ≡ old → all ≡ new) → Q (own z y) all) → EachFilling (either c (p y) (q y)) w Q
-      by_which true h f = either_filled (λ is. part_written p own keeps_p y (h.first refl) (λ z all g. f z all (λ _. g))) (λ is. part_kept q own keeps_q y (λ z all. f z all (λ e. absurd (true≢false (sym e ∙ is)))))
-      by_which false h f = either_filled (λ is. part_kept p own keeps_p y (λ z all. f z all (λ e. absurd (true≢false (sym is ∙ e))))) (λ is. part_written q own keeps_q y (h.second refl) (λ z all g. f z all (λ _. g)))
+  module _ {seen : A → A → A} {x : A} {old new : List Bool} where
+    pub either_part_written : {which : Bool} → WritesEither which (Writes p seen x) (Writes q seen x) old new → seen x x ≡ x
+        → ((z : A) (all : List Bool) → (c ≡ which → Follows seen (own z y) x w old all new) → Q (own z y) all) → EachFilling (either c (p y) (q y)) w Q
+    either_part_written {which = which} writes whole f = by_which which writes f
+      where
+        by_which : (which : Bool) → WritesEither which (Writes p seen x) (Writes q seen x) old new → ((z : A) (all : List Bool) → (c ≡ which → Follows seen (own z y) x w old all new) → Q (own z y) all) → EachFilling (either c (p y) (q y)) w Q
+        by_which true h f = either_filled (λ is. part_written p own keeps_p y (h.first refl) whole (λ z all g. f z all (λ _. g))) (λ is. part_kept q own keeps_q y (λ z all. f z all (λ e. absurd (true≢false (sym e ∙ is)))))
+        by_which false h f = either_filled (λ is. part_kept p own keeps_p y (λ z all. f z all (λ e. absurd (true≢false (sym is ∙ e))))) (λ is. part_written q own keeps_q y (h.second refl) whole (λ z all g. f z all (λ _. g)))
 
 -- ---- one of a family of parts, or of tables, by a number that is an element of the record
 
 module _ {A : Type 0} (parts : ℕ → A → Table A) (own : A → A → A) (keeps : (n : ℕ) → Keeps (parts n) own) (n : ℕ) (y : A) {w : List Bool} {Q : A → List Bool → Type 0} where
-  pub counted_part_written : {count : ℕ} {seen : A → A → A} {x : A} {old new : List Bool} → Writes (parts count) seen x old new
-      → ((z : A) (all : List Bool) → (n ≡ count → seen (own z y) x ≡ x → w ≡ old → all ≡ new) → Q (own z y) all) → EachFilling (parts n y) w Q
-  counted_part_written {count = count} {seen = seen} {x = x} {old = old} {new = new} writes f = by_test (eqb n count) refl
+  pub counted_part_written : {count : ℕ} {seen : A → A → A} {x : A} {old new : List Bool} → Writes (parts count) seen x old new → seen x x ≡ x
+      → ((z : A) (all : List Bool) → (n ≡ count → Follows seen (own z y) x w old all new) → Q (own z y) all) → EachFilling (parts n y) w Q
+  counted_part_written {count = count} {seen = seen} {x = x} {old = old} {new = new} writes whole f = by_test (eqb n count) refl
     where
       by_test : (t : Bool) → eqb n count ≡ t → EachFilling (parts n y) w Q
       by_test true e =
           let is : count ≡ n = sym (eqb-true n count e) in
-          part_written (parts n) own (keeps n) y (subst (λ (k : ℕ). Writes (parts k) seen x old new) is writes) (λ z all g. f z all (λ _. g))
+          part_written (parts n) own (keeps n) y (subst (λ (k : ℕ). Writes (parts k) seen x old new) is writes) whole (λ z all g. f z all (λ _. g))
       by_test false e = part_kept (parts n) own (keeps n) y (λ z all. f z all (λ is. absurd (eqb-false n count e is)))
 
 module _ {A : Type 0} (tables : ℕ → Table A) (fillable : (n : ℕ) → IsFillable (tables n)) (n : ℕ) {w : List Bool} {Q : A → List Bool → Type 0} where
