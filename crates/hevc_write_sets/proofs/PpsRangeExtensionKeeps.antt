@@ -1,5 +1,5 @@
 -- What the parts of table 12 leave.
-use Rattle.std.proofs.Common.{◌≡◌, ℕ, ◌+◌, List, Bool, refl, subst}
+use Rattle.std.proofs.Common.{◌≡◌, ℕ, List, Bool, refl, subst}
 use Rattle.hevc_tables.specs.PpsRangeExtensionTable.{offset_pair, offset_pairs, offset_lists}
 use Rattle.hevc_records.specs.PpsRangeExtension.{PlainPpsRangeExtension}
 use Rattle.hevc_writing.specs.Filling.{Keeps, Writes, WritesTurns}

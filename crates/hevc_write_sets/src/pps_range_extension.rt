@@ -20,7 +20,11 @@ pub fn write_pps_range_extension(
     ensures { (sps : PlainSps) → OnOk result (WritesTable (table.pps_range_extension sps transform_skip)
         (plain_pps_range_extension x.now) w.old w.new) }
 {
-    ue_if(w, transform_skip, x.log2_max_transform_skip_block_size_minus2)?;
+    ue_if(
+        w,
+        transform_skip,
+        x.log2_max_transform_skip_block_size_minus2,
+    )?;
     flag(w, x.cross_component_prediction_enabled_flag)?;
     flag(w, x.chroma_qp_offset_list_enabled_flag)?;
     write_offset_lists_if(w, x.chroma_qp_offset_list_enabled_flag, x)?;
@@ -38,7 +42,11 @@ fn write_offset_lists_if(
     ensures { OnOk result (WritesIf present (Writes table.offset_lists offset_lists
         (plain_pps_range_extension x.now)) w.old w.new) }
 {
-    if present { write_offset_lists(w, x) } else { Ok(()) }
+    if present {
+        write_offset_lists(w, x)
+    } else {
+        Ok(())
+    }
 }
 
 /// Rows 3 to 5 of table 12.

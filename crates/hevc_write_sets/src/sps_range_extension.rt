@@ -10,10 +10,7 @@ use hevc_writing::rows::flag;
 use std::alloc::AllocError;
 
 /// Table 9.
-pub fn write_sps_range_extension(
-    w: &mut BitWriter,
-    x: &SpsRangeExtension,
-) -> Result<(), AllocError>
+pub fn write_sps_range_extension(w: &mut BitWriter, x: &SpsRangeExtension) -> Result<(), AllocError>
     ensures { OnOk result (WritesTable sps_range_extension
         (plain_sps_range_extension x.now) w.old w.new) }
 {

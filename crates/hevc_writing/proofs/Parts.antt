@@ -133,16 +133,18 @@ module _ {A : Type 0} (p q : A → Table A) (own : A → A → A) (keeps_p : Kee
 
 -- ---- one of a family of parts, or of tables, by a number that is an element of the record
 
+module _ {A I : Type 0} (parts : I → A → Table A) (own : A → A → A) (keeps : (i : I) → Keeps (parts i) own) (i : I) (y : A) {w : List Bool} {Q : A → List Bool → Type 0} where
+  -- by anything that a test tells apart
+  pub tested_part_written : {j : I} {seen : A → A → A} {x : A} {old new : List Bool} → (test : Bool) → (test ≡ true → j ≡ i) → (test ≡ false → i ≡ j → ⊥) → Writes (parts j) seen x old new → seen x x ≡ x
+      → ((z : A) (all : List Bool) → (i ≡ j → Follows seen (own z y) x w old all new) → Q (own z y) all) → EachFilling (parts i y) w Q
+  tested_part_written {seen = seen} {x = x} {old = old} {new = new} true same other writes whole f =
+      part_written (parts i) own (keeps i) y (subst (λ k. Writes (parts k) seen x old new) (same refl) writes) whole (λ z all g. f z all (λ _. g))
+  tested_part_written false same other writes whole f = part_kept (parts i) own (keeps i) y (λ z all. f z all (λ is. absurd (other refl is)))
+
 module _ {A : Type 0} (parts : ℕ → A → Table A) (own : A → A → A) (keeps : (n : ℕ) → Keeps (parts n) own) (n : ℕ) (y : A) {w : List Bool} {Q : A → List Bool → Type 0} where
   pub counted_part_written : {count : ℕ} {seen : A → A → A} {x : A} {old new : List Bool} → Writes (parts count) seen x old new → seen x x ≡ x
       → ((z : A) (all : List Bool) → (n ≡ count → Follows seen (own z y) x w old all new) → Q (own z y) all) → EachFilling (parts n y) w Q
-  counted_part_written {count = count} {seen = seen} {x = x} {old = old} {new = new} writes whole f = by_test (eqb n count) refl
-    where
-      by_test : (t : Bool) → eqb n count ≡ t → EachFilling (parts n y) w Q
-      by_test true e =
-          let is : count ≡ n = sym (eqb-true n count e) in
-          part_written (parts n) own (keeps n) y (subst (λ (k : ℕ). Writes (parts k) seen x old new) is writes) whole (λ z all g. f z all (λ _. g))
-      by_test false e = part_kept (parts n) own (keeps n) y (λ z all. f z all (λ is. absurd (eqb-false n count e is)))
+  counted_part_written {count = count} = tested_part_written parts own keeps n y (eqb n count) (λ e. sym (eqb-true n count e)) (eqb-false n count)
 
 module _ {A : Type 0} (tables : ℕ → Table A) (fillable : (n : ℕ) → IsFillable (tables n)) (n : ℕ) {w : List Bool} {Q : A → List Bool → Type 0} where
   pub counted_table_written : {count : ℕ} {x : A} {old new : List Bool} → WritesTable (tables count) x old new

@@ -45,6 +45,27 @@ pub fn bits_if(
     }
 }
 
+/// Writes a number of at most 8 bits, u(n).
+pub fn bits_u8(w: &mut BitWriter, num_bits: u32, value: u8) -> Result<(), AllocError>
+    requires { num_bits ≤ 32 }
+    ensures { OnOk result (WritesBits num_bits value w.old w.new) }
+{
+    bits(w, num_bits, u32::from(value))
+}
+
+/// Writes a number of at most 8 bits that is present only under a condition.
+pub fn bits_u8_if(
+    w: &mut BitWriter,
+    present: bool,
+    num_bits: u32,
+    value: u8,
+) -> Result<(), AllocError>
+    requires { num_bits ≤ 32 }
+    ensures { OnOk result (WritesIf present (WritesBits num_bits value) w.old w.new) }
+{
+    bits_if(w, present, num_bits, u32::from(value))
+}
+
 /// Writes an Exp-Golomb number, ue(v).
 pub fn ue(w: &mut BitWriter, value: u32) -> Result<(), AllocError>
     ensures { OnOk result (WritesUe value w.old w.new) }
@@ -57,6 +78,20 @@ pub fn ue_if(w: &mut BitWriter, present: bool, value: u32) -> Result<(), AllocEr
     ensures { OnOk result (WritesIf present (WritesUe value) w.old w.new) }
 {
     if present { ue(w, value) } else { Ok(()) }
+}
+
+/// Writes an Exp-Golomb number of one byte, ue(v).
+pub fn ue_u8(w: &mut BitWriter, value: u8) -> Result<(), AllocError>
+    ensures { OnOk result (WritesUe value w.old w.new) }
+{
+    ue(w, u32::from(value))
+}
+
+/// Writes an Exp-Golomb number of one byte that is present only under a condition.
+pub fn ue_u8_if(w: &mut BitWriter, present: bool, value: u8) -> Result<(), AllocError>
+    ensures { OnOk result (WritesIf present (WritesUe value) w.old w.new) }
+{
+    ue_if(w, present, u32::from(value))
 }
 
 /// Writes a signed Exp-Golomb number, se(v).
