@@ -9,7 +9,7 @@ use Rattle.hevc_records.specs.PpsSccExtension.{PlainPpsSccExtension}
 use Rattle.hevc_tables.specs.PpsSccExtensionTable.{colour_transform, predictor, component_predictors, predictors, initializers, palettes, num_components, predictors_of}
 use Rattle.hevc_tables.specs.SpsSccExtensionTable.{SampleFormat, bit_depth}
 use Rattle.hevc_writing.specs.Filling.{Keeps, Writes, WritesBits, WritesTurn, WritesTurns}
-use Rattle.hevc_writing.proofs.Steps.{kept_rows, part_kept, when_kept, tested_part_written, by}
+use Rattle.hevc_writing.proofs.Steps.{kept_rows, part_kept, when_kept, one_part_written, numbers, pairs, by}
 use Rattle.hevc_writing.proofs.Loops.{turns_keep, one_more_turn, all_turns, all_same}
 use Rattle.hevc_write_sets.specs.PpsSccExtensionParts as own
 use Rattle.hevc_write_sets.proofs.Palettes as lists
@@ -78,19 +78,6 @@ module _ (f : SampleFormat) where
       record {
         written = λ y w.
             let i : ℕ × ℕ = (y.num_palette_predictor_initializers, num_components y) in
-            tested_part_written (λ (k : ℕ × ℕ). repeat (component_predictors f k.0) 0 k.1) own.predictors repeated_keep i y (eqb i.0 j.0 && eqb i.1 j.1) (same_pair i j) (other_pair i j) all refl
+            one_part_written (λ (k : ℕ × ℕ). repeat (component_predictors f k.0) 0 k.1) own.predictors repeated_keep i y (pairs (numbers i.0 j.0) (numbers i.1 j.1)) all refl
             (λ z b g is at. g (ap₂ (λ (k m : ℕ). (k, m)) (by is (λ r. r.num_palette_predictor_initializers)) (by is (λ r. num_components r))) _ is refl at);
       }
-    where
-      same_pair : (i j : ℕ × ℕ) → (eqb i.0 j.0 && eqb i.1 j.1) ≡ true → j ≡ i
-      same_pair i j t = by_test (eqb i.0 j.0) refl t
-        where
-          by_test : (b : Bool) → eqb i.0 j.0 ≡ b → (b && eqb i.1 j.1) ≡ true → j ≡ i
-          by_test true e t = ap₂ (λ (k m : ℕ). (k, m)) (sym (eqb-true i.0 j.0 e)) (sym (eqb-true i.1 j.1 t))
-          by_test false e t = absurd cc
-
-      other_pair : (i j : ℕ × ℕ) → (eqb i.0 j.0 && eqb i.1 j.1) ≡ false → i ≡ j → ⊥
-      other_pair i j t e =
-          let a : eqb i.0 j.0 ≡ true = let k : i.0 ≡ j.0 = ap (λ (p : ℕ × ℕ). p.0) e in grind arith in
-          let b : eqb i.1 j.1 ≡ true = let k : i.1 ≡ j.1 = ap (λ (p : ℕ × ℕ). p.1) e in grind arith in
-          absurd (cc (sym t ∙ ap₂ (λ (p q : Bool). p && q) a b))

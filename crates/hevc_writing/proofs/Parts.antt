@@ -1,6 +1,6 @@
 -- Parts of a table, and tables within tables.
-use Rattle.std.proofs.Common.{◌≡◌, ℕ, Bool, true, false, eqb, List, [], refl, sym, ap, subst, ◌∙◌}
-use Rattle.std.specs.Prelude.{ℤ, pos}
+use Rattle.std.proofs.Common.{◌≡◌, ℕ, ◌^◌, ◌<◌, Bool, true, false, eqb, List, [], ◌∷◌, ◌++◌, inl, inr, refl, sym, ap, ap₂, subst, ◌∙◌, arith}
+use Rattle.std.specs.Prelude.{ℤ, pos, ◌⊎◌}
 use Rattle.std.proofs.lemmas.Bool.{eqb-true, eqb-false, true≢false}
 use Rattle.hevc_spec.specs.declared.Row.{Row}
 use Rattle.hevc_spec.specs.Table.{Table}
@@ -131,31 +131,53 @@ module _ {A : Type 0} (p q : A → Table A) (own : A → A → A) (keeps_p : Kee
         by_which true h f = either_filled (λ is. part_written p own keeps_p y (h.first refl) whole (λ z all g. f z all (λ _. g))) (λ is. part_kept q own keeps_q y (λ z all. f z all (λ e. absurd (true≢false (sym e ∙ is)))))
         by_which false h f = either_filled (λ is. part_kept p own keeps_p y (λ z all. f z all (λ e. absurd (true≢false (sym is ∙ e))))) (λ is. part_written q own keeps_q y (h.second refl) whole (λ z all g. f z all (λ _. g)))
 
--- ---- one of a family of parts, or of tables, by a number that is an element of the record
+-- ---- one of a family of parts, or of tables, by elements of the record
+
+-- the same, or not
+abbrev pub IsDecided : {I : Type 0} → I → I → Type 0
+IsDecided i j = (i ≡ j) ⊎ (i ≡ j → ⊥)
+
+pub numbers : (n m : ℕ) → IsDecided n m
+numbers n m = by_test (eqb n m) refl
+  where
+    by_test : (t : Bool) → eqb n m ≡ t → IsDecided n m
+    by_test true e = inl (eqb-true n m e)
+    by_test false e = inr (eqb-false n m e)
+
+pub flags : (a b : Bool) → IsDecided a b
+flags true true = inl refl
+flags true false = inr true≢false
+flags false true = inr (λ e. true≢false (sym e))
+flags false false = inl refl
+
+pub pairs : {A B : Type 0} {a c : A} {b d : B} → IsDecided a c → IsDecided b d → IsDecided {I = A × B} (a, b) (c, d)
+pairs (inl p) (inl q) = inl (ap₂ (λ x y. (x, y)) p q)
+pairs {A = A} {B = B} (inl p) (inr q) = inr (λ e. q (ap (λ (k : A × B). k.1) e))
+pairs {A = A} {B = B} (inr p) q = inr (λ e. p (ap (λ (k : A × B). k.0) e))
 
 module _ {A I : Type 0} (parts : I → A → Table A) (own : A → A → A) (keeps : (i : I) → Keeps (parts i) own) (i : I) (y : A) {w : List Bool} {Q : A → List Bool → Type 0} where
-  -- by anything that a test tells apart
-  pub tested_part_written : {j : I} {seen : A → A → A} {x : A} {old new : List Bool} → (test : Bool) → (test ≡ true → j ≡ i) → (test ≡ false → i ≡ j → ⊥) → Writes (parts j) seen x old new → seen x x ≡ x
+  pub one_part_written : {j : I} {seen : A → A → A} {x : A} {old new : List Bool} → IsDecided i j → Writes (parts j) seen x old new → seen x x ≡ x
       → ((z : A) (all : List Bool) → (i ≡ j → Follows seen (own z y) x w old all new) → Q (own z y) all) → EachFilling (parts i y) w Q
-  tested_part_written {seen = seen} {x = x} {old = old} {new = new} true same other writes whole f =
-      part_written (parts i) own (keeps i) y (subst (λ k. Writes (parts k) seen x old new) (same refl) writes) whole (λ z all g. f z all (λ _. g))
-  tested_part_written false same other writes whole f = part_kept (parts i) own (keeps i) y (λ z all. f z all (λ is. absurd (other refl is)))
+  one_part_written {seen = seen} {x = x} {old = old} {new = new} (inl same) writes whole f =
+      part_written (parts i) own (keeps i) y (subst (λ k. Writes (parts k) seen x old new) (sym same) writes) whole (λ z all g. f z all (λ _. g))
+  one_part_written (inr other) writes whole f = part_kept (parts i) own (keeps i) y (λ z all. f z all (λ is. absurd (other is)))
 
 module _ {A : Type 0} (parts : ℕ → A → Table A) (own : A → A → A) (keeps : (n : ℕ) → Keeps (parts n) own) (n : ℕ) (y : A) {w : List Bool} {Q : A → List Bool → Type 0} where
   pub counted_part_written : {count : ℕ} {seen : A → A → A} {x : A} {old new : List Bool} → Writes (parts count) seen x old new → seen x x ≡ x
       → ((z : A) (all : List Bool) → (n ≡ count → Follows seen (own z y) x w old all new) → Q (own z y) all) → EachFilling (parts n y) w Q
-  counted_part_written {count = count} = tested_part_written parts own keeps n y (eqb n count) (λ e. sym (eqb-true n count e)) (eqb-false n count)
+  counted_part_written {count = count} = one_part_written parts own keeps n y (numbers n count)
 
-module _ {A : Type 0} (tables : ℕ → Table A) (fillable : (n : ℕ) → IsFillable (tables n)) (n : ℕ) {w : List Bool} {Q : A → List Bool → Type 0} where
-  pub counted_table_written : {count : ℕ} {x : A} {old new : List Bool} → WritesTable (tables count) x old new
-      → ((z : A) (all : List Bool) → (n ≡ count → z ≡ x → w ≡ old → all ≡ new) → Q z all) → EachFilling (tables n) w Q
-  counted_table_written {count = count} {x = x} {old = old} {new = new} writes f = by_test (eqb n count) refl
-    where
-      by_test : (t : Bool) → eqb n count ≡ t → EachFilling (tables n) w Q
-      by_test true e =
-          let is : count ≡ n = sym (eqb-true n count e) in
-          table_written (subst (λ (k : ℕ). WritesTable (tables k) x old new) is writes) (λ z all g. f z all (λ _. g))
-      by_test false e = filled (fillable n) (λ z all. f z all (λ is. absurd (eqb-false n count e is)))
+module _ {A I : Type 0} (tables : I → Table A) (fillable : (i : I) → IsFillable (tables i)) (i j : I) {w : List Bool} {Q : A → List Bool → Type 0} {x : A} {old new : List Bool} where
+  pub one_table_written : IsDecided i j → WritesTable (tables j) x old new → ((z : A) (all : List Bool) → (i ≡ j → z ≡ x → w ≡ old → all ≡ new) → Q z all) → EachFilling (tables i) w Q
+  one_table_written (inl same) writes f = table_written (subst (λ k. WritesTable (tables k) x old new) (sym same) writes) (λ z all g. f z all (λ _. g))
+  one_table_written (inr other) writes f = filled (fillable i) (λ z all. f z all (λ is. absurd (other is)))
+
+  -- where it is present
+  pub one_table_if_written : (c : Bool) (absent : A) {present : Bool} → IsDecided i j → WritesIf present (WritesTable (tables j) x) old new
+      → ((z : A) (all : List Bool) → (c ≡ present → i ≡ j → z ≡ x → w ≡ old → all ≡ new) → Q z all) → EachFilling (when c absent (tables i)) w Q
+  one_table_if_written c absent (inl same) writes f =
+      when_written (tables i) c absent (fillable i) (where_present (λ h. subst (λ k. WritesTable (tables k) x old new) (sym same) h) writes) (λ z all g. f z all (λ e _. g e))
+  one_table_if_written c absent (inr other) writes f = when_filled (λ _. filled (fillable i) (λ z all. f z all (λ _ is. absurd (other is)))) (λ _. f absent w (λ _ is. absurd (other is)))
 
 -- what a part keeps, by its rows
 pub ruleset kept_rows = (then_filled, done_filled, filled, flag_fillable, zero_fillable, bits_fillable, ue_fillable, se_fillable, zeros_fillable, when_fillable, either_fillable)
