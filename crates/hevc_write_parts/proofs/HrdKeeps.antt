@@ -78,3 +78,8 @@ hrd_written true m before x old mid new h g = record {
       part_written (sub_layers m) own.sub_layers (sub_layers_keep m) _ g refl (λ v2 b2 h2 e at. h2 _ e refl (h1 _ e refl at))));
 }
 hrd_written false m before x old mid new h g = record { written = λ w. then_filled (done_filled (part_written (sub_layers m) own.sub_layers (sub_layers_keep m) _ g refl (λ v2 b2 h2 e at. h2 _ e refl (at ∙ sym (h.absent refl))))) }
+
+pub hrd_fillable : (common : Bool) (max_sub_layers_minus1 : ℕ) (before : PlainHrdParams) → IsFillable (hrd_parameters common max_sub_layers_minus1 before)
+unfolding hrd_parameters when common_of
+hrd_fillable true m before = record { fill = λ w. then_filled (part_kept common_parameters own.common_parameters common_parameters_keep _ (λ z b. part_kept (sub_layers m) own.sub_layers (sub_layers_keep m) _ (λ u d. tt))) }
+hrd_fillable false m before = record { fill = λ w. then_filled (done_filled (part_kept (sub_layers m) own.sub_layers (sub_layers_keep m) _ (λ u d. tt))) }

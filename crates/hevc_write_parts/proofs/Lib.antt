@@ -1,1 +1,2 @@
 pub mod HrdKeeps
+pub mod VuiKeeps

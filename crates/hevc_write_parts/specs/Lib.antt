@@ -1,1 +1,2 @@
 pub mod HrdParts
+pub mod VuiParts

@@ -1,12 +1,11 @@
 -- The steps by which a writer's answer goes through a table: each row or part, and what comes after it.
-use Rattle.std.proofs.Common.{◌≡◌, ℕ, Bool, true, false, List, [], ◌∷◌, refl}
+use Rattle.std.proofs.Common.{◌≡◌, ℕ, Bool, true, false, List}
 use Rattle.std.specs.Prelude.{ℤ}
 use Rattle.hevc_spec.specs.declared.Row.{Row}
 use Rattle.hevc_spec.specs.Bits.{in_range}
 use Rattle.hevc_spec.specs.Table.{Table, part}
-use Rattle.hevc_spec.specs.Rows.{flag_row, zero_row, bits_row, ue_row, se_row, check_row, skip_row, when, either}
-use Rattle.hevc_writing.specs.Choices.{skipped}
-use Rattle.hevc_writing.specs.Filling.{EachFilling, Keeps, Writes, WritesTable, WritesIf, WritesEither, WritesFlag, WritesBits, WritesUe, WritesSe, WritesZeros}
+use Rattle.hevc_spec.specs.Rows.{flag_row, zero_row, bits_row, ue_row, se_row, when}
+use Rattle.hevc_writing.specs.Filling.{EachFilling, Keeps, Writes, WritesTable, WritesIf, WritesFlag, WritesBits, WritesUe, WritesSe}
 use Rattle.hevc_writing.proofs.RowRules.{IsKept}
 pub use Rattle.hevc_writing.proofs.Fillings.{then_filled, done_filled}
 pub use Rattle.hevc_writing.proofs.RowRules.{flag_written, zero_written, bits_written, ue_written, se_written, zeros_written, check_held}

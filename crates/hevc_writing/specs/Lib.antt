@@ -1,2 +1,3 @@
 pub mod Choices
 pub mod Filling
+pub mod Deciding

@@ -1,4 +1,4 @@
-use Rattle.std.proofs.Common.{◌≡◌, ℕ, Bool, false, get_or, refl, ap, ap₂, ◌∙◌, arith}
+use Rattle.std.proofs.Common.{◌≡◌, ◌<◌, length, ℕ, Bool, false, get_or, refl, ap, ap₂, ◌∙◌, arith}
 use Rattle.std.specs.Prelude.{not}
 use Rattle.hevc_records.specs.HrdParams.{PlainHrdParams}
 use Rattle.hevc_records.specs.SublayerHrdParameters.{default_sublayer_hrd_parameters}
@@ -17,6 +17,8 @@ unfolding sub_layer
 returns c =
     let x = plain_hrd_params c.args.x.now in
     let i = c.args.i in
+    let nal_in : c.args.i < length (plain_hrd_params c.args.x.now).nal_hrd = simp length-map (omega arith) in
+    let vcl_in : c.args.i < length (plain_hrd_params c.args.x.now).vcl_hrd = simp length-map (omega arith) in
     let j : Bool × ℕ = (x.sub_pic_hrd_params_present_flag, get_or x.cpb_cnt_minus1 i 0) in
     let same_schedules = λ (y : PlainHrdParams) (v : ℕ). pairs (flags y.sub_pic_hrd_params_present_flag j.0) (numbers v j.1) in
     record {
@@ -34,8 +36,8 @@ returns c =
           let duration = one_less i y.elemental_duration_in_tc_minus1 x.elemental_duration_in_tc_minus1 v3 0 (omega arith) a.3 in
           let low_delay = one_less i y.low_delay_hrd_flag x.low_delay_hrd_flag v4 false (omega arith) a.4 in
           let count = one_less i y.cpb_cnt_minus1 x.cpb_cnt_minus1 v5 0 (omega arith) a.5 in
-          let nal = one_less i y.nal_hrd x.nal_hrd v6 default_sublayer_hrd_parameters (simp length-map (omega arith)) a.6 in
-          let vcl = one_less i y.vcl_hrd x.vcl_hrd v7 default_sublayer_hrd_parameters (simp length-map (omega arith)) a.7 in
+          let nal = one_less i y.nal_hrd x.nal_hrd v6 default_sublayer_hrd_parameters nal_in a.6 in
+          let vcl = one_less i y.vcl_hrd x.vcl_hrd v7 default_sublayer_hrd_parameters vcl_in a.7 in
           let which : (y.sub_pic_hrd_params_present_flag, v5) ≡ j = ap₂ (λ (b : Bool) (n : ℕ). (b, n)) a.0.units count.1 in (
             (record { nal = a.0.nal; vcl = a.0.vcl; units = a.0.units }, fixed.0, within.0, duration.0, low_delay.0, count.0, nal.0, vcl.0),
             λ at.
