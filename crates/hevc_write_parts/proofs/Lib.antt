@@ -1,2 +1,3 @@
 pub mod HrdKeeps
+pub mod LayerKeeps
 pub mod VuiKeeps

@@ -1,2 +1,4 @@
 pub mod HrdParts
+pub mod LayerParts
+pub mod LayerProfile
 pub mod VuiParts

@@ -1,11 +1,15 @@
 //! The parts that parameter sets share, written.
 #![tactic(auto)]
 
+mod conformance;
+mod constraints;
 mod hrd;
 mod hrd_common;
 mod hrd_schedules;
 mod hrd_sub_layers;
 mod laws;
+mod layer;
+mod layer_profile;
 mod vui;
 
 pub use hrd::write_hrd_parameters;

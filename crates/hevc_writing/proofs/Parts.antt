@@ -1,6 +1,7 @@
 -- Parts of a table, and tables within tables.
 use Rattle.std.proofs.Common.{◌≡◌, ℕ, Bool, true, false, eqb, List, [], inl, inr, refl, sym, ap, ap₂, subst, ◌∙◌}
-use Rattle.std.specs.Prelude.{ℤ, pos, ◌⊎◌}
+use Rattle.std.specs.Prelude.{ℤ, pos, ◌⊎◌, Result, OnOk}
+use Rattle.std.proofs.lemmas.Result.{on_ok_weaker}
 use Rattle.std.proofs.lemmas.Bool.{eqb-true, eqb-false, true≢false}
 use Rattle.hevc_spec.specs.declared.Row.{Row}
 use Rattle.hevc_spec.specs.Table.{Table}
@@ -56,9 +57,6 @@ module _ (r : Row) (n : ℕ) (none : skipped r n ≡ 0) where
   pub zeros_fillable : IsFillable (skip_row r n)
   zeros_fillable = record { fill = λ w. zeros_written r {old = []} n none refl (λ all h. tt) }
 
-  pub zeros_table : {old new : List Bool} → WritesZeros n old new → WritesTable (skip_row r n) 0 old new
-  zeros_table writes = record { written = λ w. zeros_written r n none writes (λ all h _. h) }
-
 module _ {A : Type 0} {t : Table A} {w : List Bool} {Q : A → List Bool → Type 0} where
   -- a table within a table
   pub table_written : {x : A} {old new : List Bool} → WritesTable t x old new → ((z : A) (all : List Bool) → (z ≡ x → w ≡ old → all ≡ new) → Q z all) → EachFilling t w Q
@@ -83,6 +81,32 @@ module _ {A : Type 0} (t : Table A) (c : Bool) (absent : A) {w : List Bool} {Q :
       by_present : (present : Bool) → WritesIf present (WritesTable t x) old new → ((z : A) (all : List Bool) → (c ≡ present → z ≡ x → w ≡ old → all ≡ new) → Q z all) → EachFilling (when c absent t) w Q
       by_present true h f = when_filled (λ is. weakened ((h.there refl).written w) (λ z all g. f z all (λ _. g))) (λ is. f absent w (λ e. absurd (true≢false (sym e ∙ is))))
       by_present false h f = when_filled (λ is. filled fillable (λ z all. f z all (λ e. absurd (true≢false (sym is ∙ e))))) (λ is. f absent w (λ _ _ at. at ∙ sym (h.absent refl)))
+
+-- zeros that are present only under a condition
+module _ (r : Row) (n : ℕ) (none : skipped r n ≡ 0) (c : Bool) {w old new : List Bool} {Q : ℕ → List Bool → Type 0} where
+  pub zeros_if_written : {present : Bool} → WritesIf present (WritesZeros n) old new → ((all : List Bool) → (c ≡ present → w ≡ old → all ≡ new) → Q 0 all) → EachFilling (when c 0 (skip_row r n)) w Q
+  zeros_if_written {present = present} writes f = by_present present writes f
+    where
+      by_present : (present : Bool) → WritesIf present (WritesZeros n) old new → ((all : List Bool) → (c ≡ present → w ≡ old → all ≡ new) → Q 0 all) → EachFilling (when c 0 (skip_row r n)) w Q
+      by_present true h f = when_filled (λ is. zeros_written r n none (h.there refl) (λ all g. f all (λ _. g))) (λ is. f w (λ e. absurd (true≢false (sym e ∙ is))))
+      by_present false h f = when_filled (λ is. zeros_written r {old = []} n none refl (λ all g. f all (λ e. absurd (true≢false (sym is ∙ e))))) (λ is. f w (λ _ at. at ∙ sym (h.absent refl)))
+
+-- zeros of one number or another
+module _ (r s : Row) (n m : ℕ) (none_r : skipped r n ≡ 0) (none_s : skipped s m ≡ 0) (c : Bool) {w old new : List Bool} {Q : ℕ → List Bool → Type 0} where
+  pub either_zeros_written : {which : Bool} → WritesEither which (WritesZeros n) (WritesZeros m) old new → ((all : List Bool) → (c ≡ which → w ≡ old → all ≡ new) → Q 0 all) → EachFilling (either c (skip_row r n) (skip_row s m)) w Q
+  either_zeros_written {which = which} writes f = by_which which writes f
+    where
+      by_which : (which : Bool) → WritesEither which (WritesZeros n) (WritesZeros m) old new → ((all : List Bool) → (c ≡ which → w ≡ old → all ≡ new) → Q 0 all) → EachFilling (either c (skip_row r n) (skip_row s m)) w Q
+      by_which true h f = either_filled (λ is. zeros_written r n none_r (h.first refl) (λ all g. f all (λ _. g))) (λ is. zeros_written s {old = []} m none_s refl (λ all g. f all (λ e. absurd (true≢false (sym e ∙ is)))))
+      by_which false h f = either_filled (λ is. zeros_written r {old = []} n none_r refl (λ all g. f all (λ e. absurd (true≢false (sym is ∙ e))))) (λ is. zeros_written s m none_s (h.second refl) (λ all g. f all (λ _. g)))
+
+-- what one of two calls wrote
+module _ {T E : Type 0} (result : Result T E) (which : Bool) (First Second : List Bool → List Bool → Type 0) (old new : List Bool) where
+  pub first_of_two : which ≡ true → OnOk result (First old new) → OnOk result (WritesEither which First Second old new)
+  first_of_two is = on_ok_weaker result (λ (h : First old new). record { first = λ _. h; second = λ other. absurd (true≢false (sym is ∙ other)) })
+
+  pub second_of_two : which ≡ false → OnOk result (Second old new) → OnOk result (WritesEither which First Second old new)
+  second_of_two is = on_ok_weaker result (λ (h : Second old new). record { first = λ other. absurd (true≢false (sym other ∙ is)); second = λ _. h })
 
 -- ---- parts
 

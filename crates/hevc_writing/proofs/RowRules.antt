@@ -8,7 +8,7 @@ use Rattle.std.proofs.lemmas.Nat.Bits.{bit_at_above}
 use Rattle.hevc_spec.specs.declared.Row.{Row}
 use Rattle.hevc_spec.specs.Bits.{u, ue, se, skip, check, signed, in_range, in_signed_range}
 use Rattle.hevc_spec.specs.Payload.{low_bits}
-use Rattle.hevc_spec.specs.Table.{Table}
+use Rattle.hevc_spec.specs.Table.{Table, element}
 use Rattle.hevc_spec.specs.Rows.{flag_row, zero_row, bits_row, ue_row, se_row, check_row, skip_row, when, either}
 use Rattle.hevc_bit_writer.specs.Writing.{CanSpell, spelled, code_number}
 use Rattle.hevc_writing.specs.Choices.{is_chosen, is_value, skipped, chosen_value}
@@ -75,6 +75,12 @@ module _ (r : Row) {w old new : List Bool} where
       → ((v : ℕ) → in_range min max v ≡ true → (all : List Bool) → (v ≡ value → w ≡ old → all ≡ new) → Q v all) → EachFilling (bits_row r n min max) w Q
   unfolding bits_row is_chosen
   bits_written kept n min max {Q = Q} writes h = element_filled r (u n) (in_range min max) (λ v. v) w Q (λ v a s. (v, refl, a, s, any_chosen r v kept, h v a _ (λ is at. rw (is, at) (sym writes))))
+
+  -- a number of which some values are allowed
+  pub number_written : IsKept r → (n : ℕ) (allowed : ℕ → Bool) {value : ℕ} {Q : ℕ → List Bool → Type 0} → WritesBits n value old new
+      → ((v : ℕ) (all : List Bool) → (v ≡ value → w ≡ old → all ≡ new) → Q v all) → EachFilling (element r (u n) allowed (λ v. v)) w Q
+  unfolding is_chosen
+  number_written kept n allowed {Q = Q} writes h = element_filled r (u n) allowed (λ v. v) w Q (λ v a s. (v, refl, a, s, any_chosen r v kept, h v _ (λ is at. rw (is, at) (sym writes))))
 
   pub ue_written : IsKept r → (min max : ℕ) {value : ℕ} {Q : ℕ → List Bool → Type 0} → WritesUe value old new
       → ((v : ℕ) → in_range min max v ≡ true → (all : List Bool) → (v ≡ value → w ≡ old → all ≡ new) → Q v all) → EachFilling (ue_row r min max) w Q
