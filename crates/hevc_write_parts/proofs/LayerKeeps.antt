@@ -1,8 +1,7 @@
 -- What the parts of table 2 leave that tell of a layer.
-use Rattle.std.proofs.Common.{◌≡◌, ℕ, ◌+◌, List, Bool, refl, subst}
-use Rattle.std.specs.Prelude.{Option, None}
-use Rattle.hevc_records.specs.ProfileConformance.{has_range_extensions_flags}
-use Rattle.hevc_tables.specs.ProfileTierLevelTable.{LayerProfile, Scope, general, sub_layer, row_of, default_layer_profile, compatibility_flag, compatibility_flags, profiles, source, formats, bit_depth_flag, range_extensions_flags, main_10_flags, reserved_bits, constraints, inbld, layer_profile, layer_conforms_to}
+use Rattle.std.proofs.Common.{◌≡◌, ℕ, List, Bool, refl, subst}
+use Rattle.std.specs.Prelude.{None}
+use Rattle.hevc_tables.specs.ProfileTierLevelTable.{LayerProfile, Scope, general, sub_layer, row_of, compatibility_flag, compatibility_flags, profiles, source, formats, bit_depth_flag, range_extensions_flags, main_10_flags, reserved_bits, constraints, inbld, layer_profile}
 use Rattle.hevc_writing.specs.Choices.{skipped, chosen_value}
 use Rattle.hevc_writing.specs.Filling.{Keeps, Writes, WritesTurns}
 use Rattle.hevc_writing.proofs.Steps.{kept_rows, part_kept, either_kept, IsFillable, by}

@@ -1,5 +1,5 @@
 -- The elements that each part of table 2 sets: those of one record, put into another.
-use Rattle.std.specs.Prelude.{ℕ, slice_set, slice_index_or, false}
+use Rattle.std.specs.Prelude.{ℕ}
 use Rattle.hevc_spec.specs.Table.{Table}
 use Rattle.hevc_spec.specs.Rows.{either}
 use Rattle.hevc_tables.specs.ProfileTierLevelTable.{LayerProfile, Scope, layer_conforms_to, main_10_flags, reserved_bits}

@@ -1,5 +1,4 @@
 -- What is told of a layer, as in the table.
-use Rattle.std.specs.Prelude.{ℕ, false, [], slice_index_or}
 use Rattle.hevc_records.specs.ProfileTierLevel.{PlainProfileTierLevel}
 use Rattle.hevc_tables.specs.ProfileTierLevelTable as table
 use Rattle.hevc_write_parts.specs.declared.layer_profile.LayerProfile.{LayerProfile}
@@ -49,31 +48,4 @@ general_profile t = record {
   lower_bit_rate_constraint_flag = t.general_lower_bit_rate_constraint_flag;
   max_14bit_constraint_flag = t.general_max_14bit_constraint_flag;
   inbld_flag = t.general_inbld_flag;
-}
-
--- what is told of sub-layer i
-abbrev pub sub_layer_profile : PlainProfileTierLevel → ℕ → table.LayerProfile
-sub_layer_profile t i = record {
-  profile_space = slice_index_or t.sub_layer_profile_space i 0;
-  tier_flag = slice_index_or t.sub_layer_tier_flag i false;
-  profile_idc = slice_index_or t.sub_layer_profile_idc i 0;
-  profile_compatibility_flag = slice_index_or t.sub_layer_profile_compatibility_flag i [];
-  progressive_source_flag = slice_index_or t.sub_layer_progressive_source_flag i false;
-  interlaced_source_flag = slice_index_or t.sub_layer_interlaced_source_flag i false;
-  non_packed_constraint_flag = slice_index_or t.sub_layer_non_packed_constraint_flag i false;
-  frame_only_constraint_flag = slice_index_or t.sub_layer_frame_only_constraint_flag i false;
-  max_12bit_constraint_flag = slice_index_or t.sub_layer_max_12bit_constraint_flag i false;
-  max_10bit_constraint_flag = slice_index_or t.sub_layer_max_10bit_constraint_flag i false;
-  max_8bit_constraint_flag = slice_index_or t.sub_layer_max_8bit_constraint_flag i false;
-  max_422chroma_constraint_flag = slice_index_or t.sub_layer_max_422chroma_constraint_flag i false;
-  max_420chroma_constraint_flag = slice_index_or t.sub_layer_max_420chroma_constraint_flag i false;
-  max_monochrome_constraint_flag =
-      slice_index_or t.sub_layer_max_monochrome_constraint_flag i false;
-  intra_constraint_flag = slice_index_or t.sub_layer_intra_constraint_flag i false;
-  one_picture_only_constraint_flag =
-      slice_index_or t.sub_layer_one_picture_only_constraint_flag i false;
-  lower_bit_rate_constraint_flag =
-      slice_index_or t.sub_layer_lower_bit_rate_constraint_flag i false;
-  max_14bit_constraint_flag = slice_index_or t.sub_layer_max_14bit_constraint_flag i false;
-  inbld_flag = slice_index_or t.sub_layer_inbld_flag i false;
 }

@@ -1,7 +1,7 @@
 //! What is written of the profile of a layer (7.3.3, rows 1 to 15 of table 2).
-ghost use Rattle.std.specs.Prelude.{◌≡◌, ◌<◌};
+ghost use Rattle.std.specs.Prelude.{◌≡◌};
 ghost use Rattle.hevc_types_a.specs.ProfileTierLevel.{plain_profile_tier_level};
-ghost use Rattle.hevc_write_parts.specs.LayerProfile.{general_profile, plain_layer_profile, sub_layer_profile};
+ghost use Rattle.hevc_write_parts.specs.LayerProfile.{general_profile, plain_layer_profile};
 
 use hevc_types_a::ProfileTierLevel;
 
@@ -55,35 +55,6 @@ impl LayerProfile {
             lower_bit_rate_constraint_flag: all.general_lower_bit_rate_constraint_flag,
             max_14bit_constraint_flag: all.general_max_14bit_constraint_flag,
             inbld_flag: all.general_inbld_flag,
-        }
-    }
-
-    /// The profile of a sub-layer.
-    pub fn sub_layer(all: &ProfileTierLevel, i: usize) -> LayerProfile
-        requires { i < 6 }
-        ensures { plain_layer_profile result
-            ≡ sub_layer_profile (plain_profile_tier_level all.now) i }
-    {
-        LayerProfile {
-            profile_space: all.sub_layer_profile_space[i],
-            tier_flag: all.sub_layer_tier_flag[i],
-            profile_idc: all.sub_layer_profile_idc[i],
-            profile_compatibility_flag: all.sub_layer_profile_compatibility_flag[i],
-            progressive_source_flag: all.sub_layer_progressive_source_flag[i],
-            interlaced_source_flag: all.sub_layer_interlaced_source_flag[i],
-            non_packed_constraint_flag: all.sub_layer_non_packed_constraint_flag[i],
-            frame_only_constraint_flag: all.sub_layer_frame_only_constraint_flag[i],
-            max_12bit_constraint_flag: all.sub_layer_max_12bit_constraint_flag[i],
-            max_10bit_constraint_flag: all.sub_layer_max_10bit_constraint_flag[i],
-            max_8bit_constraint_flag: all.sub_layer_max_8bit_constraint_flag[i],
-            max_422chroma_constraint_flag: all.sub_layer_max_422chroma_constraint_flag[i],
-            max_420chroma_constraint_flag: all.sub_layer_max_420chroma_constraint_flag[i],
-            max_monochrome_constraint_flag: all.sub_layer_max_monochrome_constraint_flag[i],
-            intra_constraint_flag: all.sub_layer_intra_constraint_flag[i],
-            one_picture_only_constraint_flag: all.sub_layer_one_picture_only_constraint_flag[i],
-            lower_bit_rate_constraint_flag: all.sub_layer_lower_bit_rate_constraint_flag[i],
-            max_14bit_constraint_flag: all.sub_layer_max_14bit_constraint_flag[i],
-            inbld_flag: all.sub_layer_inbld_flag[i],
         }
     }
 }

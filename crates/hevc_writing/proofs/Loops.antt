@@ -1,12 +1,14 @@
 -- Loops over repeated rows.
-use Rattle.std.proofs.Common.{◌≡◌, ℕ, zero, suc, ◌+◌, ◌<◌, Bool, List, [], ◌++◌, length, get_or, set, refl, sym, ap, subst, ◌∙◌, append_assoc, arith}
+use Rattle.std.proofs.Common.{◌≡◌, ℕ, zero, suc, ◌+◌, ◌<◌, Bool, true, false, List, [], ◌++◌, length, get_or, set, refl, sym, ap, subst, ◌∙◌, append_assoc, arith}
 use Rattle.std.proofs.lemmas.List.{append-nil, get_or-set_same, get_or-set_other, length-set}
 use Rattle.hevc_spec.specs.Table.{Table, part}
 use Rattle.hevc_spec.specs.Lines.{Line, HasLines}
-use Rattle.hevc_spec.specs.Rows.{repeat}
-use Rattle.hevc_writing.specs.Filling.{SameBelow, EachFilling, Keeps, Writes, WritesTable, WritesTurn, WritesTurns}
-use Rattle.hevc_writing.proofs.Fillings.{weakened, then_filled, done_filled, same_filled}
-use Rattle.hevc_writing.proofs.Parts.{IsFillable}
+use Rattle.hevc_spec.specs.Rows.{repeat, when}
+use Rattle.hevc_writing.specs.Filling.{SameBelow, EachFilling, Keeps, Writes, WritesTable, WritesIf, WritesTurn, WritesTurns}
+use Rattle.hevc_writing.proofs.Fillings.{weakened, beside, then_filled, done_filled, same_filled}
+use Rattle.hevc_writing.proofs.RowRules.{when_filled}
+use Rattle.hevc_writing.proofs.Parts.{IsFillable, part_kept}
+use Rattle.std.proofs.lemmas.Bool.{true≢false}
 
 -- ---- the last turn comes after the others
 
@@ -85,9 +87,27 @@ module _ {S : Type 0} (body : ℕ → S → Table S) where
     pub turns_table : {x : S} {n : ℕ} {old new : List Bool} → agrees n x → WritesTurns body agrees n old new → (y : S) → WritesTable (repeat body 0 n y) x old new
     turns_table {n = n} agree h y = record { written = λ w. weakened (h.written y w) (λ z all p e. p (subst (agrees n) (sym e) agree)) }
 
+-- a part of a turn that is present only under a condition
+module _ {S : Type 0} (body : ℕ → S → Table S) (agrees : ℕ → S → Type 0) (own : S → S → S) (i : ℕ) (keeps : Keeps (body i) own) (y : S) (less : agrees (i + 1) y → agrees i y) {w old new : List Bool} {Q : S → List Bool → Type 0} where
+  pub when_turn_written : {c present : Bool} → WritesIf present (WritesTurn body agrees i) old new
+      → ((z : S) (all : List Bool) → (c ≡ present → agrees (i + 1) (own z y) → agrees i y × (w ≡ old → all ≡ new)) → Q (own z y) all) → EachFilling (when c y (body i y)) w Q
+  when_turn_written {c = c} {present = present} writes f = by_present present writes f
+    where
+      by_present : (present : Bool) → WritesIf present (WritesTurn body agrees i) old new → ((z : S) (all : List Bool) → (c ≡ present → agrees (i + 1) (own z y) → agrees i y × (w ≡ old → all ≡ new)) → Q (own z y) all) → EachFilling (when c y (body i y)) w Q
+      by_present true h f =
+          when_filled (λ is. weakened (beside (keeps.kept y w) ((h.there refl).written y w)) (λ z all g. subst (λ u. Q u all) g.0 (f z all (λ _ a. g.1 (subst (agrees (i + 1)) g.0 a)))))
+          (λ is. subst (λ u. Q u w) (keeps.same y) (f y w (λ e. absurd (true≢false (sym e ∙ is)))))
+      by_present false h f =
+          when_filled (λ is. part_kept (body i) own keeps y (λ z all. f z all (λ e. absurd (true≢false (sym is ∙ e)))))
+          (λ is. subst (λ u. Q u w) (keeps.same y) (f y w (λ _ a. (less (subst (agrees (i + 1)) (keeps.same y) a), λ at. at ∙ sym (h.absent refl)))))
+
 -- ---- lists that are set element by element
 
 module _ {X : Type 0} where
+  -- one element fewer
+  pub fewer_same : (n : ℕ) (xs ys : List X) → SameBelow (n + 1) xs ys → SameBelow n xs ys
+  fewer_same n xs ys h = record { long = h.long; same = λ k d lt. h.same k d (omega arith) }
+
   pub all_same : (n : ℕ) (xs ys : List X) → xs ≡ ys → SameBelow n xs ys
   all_same n xs ys e = record { long = ap length e; same = λ k d lt. ap (λ (zs : List X). get_or zs k d) e }
 

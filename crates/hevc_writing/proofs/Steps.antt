@@ -10,7 +10,7 @@ use Rattle.hevc_writing.specs.Filling.{EachFilling, Keeps, Writes, WritesTable, 
 use Rattle.hevc_writing.proofs.RowRules.{IsKept}
 pub use Rattle.hevc_writing.proofs.Fillings.{then_filled, done_filled}
 pub use Rattle.hevc_writing.proofs.RowRules.{flag_written, zero_written, bits_written, ue_written, se_written, number_written, zeros_written, check_held}
-pub use Rattle.hevc_writing.proofs.Parts.{by, IsFillable, Follows, flag_fillable, zero_fillable, bits_fillable, ue_fillable, se_fillable, zeros_fillable, when_fillable, either_fillable, flag_table, bits_table, ue_table, se_table, table_written, where_present, when_written, part_kept, when_kept, part_written, when_part_written, either_kept, either_part_written, zeros_if_written, either_zeros_written, first_of_two, second_of_two, counted_part_written, one_part_written, one_table_written, one_table_if_written, IsDecided, numbers, flags, pairs, kept_rows}
+pub use Rattle.hevc_writing.proofs.Parts.{by, IsFillable, filled, Follows, flag_fillable, zero_fillable, bits_fillable, ue_fillable, se_fillable, zeros_fillable, when_fillable, either_fillable, flag_table, bits_table, ue_table, se_table, table_written, where_present, when_written, part_kept, when_kept, part_written, when_part_written, either_kept, either_part_written, zeros_if_written, either_zeros_written, first_of_two, second_of_two, counted_part_written, one_part_written, one_table_written, one_table_if_written, IsDecided, numbers, flags, pairs, kept_rows}
 
 module _ (r : Row) (kept : IsKept r) {B : Type 0} {w old new : List Bool} {Q : B → List Bool → Type 0} where
   pub flag_then : {k : Bool → Table B} {value : Bool} → WritesFlag value old new → ((v : Bool) (all : List Bool) → (v ≡ value → w ≡ old → all ≡ new) → EachFilling (k v) all Q) → EachFilling (part (flag_row r) k) w Q

@@ -1,6 +1,5 @@
-use Rattle.std.proofs.Common.{refl, sym, ◌∙◌}
+use Rattle.std.proofs.Common.{sym, ◌∙◌}
 use Rattle.hevc_tables.specs.ProfileTierLevelTable.{bit_depth_flag, has_14bit_flag}
-use Rattle.hevc_write_parts.specs.LayerParts as own
 use Rattle.hevc_write_parts.proofs.LayerKeeps.{layer_row, layer_zeros}
 use Rattle.hevc_writing.proofs.Steps.{by, done_filled, either_zeros_written, flag_if_then, then_filled}
 use Rattle.hevc_write_parts.proofs.constraints.write_bit_depth_flag.Goals as goal

@@ -1,6 +1,4 @@
-use Rattle.std.proofs.Common.{refl}
 use Rattle.hevc_tables.specs.ProfileTierLevelTable.{formats}
-use Rattle.hevc_write_parts.specs.LayerParts as own
 use Rattle.hevc_write_parts.proofs.LayerKeeps.{layer_row}
 use Rattle.hevc_writing.proofs.Steps.{by, done_filled, flag_then}
 use Rattle.hevc_write_parts.proofs.constraints.write_formats.Goals as goal

@@ -1,6 +1,4 @@
-use Rattle.std.proofs.Common.{refl}
 use Rattle.hevc_tables.specs.ProfileTierLevelTable.{main_10_flags}
-use Rattle.hevc_write_parts.specs.LayerParts as own
 use Rattle.hevc_write_parts.proofs.LayerKeeps.{layer_row, layer_zeros}
 use Rattle.hevc_writing.proofs.Steps.{by, done_filled, flag_then, zeros_then}
 use Rattle.hevc_write_parts.proofs.constraints.write_main_10.Goals as goal

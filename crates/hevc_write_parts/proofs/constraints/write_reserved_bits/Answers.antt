@@ -1,6 +1,4 @@
-use Rattle.std.proofs.Common.{refl}
 use Rattle.hevc_tables.specs.ProfileTierLevelTable.{reserved_bits}
-use Rattle.hevc_write_parts.specs.LayerParts as own
 use Rattle.hevc_write_parts.proofs.LayerKeeps.{layer_zeros}
 use Rattle.hevc_writing.proofs.Steps.{done_filled, zeros_then}
 use Rattle.hevc_write_parts.proofs.constraints.write_reserved_bits.Goals as goal

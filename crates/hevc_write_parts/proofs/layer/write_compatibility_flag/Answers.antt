@@ -1,4 +1,4 @@
-use Rattle.std.proofs.Common.{◌≡◌, ◌<◌, false, length, refl, arith}
+use Rattle.std.proofs.Common.{false, arith}
 use Rattle.hevc_tables.specs.ProfileTierLevelTable.{compatibility_flag}
 use Rattle.hevc_writing.proofs.Steps.{flag_then, done_filled}
 use Rattle.hevc_writing.proofs.Loops.{one_less}

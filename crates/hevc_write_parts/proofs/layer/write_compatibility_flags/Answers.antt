@@ -1,4 +1,4 @@
-use Rattle.std.proofs.Common.{◌≡◌, arith}
+use Rattle.std.proofs.Common.{arith}
 use Rattle.hevc_writing.proofs.Loops.{no_turns, one_more_turn}
 use Rattle.hevc_write_parts.proofs.LayerKeeps.{compatibility_flags_written}
 use Rattle.hevc_write_parts.proofs.layer.write_compatibility_flags.Goals as goal

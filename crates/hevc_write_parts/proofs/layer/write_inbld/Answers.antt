@@ -1,6 +1,5 @@
-use Rattle.std.proofs.Common.{ap, refl, sym, ◌∙◌}
+use Rattle.std.proofs.Common.{ap, sym, ◌∙◌}
 use Rattle.hevc_tables.specs.ProfileTierLevelTable.{inbld}
-use Rattle.hevc_write_parts.specs.LayerParts as own
 use Rattle.hevc_write_parts.proofs.LayerKeeps.{layer_row, layer_zeros}
 use Rattle.std.specs.Prelude.{not}
 use Rattle.hevc_records.specs.ProfileConformance.{has_inbld_flag}
