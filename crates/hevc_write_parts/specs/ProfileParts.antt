@@ -37,7 +37,8 @@ presence from x = record x {
 }
 
 -- row 30
-abbrev pub sub_layer_profiles : PlainProfileTierLevel → PlainProfileTierLevel → PlainProfileTierLevel
+abbrev pub sub_layer_profiles : PlainProfileTierLevel → PlainProfileTierLevel
+    → PlainProfileTierLevel
 sub_layer_profiles from x = record x {
   sub_layer_profile_space = from.sub_layer_profile_space;
   sub_layer_tier_flag = from.sub_layer_tier_flag;
@@ -69,7 +70,8 @@ abbrev pub sub_layers : PlainProfileTierLevel → PlainProfileTierLevel → Plai
 sub_layers from x = sub_layer_levels from (sub_layer_profiles from x)
 
 -- rows 30 and 31, which go by row 28
-abbrev pub seen_by_sub_layers : PlainProfileTierLevel → PlainProfileTierLevel → PlainProfileTierLevel
+abbrev pub seen_by_sub_layers : PlainProfileTierLevel → PlainProfileTierLevel
+    → PlainProfileTierLevel
 seen_by_sub_layers from x = sub_layers from (presence from x)
 
 -- row 28 of the first sub-layers is that of x, of so many
@@ -111,7 +113,8 @@ abbrev pub same_levels : PlainProfileTierLevel → ℕ → PlainProfileTierLevel
 same_levels x n z = SameBelow n z.sub_layer_level_idc x.sub_layer_level_idc
 
 -- so are rows 30 and 31, and row 28 of all sub-layers
-pub record SameSubLayers (x : PlainProfileTierLevel) (n : ℕ) (z : PlainProfileTierLevel) : Type 0 where
+pub record SameSubLayers (x : PlainProfileTierLevel) (n : ℕ) (z : PlainProfileTierLevel)
+    : Type 0 where
   pub profile_flags : z.sub_layer_profile_present_flag ≡ x.sub_layer_profile_present_flag
   pub level_flags : z.sub_layer_level_present_flag ≡ x.sub_layer_level_present_flag
   pub profiles : same_profiles x n z

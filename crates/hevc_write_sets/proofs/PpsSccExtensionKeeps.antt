@@ -1,8 +1,7 @@
 -- What the parts of table 13 leave, and the predictors of its palettes.
-use Rattle.std.proofs.Common.{◌≡◌, ℕ, ◌+◌, ◌<◌, ◌≤◌, ◌^◌, ◌-◌, Bool, true, false, eqb, List, length, get_or, refl, sym, ap, ap₂, subst, ◌∙◌, arith}
+use Rattle.std.proofs.Common.{◌≡◌, ℕ, ◌+◌, ◌<◌, ◌≤◌, ◌^◌, ◌-◌, Bool, true, false, List, length, get_or, refl, sym, ap₂, subst, arith}
 use Rattle.std.specs.Prelude.{◌&&◌, ◌==◌, not, nat_le}
 use Rattle.std.proofs.lemmas.Bool.Decides.{nat_tests}
-use Rattle.std.proofs.lemmas.Bool.{eqb-true}
 use Rattle.hevc_spec.specs.Bits.{in_range}
 use Rattle.hevc_spec.specs.Rows.{row, repeat}
 use Rattle.hevc_records.specs.PpsSccExtension.{PlainPpsSccExtension}

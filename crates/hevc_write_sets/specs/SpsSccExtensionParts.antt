@@ -32,7 +32,8 @@ palettes from x = record (initializers from x) {
 
 -- the first predictors of a component are those of x, so many
 abbrev pub same_predictors : PlainSpsSccExtension → ℕ → ℕ → PlainSpsSccExtension → Type 0
-same_predictors x component n z = SameBelow n (predictors_of z component) (predictors_of x component)
+same_predictors x component n z =
+    SameBelow n (predictors_of z component) (predictors_of x component)
 
 -- the predictors of the first components are those of x, of so many
 abbrev pub same_components : PlainSpsSccExtension → ℕ → PlainSpsSccExtension → Type 0

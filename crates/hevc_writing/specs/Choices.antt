@@ -13,9 +13,9 @@ is_row r table number = r.0 == table && r.1 == number
 abbrev pub skipped : Row → ℕ → ℕ
 skipped r n = if is_row r 1 6 then 2 ^ n - 1 else 0
 
--- The value of an element that is not kept, where its row has one: scaling_list_pred_mode_flag is 1,
--- so each scaling list has its own entries (7.3.4), and slice_segment_header_extension_length is 0,
--- so slice headers have no extension (7.3.6.1).
+-- The value of an element that is not kept, where its row has one: scaling_list_pred_mode_flag is
+-- 1, so each scaling list has its own entries (7.3.4), and slice_segment_header_extension_length is
+-- 0, so slice headers have no extension (7.3.6.1).
 abbrev pub chosen_value : Row → Option ℕ
 chosen_value r = if is_row r 6 1 then Some 1 else if is_row r 14 51 then Some 0 else None
 

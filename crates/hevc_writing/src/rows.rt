@@ -1,5 +1,5 @@
-//! The elements of tables, written. A number that its form has no bits for is written as some other:
-//! no table gives it.
+//! The elements of tables, written. A number that its form has no bits for is written as some other: no table gives it. A writer
+//! refuses only where an allocation fails; some first bits of an element may then be written.
 ghost use Rattle.std.specs.Prelude.{◌≤◌, pos, OnOk};
 ghost use Rattle.hevc_writing.specs.Filling.{WritesBits, WritesFlag, WritesIf, WritesSe, WritesUe, WritesZeros};
 
