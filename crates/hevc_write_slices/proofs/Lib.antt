@@ -1,1 +1,2 @@
 pub mod ListKeeps
+pub mod WeightKeeps

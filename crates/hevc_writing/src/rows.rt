@@ -108,6 +108,20 @@ pub fn se_i8(w: &mut BitWriter, value: i8) -> Result<(), AllocError>
     w.write_se(i32::from(value))
 }
 
+/// Writes a signed Exp-Golomb number of one byte that is present only under a condition.
+pub fn se_i8_if(w: &mut BitWriter, present: bool, value: i8) -> Result<(), AllocError>
+    ensures { OnOk result (WritesIf present (WritesSe value) w.old w.new) }
+{
+    if present { se_i8(w, value) } else { Ok(()) }
+}
+
+/// Writes a signed Exp-Golomb number of two bytes, se(v).
+pub fn se_i16(w: &mut BitWriter, value: i16) -> Result<(), AllocError>
+    ensures { OnOk result (WritesSe value w.old w.new) }
+{
+    w.write_se(i32::from(value))
+}
+
 /// Writes so many zeros.
 pub fn zeros(w: &mut BitWriter, num_bits: u32) -> Result<(), AllocError>
     ensures { OnOk result (WritesZeros num_bits w.old w.new) }
