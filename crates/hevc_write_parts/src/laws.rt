@@ -6,7 +6,7 @@ ghost use Rattle.hevc_tables.specs.ProfileTierLevelTable.{profile_tier_level};
 ghost use Rattle.hevc_tables.specs.VuiTable.{vui_parameters};
 ghost use Rattle.hevc_writing.specs.Deciding.{ReadsBack, WritesFormed};
 
-/// A part that any bits are read as: what is written for it are its lines, with the chosen values.
+/// What is written for a part that has lines which are allowed are lines of it, with the chosen values.
 #[tactic(auto, using(hevc_writing::proofs::Deciding::deciding))]
 pub fn written_parts_are_formed()
     ensures profile { (max_sub_layers_minus1 : ℕ)
@@ -17,7 +17,8 @@ pub fn written_parts_are_formed()
         → WritesFormed (vui_parameters max_sub_layers_minus1) }
 {}
 
-/// It is read as the part. So where what was written isn't read back, no bits are read as it.
+/// What is written for a part that any bits are read as is read as it. So one that isn't read back is one that no bits are read
+/// as.
 #[tactic(auto, using(hevc_writing::proofs::Deciding::deciding))]
 pub fn written_parts_are_read_back()
     ensures profile { (max_sub_layers_minus1 : ℕ)

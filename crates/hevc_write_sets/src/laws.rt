@@ -7,7 +7,7 @@ ghost use Rattle.hevc_tables.specs.SpsRangeExtensionTable.{sps_range_extension};
 ghost use Rattle.hevc_tables.specs.SpsSccExtensionTable.{SampleFormat, sps_scc_extension};
 ghost use Rattle.hevc_writing.specs.Deciding.{ReadsBack, WritesFormed};
 
-/// An extension that any bits are read as: what is written for it are its lines, with the chosen values.
+/// What is written for an extension that has lines which are allowed are lines of it, with the chosen values.
 #[tactic(auto, using(hevc_writing::proofs::Deciding::deciding))]
 pub fn written_extensions_are_formed()
     ensures sps_range { WritesFormed sps_range_extension }
@@ -17,7 +17,8 @@ pub fn written_extensions_are_formed()
     ensures pps_scc { (f : SampleFormat) (most : ℕ) → WritesFormed (pps_scc_extension f most) }
 {}
 
-/// It is read as the extension. So where what was written isn't read back, no bits are read as it.
+/// What is written for an extension that any bits are read as is read as it. So one that isn't read back is one that no bits
+/// are read as.
 #[tactic(auto, using(hevc_writing::proofs::Deciding::deciding))]
 pub fn written_extensions_are_read_back()
     ensures sps_range { ReadsBack sps_range_extension }

@@ -5,7 +5,7 @@ ghost use Rattle.hevc_tables.specs.RefPicListModificationTable.{ref_pic_list_mod
 ghost use Rattle.hevc_tables.specs.WeightedPredictionTable.{pred_weight_table};
 ghost use Rattle.hevc_writing.specs.Deciding.{ReadsBack, WritesFormed};
 
-/// A part that any bits are read as: what is written for it are its lines, with the chosen values.
+/// What is written for a part that has lines which are allowed are lines of it, with the chosen values.
 #[tactic(auto, using(hevc_writing::proofs::Deciding::deciding))]
 pub fn written_slice_parts_are_formed()
     ensures modification { (b : Bool) (num_pic_total_curr active_l0 active_l1 : ℕ)
@@ -14,7 +14,8 @@ pub fn written_slice_parts_are_formed()
         → WritesFormed (pred_weight_table sps b active_l0 active_l1) }
 {}
 
-/// It is read as the part. So where what was written isn't read back, no bits are read as it.
+/// What is written for a part that any bits are read as is read as it. So one that isn't read back is one that no bits are read
+/// as.
 #[tactic(auto, using(hevc_writing::proofs::Deciding::deciding))]
 pub fn written_slice_parts_are_read_back()
     ensures modification { (b : Bool) (num_pic_total_curr active_l0 active_l1 : ℕ)

@@ -6,4 +6,6 @@ mod extensions;
 #[cfg(test)]
 mod parts;
 #[cfg(test)]
+mod slices;
+#[cfg(test)]
 mod written;
