@@ -1,0 +1,4 @@
+pub mod HrdKeeps
+pub mod LayerKeeps
+pub mod ProfileKeeps
+pub mod VuiKeeps

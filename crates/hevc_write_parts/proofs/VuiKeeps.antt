@@ -1,0 +1,59 @@
+-- What the parts of table 8 leave.
+use Rattle.std.proofs.Common.{ℕ, refl}
+use Rattle.hevc_tables.specs.VuiTable.{aspect_ratio, overscan, colours, signal, signal_type, chroma_places, display_window, display, hrd, timing, timing_info, restrictions, stream_restrictions}
+use Rattle.hevc_writing.specs.Filling.{Keeps}
+use Rattle.hevc_writing.proofs.Steps.{kept_rows, when_kept}
+use Rattle.hevc_write_parts.specs.VuiParts as own
+use Rattle.hevc_write_parts.proofs.HrdKeeps.{hrd_fillable}
+
+pub aspect_ratio_keeps : Keeps aspect_ratio own.aspect_ratio
+unfolding aspect_ratio
+aspect_ratio_keeps = record { same = λ y. refl; last = λ x y z. refl; kept = λ y w. search kept_rows depth 40 fits 4000 }
+
+pub overscan_keeps : Keeps overscan own.overscan
+unfolding overscan
+overscan_keeps = record { same = λ y. refl; last = λ x y z. refl; kept = λ y w. search kept_rows depth 40 fits 4000 }
+
+pub colours_keeps : Keeps colours own.colours
+unfolding colours
+colours_keeps = record { same = λ y. refl; last = λ x y z. refl; kept = λ y w. search kept_rows depth 40 fits 4000 }
+
+pub signal_keeps : Keeps signal own.signal
+unfolding signal
+signal_keeps = record { same = λ y. refl; last = λ x y z. refl; kept = λ y w. search (kept_rows, when_kept colours own.colours colours_keeps) depth 40 fits 4000 }
+
+pub signal_type_keeps : Keeps signal_type own.signal_type
+unfolding signal_type
+signal_type_keeps = record { same = λ y. refl; last = λ x y z. refl; kept = λ y w. search (kept_rows, when_kept signal own.signal signal_keeps) depth 40 fits 4000 }
+
+pub chroma_places_keeps : Keeps chroma_places own.chroma_places
+unfolding chroma_places
+chroma_places_keeps = record { same = λ y. refl; last = λ x y z. refl; kept = λ y w. search kept_rows depth 40 fits 4000 }
+
+pub display_window_keeps : Keeps display_window own.display_window
+unfolding display_window
+display_window_keeps = record { same = λ y. refl; last = λ x y z. refl; kept = λ y w. search kept_rows depth 40 fits 4000 }
+
+pub display_keeps : Keeps display own.display
+unfolding display
+display_keeps = record { same = λ y. refl; last = λ x y z. refl; kept = λ y w. search (kept_rows, when_kept display_window own.display_window display_window_keeps) depth 40 fits 4000 }
+
+pub hrd_keeps : (m : ℕ) → Keeps (hrd m) own.hrd
+unfolding hrd
+hrd_keeps m = record { same = λ y. refl; last = λ x y z. refl; kept = λ y w. search (kept_rows, hrd_fillable) depth 40 fits 4000 }
+
+pub timing_keeps : (m : ℕ) → Keeps (timing m) own.timing
+unfolding timing
+timing_keeps m = record { same = λ y. refl; last = λ x y z. refl; kept = λ y w. search (kept_rows, when_kept (hrd m) own.hrd (hrd_keeps m)) depth 40 fits 4000 }
+
+pub timing_info_keeps : (m : ℕ) → Keeps (timing_info m) own.timing_info
+unfolding timing_info
+timing_info_keeps m = record { same = λ y. refl; last = λ x y z. refl; kept = λ y w. search (kept_rows, when_kept (timing m) own.timing (timing_keeps m)) depth 40 fits 4000 }
+
+pub restrictions_keeps : Keeps restrictions own.restrictions
+unfolding restrictions
+restrictions_keeps = record { same = λ y. refl; last = λ x y z. refl; kept = λ y w. search kept_rows depth 40 fits 4000 }
+
+pub stream_restrictions_keeps : Keeps stream_restrictions own.stream_restrictions
+unfolding stream_restrictions
+stream_restrictions_keeps = record { same = λ y. refl; last = λ x y z. refl; kept = λ y w. search (kept_rows, when_kept restrictions own.restrictions restrictions_keeps) depth 40 fits 4000 }

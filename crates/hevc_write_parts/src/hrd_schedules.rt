@@ -1,0 +1,69 @@
+//! The schedules of delivery of a sub-layer (E.2.3, table 4).
+ghost use Rattle.std.specs.Prelude.{◌≤◌, ◌<◌, OnOk};
+ghost use Rattle.hevc_tables.specs.HrdTable as table;
+ghost use Rattle.hevc_types_b.specs.SublayerHrdParameters.{plain_sublayer_hrd_parameters};
+ghost use Rattle.hevc_write_parts.specs.HrdParts.{same_schedules};
+ghost use Rattle.hevc_writing.specs.Filling.{WritesIf, WritesTable, WritesTurn};
+
+use hevc_bit_writer::BitWriter;
+use hevc_types_b::SublayerHrdParameters;
+use hevc_writing::rows::{flag, ue, ue_if};
+use std::alloc::AllocError;
+
+/// Table 4, where it is present.
+pub(crate) fn write_schedules_if(
+    w: &mut BitWriter,
+    present: bool,
+    by_units: bool,
+    cpb_cnt_minus1: u32,
+    x: &SublayerHrdParameters,
+) -> Result<(), AllocError>
+    requires { cpb_cnt_minus1 ≤ 31 }
+    ensures { OnOk result (WritesIf present
+        (WritesTable (table.sub_layer_hrd_parameters by_units cpb_cnt_minus1)
+        (plain_sublayer_hrd_parameters x.now)) w.old w.new) }
+{
+    if present {
+        write_schedules(w, by_units, cpb_cnt_minus1, x)
+    } else {
+        Ok(())
+    }
+}
+
+/// Table 4: the schedules of decoding units stand there where `by_units`.
+#[tactic(auto, using(hevc_writing::proofs::Loops::turns, crate::proofs::HrdKeeps::schedules_written))]
+fn write_schedules(
+    w: &mut BitWriter,
+    by_units: bool,
+    cpb_cnt_minus1: u32,
+    x: &SublayerHrdParameters,
+) -> Result<(), AllocError>
+    requires { cpb_cnt_minus1 ≤ 31 }
+    ensures { OnOk result (WritesTable (table.sub_layer_hrd_parameters by_units cpb_cnt_minus1)
+        (plain_sublayer_hrd_parameters x.now) w.old w.new) }
+{
+    let count = cpb_cnt_minus1 as usize + 1;
+    for i in 0..count {
+        write_schedule(w, by_units, i, x)?;
+    }
+    Ok(())
+}
+
+/// Rows 1 to 3 of table 4, for one schedule.
+fn write_schedule(
+    w: &mut BitWriter,
+    by_units: bool,
+    i: usize,
+    x: &SublayerHrdParameters,
+) -> Result<(), AllocError>
+    requires { i < 32 }
+    ensures { OnOk result (WritesTurn (table.schedule by_units)
+        (same_schedules (plain_sublayer_hrd_parameters x.now)) i w.old w.new) }
+{
+    ue(w, x.bit_rate_value_minus1[i])?;
+    ue(w, x.cpb_size_value_minus1[i])?;
+    ue_if(w, by_units, x.cpb_size_du_value_minus1[i])?;
+    ue_if(w, by_units, x.bit_rate_du_value_minus1[i])?;
+    flag(w, x.cbr_flag[i])?;
+    Ok(())
+}

@@ -1,0 +1,285 @@
+//! Video usability information (E.2.1, table 8).
+ghost use Rattle.std.specs.Prelude.{◌≤◌, OnOk};
+ghost use Rattle.hevc_tables.specs.VuiTable as table;
+ghost use Rattle.hevc_types_b.specs.VuiParams.{plain_vui_params};
+ghost use Rattle.hevc_write_parts.specs.VuiParts as own;
+ghost use Rattle.hevc_writing.specs.Filling.{Writes, WritesIf, WritesTable};
+
+use crate::hrd::write_hrd_parameters;
+use hevc_bit_writer::BitWriter;
+use hevc_types_b::VuiParams;
+use hevc_writing::rows::{bits, bits_if, bits_u8, flag, flag_if, ue, ue_if};
+use std::alloc::AllocError;
+
+/// Table 8, of a set of so many sub-layers.
+pub fn write_vui_parameters(
+    w: &mut BitWriter,
+    max_sub_layers_minus1: u8,
+    x: &VuiParams,
+) -> Result<(), AllocError>
+    requires { max_sub_layers_minus1 ≤ 6 }
+    ensures { OnOk result (WritesTable (table.vui_parameters max_sub_layers_minus1)
+        (plain_vui_params x.now) w.old w.new) }
+{
+    write_aspect_ratio(w, x)?;
+    write_overscan(w, x)?;
+    write_signal_type(w, x)?;
+    write_chroma_places(w, x)?;
+    write_display(w, x)?;
+    write_timing_info(w, max_sub_layers_minus1, x)?;
+    write_stream_restrictions(w, x)?;
+    Ok(())
+}
+
+/// Rows 1 to 3 of table 8.
+fn write_aspect_ratio(w: &mut BitWriter, x: &VuiParams) -> Result<(), AllocError>
+    ensures { OnOk result
+        (Writes table.aspect_ratio own.aspect_ratio (plain_vui_params x.now) w.old w.new) }
+{
+    flag(w, x.aspect_ratio_info_present_flag)?;
+    bits_if(w, x.aspect_ratio_info_present_flag, 8, x.aspect_ratio_idc)?;
+    bits_if(w, x.aspect_ratio_idc == 255, 16, x.sar_width)?;
+    bits_if(w, x.aspect_ratio_idc == 255, 16, x.sar_height)?;
+    Ok(())
+}
+
+/// Rows 4 and 5 of table 8.
+fn write_overscan(w: &mut BitWriter, x: &VuiParams) -> Result<(), AllocError>
+    ensures { OnOk result
+        (Writes table.overscan own.overscan (plain_vui_params x.now) w.old w.new) }
+{
+    flag(w, x.overscan_info_present_flag)?;
+    flag_if(w, x.overscan_info_present_flag, x.overscan_appropriate_flag)?;
+    Ok(())
+}
+
+/// Row 9 of table 8, where it is present.
+fn write_colours_if(w: &mut BitWriter, present: bool, x: &VuiParams) -> Result<(), AllocError>
+    ensures { OnOk result (WritesIf present
+        (Writes table.colours own.colours (plain_vui_params x.now)) w.old w.new) }
+{
+    if present { write_colours(w, x) } else { Ok(()) }
+}
+
+/// Row 9 of table 8.
+fn write_colours(w: &mut BitWriter, x: &VuiParams) -> Result<(), AllocError>
+    ensures { OnOk result
+        (Writes table.colours own.colours (plain_vui_params x.now) w.old w.new) }
+{
+    bits(w, 8, x.colour_primaries)?;
+    bits(w, 8, x.transfer_characteristics)?;
+    bits(w, 8, x.matrix_coeffs)?;
+    Ok(())
+}
+
+/// Rows 7 to 9 of table 8, where they are present.
+fn write_signal_if(w: &mut BitWriter, present: bool, x: &VuiParams) -> Result<(), AllocError>
+    ensures { OnOk result (WritesIf present
+        (Writes table.signal own.signal (plain_vui_params x.now)) w.old w.new) }
+{
+    if present { write_signal(w, x) } else { Ok(()) }
+}
+
+/// Rows 7 to 9 of table 8.
+fn write_signal(w: &mut BitWriter, x: &VuiParams) -> Result<(), AllocError>
+    ensures { OnOk result
+        (Writes table.signal own.signal (plain_vui_params x.now) w.old w.new) }
+{
+    bits_u8(w, 3, x.video_format)?;
+    flag(w, x.video_full_range_flag)?;
+    flag(w, x.colour_description_present_flag)?;
+    write_colours_if(w, x.colour_description_present_flag, x)?;
+    Ok(())
+}
+
+/// Rows 6 to 9 of table 8.
+fn write_signal_type(w: &mut BitWriter, x: &VuiParams) -> Result<(), AllocError>
+    ensures { OnOk result
+        (Writes table.signal_type own.signal_type (plain_vui_params x.now) w.old w.new) }
+{
+    flag(w, x.video_signal_type_present_flag)?;
+    write_signal_if(w, x.video_signal_type_present_flag, x)?;
+    Ok(())
+}
+
+/// Rows 10 to 12 of table 8.
+fn write_chroma_places(w: &mut BitWriter, x: &VuiParams) -> Result<(), AllocError>
+    ensures { OnOk result
+        (Writes table.chroma_places own.chroma_places (plain_vui_params x.now) w.old w.new) }
+{
+    flag(w, x.chroma_loc_info_present_flag)?;
+    ue_if(
+        w,
+        x.chroma_loc_info_present_flag,
+        x.chroma_sample_loc_type_top_field,
+    )?;
+    ue_if(
+        w,
+        x.chroma_loc_info_present_flag,
+        x.chroma_sample_loc_type_bottom_field,
+    )?;
+    Ok(())
+}
+
+/// Row 14 of table 8, where it is present.
+fn write_display_window_if(
+    w: &mut BitWriter,
+    present: bool,
+    x: &VuiParams,
+) -> Result<(), AllocError>
+    ensures { OnOk result (WritesIf present
+        (Writes table.display_window own.display_window (plain_vui_params x.now)) w.old w.new) }
+{
+    if present {
+        write_display_window(w, x)
+    } else {
+        Ok(())
+    }
+}
+
+/// Row 14 of table 8.
+fn write_display_window(w: &mut BitWriter, x: &VuiParams) -> Result<(), AllocError>
+    ensures { OnOk result
+        (Writes table.display_window own.display_window (plain_vui_params x.now) w.old w.new) }
+{
+    ue(w, x.def_disp_win_left_offset)?;
+    ue(w, x.def_disp_win_right_offset)?;
+    ue(w, x.def_disp_win_top_offset)?;
+    ue(w, x.def_disp_win_bottom_offset)?;
+    Ok(())
+}
+
+/// Rows 13 and 14 of table 8.
+fn write_display(w: &mut BitWriter, x: &VuiParams) -> Result<(), AllocError>
+    ensures { OnOk result
+        (Writes table.display own.display (plain_vui_params x.now) w.old w.new) }
+{
+    flag(w, x.neutral_chroma_indication_flag)?;
+    flag(w, x.field_seq_flag)?;
+    flag(w, x.frame_field_info_present_flag)?;
+    flag(w, x.default_display_window_flag)?;
+    write_display_window_if(w, x.default_display_window_flag, x)?;
+    Ok(())
+}
+
+/// Row 20 of table 8, where it is present.
+fn write_hrd_if(
+    w: &mut BitWriter,
+    present: bool,
+    max_sub_layers_minus1: u8,
+    x: &VuiParams,
+) -> Result<(), AllocError>
+    requires { max_sub_layers_minus1 ≤ 6 }
+    ensures { OnOk result (WritesIf present
+        (Writes (table.hrd max_sub_layers_minus1) own.hrd (plain_vui_params x.now)) w.old w.new) }
+{
+    if present {
+        write_hrd(w, max_sub_layers_minus1, x)
+    } else {
+        Ok(())
+    }
+}
+
+/// Row 20 of table 8.
+fn write_hrd(w: &mut BitWriter, max_sub_layers_minus1: u8, x: &VuiParams) -> Result<(), AllocError>
+    requires { max_sub_layers_minus1 ≤ 6 }
+    ensures { OnOk result
+        (Writes (table.hrd max_sub_layers_minus1) own.hrd (plain_vui_params x.now) w.old w.new) }
+{
+    write_hrd_parameters(w, true, max_sub_layers_minus1, &x.hrd)?;
+    Ok(())
+}
+
+/// Rows 16 to 20 of table 8, where they are present.
+fn write_timing_if(
+    w: &mut BitWriter,
+    present: bool,
+    max_sub_layers_minus1: u8,
+    x: &VuiParams,
+) -> Result<(), AllocError>
+    requires { max_sub_layers_minus1 ≤ 6 }
+    ensures { OnOk result (WritesIf present
+        (Writes (table.timing max_sub_layers_minus1) own.timing (plain_vui_params x.now)) w.old w.new) }
+{
+    if present {
+        write_timing(w, max_sub_layers_minus1, x)
+    } else {
+        Ok(())
+    }
+}
+
+/// Rows 16 to 20 of table 8.
+fn write_timing(
+    w: &mut BitWriter,
+    max_sub_layers_minus1: u8,
+    x: &VuiParams,
+) -> Result<(), AllocError>
+    requires { max_sub_layers_minus1 ≤ 6 }
+    ensures { OnOk result
+        (Writes (table.timing max_sub_layers_minus1) own.timing (plain_vui_params x.now) w.old w.new) }
+{
+    bits(w, 32, x.num_units_in_tick)?;
+    bits(w, 32, x.time_scale)?;
+    flag(w, x.poc_proportional_to_timing_flag)?;
+    ue_if(
+        w,
+        x.poc_proportional_to_timing_flag,
+        x.num_ticks_poc_diff_one_minus1,
+    )?;
+    flag(w, x.hrd_parameters_present_flag)?;
+    write_hrd_if(w, x.hrd_parameters_present_flag, max_sub_layers_minus1, x)?;
+    Ok(())
+}
+
+/// Rows 15 to 20 of table 8.
+fn write_timing_info(
+    w: &mut BitWriter,
+    max_sub_layers_minus1: u8,
+    x: &VuiParams,
+) -> Result<(), AllocError>
+    requires { max_sub_layers_minus1 ≤ 6 }
+    ensures { OnOk result
+        (Writes (table.timing_info max_sub_layers_minus1) own.timing_info (plain_vui_params x.now) w.old w.new) }
+{
+    flag(w, x.timing_info_present_flag)?;
+    write_timing_if(w, x.timing_info_present_flag, max_sub_layers_minus1, x)?;
+    Ok(())
+}
+
+/// Rows 22 to 26 of table 8, where they are present.
+fn write_restrictions_if(w: &mut BitWriter, present: bool, x: &VuiParams) -> Result<(), AllocError>
+    ensures { OnOk result (WritesIf present
+        (Writes table.restrictions own.restrictions (plain_vui_params x.now)) w.old w.new) }
+{
+    if present {
+        write_restrictions(w, x)
+    } else {
+        Ok(())
+    }
+}
+
+/// Rows 22 to 26 of table 8.
+fn write_restrictions(w: &mut BitWriter, x: &VuiParams) -> Result<(), AllocError>
+    ensures { OnOk result
+        (Writes table.restrictions own.restrictions (plain_vui_params x.now) w.old w.new) }
+{
+    flag(w, x.tiles_fixed_structure_flag)?;
+    flag(w, x.motion_vectors_over_pic_boundaries_flag)?;
+    flag(w, x.restricted_ref_pic_lists_flag)?;
+    ue(w, x.min_spatial_segmentation_idc)?;
+    ue(w, x.max_bytes_per_pic_denom)?;
+    ue(w, x.max_bits_per_min_cu_denom)?;
+    ue(w, x.log2_max_mv_length_horizontal)?;
+    ue(w, x.log2_max_mv_length_vertical)?;
+    Ok(())
+}
+
+/// Rows 21 to 26 of table 8.
+fn write_stream_restrictions(w: &mut BitWriter, x: &VuiParams) -> Result<(), AllocError>
+    ensures { OnOk result
+        (Writes table.stream_restrictions own.stream_restrictions (plain_vui_params x.now) w.old w.new) }
+{
+    flag(w, x.bitstream_restriction_flag)?;
+    write_restrictions_if(w, x.bitstream_restriction_flag, x)?;
+    Ok(())
+}

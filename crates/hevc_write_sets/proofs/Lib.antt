@@ -1,0 +1,4 @@
+pub mod Palettes
+pub mod PpsRangeExtensionKeeps
+pub mod PpsSccExtensionKeeps
+pub mod SpsSccExtensionKeeps

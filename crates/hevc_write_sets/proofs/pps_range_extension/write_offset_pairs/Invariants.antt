@@ -1,0 +1,8 @@
+use Rattle.hevc_tables.specs.PpsRangeExtensionTable.{offset_pair}
+use Rattle.hevc_types_a.specs.PpsRangeExtension.{plain_pps_range_extension}
+use Rattle.hevc_write_sets.specs.PpsRangeExtensionParts.{same_pairs}
+use Rattle.hevc_writing.specs.Filling.{WritesTurns}
+use Rattle.hevc_write_sets.proofs.pps_range_extension.write_offset_pairs.Given as goal
+
+abbrev pub invariant-loop-i : goal.invariant-loop-i
+invariant-loop-i l = WritesTurns offset_pair (same_pairs (plain_pps_range_extension l.x)) l.i l.fn.w l.w

@@ -1,0 +1,3 @@
+pub mod PpsRangeExtensionParts
+pub mod PpsSccExtensionParts
+pub mod SpsSccExtensionParts

@@ -1,0 +1,90 @@
+//! The range extension (7.3.2.3.2, table 12).
+ghost use Rattle.std.specs.Prelude.{◌≤◌, ◌<◌, OnOk};
+ghost use Rattle.hevc_records.specs.Sps.{PlainSps};
+ghost use Rattle.hevc_tables.specs.PpsRangeExtensionTable as table;
+ghost use Rattle.hevc_types_a.specs.PpsRangeExtension.{plain_pps_range_extension};
+ghost use Rattle.hevc_write_sets.specs.PpsRangeExtensionParts.{offset_lists, offset_pairs, same_pairs};
+ghost use Rattle.hevc_writing.specs.Filling.{Writes, WritesIf, WritesTable, WritesTurn};
+
+use hevc_bit_writer::BitWriter;
+use hevc_types_a::PpsRangeExtension;
+use hevc_writing::rows::{flag, se, ue, ue_if};
+use std::alloc::AllocError;
+
+/// Table 12, of a set that allows skipped transforms or not.
+pub fn write_pps_range_extension(
+    w: &mut BitWriter,
+    transform_skip: bool,
+    x: &PpsRangeExtension,
+) -> Result<(), AllocError>
+    ensures { (sps : PlainSps) → OnOk result (WritesTable (table.pps_range_extension sps transform_skip)
+        (plain_pps_range_extension x.now) w.old w.new) }
+{
+    ue_if(
+        w,
+        transform_skip,
+        x.log2_max_transform_skip_block_size_minus2,
+    )?;
+    flag(w, x.cross_component_prediction_enabled_flag)?;
+    flag(w, x.chroma_qp_offset_list_enabled_flag)?;
+    write_offset_lists_if(w, x.chroma_qp_offset_list_enabled_flag, x)?;
+    ue(w, x.log2_sao_offset_scale_luma)?;
+    ue(w, x.log2_sao_offset_scale_chroma)?;
+    Ok(())
+}
+
+/// Rows 3 to 5 of table 12, where they are present.
+fn write_offset_lists_if(
+    w: &mut BitWriter,
+    present: bool,
+    x: &PpsRangeExtension,
+) -> Result<(), AllocError>
+    ensures { OnOk result (WritesIf present (Writes table.offset_lists offset_lists
+        (plain_pps_range_extension x.now)) w.old w.new) }
+{
+    if present {
+        write_offset_lists(w, x)
+    } else {
+        Ok(())
+    }
+}
+
+/// Rows 3 to 5 of table 12.
+fn write_offset_lists(w: &mut BitWriter, x: &PpsRangeExtension) -> Result<(), AllocError>
+    ensures { OnOk result (Writes table.offset_lists offset_lists
+        (plain_pps_range_extension x.now) w.old w.new) }
+{
+    ue(w, x.diff_cu_chroma_qp_offset_depth)?;
+    ue(w, x.chroma_qp_offset_list_len_minus1)?;
+    let count = x.chroma_qp_offset_list_len_minus1.min(5) as usize + 1;
+    write_offset_pairs(w, count, x)?;
+    Ok(())
+}
+
+/// Row 5 of table 12, for each pair.
+#[tactic(auto, using(hevc_writing::proofs::Loops::turns, crate::proofs::PpsRangeExtensionKeeps::offset_pairs_written))]
+fn write_offset_pairs(
+    w: &mut BitWriter,
+    count: usize,
+    x: &PpsRangeExtension,
+) -> Result<(), AllocError>
+    requires { count ≤ 6 }
+    ensures { OnOk result (Writes (table.offset_pairs count) offset_pairs
+        (plain_pps_range_extension x.now) w.old w.new) }
+{
+    for i in 0..count {
+        write_offset_pair(w, i, x)?;
+    }
+    Ok(())
+}
+
+/// Row 5 of table 12, for one pair.
+fn write_offset_pair(w: &mut BitWriter, i: usize, x: &PpsRangeExtension) -> Result<(), AllocError>
+    requires { i < 6 }
+    ensures { OnOk result (WritesTurn table.offset_pair
+        (same_pairs (plain_pps_range_extension x.now)) i w.old w.new) }
+{
+    se(w, x.cb_qp_offset_list[i])?;
+    se(w, x.cr_qp_offset_list[i])?;
+    Ok(())
+}

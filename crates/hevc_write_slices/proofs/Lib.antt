@@ -1,0 +1,2 @@
+pub mod ListKeeps
+pub mod WeightKeeps

@@ -1,0 +1,15 @@
+use Rattle.std.proofs.Common.{arith, refl, ◌∙◌}
+use Rattle.std.proofs.lemmas.Int.{ints}
+use Rattle.hevc_tables.specs.WeightedPredictionTable.{denominators}
+use Rattle.hevc_writing.proofs.Steps.{by, done_filled, se_if_then, ue_then}
+use Rattle.hevc_write_slices.proofs.weighted_prediction.write_denominators.Goals as goal
+
+pub returns : goal.returns
+unfolding denominators
+returns c = λ sps is_chroma. record {
+  written = λ y w.
+      ue_then _ refl _ _ c.in_ok-ue_u8.ensures (λ v1 _ b1 h1.
+      se_if_then _ refl _ _ _ _ c.in_ok-se_i8_if.ensures (λ v2 b2 h2.
+      done_filled (λ e at.
+      h2 is_chroma (by e (λ r. r.delta_chroma_log2_weight_denom) ∙ omega (arith, ints)) (h1 (by e (λ r. r.luma_log2_weight_denom)) at))));
+}

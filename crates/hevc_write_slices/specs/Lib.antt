@@ -1,0 +1,2 @@
+pub mod ListParts
+pub mod WeightParts

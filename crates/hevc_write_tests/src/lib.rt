@@ -1,0 +1,11 @@
+//! Tests of the crates that write records by syntax tables.
+#![tactic(auto)]
+
+#[cfg(test)]
+mod extensions;
+#[cfg(test)]
+mod parts;
+#[cfg(test)]
+mod slices;
+#[cfg(test)]
+mod written;

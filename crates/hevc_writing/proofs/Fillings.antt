@@ -1,0 +1,102 @@
+-- Each way to fill in a table, by its parts.
+use Rattle.std.proofs.Common.{◌≡◌, ℕ, suc, ◌+◌, ◌^◌, ◌<◌, ◌≤◌, Bool, true, List, [], ◌∷◌, ◌++◌, length, refl, sym, ap₂, subst, ◌∙◌, append_assoc, arith}
+use Rattle.std.proofs.lemmas.List.{append-nil}
+use Rattle.std.proofs.Math.Pow.{pow_mono}
+use Rattle.hevc_spec.specs.declared.Row.{Row}
+use Rattle.hevc_spec.specs.Bits.{Form, u, ue, se, skip, check, IsSpelled, IsExpGolomb, IsAtFront, number}
+use Rattle.hevc_spec.specs.Table.{Table, done, element, part}
+use Rattle.hevc_spec.specs.Lines.{Line, AreGood, HasLines}
+use Rattle.hevc_spec.proofs.BitSteps.{spelled-bound}
+use Rattle.hevc_reading_laws.proofs.TableLaws.{joined-append, AreGood-append, AreGood-front, AreGood-rest}
+use Rattle.hevc_bit_writer.specs.Writing.{CanSpell, spelled}
+use Rattle.hevc_bit_writer.proofs.Spellings.{is_spelled}
+use Rattle.hevc_writing.specs.Choices.{is_chosen, AreChosen}
+use Rattle.hevc_writing.specs.Filling.{EachFilling}
+
+AreChosen-append : (a b : List Line) → AreChosen a → AreChosen b → AreChosen (a ++ b)
+AreChosen-append [] b p q = q
+AreChosen-append (l ∷ a) b p q = (p.0, AreChosen-append a b p.1 q)
+
+-- ---- a value that is spelled can be
+
+bounded : (n v : ℕ) (bits : List Bool) → length bits ≡ n → number bits ≡ v → v < 2 ^ n
+bounded n v bits long is =
+    let here : IsAtFront (u n) v bits [] = record { front = bits; spelled = (long, is); parts = sym (append-nil bits) } in
+    spelled-bound n v bits [] here
+
+golomb_bounded : (v : ℕ) (bits : List Bool) → IsExpGolomb v bits → v + 1 < 2 ^ 32
+golomb_bounded v bits s =
+    let below = bounded (suc (length s.rest)) (number (true ∷ s.rest)) (true ∷ s.rest) refl refl in
+    let few : suc (length s.rest) ≤ 32 = omega (arith, s.short) in
+    omega (arith, s.value_is, below, pow_mono few)
+
+can_spell : (form : Form) (v : ℕ) (bits : List Bool) → IsSpelled form v bits → CanSpell form v
+can_spell (u n) v bits s = bounded n v bits s.0 s.1
+can_spell ue v bits s = golomb_bounded v bits s
+can_spell se v bits s = golomb_bounded v bits s
+can_spell (skip n) v bits s = bounded n v bits s.0 s.1
+can_spell check v bits s = s.1
+
+-- ---- tables
+
+module _ {A : Type 0} {t : Table A} {w : List Bool} where
+  pub weakened : {P Q : A → List Bool → Type 0} → EachFilling t w P → ((x : A) (all : List Bool) → P x all → Q x all) → EachFilling t w Q
+  weakened h f = record { all = λ x lines has good. let r = h.all x lines has good in (r.0, r.1, f x (w ++ r.0) r.2) }
+
+  -- what holds of the record alone holds beside
+  pub beside : {K : A → Type 0} {Q : A → List Bool → Type 0} → EachFilling t w (λ x _. K x) → EachFilling t w Q → EachFilling t w (λ x all. K x × Q x all)
+  beside h g = record { all = λ x lines has good. let r = g.all x lines has good in (r.0, r.1, ((h.all x lines has good).2, r.2)) }
+
+pub done_filled : {A : Type 0} {x : A} {w : List Bool} {Q : A → List Bool → Type 0} → Q x w → EachFilling (done x) w Q
+done_filled {x = x} {w = w} {Q = Q} q = record {
+  all = λ y lines has good. ([], record { lines = []; has = (has.0, refl); good = tt; chosen = tt; parts = refl }, subst (λ z. Q z (w ++ [])) has.0 (rw append-nil q));
+}
+
+pub then_filled : {A B : Type 0} {t : Table A} {k : A → Table B} {w : List Bool} {Q : B → List Bool → Type 0} → EachFilling t w (λ x all. EachFilling (k x) all Q) → EachFilling (part t k) w Q
+then_filled {t = t} {k = k} {w = w} {Q = Q} h = record {
+  all = λ y lines has good.
+      let all : AreGood (has.1 ++ has.2) = subst AreGood has.5 good in
+      let a = h.all has.0 has.1 has.3 (AreGood-front has.1 has.2 all) in
+      let b = a.2.all y has.2 has.4 (AreGood-rest has.1 has.2 all) in (
+        a.0 ++ b.0,
+        record {
+          lines = a.1.lines ++ b.1.lines;
+          has = (has.0, a.1.lines, b.1.lines, a.1.has, b.1.has, refl);
+          good = AreGood-append a.1.lines b.1.lines a.1.good b.1.good;
+          chosen = AreChosen-append a.1.lines b.1.lines a.1.chosen b.1.chosen;
+          parts = ap₂ (λ (p q : List Bool). p ++ q) a.1.parts b.1.parts ∙ sym (joined-append a.1.lines b.1.lines);
+        },
+        subst (Q y) (append_assoc w a.0 b.0) b.2,
+      );
+}
+
+-- an element: some other value that gives the same record is written, or the same value
+pub element_filled : {A : Type 0} (r : Row) (form : Form) (allowed : ℕ → Bool) (value : ℕ → A) (w : List Bool) (Q : A → List Bool → Type 0)
+    → ((v : ℕ) → allowed v ≡ true → CanSpell form v → (n : ℕ) × (value n ≡ value v) × (allowed n ≡ true) × CanSpell form n × (is_chosen r form n ≡ true) × Q (value v) (w ++ spelled form n))
+    → EachFilling (element r form allowed value) w Q
+element_filled r form allowed value w Q f = record {
+  all = λ y lines has good.
+      let l : Line = record { head = record { row = r; form = form; allowed = allowed }; value = has.0; bits = has.1 } in
+      let here : AreGood (l ∷ []) = subst AreGood has.3 good in
+      let n = f has.0 here.0.0 (can_spell form has.0 has.1 here.0.1) in
+      let m : Line = record { head = record { row = r; form = form; allowed = allowed }; value = n.0; bits = spelled form n.0 } in (
+        spelled form n.0,
+        record {
+          lines = m ∷ [];
+          has = (n.0, spelled form n.0, n.1 ∙ has.2, refl);
+          good = ((n.2, is_spelled form n.0 n.3), tt);
+          chosen = (n.4, tt);
+          parts = sym (append-nil (spelled form n.0));
+        },
+        subst (λ z. Q z (w ++ spelled form n.0)) has.2 n.5,
+      );
+}
+
+-- a table that has the same lines
+pub same_filled : {A : Type 0} (t s : Table A) (w : List Bool) (Q : A → List Bool → Type 0) → ((x : A) (lines : List Line) → HasLines t x lines → HasLines s x lines) → ((x : A) (lines : List Line) → HasLines s x lines → HasLines t x lines)
+    → EachFilling s w Q → EachFilling t w Q
+same_filled t s w Q there back h = record {
+  all = λ x lines has good.
+      let r = h.all x lines (there x lines has) good in
+      (r.0, record { lines = r.1.lines; has = back x r.1.lines r.1.has; good = r.1.good; chosen = r.1.chosen; parts = r.1.parts }, r.2);
+}

@@ -1,0 +1,3 @@
+pub mod Choices
+pub mod Filling
+pub mod Deciding
