@@ -26,7 +26,7 @@ answered (Ok taken) call = record (unanswered call) { taken = taken }
 answered (Err error) call =
     record (unanswered call) { table = table_of error; row = row_of error }
 
--- The first unit of the bytes was taken, and the status is that of the answer, which the call tells.
+-- The first unit of the bytes was taken; the status is that of the answer, which the call tells.
 pub record DecodesUnit (bytes : List ℕ) (before now : PullDecoder) (given told : DecodeCall)
     (status : ℕ) : Type 0 where
   pub answer : Result ℕ DecodeError

@@ -13,7 +13,7 @@ pub(crate) fn layer_conforms_to(layer: &LayerProfile, number: u8) -> bool
     hevc_profile::conforms_to(layer.profile_idc, &layer.profile_compatibility_flag, number)
 }
 
-/// Whether constraint flags of the range extensions' profiles stand there.
+/// Whether constraint flags of the range extensions' profiles are there.
 pub(crate) fn has_extensions(layer: &LayerProfile) -> bool
     ensures { result
         ≡ has_range_extensions_flags layer.now.profile_idc layer.now.profile_compatibility_flag }
@@ -21,7 +21,7 @@ pub(crate) fn has_extensions(layer: &LayerProfile) -> bool
     hevc_profile::has_range_extensions(layer.profile_idc, &layer.profile_compatibility_flag)
 }
 
-/// Whether `max_14bit_constraint_flag` stands among them.
+/// Whether `max_14bit_constraint_flag` is among them.
 pub(crate) fn has_14bit(layer: &LayerProfile) -> bool
     ensures { result ≡ table.has_14bit_flag (plain_layer_profile layer.now) }
 {
@@ -31,7 +31,7 @@ pub(crate) fn has_14bit(layer: &LayerProfile) -> bool
         || layer_conforms_to(layer, 11)
 }
 
-/// Whether `inbld_flag` stands there.
+/// Whether `inbld_flag` is there.
 pub(crate) fn has_inbld(layer: &LayerProfile) -> bool
     ensures { result ≡ has_inbld_flag layer.now.profile_idc layer.now.profile_compatibility_flag }
 {

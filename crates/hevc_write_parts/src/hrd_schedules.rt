@@ -30,7 +30,7 @@ pub(crate) fn write_schedules_if(
     }
 }
 
-/// Table 4: the schedules of decoding units stand there where `by_units`.
+/// Table 4: the schedules of decoding units are there where `by_units`.
 #[tactic(auto, using(hevc_writing::proofs::Loops::turns, crate::proofs::HrdKeeps::schedules_written))]
 fn write_schedules(
     w: &mut BitWriter,

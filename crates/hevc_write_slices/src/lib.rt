@@ -1,4 +1,4 @@
-//! The parts of slice segment headers that stand alone, written.
+//! The parts of slice segment headers with tables of their own, written.
 #![tactic(auto)]
 
 mod laws;
