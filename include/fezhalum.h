@@ -149,6 +149,11 @@ uint32_t fezhalum_next_unit(const uint8_t *bytes, size_t size, size_t from, fezh
  * fezhalum_end. */
 size_t fezhalum_size(void);
 void fezhalum_init(fezhalum *decoder);
+
+/* fezhalum_init with options: whether CRA pictures are handled as BLA pictures (HandleCraAsBlaFlag, 8.1.3), 0 for no; and the temporal id
+ * of the highest sub-layer that is wanted (8.1.2), 6 for all, as is a number above 6. fezhalum_init takes 0 and 6. */
+void fezhalum_init_with(fezhalum *decoder, uint32_t handle_cra_as_bla, uint32_t highest_tid);
+
 void fezhalum_end(fezhalum *decoder);
 
 /* A decoder on the heap, NULL where the allocation fails. */

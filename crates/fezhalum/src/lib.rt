@@ -10,7 +10,7 @@ ghost use Rattle.hevc_pull.specs.contracts.decoder.PullDecoder.{the_row};
 ghost use Rattle.hevc_calls.specs.Calls.{Accepts, Decodes, FlushesAll, TakesNext};
 ghost use Rattle.hevc_calls.specs.Units.{FindsUnit};
 ghost use Rattle.fezhalum.specs.Handles.{Becomes};
-ghost use Rattle.fezhalum.specs.Fresh.{IsFresh};
+ghost use Rattle.fezhalum.specs.Fresh.{IsFresh, IsFreshWith, options_given};
 
 use hevc_calls::{DecodeCall, UnitCall, accept_format, decode, flush, next_event, next_unit};
 use hevc_driver::Options;
@@ -51,6 +51,39 @@ pub unsafe extern "C" fn fezhalum_init(d: *mut Fezhalum, alloc: Global)
     ensures* { sem 𝓛 (Becomes the_row d (λ now. IsFresh now)) }
 {
     std::ptr::write(d as *mut PullDecoder, fresh(alloc));
+}
+
+fn fresh_with(handle_cra_as_bla: u32, highest_tid: u32, alloc: Global) -> PullDecoder
+    ensures { IsFreshWith (options_given handle_cra_as_bla highest_tid) result }
+{
+    let options = Options {
+        handle_cra_as_bla: handle_cra_as_bla != 0,
+        highest_tid: if highest_tid < 6 {
+            highest_tid as u8
+        } else {
+            6
+        },
+    };
+    PullDecoder::new(alloc, options)
+}
+
+/// Makes a decoder at the beginning of a stream, with options: whether CRA pictures are handled as BLA pictures (8.1.3), 0 for no, and
+/// the temporal id of the highest sub-layer that is wanted (8.1.2), of which 6 and above are all.
+#[unsafe(no_mangle)]
+pub unsafe extern "C" fn fezhalum_init_with(
+    d: *mut Fezhalum,
+    handle_cra_as_bla: u32,
+    highest_tid: u32,
+    alloc: Global,
+)
+    requires* { sem 𝓛 (room_at the_row d) }
+    ensures* { sem 𝓛 (Becomes the_row d
+        (λ now. IsFreshWith (options_given handle_cra_as_bla highest_tid) now)) }
+{
+    std::ptr::write(
+        d as *mut PullDecoder,
+        fresh_with(handle_cra_as_bla, highest_tid, alloc),
+    );
 }
 
 fn end_in(_decoder: PullDecoder) {}

@@ -1,0 +1,145 @@
+"""include/fezhalum.h has the structs, the statuses, the kinds of events and the calls of the crates, by name and in order.
+
+Both sides have C's layout, so equal fields lie at equal places. No compiler is needed.
+"""
+import pathlib
+import re
+import unittest
+
+TOP = pathlib.Path(__file__).resolve().parent.parent
+STRUCTS = {
+    'fezhalum_decode_call': ('hevc_calls/src/calls.rt', 'DecodeCall'),
+    'fezhalum_unit': ('hevc_calls/src/units.rt', 'UnitCall'),
+    'fezhalum_places': ('hevc_queue/src/event.rt', 'Places'),
+    'fezhalum_event': ('hevc_queue/src/event.rt', 'Event'),
+}
+TYPES = {'uint8_t': 'u8', 'uint32_t': 'u32', 'uint64_t': 'u64', 'int32_t': 'i32', 'size_t': 'usize', 'fezhalum': 'Fezhalum'}
+TYPES.update({theirs: ours for theirs, (_, ours) in STRUCTS.items()})
+
+# What the header calls an error of another name there.
+ERRORS = {
+    'NO_NAL': 'NO_UNIT', 'CHECK_EVENTS': 'FORMAT', 'NOT_ENOUGH_OUTPUT_BUFFERS': 'NO_FRAMES', 'TRUNCATED_NALU': 'TRUNCATED_UNIT',
+    'INVALID_NALU_TYPE': 'INVALID_UNIT_TYPE', 'FORMAT_NOT_AWAITED': 'NOT_AWAITED',
+}
+
+# What the header calls the events of hevc_queue and of hevc_calls: the function that makes them, or the case.
+KINDS = {
+    'sequence_event': 'SEQUENCE', 'picture_event': 'PICTURE', 'sets_event': 'SETS', 'slice_event': 'SLICE', 'submission_event': 'SUBMIT',
+    'Output(frame)': 'OUTPUT', 'FormatChanged': 'CHANGED',
+}
+
+
+def crate(path):
+    return (TOP / 'crates' / path).read_text()
+
+
+def header_text():
+    return re.sub(r'/\*.*?\*/', '', (TOP / 'include/fezhalum.h').read_text(), flags=re.S)
+
+
+def header_structs(text):
+    """Each struct's fields: name, type, dimension."""
+    structs = {}
+    for body, name in re.findall(r'typedef struct \w+ \{(.*?)\} (\w+);', text, re.S):
+        fields = [re.fullmatch(r'(\w+) (\w+)(?:\[(\d+)\])?', ' '.join(field.split())) for field in body.split(';') if field.strip()]
+        structs[name] = [(field[2], TYPES.get(field[1], field[1]), field[3] or '') for field in fields]
+    return structs
+
+
+def code_fields(path, name):
+    body = re.search(r'#\[repr\(C\)\]\n(?:#\[.*\]\n)*pub struct ' + name + r' \{\n(.*?)^\}', crate(path), re.S | re.M)[1]
+    fields = []
+    for field, kind in re.findall(r'^    (?:pub )?(\w+): (.*),$', body, re.M):
+        array = re.fullmatch(r'\[(\w+); (\d+)\]', kind)
+        fields.append((field, array[1], array[2]) if array else (field, kind, ''))
+    return fields
+
+
+def header_numbers(text, name):
+    """The numbers of an enumeration, by the names without FEZHALUM_."""
+    body = re.search(r'typedef enum ' + name + r' \{(.*?)\} ' + name + ';', text, re.S)[1]
+    return {word: int(number) for word, number in re.findall(r'FEZHALUM_(\w+) = (\d+)', body)}
+
+
+def in_capitals(name):
+    return re.sub(r'(?<=[a-z])(?=[A-Z])', '_', name).upper()
+
+
+def code_statuses():
+    text = crate('hevc_calls/src/status.rt')
+    function = re.search(r'fn status_of\(.*?^\}', text, re.S | re.M)[0]
+    found = re.findall(r'DecodeError::(\w+)(?:\([^)]*\)|\s*\{[^}]*\})? => (\d+)', function)
+    found += re.findall(r'pub const (\w+): u32 = (\d+);', text)
+    names = {in_capitals(name) if not name.isupper() else name: int(number) for name, number in found}
+    return {'OK': 0} | {ERRORS.get(name, name): number for name, number in names.items()}
+
+
+def code_kinds():
+    asked = re.findall(r'fn (\w+_event)\((?:(?!^\}).)*?bare_event\(place, (\d+)\)', crate('hevc_queue/src/asked.rt'), re.S | re.M)
+    pulled = re.findall(r'Pulled::(\S+) =>(?:(?!Pulled::).)*?bare_event\(0, (\d+)\)', crate('hevc_calls/src/calls.rt'), re.S)
+    return {KINDS.get(name, name): int(number) for name, number in asked + pulled}
+
+
+def header_calls(text):
+    """Each function's result and its parameters' types, without those that the header defines itself."""
+    calls = {}
+    for result, name, given in re.findall(r'^(\w+) (fezhalum_\w+)\(([^)]*)\);', text, re.M):
+        kinds = [] if given == 'void' else [re.sub(r'\w+$', '', one.strip()).strip() for one in given.split(',')]
+        calls[name] = (TYPES.get(result, result), [named(kind) for kind in kinds])
+    return calls
+
+
+def named(kind):
+    """A type of C by its name in the crates."""
+    constant, word, pointer = re.fullmatch(r'(const )?(\w+) ?(\*?)', kind).groups()
+    return (('*const ' if constant else '*mut ') if pointer else '') + TYPES.get(word, word)
+
+
+def code_calls():
+    """The same of the exports. Bytes are a pointer and a size; an allocator is nothing."""
+    calls = {}
+    for path in ('lib.rt', 'layout.rt'):
+        exports = re.findall(r'pub (?:unsafe )?extern "C" fn (\w+)\(([^)]*)\)(?: -> (\w+))?', crate('fezhalum/src/' + path))
+        for name, given, result in exports:
+            kinds = [one.split(':')[1].strip() for one in given.split(',') if one.strip()]
+            kinds = [part for kind in kinds for part in {'&[u8]': ['*const u8', 'usize'], 'Global': []}.get(kind, [kind])]
+            calls[name] = (result or 'void', [kind.replace('&mut ', '*mut ') for kind in kinds])
+    return calls
+
+
+class Header(unittest.TestCase):
+    maxDiff = None
+
+    def same(self, header, code, what):
+        """Two tables, line by line."""
+        self.assertTrue(code, f'nothing was found in the crates: {what}')
+        for name in sorted(header.keys() | code.keys()):
+            with self.subTest(what, name=name):
+                if name not in code or name not in header:
+                    self.fail(f'{what} {name}: in the {"header" if name in header else "crates"} alone')
+                self.assertEqual(header[name], code[name], f'{what} {name}: first the header, second the crates')
+
+    def test_structs(self):
+        self.same(header_structs(header_text()), {theirs: code_fields(*ours) for theirs, ours in STRUCTS.items()}, 'struct')
+
+    def test_statuses(self):
+        self.same(header_numbers(header_text(), 'fezhalum_status'), code_statuses(), 'status')
+
+    def test_each_status_has_a_text(self):
+        texts = re.search(r'texts\[\] = \{(.*?)\};', header_text(), re.S)[1]
+        self.assertEqual(len(re.findall(r'"[^"]*"', texts)), len(code_statuses()), 'fezhalum_status_string')
+
+    def test_kinds(self):
+        self.same(header_numbers(header_text(), 'fezhalum_kind'), code_kinds(), 'kind of event')
+
+    def test_calls(self):
+        self.same(header_calls(header_text()), code_calls(), 'call')
+
+    def test_version(self):
+        major, minor = (int(re.search(rf'#define FEZHALUM_API_{part} (\d+)', header_text())[1]) for part in ('MAJOR', 'MINOR'))
+        version = re.search(r'fn fezhalum_api_version\(\).*?\n\{\n    (\d+)\n\}', crate('fezhalum/src/lib.rt'), re.S)[1]
+        self.assertEqual(65536 * major + minor, int(version), 'fezhalum_api_version')
+
+
+if __name__ == '__main__':
+    unittest.main()
