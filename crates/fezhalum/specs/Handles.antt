@@ -1,4 +1,4 @@
--- What lies behind a handle.
+-- What lies at a pointer.
 use base.Fml.{Fml, fex}
 use base.Fraction.{full_share}
 use denote.RattleType.{RattleType}

@@ -18,7 +18,7 @@ use hevc_pull::PullDecoder;
 use hevc_queue::Event;
 use std::alloc::Global;
 
-/// A decoder, behind a pointer.
+/// A decoder, at a pointer.
 #[repr(C)]
 pub struct Fezhalum {
     byte: u8,
