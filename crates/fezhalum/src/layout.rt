@@ -1,5 +1,6 @@
 //! Structs with another number in each field, by which a program in C sees that its header has them where they are.
 ghost use Rattle.std.specs.Prelude.{◌≡◌};
+ghost use Rattle.fezhalum.specs.Numbered.{numbered_call, numbered_unit};
 
 use hevc_calls::{DecodeCall, UnitCall};
 use hevc_queue::{Event, bare_event};
@@ -35,7 +36,7 @@ pub extern "C" fn fezhalum_layout_event(event: &mut Event) -> usize
 /// Fills what a call of decoding is given and answers, as an event is filled. Answers the size of the struct.
 #[unsafe(no_mangle)]
 pub extern "C" fn fezhalum_layout_decode_call(call: &mut DecodeCall) -> usize
-    ensures { call.new.timestamp ≡ 1 }
+    ensures { call.new ≡ numbered_call }
 {
     *call = DecodeCall {
         timestamp: 1,
@@ -50,7 +51,7 @@ pub extern "C" fn fezhalum_layout_decode_call(call: &mut DecodeCall) -> usize
 /// Fills what is told of a unit, as an event is filled. Answers the size of the struct.
 #[unsafe(no_mangle)]
 pub extern "C" fn fezhalum_layout_unit(unit: &mut UnitCall) -> usize
-    ensures { unit.new.offset ≡ 1 }
+    ensures { unit.new ≡ numbered_unit }
 {
     *unit = UnitCall {
         offset: 1,

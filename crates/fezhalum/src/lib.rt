@@ -6,6 +6,8 @@ mod layout;
 ghost use Rattle.std.specs.Prelude.{◌≡◌};
 ghost use Rattle.std.specs.Borrow.{full_share, sem};
 ghost use Rattle.std.specs.Ptr.{lies_at, room_at};
+ghost use prog.Memory.{capped, size};
+ghost use denote.Param.{layout};
 ghost use Rattle.hevc_pull.specs.contracts.decoder.PullDecoder.{the_row};
 ghost use Rattle.hevc_calls.specs.Calls.{Accepts, Decodes, FlushesAll, TakesNext};
 ghost use Rattle.hevc_calls.specs.Units.{FindsUnit};
@@ -26,7 +28,9 @@ pub struct Fezhalum {
 
 /// How many bytes a decoder takes. They have to lie at a multiple of 16.
 #[unsafe(no_mangle)]
-pub extern "C" fn fezhalum_size() -> usize {
+pub extern "C" fn fezhalum_size() -> usize
+    ensures { result ≡ capped (size (layout the_row)) }
+{
     std::mem::size_of::<PullDecoder>()
 }
 
