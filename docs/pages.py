@@ -72,7 +72,7 @@ def crates():
 
 
 def body_of(text, start):
-    """The text between the braces that open at or behind a place."""
+    """The text between the braces that open at a place or after it."""
     depth, begin = 0, text.index("{", start)
     for place in range(begin, len(text)):
         depth += {"{": 1, "}": -1}.get(text[place], 0)

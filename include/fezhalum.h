@@ -45,7 +45,7 @@ extern "C" {
 #define FEZHALUM_API_MINOR 1
 uint32_t fezhalum_api_version(void);
 
-/* What a call answers. FEZHALUM_NO_UNIT, FEZHALUM_FORMAT and FEZHALUM_NO_FRAMES refuse nothing of the stream. What stands after each is
+/* What a call answers. FEZHALUM_NO_UNIT, FEZHALUM_FORMAT and FEZHALUM_NO_FRAMES refuse nothing of the stream. What is left after each is
  * in docs/PROMISES.md. A number never gets another meaning. */
 typedef enum fezhalum_status {
     FEZHALUM_OK = 0,
