@@ -3,9 +3,9 @@ use Rattle.std.proofs.Common.{◌≡◌, ℕ, ◌+◌, List, Bool, refl, subst}
 use Rattle.hevc_spec.specs.Rows.{repeat}
 use Rattle.hevc_records.specs.ProfileTierLevel.{PlainProfileTierLevel}
 use Rattle.hevc_records.specs.ProfileConformance.{is_level}
-use Rattle.hevc_tables.specs.ProfileTierLevelTable.{LayerProfile, general, sub_layer, level, with_general_profile, with_sub_layer_profile, general_rows, next_presence, presence, sub_layer_profile, sub_layer_level, next_sub_layer, sub_layers}
+use Rattle.hevc_tables.specs.ProfileTierLevelTable.{LayerProfile, general, sub_layer, level, with_general_profile, with_sub_layer_profile, general_rows, next_presence, presence, sub_layer_profile, sub_layer_level, next_sub_layer, sub_layers, absent_layers, profile_tier_level}
 use Rattle.hevc_writing.specs.Filling.{Keeps, Writes, WritesTurns}
-use Rattle.hevc_writing.proofs.Steps.{kept_rows, when_kept, then_filled, done_filled, filled, number_then, by}
+use Rattle.hevc_writing.proofs.Steps.{IsFillable, kept_rows, part_kept, when_fillable, zeros_fillable, when_kept, then_filled, done_filled, filled, number_then, by}
 use Rattle.hevc_writing.proofs.Loops.{turns_keep, all_turns, all_same, fewer_same}
 use Rattle.hevc_write_parts.specs.ProfileParts as own
 use Rattle.hevc_write_parts.proofs.LayerKeeps.{layer_profile_fillable}
@@ -58,3 +58,12 @@ sub_layers_written x n m old new h e = subst (λ (k : ℕ). Writes (repeat next_
   profiles = (all_same _ _ _ (by is (λ r. r.sub_layer_profile_space)), all_same _ _ _ (by is (λ r. r.sub_layer_tier_flag)), all_same _ _ _ (by is (λ r. r.sub_layer_profile_idc)), all_same _ _ _ (by is (λ r. r.sub_layer_profile_compatibility_flag)), all_same _ _ _ (by is (λ r. r.sub_layer_progressive_source_flag)), all_same _ _ _ (by is (λ r. r.sub_layer_interlaced_source_flag)), all_same _ _ _ (by is (λ r. r.sub_layer_non_packed_constraint_flag)), all_same _ _ _ (by is (λ r. r.sub_layer_frame_only_constraint_flag)), all_same _ _ _ (by is (λ r. r.sub_layer_max_12bit_constraint_flag)), all_same _ _ _ (by is (λ r. r.sub_layer_max_10bit_constraint_flag)), all_same _ _ _ (by is (λ r. r.sub_layer_max_8bit_constraint_flag)), all_same _ _ _ (by is (λ r. r.sub_layer_max_422chroma_constraint_flag)), all_same _ _ _ (by is (λ r. r.sub_layer_max_420chroma_constraint_flag)), all_same _ _ _ (by is (λ r. r.sub_layer_max_monochrome_constraint_flag)), all_same _ _ _ (by is (λ r. r.sub_layer_intra_constraint_flag)), all_same _ _ _ (by is (λ r. r.sub_layer_one_picture_only_constraint_flag)), all_same _ _ _ (by is (λ r. r.sub_layer_lower_bit_rate_constraint_flag)), all_same _ _ _ (by is (λ r. r.sub_layer_max_14bit_constraint_flag)), all_same _ _ _ (by is (λ r. r.sub_layer_inbld_flag)));
   levels = all_same _ _ _ (by is (λ r. r.sub_layer_level_idc));
 }) h)
+
+pub profile_tier_level_fillable : (max_sub_layers_minus1 : ℕ) → IsFillable (profile_tier_level max_sub_layers_minus1)
+unfolding profile_tier_level absent_layers
+profile_tier_level_fillable m = record {
+  fill = λ w. then_filled (part_kept general_rows own.general_rows general_rows_keep _ (λ z1 b1.
+      then_filled (part_kept (presence m) own.presence (presence_keeps m) _ (λ z2 b2.
+      then_filled (filled (when_fillable _ _ (zeros_fillable _ _ refl)) (λ v3 b3.
+      part_kept (sub_layers m) own.sub_layers (sub_layers_keep m) _ (λ z4 b4. tt)))))));
+}

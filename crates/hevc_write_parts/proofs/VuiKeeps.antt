@@ -1,8 +1,8 @@
 -- What the parts of table 8 leave.
 use Rattle.std.proofs.Common.{ℕ, refl}
-use Rattle.hevc_tables.specs.VuiTable.{aspect_ratio, overscan, colours, signal, signal_type, chroma_places, display_window, display, hrd, timing, timing_info, restrictions, stream_restrictions}
+use Rattle.hevc_tables.specs.VuiTable.{aspect_ratio, overscan, colours, signal, signal_type, chroma_places, display_window, display, hrd, timing, timing_info, restrictions, stream_restrictions, vui_parameters}
 use Rattle.hevc_writing.specs.Filling.{Keeps}
-use Rattle.hevc_writing.proofs.Steps.{kept_rows, when_kept}
+use Rattle.hevc_writing.proofs.Steps.{IsFillable, then_filled, part_kept, kept_rows, when_kept}
 use Rattle.hevc_write_parts.specs.VuiParts as own
 use Rattle.hevc_write_parts.proofs.HrdKeeps.{hrd_fillable}
 
@@ -57,3 +57,15 @@ restrictions_keeps = record { same = λ y. refl; last = λ x y z. refl; kept = �
 pub stream_restrictions_keeps : Keeps stream_restrictions own.stream_restrictions
 unfolding stream_restrictions
 stream_restrictions_keeps = record { same = λ y. refl; last = λ x y z. refl; kept = λ y w. search (kept_rows, when_kept restrictions own.restrictions restrictions_keeps) depth 40 fits 4000 }
+
+pub vui_fillable : (m : ℕ) → IsFillable (vui_parameters m)
+unfolding vui_parameters
+vui_fillable m = record {
+  fill = λ w. then_filled (part_kept aspect_ratio own.aspect_ratio aspect_ratio_keeps _ (λ z1 b1.
+      then_filled (part_kept overscan own.overscan overscan_keeps _ (λ z2 b2.
+      then_filled (part_kept signal_type own.signal_type signal_type_keeps _ (λ z3 b3.
+      then_filled (part_kept chroma_places own.chroma_places chroma_places_keeps _ (λ z4 b4.
+      then_filled (part_kept display own.display display_keeps _ (λ z5 b5.
+      then_filled (part_kept (timing_info m) own.timing_info (timing_info_keeps m) _ (λ z6 b6.
+      part_kept stream_restrictions own.stream_restrictions stream_restrictions_keeps _ (λ z7 b7. tt)))))))))))));
+}

@@ -3,9 +3,9 @@ use Rattle.std.proofs.Common.{◌≡◌, ℕ, ℤ, zero, suc, ◌+◌, ◌<◌, 
 use Rattle.std.proofs.lemmas.List.{get_or-set_same, get_or-set_other, length-set}
 use Rattle.hevc_spec.specs.Rows.{repeat}
 use Rattle.hevc_records.specs.Sps.{PlainSps}
-use Rattle.hevc_tables.specs.WeightedPredictionTable.{ListWeights, luma_flag, chroma_flag, luma_flags, chroma_flags, flags, luma_weight, component_set, chroma_component, chroma_weight, place_weights, weights, list_weights, denominators}
+use Rattle.hevc_tables.specs.WeightedPredictionTable.{ListWeights, luma_flag, chroma_flag, luma_flags, chroma_flags, flags, luma_weight, component_set, chroma_component, chroma_weight, place_weights, weights, list_weights, denominators, pred_weight_table}
 use Rattle.hevc_writing.specs.Filling.{Keeps, Writes, WritesTable, WritesTurns, SameBelow}
-use Rattle.hevc_writing.proofs.Steps.{kept_rows, IsFillable, then_filled, part_kept, when_kept, by}
+use Rattle.hevc_writing.proofs.Steps.{kept_rows, IsFillable, then_filled, done_filled, filled, when_fillable, part_kept, when_kept, by}
 use Rattle.hevc_writing.proofs.Loops.{turns_keep, all_turns, all_same, one_less, fewer_same}
 use Rattle.hevc_write_slices.specs.WeightParts as own
 
@@ -103,3 +103,14 @@ both_components l xs i a b lt two h =
     let cb : get_or pair 0 (pos 0) ≡ a = get_or-set_other first 1 0 b (pos 0) (omega arith) ∙ get_or-set_same (get_or l i []) 0 a (pos 0) (omega (arith, long)) in
     let cr : get_or pair 1 (pos 0) ≡ b = get_or-set_same first 1 b (pos 0) (omega (arith, long_first)) in
     (p.0, sym cb ∙ ap (λ (r : List ℤ). get_or r 0 (pos 0)) p.1, sym cr ∙ ap (λ (r : List ℤ). get_or r 1 (pos 0)) p.1)
+
+-- ---- all of table 16
+
+pub pred_weight_table_fillable : (sps : PlainSps) (is_b : Bool) (active_l0 active_l1 : ℕ) → IsFillable (pred_weight_table sps is_b active_l0 active_l1)
+unfolding pred_weight_table
+pred_weight_table_fillable sps is_b active_l0 active_l1 = record {
+  fill = λ w. then_filled (part_kept (denominators sps) own.denominators (denominators_keep sps) _ (λ z1 b1.
+      then_filled (filled (list_weights_fillable sps 0 (active_l0 + 1)) (λ v2 b2.
+      then_filled (filled (when_fillable _ _ (list_weights_fillable sps 1 (active_l1 + 1))) (λ v3 b3.
+      done_filled tt))))));
+}

@@ -1,5 +1,5 @@
 -- The elements that each part of table 15 sets: those of one record, put into another.
-use Rattle.std.specs.Prelude.{◌≡◌, ℕ, Bool, List, None, take}
+use Rattle.std.specs.Prelude.{◌≡◌, ℕ, Bool, List, None}
 use Rattle.hevc_spec.specs.declared.Row.{Row}
 use Rattle.hevc_records.specs.RefPicListModification.{PlainRefPicListModification}
 use Rattle.hevc_tables.specs.RefPicListModificationTable.{list_entries}
@@ -27,7 +27,3 @@ pub record WritesEntries (num_pic_total_curr : ℕ) (entries : List ℕ) (old ne
     : Type 0 where
   pub written : (r : Row) → chosen_value r ≡ None → (count : ℕ)
       → WritesTable (list_entries r num_pic_total_curr count) entries old new
-
--- so many first entries
-abbrev pub are_first : List ℕ → ℕ → List ℕ → Type 0
-are_first entries n z = z ≡ take n entries

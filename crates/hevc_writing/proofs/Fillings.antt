@@ -1,5 +1,5 @@
 -- Each way to fill in a table, by its parts.
-use Rattle.std.proofs.Common.{◌≡◌, ℕ, suc, ◌+◌, ◌^◌, ◌<◌, ◌≤◌, Bool, true, List, [], ◌∷◌, ◌++◌, length, refl, sym, ap₂, subst, ◌∙◌, append_assoc, arith}
+use Rattle.std.proofs.Common.{◌≡◌, ℕ, suc, ◌+◌, ◌^◌, ◌<◌, ◌≤◌, Bool, true, List, [], ◌∷◌, ◌++◌, length, refl, sym, ap, ap₂, subst, ◌∙◌, append_assoc, arith}
 use Rattle.std.proofs.lemmas.List.{append-nil}
 use Rattle.std.proofs.Math.Pow.{pow_mono}
 use Rattle.hevc_spec.specs.declared.Row.{Row}
@@ -10,10 +10,10 @@ use Rattle.hevc_spec.proofs.BitSteps.{spelled-bound}
 use Rattle.hevc_reading_laws.proofs.TableLaws.{joined-append, AreGood-append, AreGood-front, AreGood-rest}
 use Rattle.hevc_bit_writer.specs.Writing.{CanSpell, spelled}
 use Rattle.hevc_bit_writer.proofs.Spellings.{is_spelled}
-use Rattle.hevc_writing.specs.Choices.{is_chosen, AreChosen}
+use Rattle.hevc_writing.specs.Choices.{is_chosen, AreChosen, IsFormed}
 use Rattle.hevc_writing.specs.Filling.{EachFilling}
 
-AreChosen-append : (a b : List Line) → AreChosen a → AreChosen b → AreChosen (a ++ b)
+pub AreChosen-append : (a b : List Line) → AreChosen a → AreChosen b → AreChosen (a ++ b)
 AreChosen-append [] b p q = q
 AreChosen-append (l ∷ a) b p q = (p.0, AreChosen-append a b p.1 q)
 
@@ -100,3 +100,34 @@ same_filled t s w Q there back h = record {
       let r = h.all x lines (there x lines has) good in
       (r.0, record { lines = r.1.lines; has = back x r.1.lines r.1.has; good = r.1.good; chosen = r.1.chosen; parts = r.1.parts }, r.2);
 }
+
+-- other lines are written for the first of two parts: those of something from which the second gives the same
+pub instead_filled : {A B : Type 0} (t : Table A) (k : A → Table B) (w : List Bool) (Q : B → List Bool → Type 0)
+    → ((x : A) (lines : List Line) → HasLines t x lines → AreGood lines
+    → (other : A) × (bits : List Bool) × IsFormed t other bits × ((z : B) (rest : List Line) → HasLines (k x) z rest → HasLines (k other) z rest) × EachFilling (k x) (w ++ bits) Q)
+    → EachFilling (part t k) w Q
+instead_filled t k w Q h = record {
+  all = λ y lines has good.
+      let all : AreGood (has.1 ++ has.2) = subst AreGood has.5 good in
+      let a = h has.0 has.1 has.3 (AreGood-front has.1 has.2 all) in
+      let b = a.4.all y has.2 has.4 (AreGood-rest has.1 has.2 all) in (
+        a.1 ++ b.0,
+        record {
+          lines = a.2.lines ++ b.1.lines;
+          has = (a.0, a.2.lines, b.1.lines, a.2.has, a.3 y b.1.lines b.1.has, refl);
+          good = AreGood-append a.2.lines b.1.lines a.2.good b.1.good;
+          chosen = AreChosen-append a.2.lines b.1.lines a.2.chosen b.1.chosen;
+          parts = ap₂ (λ (p q : List Bool). p ++ q) a.2.parts b.1.parts ∙ sym (joined-append a.2.lines b.1.lines);
+        },
+        subst (Q y) (append_assoc w a.1 b.0) b.2,
+      );
+}
+
+-- a part that is cut in two is filled as one
+pub joined_filled : {A B C : Type 0} {t : Table A} {k : A → Table B} {m : B → Table C} {w : List Bool} {Q : C → List Bool → Type 0} → EachFilling (part (part t k) m) w Q → EachFilling (part t (λ x. part (k x) m)) w Q
+joined_filled {t = t} {k = k} {m = m} {w = w} {Q = Q} h = same_filled (part t (λ x. part (k x) m)) (part (part t k) m) w Q
+    (λ z lines has. let r = has.4 in
+    (r.0, has.1 ++ r.1, r.2, (has.0, has.1, r.1, has.3, r.3, refl), r.4, has.5 ∙ ap (λ (o : List Line). has.1 ++ o) r.5 ∙ sym (append_assoc has.1 r.1 r.2)))
+    (λ z lines has. let f = has.3 in
+    (f.0, f.1, f.2 ++ has.2, f.3, (has.0, f.2, has.2, f.4, has.4, refl), has.5 ∙ ap (λ (o : List Line). o ++ has.2) f.5 ∙ append_assoc f.1 f.2 has.2))
+    h

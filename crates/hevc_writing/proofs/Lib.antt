@@ -3,4 +3,7 @@ pub mod RowRules
 pub mod Parts
 pub mod Steps
 pub mod Loops
+pub mod Growing
+pub mod Forming
+pub mod Given
 pub mod Deciding

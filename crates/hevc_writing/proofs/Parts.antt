@@ -1,15 +1,17 @@
 -- Parts of a table, and tables within tables.
-use Rattle.std.proofs.Common.{◌≡◌, ℕ, Bool, true, false, eqb, List, [], inl, inr, refl, sym, ap, ap₂, subst, ◌∙◌}
-use Rattle.std.specs.Prelude.{ℤ, pos, ◌⊎◌, Result, OnOk}
+use Rattle.std.proofs.Common.{◌≡◌, ℕ, ◌^◌, ◌<◌, Bool, true, false, eqb, List, [], inl, inr, refl, sym, ap, ap₂, subst, ◌∙◌}
+use Rattle.std.specs.Prelude.{ℤ, pos, not, ◌∷◌, ◌⊎◌, Result, OnOk}
+use Rattle.std.specs.Ordering.{int_eq}
+use Rattle.std.proofs.lemmas.Bool.Decides.{Decides-int_eq}
 use Rattle.std.proofs.lemmas.Result.{on_ok_weaker}
 use Rattle.std.proofs.lemmas.Bool.{eqb-true, eqb-false, true≢false}
 use Rattle.hevc_spec.specs.declared.Row.{Row}
-use Rattle.hevc_spec.specs.Table.{Table}
-use Rattle.hevc_spec.specs.Rows.{flag_row, zero_row, bits_row, ue_row, se_row, skip_row, when, either}
+use Rattle.hevc_spec.specs.Table.{Table, done}
+use Rattle.hevc_spec.specs.Rows.{flag_row, zero_row, bits_row, ue_row, se_row, skip_row, check_row, when, either}
 use Rattle.hevc_writing.specs.Choices.{skipped}
 use Rattle.hevc_writing.specs.Filling.{EachFilling, Keeps, Writes, WritesTable, WritesIf, WritesEither, WritesFlag, WritesBits, WritesUe, WritesSe, WritesZeros}
 use Rattle.hevc_writing.proofs.Fillings.{weakened, beside, done_filled, then_filled}
-use Rattle.hevc_writing.proofs.RowRules.{IsKept, flag_written, zero_written, bits_written, ue_written, se_written, zeros_written, when_filled, either_filled}
+use Rattle.hevc_writing.proofs.RowRules.{IsKept, flag_written, zero_written, bits_written, ue_written, se_written, zeros_written, skip_written, check_held, when_filled, either_filled}
 
 -- a field of equal records
 pub by : {A X : Type 0} {z x : A} → z ≡ x → (f : A → X) → f z ≡ f x
@@ -56,6 +58,20 @@ module _ (r : Row) (kept : IsKept r) where
 module _ (r : Row) (n : ℕ) (none : skipped r n ≡ 0) where
   pub zeros_fillable : IsFillable (skip_row r n)
   zeros_fillable = record { fill = λ w. zeros_written r {old = []} n none refl (λ all h. tt) }
+
+pub check_fillable : (r : Row) (holds : Bool) → IsFillable (check_row r holds)
+check_fillable r holds = record { fill = λ w. check_held r holds (λ _. tt) }
+
+pub skip_fillable : (r : Row) (n : ℕ) → skipped r n < 2 ^ n → IsFillable (skip_row r n)
+skip_fillable r n fits = record { fill = λ w. skip_written r {old = []} n fits refl (λ all h. tt) }
+
+-- zeros of a number that is told before
+pub some_zeros_written : (r : Row) (n m : ℕ) → ((k : ℕ) → skipped r k ≡ 0) → {w old new : List Bool} {Q : ℕ → List Bool → Type 0} → WritesZeros m old new → ((all : List Bool) → (n ≡ m → w ≡ old → all ≡ new) → Q 0 all) → EachFilling (skip_row r n) w Q
+some_zeros_written r n m none {w = w} {old = old} {new = new} {Q = Q} writes f = by_test (eqb n m) refl
+  where
+    by_test : (t : Bool) → eqb n m ≡ t → EachFilling (skip_row r n) w Q
+    by_test true e = zeros_written r n (none n) (subst (λ (k : ℕ). WritesZeros k old new) (sym (eqb-true n m e)) writes) (λ all g. f all (λ _. g))
+    by_test false e = zeros_written r {old = []} n (none n) refl (λ all g. f all (λ is. absurd (eqb-false n m e is)))
 
 module _ {A : Type 0} {t : Table A} {w : List Bool} {Q : A → List Bool → Type 0} where
   -- a table within a table
@@ -141,6 +157,31 @@ module _ {A : Type 0} (p : A → Table A) (own : A → A → A) (keeps : Keeps p
         by_present true h f = when_filled (λ is. part_written (h.there refl) whole (λ z all g. f z all (λ _. g))) (λ is. subst (λ u. Q u w) (keeps.same y) (f y w (λ e. absurd (true≢false (sym e ∙ is)))))
         by_present false h f = when_filled (λ is. part_kept (λ z all. f z all (λ e. absurd (true≢false (sym is ∙ e))))) (λ is. subst (λ u. Q u w) (keeps.same y) (f y w (λ _ _ _ _ at. at ∙ sym (h.absent refl))))
 
+-- a part, or a record that no rows give
+module _ {A : Type 0} (p : A → Table A) (own : A → A → A) (keeps : Keeps p own) (y : A) (c : Bool) (a : A) (same : own a y ≡ a) {w : List Bool} {Q : A → List Bool → Type 0} where
+  pub either_done_kept : ((z : A) (all : List Bool) → Q (own z y) all) → EachFilling (either c (done a) (p y)) w Q
+  either_done_kept f = either_filled (λ _. done_filled (subst (λ u. Q u w) same (f a w))) (λ _. part_kept p own keeps y f)
+
+  pub done_either_kept : ((z : A) (all : List Bool) → Q (own z y) all) → EachFilling (either c (p y) (done a)) w Q
+  done_either_kept f = either_filled (λ _. part_kept p own keeps y f) (λ _. done_filled (subst (λ u. Q u w) same (f a w)))
+
+  module _ {seen : A → A → A} {x : A} {old new : List Bool} where
+    pub either_done_written : {present : Bool} → WritesIf present (Writes p seen x) old new → seen x x ≡ x
+        → ((z : A) (all : List Bool) → (not c ≡ present → Follows seen (own z y) x w old all new) → Q (own z y) all) → EachFilling (either c (done a) (p y)) w Q
+    either_done_written {present = present} writes whole f = by_present present writes f
+      where
+        by_present : (present : Bool) → WritesIf present (Writes p seen x) old new → ((z : A) (all : List Bool) → (not c ≡ present → Follows seen (own z y) x w old all new) → Q (own z y) all) → EachFilling (either c (done a) (p y)) w Q
+        by_present true h f = either_filled (λ is. done_filled (subst (λ u. Q u w) same (f a w (λ e. absurd (true≢false (sym e ∙ ap not is)))))) (λ is. part_written p own keeps y (h.there refl) whole (λ z all g. f z all (λ _. g)))
+        by_present false h f = either_filled (λ is. done_filled (subst (λ u. Q u w) same (f a w (λ _ u e s at. at ∙ sym (h.absent refl))))) (λ is. part_kept p own keeps y (λ z all. f z all (λ e. absurd (true≢false (sym (ap not is) ∙ e)))))
+
+    pub done_either_written : {present : Bool} → WritesIf present (Writes p seen x) old new → seen x x ≡ x
+        → ((z : A) (all : List Bool) → (c ≡ present → Follows seen (own z y) x w old all new) → Q (own z y) all) → EachFilling (either c (p y) (done a)) w Q
+    done_either_written {present = present} writes whole f = by_present present writes f
+      where
+        by_present : (present : Bool) → WritesIf present (Writes p seen x) old new → ((z : A) (all : List Bool) → (c ≡ present → Follows seen (own z y) x w old all new) → Q (own z y) all) → EachFilling (either c (p y) (done a)) w Q
+        by_present true h f = either_filled (λ is. part_written p own keeps y (h.there refl) whole (λ z all g. f z all (λ _. g))) (λ is. done_filled (subst (λ u. Q u w) same (f a w (λ e. absurd (true≢false (sym e ∙ is))))))
+        by_present false h f = either_filled (λ is. part_kept p own keeps y (λ z all. f z all (λ e. absurd (true≢false (sym is ∙ e))))) (λ is. done_filled (subst (λ u. Q u w) same (f a w (λ _ u e s at. at ∙ sym (h.absent refl)))))
+
 -- one of two parts
 module _ {A : Type 0} (p q : A → Table A) (own : A → A → A) (keeps_p : Keeps p own) (keeps_q : Keeps q own) (y : A) (c : Bool) {w : List Bool} {Q : A → List Bool → Type 0} where
   pub either_kept : ((z : A) (all : List Bool) → Q (own z y) all) → EachFilling (either c (p y) (q y)) w Q
@@ -173,6 +214,35 @@ flags true true = inl refl
 flags true false = inr true≢false
 flags false true = inr (λ e. true≢false (sym e))
 flags false false = inl refl
+
+pub integers : (a b : ℤ) → IsDecided a b
+integers a b = by_test (int_eq a b) refl
+  where
+    by_test : (t : Bool) → int_eq a b ≡ t → IsDecided a b
+    by_test true e = inl ((Decides-int_eq a b).0 e)
+    by_test false e = inr (λ same. true≢false (sym ((Decides-int_eq a b).1 same) ∙ e))
+
+-- by two things that are told by it
+pub both_decided : {A B C : Type 0} {x y : C} (f : C → A) (g : C → B) → (f x ≡ f y → g x ≡ g y → x ≡ y) → IsDecided (f x) (f y) → IsDecided (g x) (g y) → IsDecided x y
+both_decided f g make (inl p) (inl q) = inl (make p q)
+both_decided f g make (inl p) (inr q) = inr (λ e. q (ap g e))
+both_decided f g make (inr p) q = inr (λ e. p (ap f e))
+
+-- by what it is made of
+pub decided_by : {X K : Type 0} (key : X → K) (made : K → X) → ((x : X) → made (key x) ≡ x) → {x y : X} → IsDecided (key x) (key y) → IsDecided x y
+decided_by key made back {x = x} {y = y} (inl e) = inl (sym (back x) ∙ ap made e ∙ back y)
+decided_by key made back (inr d) = inr (λ e. d (ap key e))
+
+pub lists_decided : {X : Type 0} → ((a b : X) → IsDecided a b) → (xs ys : List X) → IsDecided xs ys
+lists_decided each [] [] = inl refl
+lists_decided each [] (y ∷ ys) = inr (λ e. absurd cc)
+lists_decided each (x ∷ xs) [] = inr (λ e. absurd cc)
+lists_decided each (x ∷ xs) (y ∷ ys) = by_both (each x y) (lists_decided each xs ys)
+  where
+    by_both : IsDecided x y → IsDecided xs ys → IsDecided (x ∷ xs) (y ∷ ys)
+    by_both (inl p) (inl q) = inl (ap₂ (λ a b. a ∷ b) p q)
+    by_both (inl p) (inr q) = inr (λ e. q cc)
+    by_both (inr p) q = inr (λ e. p cc)
 
 pub pairs : {A B : Type 0} {a c : A} {b d : B} → IsDecided a c → IsDecided b d → IsDecided {I = A × B} (a, b) (c, d)
 pairs (inl p) (inl q) = inl (ap₂ (λ x y. (x, y)) p q)

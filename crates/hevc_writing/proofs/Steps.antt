@@ -4,13 +4,13 @@ use Rattle.std.specs.Prelude.{ℤ}
 use Rattle.hevc_spec.specs.declared.Row.{Row}
 use Rattle.hevc_spec.specs.Bits.{in_range, u}
 use Rattle.hevc_spec.specs.Table.{Table, part, element}
-use Rattle.hevc_spec.specs.Rows.{flag_row, skip_row, zero_row, bits_row, ue_row, se_row, when}
+use Rattle.hevc_spec.specs.Rows.{flag_row, skip_row, zero_row, bits_row, ue_row, se_row, check_row, when}
 use Rattle.hevc_writing.specs.Choices.{skipped}
 use Rattle.hevc_writing.specs.Filling.{EachFilling, Keeps, Writes, WritesTable, WritesIf, WritesFlag, WritesBits, WritesUe, WritesSe, WritesZeros}
 use Rattle.hevc_writing.proofs.RowRules.{IsKept}
-pub use Rattle.hevc_writing.proofs.Fillings.{then_filled, done_filled}
-pub use Rattle.hevc_writing.proofs.RowRules.{flag_written, zero_written, bits_written, ue_written, se_written, number_written, zeros_written, check_held}
-pub use Rattle.hevc_writing.proofs.Parts.{by, IsFillable, filled, Follows, flag_fillable, zero_fillable, bits_fillable, ue_fillable, se_fillable, zeros_fillable, when_fillable, either_fillable, flag_table, bits_table, ue_table, se_table, table_written, where_present, when_written, part_kept, when_kept, part_written, when_part_written, either_kept, either_part_written, zeros_if_written, either_zeros_written, first_of_two, second_of_two, counted_part_written, one_part_written, one_table_written, one_table_if_written, IsDecided, numbers, flags, pairs, kept_rows}
+pub use Rattle.hevc_writing.proofs.Fillings.{then_filled, done_filled, instead_filled, joined_filled}
+pub use Rattle.hevc_writing.proofs.RowRules.{flag_written, zero_written, bits_written, ue_written, se_written, number_written, zeros_written, skip_written, check_held, when_filled}
+pub use Rattle.hevc_writing.proofs.Parts.{by, IsFillable, filled, Follows, flag_fillable, zero_fillable, bits_fillable, ue_fillable, se_fillable, zeros_fillable, check_fillable, skip_fillable, when_fillable, either_fillable, flag_table, bits_table, ue_table, se_table, table_written, where_present, when_written, part_kept, when_kept, part_written, when_part_written, either_kept, either_part_written, either_done_kept, either_done_written, done_either_kept, done_either_written, zeros_if_written, either_zeros_written, some_zeros_written, first_of_two, second_of_two, counted_part_written, one_part_written, one_table_written, one_table_if_written, IsDecided, numbers, flags, integers, pairs, both_decided, decided_by, lists_decided, kept_rows}
 
 module _ (r : Row) (kept : IsKept r) {B : Type 0} {w old new : List Bool} {Q : B → List Bool → Type 0} where
   pub flag_then : {k : Bool → Table B} {value : Bool} → WritesFlag value old new → ((v : Bool) (all : List Bool) → (v ≡ value → w ≡ old → all ≡ new) → EachFilling (k v) all Q) → EachFilling (part (flag_row r) k) w Q
@@ -59,3 +59,10 @@ module _ {A B : Type 0} {w : List Bool} {Q : B → List Bool → Type 0} where
 module _ (r : Row) (n : ℕ) (none : skipped r n ≡ 0) {B : Type 0} {w old new : List Bool} {Q : B → List Bool → Type 0} where
   pub zeros_then : {k : ℕ → Table B} → WritesZeros n old new → ((all : List Bool) → (w ≡ old → all ≡ new) → EachFilling (k 0) all Q) → EachFilling (part (skip_row r n) k) w Q
   zeros_then writes f = then_filled (zeros_written r n none writes f)
+
+module _ (r : Row) (holds : Bool) {B : Type 0} {w : List Bool} {Q : B → List Bool → Type 0} where
+  pub check_then : {k : ℕ → Table B} → (holds ≡ true → EachFilling (k 0) w Q) → EachFilling (part (check_row r holds) k) w Q
+  check_then f = then_filled (check_held r holds f)
+
+  pub check_if_then : (c : Bool) {k : ℕ → Table B} → EachFilling (k 0) w Q → EachFilling (part (when c 0 (check_row r holds)) k) w Q
+  check_if_then c f = then_filled (when_filled (λ _. check_held r holds (λ _. f)) (λ _. f))

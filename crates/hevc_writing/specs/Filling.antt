@@ -1,7 +1,7 @@
 -- What writing by a table adds to the bits. The words for whole tables and their parts speak of any
 -- record that the table can give: wherever it is the one that is written, what was added are lines
 -- of it (Choices).
-use Rattle.std.specs.Prelude.{◌≡◌, ℕ, ℤ, ◌+◌, ◌<◌, Bool, true, false, List, [], ◌∷◌, ◌++◌, length, replicate, slice_index_or}
+use Rattle.std.specs.Prelude.{◌≡◌, ℕ, ℤ, ◌+◌, ◌<◌, Bool, true, false, List, [], ◌∷◌, ◌++◌, length, take, replicate, slice_index_or}
 use Rattle.hevc_spec.specs.Bits.{u, ue, se}
 use Rattle.hevc_spec.specs.Table.{Table}
 use Rattle.hevc_spec.specs.Rows.{repeat}
@@ -91,3 +91,7 @@ pub record WritesTurn {S : Type 0} (body : ℕ → S → Table S) (agrees : ℕ 
   pub written : (y : S) (w : List Bool)
       → EachFilling (body i y) w
       (λ z all. agrees (i + 1) z → agrees i y × (w ≡ old → all ≡ new))
+
+-- so many first elements of a list
+abbrev pub are_first : {X : Type 0} → List X → ℕ → List X → Type 0
+are_first xs n ys = ys ≡ take n xs

@@ -66,6 +66,14 @@ pub fn bits_u8_if(
     bits_if(w, present, num_bits, u32::from(value))
 }
 
+/// Writes a number of at most 16 bits, u(n).
+pub fn bits_u16(w: &mut BitWriter, num_bits: u32, value: u16) -> Result<(), AllocError>
+    requires { num_bits ≤ 32 }
+    ensures { OnOk result (WritesBits num_bits value w.old w.new) }
+{
+    bits(w, num_bits, u32::from(value))
+}
+
 /// Writes an Exp-Golomb number, ue(v).
 pub fn ue(w: &mut BitWriter, value: u32) -> Result<(), AllocError>
     ensures { OnOk result (WritesUe value w.old w.new) }
@@ -92,6 +100,13 @@ pub fn ue_u8_if(w: &mut BitWriter, present: bool, value: u8) -> Result<(), Alloc
     ensures { OnOk result (WritesIf present (WritesUe value) w.old w.new) }
 {
     ue_if(w, present, u32::from(value))
+}
+
+/// Writes an Exp-Golomb number of two bytes, ue(v).
+pub fn ue_u16(w: &mut BitWriter, value: u16) -> Result<(), AllocError>
+    ensures { OnOk result (WritesUe value w.old w.new) }
+{
+    ue(w, u32::from(value))
 }
 
 /// Writes a signed Exp-Golomb number, se(v).

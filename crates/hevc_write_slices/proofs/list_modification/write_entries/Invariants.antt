@@ -3,8 +3,7 @@ use Rattle.std.specs.Prelude.{None}
 use Rattle.hevc_spec.specs.declared.Row.{Row}
 use Rattle.hevc_tables.specs.RefPicListModificationTable.{list_entry}
 use Rattle.hevc_writing.specs.Choices.{chosen_value}
-use Rattle.hevc_writing.specs.Filling.{WritesTurns}
-use Rattle.hevc_write_slices.specs.ListParts.{are_first}
+use Rattle.hevc_writing.specs.Filling.{WritesTurns, are_first}
 use Rattle.hevc_write_slices.proofs.list_modification.write_entries.Given as goal
 
 abbrev pub invariant-loop-i : goal.invariant-loop-i

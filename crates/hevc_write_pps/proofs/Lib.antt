@@ -1,0 +1,2 @@
+pub mod PpsKeeps
+pub mod Named

@@ -1,0 +1,4 @@
+pub mod Chosen
+pub mod MemberLists
+pub mod Tables
+pub mod Distinct

@@ -1,0 +1,16 @@
+use Rattle.std.proofs.Common.{refl}
+use Rattle.hevc_tables.specs.SpsTable.{sample_format, scc_extension}
+use Rattle.hevc_tables.specs.SpsSccExtensionTable.{sps_scc_extension}
+use Rattle.hevc_write_sets.proofs.Extensions.{sps_scc_fillable}
+use Rattle.hevc_write_sps.proofs.SpsKeeps.{formats}
+use Rattle.hevc_writing.proofs.Steps.{by, done_filled, one_table_written, then_filled}
+use Rattle.hevc_write_sps.proofs.extensions.write_scc_extension.Goals as goal
+
+pub returns : goal.returns
+unfolding scc_extension
+returns c = record {
+  written = λ y w.
+      then_filled (one_table_written sps_scc_extension sps_scc_fillable _ _ (formats _ _) c.in_ok-write_sps_scc_extension.ensures (λ v1 b1 h1.
+      done_filled (λ e at.
+      h1 (by e (λ r. sample_format r)) (by e (λ r. r.scc_extension)) at)));
+}

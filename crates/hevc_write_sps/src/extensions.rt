@@ -1,0 +1,100 @@
+//! Extensions (7.3.2.2.1, rows 43 to 50 of table 5).
+ghost use Rattle.std.specs.Prelude.{OnOk};
+ghost use Rattle.hevc_tables.specs.SpsTable as table;
+ghost use Rattle.hevc_types_c.specs.Sps.{plain_sps};
+ghost use Rattle.hevc_write_sps.specs.SpsParts as own;
+ghost use Rattle.hevc_writing.specs.Filling.{Writes, WritesIf};
+
+use hevc_bit_writer::BitWriter;
+use hevc_types_c::Sps;
+use hevc_write_sets::{write_sps_range_extension, write_sps_scc_extension};
+use hevc_writing::rows::{flag, zeros};
+use std::alloc::AllocError;
+
+/// Rows 43 to 50 of table 5.
+pub(crate) fn write_extensions(w: &mut BitWriter, x: &Sps) -> Result<(), AllocError>
+    ensures { OnOk result (Writes table.extensions
+        own.seen_by_extensions (plain_sps x.now) w.old w.new) }
+{
+    flag(w, x.extension_present_flag)?;
+    write_extension_data_if(w, x.extension_present_flag, x)?;
+    Ok(())
+}
+
+/// Rows 44 to 50 of table 5, where they are present.
+fn write_extension_data_if(w: &mut BitWriter, present: bool, x: &Sps) -> Result<(), AllocError>
+    ensures { OnOk result (WritesIf present
+        (Writes table.extension_data own.seen_by_extension_data (plain_sps x.now)) w.old w.new) }
+{
+    if present {
+        write_extension_data(w, x)
+    } else {
+        Ok(())
+    }
+}
+
+/// Rows 44 to 50 of table 5.
+fn write_extension_data(w: &mut BitWriter, x: &Sps) -> Result<(), AllocError>
+    ensures { OnOk result (Writes table.extension_data
+        own.seen_by_extension_data (plain_sps x.now) w.old w.new) }
+{
+    write_extension_flags(w, x)?;
+    write_range_extension_if(w, x.range_extension_flag, x)?;
+    write_scc_extension_if(w, x.scc_extension_flag, x)?;
+    Ok(())
+}
+
+/// Rows 44 to 48 of table 5.
+fn write_extension_flags(w: &mut BitWriter, x: &Sps) -> Result<(), AllocError>
+    ensures { OnOk result (Writes table.extension_flags
+        own.extension_flags (plain_sps x.now) w.old w.new) }
+{
+    flag(w, x.range_extension_flag)?;
+    flag(w, false)?;
+    flag(w, false)?;
+    flag(w, x.scc_extension_flag)?;
+    zeros(w, 4)?;
+    Ok(())
+}
+
+/// Row 49 of table 5, where it is present.
+fn write_range_extension_if(w: &mut BitWriter, present: bool, x: &Sps) -> Result<(), AllocError>
+    ensures { OnOk result (WritesIf present
+        (Writes table.range_extension own.range_element (plain_sps x.now)) w.old w.new) }
+{
+    if present {
+        write_range_extension(w, x)
+    } else {
+        Ok(())
+    }
+}
+
+/// Row 49 of table 5.
+fn write_range_extension(w: &mut BitWriter, x: &Sps) -> Result<(), AllocError>
+    ensures { OnOk result (Writes table.range_extension
+        own.range_element (plain_sps x.now) w.old w.new) }
+{
+    write_sps_range_extension(w, &x.range_extension)?;
+    Ok(())
+}
+
+/// Row 50 of table 5, where it is present.
+fn write_scc_extension_if(w: &mut BitWriter, present: bool, x: &Sps) -> Result<(), AllocError>
+    ensures { OnOk result (WritesIf present
+        (Writes table.scc_extension own.seen_by_scc_extension (plain_sps x.now)) w.old w.new) }
+{
+    if present {
+        write_scc_extension(w, x)
+    } else {
+        Ok(())
+    }
+}
+
+/// Row 50 of table 5.
+fn write_scc_extension(w: &mut BitWriter, x: &Sps) -> Result<(), AllocError>
+    ensures { OnOk result (Writes table.scc_extension
+        own.seen_by_scc_extension (plain_sps x.now) w.old w.new) }
+{
+    write_sps_scc_extension(w, x)?;
+    Ok(())
+}
