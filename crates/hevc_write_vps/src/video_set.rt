@@ -1,0 +1,74 @@
+//! Video parameter sets (7.3.2.1, table 1).
+ghost use Rattle.std.specs.Prelude.{◌≡◌, ◌≤◌, ◌+◌, ◌*◌, OnOk};
+ghost use Rattle.hevc_tables.specs.VpsTable as table;
+ghost use Rattle.hevc_types_b.specs.Vps.{plain_vps};
+ghost use Rattle.hevc_write_vps.specs.VpsParts as own;
+ghost use Rattle.hevc_writing.specs.Filling.{Writes, WritesTable};
+
+use crate::orderings::write_orderings;
+use crate::timing::write_timing_info;
+use hevc_bit_writer::BitWriter;
+use hevc_types_b::Vps;
+use hevc_write_parts::write_profile_tier_level;
+use hevc_writing::rows::{bits, bits_u8, flag, ue, zeros};
+use std::alloc::AllocError;
+
+/// Table 1.
+pub fn write_vps(w: &mut BitWriter, x: &Vps) -> Result<(), AllocError>
+    ensures { OnOk result (WritesTable table.video_parameter_set (plain_vps x.now) w.old w.new) }
+{
+    write_identity(w, x)?;
+    write_orderings(w, x)?;
+    write_layer_sets(w, x)?;
+    write_timing_info(w, x)?;
+    write_extension(w, x)?;
+    Ok(())
+}
+
+/// Rows 1 to 7 of table 1.
+fn write_identity(w: &mut BitWriter, x: &Vps) -> Result<(), AllocError>
+    ensures { OnOk result (Writes table.identity
+        own.identity (plain_vps x.now) w.old w.new) }
+{
+    bits_u8(w, 4, x.video_parameter_set_id)?;
+    flag(w, x.base_layer_internal_flag)?;
+    flag(w, x.base_layer_available_flag)?;
+    bits_u8(w, 6, x.max_layers_minus1)?;
+    bits_u8(w, 3, x.max_sub_layers_minus1)?;
+    flag(w, x.temporal_id_nesting_flag)?;
+    bits(w, 16, 0xFFFF)?;
+    write_profile_tier_level(w, x.max_sub_layers_minus1, &x.profile_tier_level)?;
+    Ok(())
+}
+
+/// Rows 14 to 16 of table 1.
+fn write_layer_sets(w: &mut BitWriter, x: &Vps) -> Result<(), AllocError>
+    ensures { OnOk result (Writes table.layer_sets
+        own.layer_sets (plain_vps x.now) w.old w.new) }
+{
+    bits_u8(w, 6, x.max_layer_id)?;
+    ue(w, x.num_layer_sets_minus1)?;
+    zeros(w, num_layer_flags(x))?;
+    Ok(())
+}
+
+/// Row 25 of table 1.
+fn write_extension(w: &mut BitWriter, x: &Vps) -> Result<(), AllocError>
+    ensures { OnOk result (Writes table.extension
+        own.extension (plain_vps x.now) w.old w.new) }
+{
+    flag(w, x.extension_flag)?;
+    Ok(())
+}
+
+/// How many flags the layer sets have, each but the first one for each layer. Of more than a table allows there are none.
+fn num_layer_flags(x: &Vps) -> u32
+    ensures { x.now.max_layer_id ≤ 62 → x.now.num_layer_sets_minus1 ≤ 1023
+        → result ≡ (x.now.max_layer_id + 1) * x.now.num_layer_sets_minus1 }
+{
+    if x.max_layer_id <= 62 && x.num_layer_sets_minus1 <= 1023 {
+        (u32::from(x.max_layer_id) + 1) * x.num_layer_sets_minus1
+    } else {
+        0
+    }
+}
