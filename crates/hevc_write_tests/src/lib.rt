@@ -4,7 +4,11 @@
 #[cfg(test)]
 mod extensions;
 #[cfg(test)]
+mod lists;
+#[cfg(test)]
 mod parts;
+#[cfg(test)]
+mod sets;
 #[cfg(test)]
 mod slices;
 #[cfg(test)]

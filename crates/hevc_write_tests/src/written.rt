@@ -20,3 +20,19 @@ pub fn assert_written(
     assert!(rt; unit == expected);
     Ok(())
 }
+
+/// The bits that were written, with a one and zeros up to a whole byte, are the payload of this unit.
+pub fn assert_unit(
+    rt: &impl Abort,
+    alloc: Global,
+    w: &mut BitWriter,
+    stream: &[u8],
+) -> Result<(), Fail> {
+    assert!(rt; stream.len() > 4);
+    w.write_trailing_bits()?;
+    assert!(rt; w.is_whole());
+    let mut unit = Vec::new(alloc);
+    append_unit(alloc, &mut unit, [stream[3], stream[4]], w.as_bytes())?;
+    assert!(rt; unit.as_slice() == stream);
+    Ok(())
+}

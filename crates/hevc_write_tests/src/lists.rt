@@ -1,0 +1,67 @@
+//! Scaling lists (7.3.4) and short-term reference picture sets (7.3.7), written.
+use crate::written::assert_written;
+use hevc_bit_writer::BitWriter;
+use hevc_bits::NaluReader;
+use hevc_sets::{default_scaling_lists, read_scaling_list_data, read_short_term_set};
+use hevc_types_a::ShortTermRefPicSet;
+use hevc_write_scaling::write_scaling_list_data;
+use hevc_write_short_term::write_short_term_ref_pic_set;
+use std::process::Abort;
+use std::test::Fail;
+
+#[test]
+fn predicted_lists_get_entries_of_their_own(rt: HostRuntime) -> Result<(), Fail> {
+    let lists = default_scaling_lists();
+    let mut w = BitWriter::new(rt.alloc());
+    write_scaling_list_data(&mut w, &lists)?;
+    w.write_trailing_bits()?;
+    // Each flag is 1, so the first entry of the first matrix, 16, comes as 8 after 8: 1 000010000.
+    assert_eq!(rt; w.as_bytes()[0], 0x84);
+    let mut r = NaluReader::new(w.as_bytes());
+    match read_scaling_list_data(&mut r) {
+        Ok(read) => assert!(rt; read == lists),
+        Err(_) => assert!(rt; false),
+    }
+    Ok(())
+}
+
+#[test]
+fn members_are_written_out(rt: HostRuntime) -> Result<(), Fail> {
+    let mut x = ShortTermRefPicSet::new();
+    x.num_negative_pics = 2;
+    x.num_positive_pics = 1;
+    x.num_delta_pocs = 3;
+    x.delta_poc_s0[0] = -1;
+    x.delta_poc_s0[1] = -5;
+    x.delta_poc_s1[0] = 2;
+    x.used_by_curr_pic_s0[0] = true;
+    x.used_by_curr_pic_s1[0] = true;
+    let mut w = BitWriter::new(rt.alloc());
+    write_short_term_ref_pic_set(&mut w, &[], 0, 0, &x)?;
+    // 011 | 010 | 1 1 | 00100 0 | 010 1, and 1 0 .. 0
+    assert_written(&rt, rt.alloc(), &mut w, &[0x6b, 0x21, 0x60])
+}
+
+/// The set of one member directly before the picture and one directly after it.
+fn neighbours() -> ShortTermRefPicSet {
+    let mut set = ShortTermRefPicSet::new();
+    set.num_negative_pics = 1;
+    set.num_positive_pics = 1;
+    set.num_delta_pocs = 2;
+    set.delta_poc_s0[0] = -1;
+    set.delta_poc_s1[0] = 1;
+    set
+}
+
+#[test]
+fn a_shift_onto_the_picture_is_no_member(rt: HostRuntime) -> Result<(), Fail> {
+    // 1 | 0 | 1 | 1 1 1: the member that is shifted onto the picture itself is used, which means nothing.
+    let mut r = NaluReader::new(&[0xbc]);
+    let mut w = BitWriter::new(rt.alloc());
+    match read_short_term_set(&mut r, &[neighbours()], 2, 16, 1) {
+        Ok(set) => write_short_term_ref_pic_set(&mut w, &[neighbours()], 2, 1, &set)?,
+        Err(_) => assert!(rt; false),
+    }
+    // 1 | 0 | 1 | 00 1 1, and 1
+    assert_written(&rt, rt.alloc(), &mut w, &[0xa7])
+}
