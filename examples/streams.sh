@@ -1,6 +1,6 @@
 #!/usr/bin/env bash
-# Makes a dozen streams with x265 (a Debian package) in a folder, each below 300 kB: B pyramids, wavefronts, many slices, two sub-layers,
-# weights, scaling lists, 10 bits, one whose units are cut, one with changed bytes, and one whose format changes. Runs run.sh on them and
+# Makes streams with x265 (a Debian package) in a folder, each below 300 kB: B pyramids, wavefronts, many slices, two sub-layers,
+# weights, scaling lists, a cut unit, a unit of no type, changed bytes, and a changed format. Runs run.sh on them and
 # on the stream of hevc_trace.
 #
 #     examples/streams.sh [FOLDER]
@@ -34,12 +34,19 @@ folder = pathlib.Path(sys.argv[1])
 stream = (folder / 'pyramid.h265').read_bytes()
 units = stream.split(b'\0\0\1')
 dice = random.Random(265)
-cut = [unit[:len(unit) // 2] if i % 7 == 6 else unit for i, unit in enumerate(units)]
-(folder / 'cut-units.h265').write_bytes(b'\0\0\1'.join(cut))
-changed = bytearray(stream)
-for _ in range(40):
-    changed[dice.randrange(200, len(changed))] ^= 1 << dice.randrange(8)
-(folder / 'changed-bytes.h265').write_bytes(changed)
+
+
+def change(unit):
+    """One bit of the unit's payload, near its beginning."""
+    at = min(dice.randrange(2, 8), len(unit) - 1)
+    return unit[:at] + bytes([unit[at] ^ 1 << dice.randrange(8)]) + unit[at + 1:]
+
+
+(folder / 'cut-unit.h265').write_bytes(b'\0\0\1'.join(unit[:4] if i == 20 else unit for i, unit in enumerate(units)))
+(folder / 'changed-type.h265').write_bytes(b'\0\0\1'.join(b'\x78' + unit[1:] if i == 12 else unit for i, unit in enumerate(units)))
+for number in range(4):
+    changed = [change(unit) if i > 1 and dice.randrange(6) == 0 else unit for i, unit in enumerate(units)]
+    (folder / f'changed-bytes-{number}.h265').write_bytes(b'\0\0\1'.join(changed))
 (folder / 'changed-format.h265').write_bytes(stream + (folder / 'wavefronts.h265').read_bytes() + (folder / 'layers.h265').read_bytes())
 PYTHON
 examples/run.sh crates/hevc_trace/stdin "$folder"/*.h265

@@ -1,6 +1,5 @@
 -- What is filled after one more call.
-use Rattle.std.proofs.Common.{◌≡◌, ℕ, List, [], ◌∷◌, ◌++◌, Option, Some, None, IfSome, refl, ap, sym, ◌∙◌}
-use Rattle.std.specs.List.{fold}
+use Rattle.std.proofs.Common.{◌≡◌, List, [], ◌∷◌, ◌++◌, Option, Some, None, IfSome, refl, ap, ◌∙◌}
 use Rattle.std.specs.Option.{option_map}
 use Rattle.std.proofs.lemmas.List.Sums.{fold-append}
 use Rattle.hevc_queue.specs.declared.controls.BegunControls.{BegunControls}
@@ -8,9 +7,9 @@ use Rattle.hevc_queue.specs.declared.controls.Controls.{Controls}
 use Rattle.hevc_queue.specs.declared.given.BegunPicture.{BegunPicture}
 use Rattle.hevc_queue.specs.declared.given.GivenSlice.{GivenSlice}
 use Rattle.hevc_queue.specs.declared.given.Given.{Given}
-use Rattle.hevc_queue.specs.declared.given.Given.TheVariants.{Sequence, Picture, Begun, Slice, Submission}
+use Rattle.hevc_queue.specs.declared.given.Given.TheVariants.{Begun, Slice}
 use Rattle.hevc_queue.specs.Given.{begun_after, latest_begun, latest_slice, slice_after}
-use Rattle.hevc_queue.specs.Controls.{AreLatest, AreLatestIn, begun_controls, latest_slice_control, slice_of_picture, with_begun, with_slice}
+use Rattle.hevc_queue.specs.Controls.{AreLatest, AreLatestIn, begun_controls, with_begun, with_slice}
 
 begun_more : (given : List Given) (g : Given)
     → latest_begun (given ++ g ∷ []) ≡ begun_after (latest_begun given) g

@@ -1,5 +1,5 @@
 -- The structs of Linux's stateless decoders, of the latest calls.
-use Rattle.std.specs.Prelude.{◌≡◌, ℕ, ℤ, List, Option, Some, None, Result, Ok, Err, IfSome}
+use Rattle.std.specs.Prelude.{◌≡◌, ℤ, List, Option, Some, None, Result, Ok, Err, IfSome}
 use Rattle.std.specs.Option.{option_map, option_or}
 use Rattle.std.specs.Box.{box_value}
 use Rattle.std.specs.Global.{Box}
