@@ -57,12 +57,20 @@ fi
 built trials -O2
 each trials "$work/trials"
 built units -O2
+built sets -O2
+each "sets and headers" "$work/sets"
+built controls -O2
+each "structs of Linux" "$work/controls"
 built memory -O2 -Wl,--wrap=malloc,--wrap=realloc
 each "memory, each allocation failed in turn" "$work/memory"
 if built show-sanitized -g -fsanitize=address,undefined -fno-sanitize-recover=all 2> "$work/said"; then
     compare "show with AddressSanitizer" "$work/show-sanitized"
     built trials-sanitized -g -fsanitize=address,undefined -fno-sanitize-recover=all
     each "trials with AddressSanitizer" "$work/trials-sanitized"
+    built sets-sanitized -g -fsanitize=address,undefined -fno-sanitize-recover=all
+    each "sets and headers with AddressSanitizer" "$work/sets-sanitized"
+    built controls-sanitized -g -fsanitize=address,undefined -fno-sanitize-recover=all
+    each "structs of Linux with AddressSanitizer" "$work/controls-sanitized"
     built memory-sanitized -g -fsanitize=address,undefined -fno-sanitize-recover=all -Wl,--wrap=malloc,--wrap=realloc
     each "memory with AddressSanitizer" "$work/memory-sanitized"
 else
@@ -70,7 +78,9 @@ else
 fi
 if command -v valgrind > /dev/null; then
     compare "show under valgrind" valgrind -q --leak-check=full --error-exitcode=9 "$work/show"
-    each "trials under valgrind" valgrind -q --leak-check=full --error-exitcode=9 "$work/trials"
+    for name in trials sets controls; do
+        each "$name under valgrind" valgrind -q --leak-check=full --error-exitcode=9 "$work/$name"
+    done
 else
     echo "valgrind isn't installed: not checked"
 fi

@@ -42,7 +42,7 @@ extern "C" {
 
 /* The version of the calls and structs: 65536 * major + minor. One that has another major number isn't this header's. */
 #define FEZHALUM_API_MAJOR 0
-#define FEZHALUM_API_MINOR 1
+#define FEZHALUM_API_MINOR 2
 uint32_t fezhalum_api_version(void);
 
 /* What a call answers. FEZHALUM_NO_UNIT, FEZHALUM_FORMAT and FEZHALUM_NO_FRAMES refuse nothing of the stream. What is left after each is
@@ -65,7 +65,17 @@ typedef enum fezhalum_status {
     FEZHALUM_PICTURE_NUMBERS_SPENT = 14,/* there is no number for one more picture */
     FEZHALUM_BACKEND = 15,              /* 2^64 - 1 events were made */
     FEZHALUM_NOT_AWAITED = 16,          /* of fezhalum_accept_format: no format is awaited */
-    FEZHALUM_TOO_LONG = 17              /* there are 2^60 bytes or more, or a place isn't among them: nothing was done */
+    FEZHALUM_TOO_LONG = 17,             /* there are 2^60 bytes or more, or a place isn't among them: nothing was done */
+    FEZHALUM_MISSING_SPS = 18,          /* of fezhalum_read_unit: a sequence parameter set isn't kept, that of id unit.row */
+    FEZHALUM_NO_CONTROLS = 19,          /* 19 to 27 are of fezhalum_v4l2.h. There is no struct */
+    FEZHALUM_TILE_COLUMNS = 20,         /* a tile column is wider than 256 coding tree blocks */
+    FEZHALUM_TILE_ROWS = 21,            /* a tile row is higher than 256 coding tree blocks */
+    FEZHALUM_UNIT_SIZE = 22,            /* a unit has 2^29 bytes or more, or 2^32 or more before its data */
+    FEZHALUM_SHORT_TERM_SIZE = 23,      /* the short-term reference picture set takes 2^16 bits or more */
+    FEZHALUM_CHROMA_DENOMINATOR = 24,   /* ChromaLog2WeightDenom is above 7 */
+    FEZHALUM_LUMA_OFFSET = 25,          /* an offset of luma takes more than 8 bits */
+    FEZHALUM_CHROMA_OFFSET = 26,        /* an offset of chroma takes more than 8 bits */
+    FEZHALUM_CURRENT_PICTURE = 27       /* a reference picture list has the current picture itself */
 } fezhalum_status;
 
 static inline const char *fezhalum_status_string(uint32_t status) {
@@ -75,7 +85,11 @@ static inline const char *fezhalum_status_string(uint32_t status) {
         "an element is out of range", "a picture parameter set is not kept", "a dependent slice segment follows no independent one",
         "a later slice of a picture names another format", "the order count is out of the range of 32 bits",
         "the decoded picture buffer is full", "no number is left for a picture", "too many events", "no format is awaited",
-        "too many bytes" };
+        "too many bytes", "a sequence parameter set is not kept", "no struct is filled",
+        "a tile column is wider than 256 coding tree blocks", "a tile row is higher than 256 coding tree blocks",
+        "the size of the unit takes more than 32 bits", "the size of the short-term reference picture set takes more than 16 bits",
+        "the logarithm of the denominator of chroma weights is above 7", "an offset of luma takes more than 8 bits",
+        "an offset of chroma takes more than 8 bits", "a reference picture list has the current picture" };
     return status < sizeof texts / sizeof *texts ? texts[status] : "no status";
 }
 
@@ -178,7 +192,7 @@ uint32_t fezhalum_flush(fezhalum *decoder);
 /* Accepts the format that was negotiated. */
 uint32_t fezhalum_accept_format(fezhalum *decoder);
 
-/* For examples/c/layout.c: structs with another number in each field, and their sizes. */
+/* For examples/c/layout.c: structs with another number in each field (of the first and the last list in the last places), and their sizes. */
 size_t fezhalum_layout_event(fezhalum_event *event);
 size_t fezhalum_layout_decode_call(fezhalum_decode_call *call);
 size_t fezhalum_layout_unit(fezhalum_unit *unit);

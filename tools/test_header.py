@@ -1,4 +1,4 @@
-"""include/fezhalum.h has the structs, the statuses, the kinds of events and the calls of the crates, by name and in order.
+"""The headers of include/ have the structs, the statuses, the kinds of events, the flags and the calls of the crates, by name and in order.
 
 Both sides have C's layout, so equal fields lie at equal places. No compiler is needed.
 """
@@ -12,8 +12,23 @@ STRUCTS = {
     'fezhalum_unit': ('hevc_calls/src/units.rt', 'UnitCall'),
     'fezhalum_places': ('hevc_queue/src/event.rt', 'Places'),
     'fezhalum_event': ('hevc_queue/src/event.rt', 'Event'),
+    'fezhalum_profile': ('hevc_fields/src/profile.rt', 'ProfileFields'),
+    'fezhalum_vui': ('hevc_fields/src/vui.rt', 'VuiFields'),
+    'fezhalum_vps': ('hevc_fields/src/vps.rt', 'VpsFields'),
+    'fezhalum_sps': ('hevc_fields/src/sps.rt', 'SpsFields'),
+    'fezhalum_pps': ('hevc_fields/src/pps.rt', 'PpsFields'),
+    'fezhalum_slice': ('hevc_fields/src/slice.rt', 'SliceFields'),
+    'fezhalum_read': ('hevc_calls/src/reads.rt', 'UnitRead'),
+    'fezhalum_picture_structs': ('hevc_queue/src/controls.rt', 'PictureControls'),
 }
-TYPES = {'uint8_t': 'u8', 'uint32_t': 'u32', 'uint64_t': 'u64', 'int32_t': 'i32', 'size_t': 'usize', 'fezhalum': 'Fezhalum'}
+FLAGS = ('profile', 'vui', 'vps', 'sps', 'pps', 'slice')
+TYPES = {
+    'uint8_t': 'u8', 'uint16_t': 'u16', 'uint32_t': 'u32', 'uint64_t': 'u64', 'int8_t': 'i8', 'int32_t': 'i32', 'size_t': 'usize',
+    'fezhalum': 'Fezhalum', 'fezhalum_sets': 'FezhalumSets',
+    'v4l2_ctrl_hevc_sps': 'V4l2CtrlHevcSps', 'v4l2_ctrl_hevc_pps': 'V4l2CtrlHevcPps',
+    'v4l2_ctrl_hevc_scaling_matrix': 'V4l2CtrlHevcScalingMatrix', 'v4l2_ctrl_hevc_decode_params': 'V4l2CtrlHevcDecodeParams',
+    'v4l2_ctrl_hevc_slice_params': 'V4l2CtrlHevcSliceParams',
+}
 TYPES.update({theirs: ours for theirs, (_, ours) in STRUCTS.items()})
 
 # What the header calls an error of another name there.
@@ -34,14 +49,15 @@ def crate(path):
 
 
 def header_text():
-    return re.sub(r'/\*.*?\*/', '', (TOP / 'include/fezhalum.h').read_text(), flags=re.S)
+    text = ''.join((TOP / 'include' / name).read_text() for name in ('fezhalum.h', 'fezhalum_sets.h', 'fezhalum_v4l2.h'))
+    return re.sub(r'/\*.*?\*/', '', text, flags=re.S)
 
 
 def header_structs(text):
     """Each struct's fields: name, type, dimension."""
     structs = {}
     for body, name in re.findall(r'typedef struct \w+ \{(.*?)\} (\w+);', text, re.S):
-        fields = [re.fullmatch(r'(\w+) (\w+)(?:\[(\d+)\])?', ' '.join(field.split())) for field in body.split(';') if field.strip()]
+        fields = [re.fullmatch(r'(?:struct )?(\w+) (\w+)(?:\[(\d+)\])?', ' '.join(field.split())) for field in body.split(';') if field.strip()]
         structs[name] = [(field[2], TYPES.get(field[1], field[1]), field[3] or '') for field in fields]
     return structs
 
@@ -70,6 +86,8 @@ def code_statuses():
     function = re.search(r'fn status_of\(.*?^\}', text, re.S | re.M)[0]
     found = re.findall(r'DecodeError::(\w+)(?:\([^)]*\)|\s*\{[^}]*\})? => (\d+)', function)
     found += re.findall(r'pub const (\w+): u32 = (\d+);', text)
+    controls = re.search(r'fn status_of_control\(.*?^\}', crate('hevc_calls/src/controls.rt'), re.S | re.M)[0]
+    found += re.findall(r'ControlError::(\w+) => (\d+)', controls)
     names = {in_capitals(name) if not name.isupper() else name: int(number) for name, number in found}
     return {'OK': 0} | {ERRORS.get(name, name): number for name, number in names.items()}
 
@@ -78,6 +96,17 @@ def code_kinds():
     asked = re.findall(r'fn (\w+_event)\((?:(?!^\}).)*?bare_event\(place, (\d+)\)', crate('hevc_queue/src/asked.rt'), re.S | re.M)
     pulled = re.findall(r'Pulled::(\S+) =>(?:(?!Pulled::).)*?bare_event\(0, (\d+)\)', crate('hevc_calls/src/calls.rt'), re.S)
     return {KINDS.get(name, name): int(number) for name, number in asked + pulled}
+
+
+def header_flags(text, name):
+    """The flags of an enumeration, by the names without FEZHALUM_ and the struct's."""
+    body = re.search(r'typedef enum fezhalum_' + name + r'_flag \{(.*?)\}', text, re.S)[1]
+    return {word: int(bit) for word, bit in re.findall(r'FEZHALUM_' + name.upper() + r'_(\w+) = 1 << (\d+)', body)}
+
+
+def code_flags(name):
+    listed = re.search(r'fn ' + name + r'_flags\(.*?flag_bits\(&\[(.*?)\]\)', crate(f'hevc_fields/src/{name}.rt'), re.S)[1]
+    return {re.sub('_FLAG$', '', flag.upper()): bit for bit, flag in enumerate(re.findall(r'\.(\w+)', listed))}
 
 
 def header_calls(text):
@@ -91,14 +120,14 @@ def header_calls(text):
 
 def named(kind):
     """A type of C by its name in the crates."""
-    constant, word, pointer = re.fullmatch(r'(const )?(\w+) ?(\*?)', kind).groups()
+    constant, word, pointer = re.fullmatch(r'(const )?(?:struct )?(\w+) ?(\*?)', kind).groups()
     return (('*const ' if constant else '*mut ') if pointer else '') + TYPES.get(word, word)
 
 
 def code_calls():
     """The same of the exports. Bytes are a pointer and a size; an allocator is nothing."""
     calls = {}
-    for path in ('lib.rt', 'layout.rt'):
+    for path in ('lib.rt', 'layout.rt', 'sets.rt', 'controls.rt'):
         exports = re.findall(r'pub (?:unsafe )?extern "C" fn (\w+)\(([^)]*)\)(?: -> (\w+))?', crate('fezhalum/src/' + path))
         for name, given, result in exports:
             kinds = [one.split(':')[1].strip() for one in given.split(',') if one.strip()]
@@ -131,6 +160,10 @@ class Header(unittest.TestCase):
 
     def test_kinds(self):
         self.same(header_numbers(header_text(), 'fezhalum_kind'), code_kinds(), 'kind of event')
+
+    def test_flags(self):
+        for name in FLAGS:
+            self.same(header_flags(header_text(), name), code_flags(name), f'flag of {name}')
 
     def test_calls(self):
         self.same(header_calls(header_text()), code_calls(), 'call')

@@ -1,6 +1,6 @@
-"""The structs of crates/hevc_v4l2 are those of linux/v4l2-controls.h, field by field: name, type, dimensions, order.
+"""The structs of crates/hevc_v4l2 are those of include/fezhalum_v4l2.h and of linux/v4l2-controls.h, field by field: name, type, dimensions, order.
 
-Both sides have C's layout, so equal fields lie at equal places. No compiler is needed. Where the header isn't there, nothing is compared.
+All have C's layout, so equal fields lie at equal places. No compiler is needed. Where the header of Linux isn't there, the other one is compared.
 """
 import pathlib
 import re
@@ -17,7 +17,9 @@ STRUCTS = {
     'V4l2CtrlHevcDecodeParams': 'v4l2_ctrl_hevc_decode_params',
     'V4l2CtrlHevcScalingMatrix': 'v4l2_ctrl_hevc_scaling_matrix',
 }
+OURS = TOP / 'include/fezhalum_v4l2.h'
 NUMBERS = {'__u8': 'u8', '__u16': 'u16', '__u32': 'u32', '__u64': 'u64', '__s8': 'i8', '__s32': 'i32'}
+NUMBERS.update({'uint8_t': 'u8', 'uint16_t': 'u16', 'uint32_t': 'u32', 'uint64_t': 'u64', 'int8_t': 'i8', 'int32_t': 'i32'})
 
 
 def header_fields(text, name):
@@ -45,13 +47,19 @@ def code_fields(text, name):
 
 
 class Layout(unittest.TestCase):
-    @unittest.skipUnless(HEADER.exists(), 'the header is not installed')
-    def test_each_struct(self):
-        header = HEADER.read_text()
+    def compare(self, header):
+        text = header.read_text()
         code = ''.join(path.read_text() for path in sorted((TOP / 'crates/hevc_v4l2/src').glob('*.rt')))
         for ours, theirs in STRUCTS.items():
             with self.subTest(struct=theirs):
-                self.assertEqual(code_fields(code, ours), header_fields(header, theirs))
+                self.assertEqual(code_fields(code, ours), header_fields(text, theirs))
+
+    def test_our_header(self):
+        self.compare(OURS)
+
+    @unittest.skipUnless(HEADER.exists(), 'the header is not installed')
+    def test_header_of_linux(self):
+        self.compare(HEADER)
 
 
 if __name__ == '__main__':

@@ -1,6 +1,7 @@
-/* Decodes a stream again and again, and lets another allocation fail each time: the answer is FEZHALUM_NO_MEMORY, what was output by then
- * is the beginning of what is output with memory, and a decoder that is ended leaves nothing. Link with --wrap=malloc,--wrap=realloc. */
-#include "fezhalum.h"
+/* Decodes a stream again and again, and lets another allocation fail each time: the answer is FEZHALUM_NO_MEMORY, and what was output by
+ * then is the beginning of what is output with memory; or it was one that isn't needed, and nothing is other. A decoder that is ended leaves
+ * nothing. Link with --wrap=malloc,--wrap=realloc. */
+#include "fezhalum_v4l2.h"
 
 #include <inttypes.h>
 #include <stdio.h>
@@ -37,13 +38,13 @@ static void decode(const uint8_t *bytes, size_t size, uint64_t number, run *so_f
     if (!decoder) exit(5);
     allocations = 0;
     failing = number;
-    for (;;) {
+    so_far->status = fezhalum_want_controls(decoder);
+    while (so_far->status == FEZHALUM_OK || so_far->status == FEZHALUM_FORMAT) {
         call.free_frames = 16;
         so_far->status = fezhalum_decode(decoder, bytes + at, size - at, &call);
         take(decoder, so_far);
         if (so_far->status == FEZHALUM_FORMAT) fezhalum_accept_format(decoder);
-        else if (so_far->status != FEZHALUM_OK) break;
-        else at += call.taken;
+        else if (so_far->status == FEZHALUM_OK) at += call.taken;
     }
     if (so_far->status == FEZHALUM_NO_UNIT) {
         so_far->status = fezhalum_flush(decoder);
@@ -69,7 +70,8 @@ int main(int argc, char **argv) {
     for (; number < 2000; number++) {
         decode(bytes, size, number, &part);
         if (allocations < number) break;
-        if (part.status != FEZHALUM_NO_MEMORY || part.count > whole.count
+        int unneeded = part.status == whole.status && part.count == whole.count;
+        if ((part.status != FEZHALUM_NO_MEMORY && !unneeded) || part.count > whole.count
             || memcmp(part.outputs, whole.outputs, part.count * sizeof *part.outputs)) {
             printf("allocation %" PRIu64 ": status %" PRIu32 ", %zu outputs\n", number, part.status, part.count);
             return 1;

@@ -1,42 +1,84 @@
 //! Structs with another number in each field, by which a program in C sees that its header has them where they are.
 ghost use Rattle.std.specs.Prelude.{◌≡◌};
-ghost use Rattle.fezhalum.specs.Numbered.{numbered_call, numbered_unit};
+ghost use prog.Memory.{capped, size};
+ghost use denote.Param.{layout};
+ghost use Rattle.hevc_queue.specs.contracts.event.Event as event_type;
+ghost use Rattle.hevc_calls.specs.contracts.calls.DecodeCall as call_type;
+ghost use Rattle.hevc_calls.specs.contracts.units.UnitCall as unit_type;
+ghost use Rattle.hevc_calls.specs.contracts.reads.UnitRead as read_type;
+ghost use Rattle.hevc_queue.specs.Events.{no_places};
+ghost use Rattle.fezhalum.specs.Numbered.{numbered_call, numbered_event, numbered_places, numbered_read, numbered_unit};
 
-use hevc_calls::{DecodeCall, UnitCall};
-use hevc_queue::{Event, bare_event};
+use hevc_calls::{DecodeCall, UnitCall, UnitRead};
+use hevc_queue::{Event, Places};
 
-/// Fills an event: its fields with 1, 2, 3 and so on, each list with its place in `lists` plus 1. Answers the size of the struct.
+/// Fills an event: its fields with 1, 2, 3 and so on, and of its first and its last list the last places. Answers the size of the
+/// struct.
 #[unsafe(no_mangle)]
 pub extern "C" fn fezhalum_layout_event(event: &mut Event) -> usize
-    ensures { event.new.place ≡ 1 }
+    ensures fields { event.new ≡ numbered_event }
+    ensures size { result ≡ capped (size (layout event_type.the_row)) }
 {
-    let mut filled = bare_event(1, 2);
-    filled.nal_unit_type = 3;
-    filled.number = 4;
-    filled.timestamp = 5;
-    filled.order_count = 6;
-    filled.is_output = 7;
-    filled.width = 8;
-    filled.height = 9;
-    filled.general_profile_idc = 10;
-    filled.bit_depth_luma_minus8 = 11;
-    filled.bit_depth_chroma_minus8 = 12;
-    filled.chroma_format_idc = 13;
-    filled.max_num_pics = 14;
-    filled.address = 15;
-    filled.size = 16;
-    filled.lists[0].count = 17;
-    filled.lists[0].numbers[15] = 18;
-    filled.lists[0].kinds[15] = 19;
-    filled.lists[4].count = 20;
-    *event = filled;
+    *event = numbered_event();
     std::mem::size_of::<Event>()
+}
+
+fn numbered_event() -> Event
+    ensures { result ≡ numbered_event }
+{
+    Event {
+        place: 1,
+        kind: 2,
+        nal_unit_type: 3,
+        number: 4,
+        timestamp: 5,
+        order_count: 6,
+        is_output: 7,
+        width: 8,
+        height: 9,
+        general_profile_idc: 10,
+        bit_depth_luma_minus8: 11,
+        bit_depth_chroma_minus8: 12,
+        chroma_format_idc: 13,
+        max_num_pics: 14,
+        address: 15,
+        size: 16,
+        lists: [
+            numbered_places(17, 18, 19),
+            no_places(),
+            no_places(),
+            no_places(),
+            numbered_places(20, 21, 22),
+        ],
+    }
+}
+
+/// A list with these in its last place.
+fn numbered_places(count: u32, number: u64, kind: u8) -> Places
+    ensures { result ≡ numbered_places count number kind }
+{
+    Places {
+        numbers: [0, 0, 0, 0, 0, 0, 0, 0, 0, 0, 0, 0, 0, 0, 0, number],
+        kinds: [0, 0, 0, 0, 0, 0, 0, 0, 0, 0, 0, 0, 0, 0, 0, kind],
+        count,
+    }
+}
+
+fn no_places() -> Places
+    ensures { result ≡ no_places }
+{
+    Places {
+        numbers: [0; 16],
+        kinds: [0; 16],
+        count: 0,
+    }
 }
 
 /// Fills what a call of decoding is given and answers, as an event is filled. Answers the size of the struct.
 #[unsafe(no_mangle)]
 pub extern "C" fn fezhalum_layout_decode_call(call: &mut DecodeCall) -> usize
-    ensures { call.new ≡ numbered_call }
+    ensures fields { call.new ≡ numbered_call }
+    ensures size { result ≡ capped (size (layout call_type.the_row)) }
 {
     *call = DecodeCall {
         timestamp: 1,
@@ -51,9 +93,17 @@ pub extern "C" fn fezhalum_layout_decode_call(call: &mut DecodeCall) -> usize
 /// Fills what is told of a unit, as an event is filled. Answers the size of the struct.
 #[unsafe(no_mangle)]
 pub extern "C" fn fezhalum_layout_unit(unit: &mut UnitCall) -> usize
-    ensures { unit.new ≡ numbered_unit }
+    ensures fields { unit.new ≡ numbered_unit }
+    ensures size { result ≡ capped (size (layout unit_type.the_row)) }
 {
-    *unit = UnitCall {
+    *unit = numbered_unit();
+    std::mem::size_of::<UnitCall>()
+}
+
+fn numbered_unit() -> UnitCall
+    ensures { result ≡ numbered_unit }
+{
+    UnitCall {
         offset: 1,
         size: 2,
         nal_unit_type: 3,
@@ -61,6 +111,20 @@ pub extern "C" fn fezhalum_layout_unit(unit: &mut UnitCall) -> usize
         temporal_id: 5,
         table: 6,
         row: 7,
-    };
-    std::mem::size_of::<UnitCall>()
+    }
+}
+
+/// Fills the unit of what was read as `fezhalum_layout_unit` does, and then the last field of each set and of the header with 8 to 11.
+/// Answers the size of the struct.
+#[unsafe(no_mangle)]
+pub extern "C" fn fezhalum_layout_read(told: &mut UnitRead) -> usize
+    ensures fields { told.new ≡ numbered_read told.old }
+    ensures size { result ≡ capped (size (layout read_type.the_row)) }
+{
+    told.unit = numbered_unit();
+    told.vps.flags = 8;
+    told.sps.flags = 9;
+    told.pps.flags = 10;
+    told.slice.flags = 11;
+    std::mem::size_of::<UnitRead>()
 }

@@ -1,7 +1,9 @@
 //! The decoder for C: each call of `hevc_calls` over the decoder that lies at a pointer.
 #![tactic(auto)]
 
+mod controls;
 mod layout;
+mod sets;
 
 ghost use Rattle.std.specs.Prelude.{◌≡◌};
 ghost use Rattle.std.specs.Borrow.{full_share, sem};
@@ -37,9 +39,9 @@ pub extern "C" fn fezhalum_size() -> usize
 /// The version of the calls and the structs: 65536 times its first number, and its second.
 #[unsafe(no_mangle)]
 pub extern "C" fn fezhalum_api_version() -> u32
-    ensures { result ≡ 1 }
+    ensures { result ≡ 2 }
 {
-    1
+    2
 }
 
 fn fresh(alloc: Global) -> PullDecoder

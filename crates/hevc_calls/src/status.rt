@@ -10,6 +10,15 @@ pub const FORMAT_NOT_AWAITED: u32 = 16;
 /// There are 2^60 bytes or more, or a place isn't among them.
 pub const TOO_LONG: u32 = 17;
 
+/// A picture parameter set names a sequence parameter set that isn't kept.
+pub const MISSING_SPS: u32 = 18;
+
+/// No struct of Linux's stateless decoders was filled.
+pub const NO_CONTROLS: u32 = 19;
+
+/// An allocation failed.
+pub(crate) const NO_MEMORY: u32 = 4;
+
 /// The status of an error. 0 is none.
 pub(crate) fn status_of(error: &DecodeError) -> u32
     ensures { result ≡ status_of error.now }

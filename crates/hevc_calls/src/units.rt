@@ -50,7 +50,7 @@ pub fn next_unit(bytes: &[u8], from: usize, unit: &mut UnitCall) -> u32
 }
 
 /// What is told of a unit.
-fn unit_of(nalu: &Nalu<'_, NaluHeader>) -> UnitCall
+pub(crate) fn unit_of(nalu: &Nalu<'_, NaluHeader>) -> UnitCall
     ensures { result ≡ told_unit nalu.now }
 {
     let header = nalu.header();
@@ -66,7 +66,7 @@ fn unit_of(nalu: &Nalu<'_, NaluHeader>) -> UnitCall
 }
 
 /// What is told where there is none.
-fn refused_unit(error: &DecodeError) -> UnitCall
+pub(crate) fn refused_unit(error: &DecodeError) -> UnitCall
     ensures { result ≡ refused_unit error.now }
 {
     UnitCall {
@@ -81,7 +81,7 @@ fn refused_unit(error: &DecodeError) -> UnitCall
 }
 
 /// The type of a unit.
-fn type_number(nalu: &Nalu<'_, NaluHeader>) -> u32
+pub(crate) fn type_number(nalu: &Nalu<'_, NaluHeader>) -> u32
     ensures { result ≡ nalu.now.header.nal_unit_type }
 {
     number_of(nalu.header().nalu_type())

@@ -5,7 +5,7 @@ use Rattle.hevc_stateless.specs.States.{is_awaited}
 use Rattle.hevc_stateless.specs.Views.{View}
 use Rattle.hevc_queue.specs.declared.event.Event.{Event}
 use Rattle.hevc_queue.specs.Events.{event_of}
-use Rattle.hevc_queue.specs.Queue.{Queue}
+use Rattle.hevc_queue.specs.Queue.{Queue, log_of}
 use Rattle.hevc_pull.specs.declared.pulled.Pulled.{Pulled}
 use Rattle.hevc_pull.specs.declared.pulled.Pulled.TheVariants.{Asked, Output, FormatChanged}
 
@@ -18,7 +18,7 @@ outputs_are_due (event ∷ events) = event.kind == 1
 pub record TakesEvent (event : Event) (before now : Queue) : Type 0 where
   pub first : before.waiting ≡ event ∷ now.waiting
   -- it is the event of the call at its place in the log
-  pub told : (d : Call ℕ) → event ≡ event_of before.taken (slice_index_or before.log before.taken d)
+  pub told : (d : Call ℕ) → event ≡ event_of before.taken (slice_index_or (log_of before) before.taken d)
   pub others : now ≡ record before { waiting = now.waiting; taken = before.taken + 1 }
 
 -- Events come in order. Outputs come in order too: after all events, but before that of a sequence.

@@ -1,5 +1,5 @@
 -- What contracts see of a decoder that calls nobody.
-use Rattle.std.specs.Prelude.{ℕ, Option, Some, None, List}
+use Rattle.std.specs.Prelude.{ℕ, Option, Some, List}
 use Rattle.hevc_stream.specs.Kept.{Kept}
 use Rattle.hevc_stream.specs.Options.{Options}
 use Rattle.hevc_backend.specs.declared.call.Call.{Call}
@@ -8,15 +8,15 @@ use Rattle.hevc_driver.specs.Does.{Traces}
 use Rattle.hevc_stateless.specs.Decoders.{kept_in, seen_by, set_for, view_of}
 use Rattle.hevc_stateless.specs.Steps.{Seen}
 use Rattle.hevc_stateless.specs.Views.{View, traces_of}
-use Rattle.hevc_queue.specs.Queue.{Queue}
+use Rattle.hevc_queue.specs.Queue.{Queue, handed_of, log_of}
 use Rattle.hevc_pull.specs.declared.decoder.PullDecoder.{PullDecoder}
 
 -- what its backend tells
 abbrev pub told_log : Queue → Option (List (Call ℕ))
-told_log q = Some q.log
+told_log q = Some (log_of q)
 
 abbrev pub told_handed : Queue → Option (List Handed)
-told_handed q = None
+told_handed q = Some (handed_of q)
 
 -- its queue of events, its state, and what the pictures so far mean
 abbrev pub view_in : PullDecoder → View Queue ℕ

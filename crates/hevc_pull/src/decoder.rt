@@ -1,5 +1,5 @@
 //! The decoder and its calls.
-ghost use Rattle.std.specs.Prelude.{◌≡◌, ◌<◌, ◌≤◌, ◌↔◌, [], true, length, IfOk, IfNone, IsOk, OnErr, OnOk, MatchOption};
+ghost use Rattle.std.specs.Prelude.{◌≡◌, ◌<◌, ◌≤◌, ◌↔◌, [], true, length, Some, IfOk, IfNone, IfSome, IsOk, OnErr, OnOk, MatchOption};
 ghost use Rattle.hevc_bits.specs.declared.stream_limit.TheConstants.{STREAM_LIMIT};
 ghost use Rattle.hevc_spec.specs.Units.{units};
 ghost use Rattle.hevc_stream.specs.Kept.{none_kept};
@@ -10,15 +10,17 @@ ghost use Rattle.hevc_stateless.specs.Flushes.{Flushes};
 ghost use Rattle.hevc_stateless.specs.States.{is_awaited};
 ghost use Rattle.hevc_stateless.specs.Steps.{TakesFirst};
 ghost use Rattle.hevc_stateless.specs.Views.{at_beginning, OutputsFew, PopsFrame};
-ghost use Rattle.hevc_queue.specs.Queue.{new_queue};
+ghost use Rattle.hevc_queue.specs.Controls.{filled_picture, filled_slice, latest_picture_controls, latest_slice_control};
+ghost use Rattle.hevc_queue.specs.Queue.{new_queue, with_controls};
 ghost use Rattle.hevc_pull.specs.Views.{kept_of, options_for, seen_of, traces_in, view_in, with_free_frames};
 ghost use Rattle.hevc_pull.specs.Pulling.{PullsNext, TakesEvent, outputs_are_due};
 
 use crate::pulled::Pulled;
 use hevc_driver::{DecodeError, Frame, Options};
-use hevc_queue::{Event, QueueBackend};
+use hevc_queue::{Event, PictureControls, QueueBackend};
 use hevc_stateless::{DecoderEvent, StatelessDecoder};
-use std::alloc::Global;
+use hevc_v4l2::{ControlError, V4l2CtrlHevcSliceParams};
+use std::alloc::{AllocError, Global};
 use thiserror::Error;
 
 /// No format is awaited.
@@ -166,6 +168,42 @@ impl PullDecoder {
         let mut backend = self.decoder.replace_backend(stand_in);
         backend.set_free_frames(free_frames);
         let _stand_in = self.decoder.replace_backend(backend);
+    }
+
+    /// From here on, the structs of Linux's stateless decoders are filled with each picture that begins, and each slice segment of it.
+    ///
+    /// Errors: an allocation fails.
+    pub fn want_controls(&mut self) -> Result<(), AllocError>
+        ensures wanted { OnOk result (view_in self.new ≡ record (view_in self.old) {
+          backend = with_controls (view_in self.old).backend;
+        }) }
+        ensures unchanged { OnErr result (view_in self.new ≡ view_in self.old) }
+        ensures kept { kept_of self.new ≡ kept_of self.old }
+        ensures options { options_for self.new ≡ options_for self.old }
+    {
+        let stand_in = self.decoder.backend().stand_in(self.alloc);
+        let mut backend = self.decoder.replace_backend(stand_in);
+        let done = backend.want_controls(self.alloc);
+        let _stand_in = self.decoder.replace_backend(backend);
+        done
+    }
+
+    /// The structs of the latest picture that began, or what they can't hold; None where structs aren't wanted, or none has begun since.
+    pub fn picture_controls(&self) -> Option<Result<PictureControls, ControlError>>
+        ensures value { result ≡ filled_picture (view_in self.now).backend.controls }
+        ensures latest { IfSome result
+            (λ filled. latest_picture_controls (view_in self.now).backend.given ≡ Some filled) }
+    {
+        self.decoder.backend().picture_controls()
+    }
+
+    /// The struct of its latest slice segment, or what it can't hold; None where there is none.
+    pub fn slice_control(&self) -> Option<Result<V4l2CtrlHevcSliceParams, ControlError>>
+        ensures value { result ≡ filled_slice (view_in self.now).backend.controls }
+        ensures latest { IfSome result
+            (λ filled. latest_slice_control (view_in self.now).backend.given ≡ Some filled) }
+    {
+        self.decoder.backend().slice_control()
     }
 
     /// Whether a format was negotiated that isn't accepted yet.

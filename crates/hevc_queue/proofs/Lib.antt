@@ -1,1 +1,2 @@
+pub mod ControlLaws
 pub mod QueueLaws

@@ -1,9 +1,11 @@
 -- The queue after a call, and its first event.
-use Rattle.std.proofs.Common.{◌≡◌, ℕ, zero, suc, ◌+◌, List, [], ◌∷◌, ◌++◌, length, drop, get_or, refl, ap, sym, ◌∙◌, arith}
-use Rattle.std.proofs.lemmas.List.{drop-append-le, length_push}
+use Rattle.std.proofs.Common.{◌≡◌, ℕ, zero, suc, ◌+◌, List, [], ◌∷◌, ◌++◌, length, drop, map, get_or, refl, ap, sym, ◌∙◌, arith}
+use Rattle.std.proofs.lemmas.List.{drop-append-le, length_push, length-map, map-append}
 use Rattle.hevc_backend.specs.declared.call.Call.{Call}
 use Rattle.hevc_queue.specs.declared.event.Event.{Event}
+use Rattle.hevc_queue.specs.declared.given.Given.{Given}
 use Rattle.hevc_queue.specs.Events.{event_of, events_from, events_of}
+use Rattle.hevc_queue.specs.Given.{call_of}
 
 length-events_from : (k : ℕ) (calls : List (Call ℕ)) → length (events_from k calls) ≡ length calls
 length-events_from k [] = refl
@@ -45,20 +47,24 @@ waits_more log call taken called place waiting event before at is =
           ∙ drop-append-le taken (events_from 0 log) (event_of place call ∷ []) (omega arith)));
     }
 
--- the same of a queue and a log that were changed
-pub queue_more : (log log' : List (Call ℕ)) (call : Call ℕ) (taken called place : ℕ)
+-- the same of a queue and of what was given, which were changed
+pub queue_more : {X : Type 0} (given given' : List Given) (g : Given) (taken called place : ℕ)
     (waiting waiting' : List Event) (event : Event)
-    → (called ≡ length log) × (taken + length waiting ≡ called)
-    × (waiting ≡ drop taken (events_of log))
-    → place ≡ length log → event ≡ event_of place call
-    → waiting' ≡ waiting ++ event ∷ [] → log' ≡ log ++ call ∷ []
-    → (place + 1 ≡ length log') × (taken + length waiting' ≡ place + 1)
-    × (waiting' ≡ drop taken (events_of log'))
-queue_more log log' call taken called place waiting waiting' event before at is pushed logged =
+    → (called ≡ length given) × (taken + length waiting ≡ called)
+    × (waiting ≡ drop taken (events_of (map call_of given))) × X
+    → place ≡ length given → event ≡ event_of place (call_of g)
+    → waiting' ≡ waiting ++ event ∷ [] → given' ≡ given ++ g ∷ []
+    → (place + 1 ≡ length given') × (taken + length waiting' ≡ place + 1)
+    × (waiting' ≡ drop taken (events_of (map call_of given')))
+queue_more given given' g taken called place waiting waiting' event before at is pushed told =
+    let log = map call_of given in
+    let few : length log ≡ length given = length-map given call_of in
     let held : Waits log taken called waiting =
-    record { counted = before.0; all = before.1; last = before.2 } in
-    let now = waits_more log call taken called place waiting event held at is in
-    rw (pushed, logged) (now.counted, now.all, now.last)
+    record { counted = before.0 ∙ sym few; all = before.1; last = before.2 } in
+    let now = waits_more log (call_of g) taken called place waiting event held (at ∙ sym few) is in
+    let more : map call_of (given ++ g ∷ []) ≡ log ++ call_of g ∷ [] = map-append call_of given (g ∷ []) in
+    let many : length (given ++ g ∷ []) ≡ place + 1 = omega (arith, length_push given g) in
+    rw (pushed, told, more) (sym many, now.all, now.last)
 
 -- the first of the events from a place on is that of the call there
 pub first_event : (k : ℕ) (calls : List (Call ℕ)) (taken : ℕ) (event : Event) (events : List Event)

@@ -1,2 +1,5 @@
+pub mod Controls
 pub mod Events
+pub mod Given
 pub mod Queue
+pub mod QueueCode

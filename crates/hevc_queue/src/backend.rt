@@ -3,17 +3,21 @@ ghost use Rattle.std.specs.Prelude.{◌≡◌, ◌+◌, ◌<◌, ◌^◌, ◌↔
 ghost use Rattle.hevc_backend.specs.Trait.{CountsFaults};
 ghost use Rattle.hevc_backend.specs.declared.call.Call.{Call};
 ghost use Rattle.hevc_queue.specs.Events.{event_of, events_of};
-ghost use Rattle.hevc_queue.specs.Queue.{begins_sequence, new_queue};
+ghost use Rattle.hevc_queue.specs.Controls.{filled_picture, filled_slice, latest_picture_controls, latest_slice_control};
+ghost use Rattle.hevc_queue.specs.Queue.{begins_sequence, handed_of, log_of, new_queue, with_controls};
 
 use crate::asked::{picture_event, sequence_event, sets_event, slice_event, submission_event};
+use crate::controls::{Controls, PictureControls, fill_picture, fill_slice, no_controls};
 use crate::event::Event;
-use hevc_backend::{BackendError, Call, NegotiationInfo, StatelessH265DecoderBackend, StreamInfo};
+use crate::given::Given;
+use hevc_backend::{BackendError, NegotiationInfo, StatelessH265DecoderBackend, StreamInfo};
 use hevc_dpb::{Dpb, PictureData};
 use hevc_history::History;
 use hevc_refs::{RefPicList, RefPicSet};
 use hevc_types_c::Sps;
 use hevc_types_d::{Pps, Slice};
-use std::alloc::Global;
+use hevc_v4l2::{ControlError, V4l2CtrlHevcSliceParams};
+use std::alloc::{AllocError, Global};
 use std::collections::VecDeque;
 use std::marker::Model;
 
@@ -34,29 +38,38 @@ pub struct QueueBackend {
     faults: u64,
     empty_answers: u64,
     room: bool,
-    /// The calls, for proofs alone.
-    history: History<Call<u64>>,
+    /// The structs of Linux's stateless decoders, where they are wanted.
+    controls: Option<Box<Controls>>,
+    /// What the calls were given, for proofs alone.
+    history: History<Given>,
 }
 
 impl Model for QueueBackend {
-    ghost use Rattle.std.specs.Prelude.{◌≡◌, ◌+◌, drop, length};
+    ghost use Rattle.std.specs.Prelude.{◌≡◌, ◌+◌, drop, length, map};
+    ghost use Rattle.hevc_queue.specs.Controls.{AreLatestIn, wanted};
     ghost use Rattle.hevc_queue.specs.Events.{events_of};
+    ghost use Rattle.hevc_queue.specs.Given.{call_of};
     ghost use Rattle.hevc_queue.specs.Queue.{Queue};
+    ghost use Rattle.hevc_queue.specs.QueueCode.{queue_code};
 
     ghost Value = { Queue };
 
+    ghost coded = { queue_code };
+
     ghost view = { λ b. record {
-      log = b.history.items;
+      given = b.history.items;
       taken = b.taken;
       waiting = b.events.items;
       free_frames = b.free_frames;
       counts = record { faults = b.faults; empty_answers = b.empty_answers };
       room = b.room;
+      controls = wanted b.controls;
     } };
 
     ghost invariant = { λ b. (b.called ≡ length b.history.items)
         × (b.taken + length b.events.items ≡ b.called)
-        × (b.events.items ≡ drop b.taken (events_of b.history.items)) };
+        × (b.events.items ≡ drop b.taken (events_of (map call_of b.history.items)))
+        × AreLatestIn b.history.items (wanted b.controls) };
 }
 
 impl QueueBackend {
@@ -72,13 +85,15 @@ impl QueueBackend {
             faults: 0,
             empty_answers: 0,
             room: false,
+            controls: None,
             history: History::new(),
         }
     }
 
     /// A backend that took the same calls, and of which no event waits: one that stands in for this one while its events are taken.
     pub fn stand_in(&self, alloc: Global) -> QueueBackend
-        ensures { result ≡ record self.now { taken = length self.now.log; waiting = [] } }
+        ensures { result ≡ record self.now
+            { taken = length self.now.given; waiting = []; controls = None } }
     {
         QueueBackend {
             events: VecDeque::new(alloc),
@@ -88,6 +103,7 @@ impl QueueBackend {
             faults: self.faults,
             empty_answers: self.empty_answers,
             room: self.room,
+            controls: None,
             history: self.history.again(),
         }
     }
@@ -112,8 +128,8 @@ impl QueueBackend {
     /// How many events wait. These are the events of the calls of the log that were not taken yet, in order.
     pub fn num_waiting(&self) -> usize
         ensures value { result ≡ length self.now.waiting }
-        ensures events { self.now.waiting ≡ drop self.now.taken (events_of self.now.log) }
-        ensures all { self.now.taken + length self.now.waiting ≡ length self.now.log }
+        ensures events { self.now.waiting ≡ drop self.now.taken (events_of (log_of self.now)) }
+        ensures all { self.now.taken + length self.now.waiting ≡ length self.now.given }
     {
         self.events.len()
     }
@@ -123,21 +139,56 @@ impl QueueBackend {
         ensures none { IsNone result ↔ (self.old.waiting ≡ []) }
         ensures first { IfSome result (λ event. self.old.waiting ≡ event ∷ self.new.waiting) }
         ensures told { IfSome result (λ event. (d : Call ℕ)
-            → event ≡ event_of self.old.taken (slice_index_or self.old.log self.old.taken d)) }
+            → event ≡ event_of self.old.taken (slice_index_or (log_of self.old) self.old.taken d)) }
         ensures taken { IfSome result (λ _. self.new
             ≡ record self.old { waiting = self.new.waiting; taken = self.old.taken + 1 }) }
         ensures unchanged { IfNone result (self.new ≡ self.old) }
     {
         let event = self.events.pop_front()?;
+        prove!(self.taken < self.called);
         self.taken += 1;
         Some(event)
+    }
+
+    /// From here on, the structs of Linux's stateless decoders are filled with each picture that begins.
+    ///
+    /// Errors: an allocation fails; all stays.
+    pub fn want_controls(&mut self, alloc: Global) -> Result<(), AllocError>
+        ensures wanted { OnOk result (self.new ≡ with_controls self.old) }
+        ensures unchanged { OnErr result (self.new ≡ self.old) }
+    {
+        if self.controls.is_none() {
+            self.controls = Some(Box::new(alloc, no_controls())?);
+        }
+        Ok(())
+    }
+
+    /// The structs of the latest picture that began, or what they can't hold; None where structs aren't wanted, or none has begun since.
+    pub fn picture_controls(&self) -> Option<Result<PictureControls, ControlError>>
+        ensures value { result ≡ filled_picture self.now.controls }
+        ensures latest { IfSome result
+            (λ filled. latest_picture_controls self.now.given ≡ Some filled) }
+    {
+        let controls = self.controls.as_ref()?;
+        let begun = controls.begun.as_ref()?;
+        Some(begun.filled)
+    }
+
+    /// The struct of its latest slice segment, or what it can't hold; None where there is none.
+    pub fn slice_control(&self) -> Option<Result<V4l2CtrlHevcSliceParams, ControlError>>
+        ensures value { result ≡ filled_slice self.now.controls }
+        ensures latest { IfSome result
+            (λ filled. latest_slice_control self.now.given ≡ Some filled) }
+    {
+        let controls = self.controls.as_ref()?;
+        controls.slice
     }
 
     /// The place of the next call in the log.
     ///
     /// Errors: no place is left, which counts as a fault.
     fn next_place(&mut self) -> Result<u64, BackendError>
-        ensures place { IfOk result (λ place. place ≡ length self.new.log) }
+        ensures place { IfOk result (λ place. place ≡ length self.new.given) }
         ensures unchanged { OnOk result (self.new ≡ self.old) }
         ensures left { IfOk result (λ place. place + 1 < 2 ^ 64) }
         ensures cause { CountsFaults self.old.counts self.new.counts result }
@@ -156,9 +207,9 @@ impl StatelessH265DecoderBackend for QueueBackend {
 
     type Picture = u64;
 
-    ghost log = { λ b. Some b.log };
+    ghost log = { λ b. Some (log_of b) };
 
-    ghost handed = { λ _. None };
+    ghost handed = { λ b. Some (handed_of b) };
 
     ghost counts = { λ b. b.counts };
 
@@ -197,18 +248,21 @@ impl StatelessH265DecoderBackend for QueueBackend {
         &mut self,
         number: u64,
         _picture: &mut u64,
-        _picture_data: &PictureData,
-        _sps: &Sps,
-        _pps: &Pps,
-        _dpb: &Dpb<u64>,
+        picture_data: &PictureData,
+        sps: &Sps,
+        pps: &Pps,
+        dpb: &Dpb<u64>,
         rps: &RefPicSet,
-        _slice: &Slice<'_>,
+        slice: &Slice<'_>,
     ) -> Result<(), BackendError> {
         let place = self.next_place()?;
         let event = sets_event(place, number, rps);
         self.events.push_back(event)?;
-        self.history = self.history.and(&(number, rps));
+        self.history = self
+            .history
+            .and(&(number, picture_data, sps, pps, dpb, rps, slice));
         self.called = place + 1;
+        fill_picture(&mut self.controls, picture_data, sps, pps, dpb, rps, slice);
         Ok(())
     }
 
@@ -217,19 +271,34 @@ impl StatelessH265DecoderBackend for QueueBackend {
         number: u64,
         _picture: &mut u64,
         slice: &Slice<'_>,
-        _sps: &Sps,
-        _pps: &Pps,
-        _dpb: &Dpb<u64>,
+        sps: &Sps,
+        pps: &Pps,
+        dpb: &Dpb<u64>,
         ref_pic_list0: &RefPicList,
         ref_pic_list1: &RefPicList,
     ) -> Result<(), BackendError> {
         let place = self.next_place()?;
         let event = slice_event(place, number, slice, ref_pic_list0, ref_pic_list1);
         self.events.push_back(event)?;
-        self.history = self
-            .history
-            .and(&(number, slice, ref_pic_list0, ref_pic_list1));
+        self.history = self.history.and(&(
+            number,
+            slice,
+            sps,
+            pps,
+            dpb,
+            ref_pic_list0,
+            ref_pic_list1,
+        ));
         self.called = place + 1;
+        fill_slice(
+            &mut self.controls,
+            slice,
+            sps,
+            pps,
+            dpb,
+            ref_pic_list0,
+            ref_pic_list1,
+        );
         Ok(())
     }
 

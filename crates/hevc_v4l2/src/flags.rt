@@ -3,7 +3,7 @@ ghost use Rattle.std.specs.Prelude.{◌≡◌, ◌≤◌, ◌<◌, ◌^◌, leng
 ghost use Rattle.hevc_v4l2.specs.Flags.{flags_of};
 
 /// The flags in one number, each at the bit of its place: the first at bit 0.
-pub(crate) fn flag_bits(flags: &[bool]) -> u64
+pub fn flag_bits(flags: &[bool]) -> u64
     requires { length flags.now ≤ 32 }
     ensures value { result ≡ flags_of flags.now }
     ensures bound { result < 2 ^ length flags.now }

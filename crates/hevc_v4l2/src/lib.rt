@@ -17,6 +17,7 @@ mod weights;
 pub use buffer::V4l2HevcDpbEntry;
 pub use decode::{V4l2CtrlHevcDecodeParams, decode_control};
 pub use error::ControlError;
+pub use flags::flag_bits;
 pub use picture_set::{V4l2CtrlHevcPps, pps_control};
 pub use scaling::{V4l2CtrlHevcScalingMatrix, scaling_control};
 pub use scan::scans_are_permutations;

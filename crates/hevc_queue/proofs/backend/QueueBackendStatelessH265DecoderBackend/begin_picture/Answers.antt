@@ -1,15 +1,30 @@
+use contract.BorrowLft.{⊑_meet, ⊑_static}
 use Rattle.std.proofs.Common.{length, ap, sym, ◌∙◌}
-use Rattle.hevc_backend.specs.Calls.{begin_picture_call}
+use Rattle.hevc_queue.specs.declared.given.Given.TheVariants.{Begun}
+use Rattle.hevc_queue.specs.Controls.{wanted}
+use Rattle.hevc_queue.specs.Given.{begun_with}
 use Rattle.hevc_queue.specs.Queue.{Queue}
+use Rattle.hevc_queue.proofs.ControlLaws.{latest_begins}
 use Rattle.hevc_queue.proofs.QueueLaws.{queue_more}
 use Rattle.hevc_queue.proofs.backend.QueueBackendStatelessH265DecoderBackend.begin_picture.Goals as goal
 
--- the queue after the call
+-- the queue after the call, and what is filled
 pub invariant_of-self-2 : goal.invariant_of-self-2
 invariant_of-self-2 c =
     let q = c.self.inside in
-    let at = c.in_ok-place.ensures.place ∙ ap (λ (queue : Queue). length queue.log) (sym c.self.view_is) in
-    queue_more q.history.items c.and-self-inside.result.items (begin_picture_call c.args.number c.args.rps.now)
+    let a = c.args in
+    let given = begun_with a.number a.picture_data.now a.sps.now a.pps.now a.dpb.now a.rps.now a.slice.now in
+    let at = c.in_ok-place.ensures.place ∙ ap (λ (queue : Queue). length queue.given) (sym c.self.view_is) in
+    let more =
+    queue_more q.history.items c.and-self-inside.result.items (Begun given)
     q.taken q.called c.in_ok-place.place q.events.items c.push_back.new.self.items c.sets_event-event.result
     c.self.invariant at (c.sets_event-event.ensures)
-    c.in_ok-push_back.ensures.items c.and-self-inside.ensures
+    c.in_ok-push_back.ensures.items c.and-self-inside.ensures in
+    let filled = latest_begins q.history.items given (wanted q.controls) (wanted c.fill_picture.new.controls) c.fill_picture.ensures in
+    (more.0, more.1, more.2, rw c.and-self-inside.ensures filled)
+
+-- the call is told of what lives as long as the arguments
+pub and-self-inside-requires : goal.and-self-inside-requires
+and-self-inside-requires c κs within =
+    let told = (⊑_meet _ _ _ (⊑_meet _ _ _ within.0 (⊑_static _)) (⊑_meet _ _ _ (⊑_meet _ _ _ within.1.0 (⊑_static _)) (⊑_meet _ _ _ (⊑_meet _ _ _ within.1.1.0 (⊑_static _)) (⊑_meet _ _ _ (⊑_meet _ _ _ within.1.1.1.0 (⊑_static _)) (⊑_meet _ _ _ (⊑_meet _ _ _ within.1.1.1.1.0 (⊑_static _)) (⊑_meet _ _ _ (⊑_meet _ _ _ within.1.1.1.1.1.0 (⊑_meet _ _ _ (⊑_meet _ _ _ (⊑_meet _ _ _ within.1.1.1.1.1.1.0 (⊑_static _)) (⊑_static _)) (⊑_static _))) (⊑_static _))))))) in
+    (⊑_static _, ⊑_meet _ _ _ told told)

@@ -1,6 +1,8 @@
-use Rattle.hevc_backend.specs.Calls.{begin_picture_call}
+use Rattle.hevc_queue.specs.declared.given.Given.TheVariants.{Begun}
+use Rattle.hevc_queue.specs.Given.{begun_with}
 use Rattle.hevc_queue.proofs.backend.QueueBackendStatelessH265DecoderBackend.begin_picture.Given as goal
 
--- the call that was made
+-- what the call was given
 abbrev pub ghost-and : goal.ghost-and
-ghost-and a = begin_picture_call a._told.now.0 a._told.now.1.now
+ghost-and a = let t = a._told.now in
+    Begun (begun_with t.0 t.1.now t.2.now t.3.now t.4.now t.5.now t.6.now)

@@ -1,6 +1,8 @@
-use Rattle.std.proofs.Common.{length, ap, sym, ◌∙◌}
-use Rattle.hevc_backend.specs.Calls.{new_picture_call}
+use Rattle.std.proofs.Common.{length, refl, ap, sym, ◌∙◌}
+use Rattle.hevc_queue.specs.Controls.{wanted}
+use Rattle.hevc_queue.specs.declared.given.Given.TheVariants.{Picture}
 use Rattle.hevc_queue.specs.Queue.{Queue}
+use Rattle.hevc_queue.proofs.ControlLaws.{latest_stay}
 use Rattle.hevc_queue.proofs.QueueLaws.{queue_more}
 use Rattle.hevc_queue.proofs.backend.QueueBackendStatelessH265DecoderBackend.new_picture.Goals as goal
 
@@ -8,8 +10,12 @@ use Rattle.hevc_queue.proofs.backend.QueueBackendStatelessH265DecoderBackend.new
 pub invariant_of-self-2 : goal.invariant_of-self-2
 invariant_of-self-2 c =
     let q = c.self.inside in
-    let at = c.in_ok-place.ensures.place ∙ ap (λ (queue : Queue). length queue.log) (sym c.self.view_is) in
-    queue_more q.history.items c.and-self-inside.result.items (new_picture_call c.args.number c.args.picture.now c.args.timestamp)
+    let g = Picture c.args.number c.args.picture.now c.args.timestamp in
+    let at = c.in_ok-place.ensures.place ∙ ap (λ (queue : Queue). length queue.given) (sym c.self.view_is) in
+    let more =
+    queue_more q.history.items c.and-self-inside.result.items g
     q.taken q.called c.in_ok-place.place q.events.items c.push_back.new.self.items c.picture_event-event.result
     c.self.invariant at (c.picture_event-event.ensures)
-    c.in_ok-push_back.ensures.items c.and-self-inside.ensures
+    c.in_ok-push_back.ensures.items c.and-self-inside.ensures in
+    let filled = latest_stay q.history.items g (wanted q.controls) refl refl c.self.invariant.3 in
+    (more.0, more.1, more.2, rw c.and-self-inside.ensures filled)

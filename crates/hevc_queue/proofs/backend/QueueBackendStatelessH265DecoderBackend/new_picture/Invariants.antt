@@ -1,6 +1,6 @@
-use Rattle.hevc_backend.specs.Calls.{new_picture_call}
+use Rattle.hevc_queue.specs.declared.given.Given.TheVariants.{Picture}
 use Rattle.hevc_queue.proofs.backend.QueueBackendStatelessH265DecoderBackend.new_picture.Given as goal
 
--- the call that was made
+-- what the call was given
 abbrev pub ghost-and : goal.ghost-and
-ghost-and a = new_picture_call a._told.now.0 a._told.now.1.now a._told.now.2
+ghost-and a = Picture a._told.now.0 a._told.now.1.now a._told.now.2

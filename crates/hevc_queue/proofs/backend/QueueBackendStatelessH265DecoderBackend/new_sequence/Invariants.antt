@@ -1,6 +1,6 @@
-use Rattle.hevc_backend.specs.Calls.{new_sequence_call}
+use Rattle.hevc_queue.specs.declared.given.Given.TheVariants.{Sequence}
 use Rattle.hevc_queue.proofs.backend.QueueBackendStatelessH265DecoderBackend.new_sequence.Given as goal
 
--- the call that was made
+-- what the call was given
 abbrev pub ghost-and : goal.ghost-and
-ghost-and a = new_sequence_call a._told.now
+ghost-and a = Sequence a._told.now

@@ -1,6 +1,6 @@
-use Rattle.hevc_backend.specs.declared.call.Call.TheVariants.{SubmitPicture}
+use Rattle.hevc_queue.specs.declared.given.Given.TheVariants.{Submission}
 use Rattle.hevc_queue.proofs.backend.QueueBackendStatelessH265DecoderBackend.submit_picture.Given as goal
 
--- the call that was made
+-- what the call was given
 abbrev pub ghost-and : goal.ghost-and
-ghost-and a = SubmitPicture a._told.now a._told.now
+ghost-and a = Submission a._told.now

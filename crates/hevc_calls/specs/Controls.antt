@@ -1,0 +1,55 @@
+-- What is filled for Linux's stateless decoders, as C sees it.
+use Rattle.std.specs.Prelude.{◌≡◌, ◌⊎◌, ℕ, Option, Some, None, Result, Ok, Err}
+use Rattle.hevc_v4l2.specs.declared.error.ControlError.{ControlError}
+use Rattle.hevc_v4l2.specs.declared.error.ControlError.TheVariants.{TileColumns, TileRows, UnitSize, ShortTermSize, ChromaDenominator, LumaOffset, ChromaOffset, CurrentPicture}
+use Rattle.hevc_v4l2.specs.declared.slice.V4l2CtrlHevcSliceParams.{V4l2CtrlHevcSliceParams}
+use Rattle.hevc_queue.specs.declared.controls.PictureControls.{PictureControls}
+use Rattle.hevc_queue.specs.Controls.{filled_picture, filled_slice, latest_picture_controls, latest_slice_control}
+use Rattle.hevc_queue.specs.Queue.{with_controls}
+use Rattle.hevc_pull.specs.declared.decoder.PullDecoder.{PullDecoder}
+use Rattle.hevc_pull.specs.Views.{kept_of, options_for, view_in}
+
+-- each thing that can't be held has a status of its own
+abbrev pub status_of_control : ControlError → ℕ
+status_of_control TileColumns = 20
+status_of_control TileRows = 21
+status_of_control UnitSize = 22
+status_of_control ShortTermSize = 23
+status_of_control ChromaDenominator = 24
+status_of_control LumaOffset = 25
+status_of_control ChromaOffset = 26
+status_of_control CurrentPicture = 27
+
+-- What was filled is that of the latest call, and is told; what can't be held is told by its status,
+-- and status 19 that nothing was filled: then the struct stays.
+abbrev pub Fills : {X : Type 0} → (filled latest : Option (Result X ControlError)) → (old new : X)
+    → (status : ℕ) → Type 0
+Fills None latest old new status = (status ≡ 19) × (new ≡ old)
+Fills (Some (Ok struct)) latest old new status =
+    (latest ≡ Some (Ok struct)) × (status ≡ 0) × (new ≡ struct)
+Fills (Some (Err error)) latest old new status =
+    (latest ≡ Some (Err error)) × (status ≡ status_of_control error) × (new ≡ old)
+
+-- the structs of the latest picture that began, by what the call on the backend was given
+abbrev pub FillsPicture : (before now : PullDecoder) → (old new : PictureControls) → (status : ℕ)
+    → Type 0
+FillsPicture before now old new status =
+    (now ≡ before)
+    × Fills (filled_picture (view_in before).backend.controls)
+    (latest_picture_controls (view_in before).backend.given) old new status
+
+-- that of its latest slice segment
+abbrev pub FillsSlice : (before now : PullDecoder) → (old new : V4l2CtrlHevcSliceParams)
+    → (status : ℕ) → Type 0
+FillsSlice before now old new status =
+    (now ≡ before)
+    × Fills (filled_slice (view_in before).backend.controls)
+    (latest_slice_control (view_in before).backend.given) old new status
+
+-- structs are wanted from here on, or an allocation failed
+pub record WantsControls (before now : PullDecoder) (status : ℕ) : Type 0 where
+  pub view : ((status ≡ 0) × (view_in now ≡ record (view_in before)
+      { backend = with_controls (view_in before).backend }))
+      ⊎ ((status ≡ 4) × (view_in now ≡ view_in before))
+  pub kept : kept_of now ≡ kept_of before
+  pub options : options_for now ≡ options_for before

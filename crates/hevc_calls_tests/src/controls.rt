@@ -1,0 +1,56 @@
+//! The structs of Linux's stateless decoders over a decoder.
+use hevc_calls::{
+    DecodeCall, accept_format, decode, picture_controls, slice_control, want_controls,
+};
+use hevc_driver::Options;
+use hevc_made::make_stream;
+use hevc_pull::PullDecoder;
+use std::test::Fail;
+
+/// Decodes the units of a stream up to the second picture.
+fn decode_some(decoder: &mut PullDecoder, stream: &[u8]) -> Result<(), Fail> {
+    let mut call = DecodeCall {
+        timestamp: 0,
+        free_frames: 16,
+        taken: 0,
+        table: 0,
+        row: 0,
+    };
+    let mut at = 0usize;
+    for _ in 0..5 {
+        let rest = stream.get(at..).ok_or("past the end")?;
+        match decode(decoder, rest, &mut call) {
+            0 => at = at.saturating_add(call.taken as usize),
+            2 => {
+                let _accepted = accept_format(decoder);
+            }
+            _ => return Err(Fail::from("refused")),
+        }
+    }
+    Ok(())
+}
+
+#[test]
+fn structs_of_the_latest_picture(rt: HostRuntime) -> Result<(), Fail> {
+    let stream = make_stream(rt.alloc(), 2)?;
+    let mut decoder = PullDecoder::new(rt.alloc(), Options::new());
+    assert!(rt; decoder.picture_controls().is_none() && decoder.slice_control().is_none());
+    assert_eq!(rt; want_controls(&mut decoder), 0);
+    assert!(rt; decoder.picture_controls().is_none());
+    decode_some(&mut decoder, stream.as_slice())?;
+    let filled = decoder.picture_controls().ok_or("no structs")?;
+    let mut picture = filled.or(Err("not held"))?;
+    let filled = decoder.slice_control().ok_or("no struct")?;
+    let mut slice = filled.or(Err("not held"))?;
+    picture.decode_params.num_active_dpb_entries = 0;
+    slice.bit_size = 0;
+    assert_eq!(rt; picture_controls(&decoder, &mut picture), 0);
+    assert_eq!(rt; picture.sps.pic_width_in_luma_samples, 16);
+    assert_eq!(rt; picture.decode_params.pic_order_cnt_val, 8);
+    assert_eq!(rt; picture.decode_params.num_active_dpb_entries, 1);
+    assert!(rt; picture.decode_params.dpb[0].timestamp == 0);
+    assert_eq!(rt; slice_control(&decoder, &mut slice), 0);
+    assert!(rt; slice.slice_pic_order_cnt == 8 && slice.ref_idx_l0[0] == 0);
+    assert!(rt; slice.bit_size != 0);
+    Ok(())
+}

@@ -1,0 +1,115 @@
+-- The structs of Linux's stateless decoders, of the latest calls.
+use Rattle.std.specs.Prelude.{◌≡◌, ℤ, List, Option, Some, None, Result, Ok, Err, IfSome}
+use Rattle.std.specs.Option.{option_map, option_or}
+use Rattle.std.specs.Box.{box_value}
+use Rattle.std.specs.Global.{Box}
+use Rattle.hevc_types_c.specs.Sps.{plain_sps}
+use Rattle.hevc_types_d.specs.Pps.{plain_pps}
+use Rattle.hevc_types_d.specs.SliceHeader.{plain_slice_header}
+use Rattle.hevc_dpb.specs.Entries.{reference_numbers}
+use Rattle.hevc_dpb.specs.Views.{stored_entries}
+use Rattle.hevc_refs.specs.Lists.{places_of}
+use Rattle.hevc_refs.specs.Sets.{plain_set}
+use Rattle.hevc_v4l2.specs.declared.error.ControlError.{ControlError}
+use Rattle.hevc_v4l2.specs.declared.slice.V4l2CtrlHevcSliceParams.{V4l2CtrlHevcSliceParams}
+use Rattle.hevc_v4l2.specs.SequenceSet.{control_of_sps}
+use Rattle.hevc_v4l2.specs.PictureSet.{control_of_pps, pps_error}
+use Rattle.hevc_v4l2.specs.Scaling.{active_lists, control_of_lists}
+use Rattle.hevc_v4l2.specs.Decode.{control_of_decoding, short_term_error}
+use Rattle.hevc_v4l2.specs.Slice.{control_of_slice, slice_error}
+use Rattle.hevc_queue.specs.declared.controls.PictureControls.{PictureControls}
+use Rattle.hevc_queue.specs.declared.controls.BegunControls.{BegunControls}
+use Rattle.hevc_queue.specs.declared.controls.Controls.{Controls}
+use Rattle.hevc_queue.specs.declared.given.BegunPicture.{BegunPicture}
+use Rattle.hevc_queue.specs.declared.given.GivenSlice.{GivenSlice}
+use Rattle.hevc_queue.specs.declared.given.Given.{Given}
+use Rattle.hevc_queue.specs.Given.{latest_begun, latest_slice}
+
+-- the structs, or what they can't hold
+abbrev pub held : {X : Type 0} → Option ControlError → X → Result X ControlError
+held None x = Ok x
+held (Some error) x = Err error
+
+-- the first thing that the structs of a picture can't hold
+abbrev pub picture_error : BegunPicture → Option ControlError
+picture_error b =
+    option_or (pps_error (plain_pps b.pps)) (short_term_error (plain_slice_header b.slice.header))
+
+-- those of its sets, its scaling lists, and the picture itself
+abbrev pub structs_of_picture : BegunPicture → PictureControls
+structs_of_picture b = record {
+  sps = control_of_sps (plain_sps b.sps);
+  pps = control_of_pps (plain_pps b.pps);
+  scaling_matrix = control_of_lists (active_lists (plain_sps b.sps) (plain_pps b.pps));
+  decode_params =
+      control_of_decoding b.picture b.slice (plain_sps b.sps) (stored_entries b.buffer)
+      (plain_set b.reference_set);
+}
+
+abbrev pub picture_controls : BegunPicture → Result PictureControls ControlError
+picture_controls b = held (picture_error b) (structs_of_picture b)
+
+-- that of a slice segment, of a picture with this order count
+abbrev pub slice_control : (order_count : ℤ) → GivenSlice
+    → Result V4l2CtrlHevcSliceParams ControlError
+slice_control order_count s =
+    held
+    (slice_error s.slice (plain_sps s.sps) (places_of s.list0) (places_of s.list1))
+    (control_of_slice s.slice order_count (plain_sps s.sps)
+    (reference_numbers (stored_entries s.buffer)) (places_of s.list0) (places_of s.list1))
+
+-- those of the latest picture that began
+abbrev pub latest_picture_controls : List Given → Option (Result PictureControls ControlError)
+latest_picture_controls given = option_map picture_controls (latest_begun given)
+
+abbrev pub slice_of_picture : Option BegunPicture → Option GivenSlice
+    → Option (Result V4l2CtrlHevcSliceParams ControlError)
+slice_of_picture (Some b) (Some s) = Some (slice_control b.picture.pic_order_cnt_val s)
+slice_of_picture b s = None
+
+-- that of the latest slice segment
+abbrev pub latest_slice_control : List Given
+    → Option (Result V4l2CtrlHevcSliceParams ControlError)
+latest_slice_control given = slice_of_picture (latest_begun given) (latest_slice given)
+
+-- those that are in a box
+abbrev pub wanted : Option (Box Controls) → Option Controls
+wanted controls = option_map (λ (b : Box Controls). box_value b) controls
+
+-- none yet
+abbrev pub no_controls : Controls
+no_controls = record { begun = None; slice = None }
+
+abbrev pub begun_controls : BegunPicture → BegunControls
+begun_controls b =
+    record { order_count = b.picture.pic_order_cnt_val; filled = picture_controls b }
+
+-- the structs once a picture begins, and after a slice segment of it
+abbrev pub with_begun : BegunPicture → Controls → Controls
+with_begun b controls = record { begun = Some (begun_controls b); slice = None }
+
+abbrev pub with_slice : GivenSlice → Controls → Controls
+with_slice s controls = record controls {
+  slice = option_map (λ (b : BegunControls). slice_control b.order_count s) controls.begun;
+}
+
+-- what is filled is of the latest calls
+pub record AreLatest (given : List Given) (controls : Controls) : Type 0 where
+  pub begun : IfSome controls.begun (λ filled.
+      option_map begun_controls (latest_begun given) ≡ Some filled)
+  pub slice : IfSome controls.slice (λ filled. latest_slice_control given ≡ Some filled)
+
+-- where structs are wanted
+abbrev pub AreLatestIn : List Given → Option Controls → Type 0
+AreLatestIn given None = Unit {0}
+AreLatestIn given (Some controls) = AreLatest given controls
+
+-- those of the latest picture, and of its latest slice segment, where they are wanted
+abbrev pub filled_picture : Option Controls → Option (Result PictureControls ControlError)
+filled_picture None = None
+filled_picture (Some controls) =
+    option_map (λ (b : BegunControls). b.filled) controls.begun
+
+abbrev pub filled_slice : Option Controls → Option (Result V4l2CtrlHevcSliceParams ControlError)
+filled_slice None = None
+filled_slice (Some controls) = controls.slice

@@ -1,0 +1,117 @@
+//! The structs of Linux's stateless decoders, of the latest calls, where they are wanted.
+ghost use Rattle.std.specs.Prelude.{◌≡◌};
+ghost use Rattle.std.specs.Option.{option_map};
+ghost use Rattle.hevc_queue.specs.Given.{begun_with, slice_with};
+ghost use Rattle.hevc_queue.specs.Controls.{no_controls, picture_controls, wanted, with_begun, with_slice};
+
+use hevc_dpb::{Dpb, PictureData};
+use hevc_refs::{RefPicList, RefPicSet};
+use hevc_types_c::Sps;
+use hevc_types_d::{Pps, Slice};
+use hevc_v4l2::{
+    ControlError, V4l2CtrlHevcDecodeParams, V4l2CtrlHevcPps, V4l2CtrlHevcScalingMatrix,
+    V4l2CtrlHevcSliceParams, V4l2CtrlHevcSps, decode_control, pps_control, scaling_control,
+    slice_control, sps_control,
+};
+
+/// The structs of a picture that begins.
+#[repr(C)]
+#[derive(Clone, Copy)]
+pub struct PictureControls {
+    pub sps: V4l2CtrlHevcSps,
+    pub pps: V4l2CtrlHevcPps,
+    pub scaling_matrix: V4l2CtrlHevcScalingMatrix,
+    pub decode_params: V4l2CtrlHevcDecodeParams,
+}
+
+/// The same, or what they can't hold, with PicOrderCntVal.
+#[derive(Clone, Copy)]
+pub struct BegunControls {
+    pub order_count: i32,
+    pub filled: Result<PictureControls, ControlError>,
+}
+
+/// The structs of the latest picture that began, and of its latest slice segment.
+#[derive(Clone, Copy)]
+pub struct Controls {
+    pub begun: Option<BegunControls>,
+    pub slice: Option<Result<V4l2CtrlHevcSliceParams, ControlError>>,
+}
+
+/// None yet.
+pub(crate) fn no_controls() -> Controls
+    ensures { result ≡ no_controls }
+{
+    Controls {
+        begun: None,
+        slice: None,
+    }
+}
+
+/// The structs of a picture, where they can hold it.
+fn picture_controls(
+    picture: &PictureData,
+    sps: &Sps,
+    pps: &Pps,
+    dpb: &Dpb<u64>,
+    rps: &RefPicSet,
+    slice: &Slice<'_>,
+) -> Result<PictureControls, ControlError>
+    ensures { result ≡ picture_controls
+        (begun_with 0 picture.now sps.now pps.now dpb.now rps.now slice.now) }
+{
+    let pps_control = pps_control(pps)?;
+    let decode_params = decode_control(picture, slice, sps, dpb, rps)?;
+    Ok(PictureControls {
+        sps: sps_control(sps),
+        pps: pps_control,
+        scaling_matrix: scaling_control(sps, pps),
+        decode_params,
+    })
+}
+
+/// A picture begins: where structs are wanted, they are filled.
+pub(crate) fn fill_picture(
+    controls: &mut Option<Box<Controls>>,
+    picture: &PictureData,
+    sps: &Sps,
+    pps: &Pps,
+    dpb: &Dpb<u64>,
+    rps: &RefPicSet,
+    slice: &Slice<'_>,
+)
+    ensures { wanted controls.new ≡ option_map
+        (with_begun (begun_with 0 picture.now sps.now pps.now dpb.now rps.now slice.now))
+        (wanted controls.old) }
+{
+    if let Some(controls) = controls {
+        controls.begun = Some(BegunControls {
+            order_count: picture.pic_order_cnt_val,
+            filled: picture_controls(picture, sps, pps, dpb, rps, slice),
+        });
+        controls.slice = None;
+    }
+}
+
+/// A slice segment comes: where structs are wanted, and were filled for its picture, its own is filled.
+pub(crate) fn fill_slice(
+    controls: &mut Option<Box<Controls>>,
+    slice: &Slice<'_>,
+    sps: &Sps,
+    pps: &Pps,
+    dpb: &Dpb<u64>,
+    list0: &RefPicList,
+    list1: &RefPicList,
+)
+    ensures { wanted controls.new ≡ option_map
+        (with_slice (slice_with 0 slice.now sps.now pps.now dpb.now list0.now list1.now))
+        (wanted controls.old) }
+{
+    if let Some(controls) = controls {
+        let filled = match &controls.begun {
+            Some(begun) => Some(slice_control(slice, begun.order_count, sps, dpb, list0, list1)),
+            None => None,
+        };
+        controls.slice = filled;
+    }
+}
