@@ -1,5 +1,5 @@
 -- A payload doesn't end in 00 where the body of its value doesn't.
-use Rattle.std.proofs.Common.{◌≡◌, ℕ, ◌+◌, ◌-◌, ◌*◌, ◌%◌, ◌≤◌, Bool, true, false, cond, eqb, List, [], ◌∷◌, ◌++◌, length, refl, sym, ap, ◌∙◌, arith}
+use Rattle.std.proofs.Common.{◌≡◌, ◌≢◌, ℕ, ◌+◌, ◌-◌, ◌*◌, ◌%◌, ◌≤◌, Bool, true, false, cond, eqb, List, [], ◌∷◌, ◌++◌, length, get_or, refl, sym, ap, ◌∙◌, arith}
 use Rattle.std.specs.Prelude.{◌&&◌, replicate}
 use Rattle.hevc_spec.specs.Bits.{number, number_after}
 use Rattle.hevc_spec.specs.Units.{is_empty, without_trailing_zeros}
@@ -95,3 +95,13 @@ packed_trimmed (a ∷ b ∷ c ∷ d ∷ e ∷ f ∷ g ∷ h ∷ bits) =
 
 pub payload_trimmed : (bits : List Bool) (body : List ℕ) → without_trailing_zeros body ≡ body → without_trailing_zeros (packed (with_trailing_bits bits) ++ body) ≡ packed (with_trailing_bits bits) ++ body
 payload_trimmed bits body trimmed = trimmed_append (packed (with_trailing_bits bits)) body (packed_trimmed bits) trimmed
+
+-- ---- the last byte
+
+pub last_byte : (byte : ℕ) (bytes : List ℕ) → without_trailing_zeros (byte ∷ bytes) ≡ byte ∷ bytes → get_or (byte ∷ bytes) (length bytes) 0 ≢ 0
+last_byte byte [] e = let h = (ending byte [] e).last refl in grind (arith, h)
+last_byte byte (b ∷ bytes) e = last_byte b bytes (ending byte (b ∷ bytes) e).rest
+
+pub by_last : (byte : ℕ) (bytes : List ℕ) → get_or (byte ∷ bytes) (length bytes) 0 ≢ 0 → without_trailing_zeros (byte ∷ bytes) ≡ byte ∷ bytes
+by_last byte [] some = trimmed_cons byte [] refl (λ none. grind (arith, some))
+by_last byte (b ∷ bytes) some = trimmed_cons byte (b ∷ bytes) (by_last b bytes some) (λ none. absurd (nonempty [] bytes b none))
