@@ -1,0 +1,17 @@
+//! A record of the code is the values of its fields, as tables have them.
+#![tactic(auto)]
+
+ghost use Rattle.hevc_types_b.specs.Vps.{plain_vps};
+ghost use Rattle.hevc_types_c.specs.Sps.{plain_sps};
+ghost use Rattle.hevc_types_d.specs.Pps.{plain_pps};
+ghost use Rattle.hevc_types_d.specs.SliceHeader.{plain_slice_header};
+ghost use Rattle.hevc_record_laws.specs.Values.{IsItsValues};
+
+/// Two parameter sets or slice headers whose fields have the same values are the same.
+#[tactic(auto, using(crate::proofs::Values::vps, crate::proofs::Values::sps, crate::proofs::Values::pps, crate::proofs::Values::slice_header))]
+pub fn records_are_their_values()
+    ensures vps { IsItsValues plain_vps }
+    ensures sps { IsItsValues plain_sps }
+    ensures pps { IsItsValues plain_pps }
+    ensures slice_header { IsItsValues plain_slice_header }
+{}

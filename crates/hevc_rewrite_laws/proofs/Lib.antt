@@ -1,0 +1,2 @@
+pub mod SameMeanings
+pub mod AllSubLayers

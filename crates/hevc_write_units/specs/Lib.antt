@@ -1,0 +1,5 @@
+pub mod Payloads
+pub mod Added
+pub mod Trials
+pub mod Values
+pub mod Slices
