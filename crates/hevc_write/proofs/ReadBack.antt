@@ -55,18 +55,17 @@ and_first false b e = absurd (cc e)
 
 -- a picture set
 module _ (sps : PlainSps) (pps : PlainPps) (header : UnitHeader) (bits : List Bool) (written : WritesWhole (picture_parameter_set (temporal_id header) (only_sequence_set sps)) pps bits) where
-  pub picture_added : (payload old new : List ℕ) → header.nal_unit_type ≡ 34 → (pps.seq_parameter_set_id == sps.seq_parameter_set_id && pps.temporal_id == temporal_id header) ≡ true
+  pub picture_added : (payload old new : List ℕ) → header.nal_unit_type ≡ 34 → (pps.seq_parameter_set_id == sps.seq_parameter_set_id) ≡ true
       → IsReadAs (picture_parameter_set (temporal_id header) (only_sequence_set sps)) pps bits → payload ≡ packed bits → new ≡ old ++ payload → AddsPayload (PictureSetLines sps pps header) [] old new
   picture_added payload old new typed named is bytes grew =
       let t = picture_parameter_set (temporal_id header) (only_sequence_set sps) in
       let added = set_added 34 t pps header bits written payload old new typed is bytes grew in
-      let first = and_first (pps.seq_parameter_set_id == sps.seq_parameter_set_id) (pps.temporal_id == temporal_id header) named in
       record {
         payload = added.payload;
         parts = added.parts;
         is_payload = record {
           lines = added.is_payload.lines;
-          has = record { names = eqb-true pps.seq_parameter_set_id sps.seq_parameter_set_id first.0; sub_layer = eqb-true pps.temporal_id (temporal_id header) first.1; set = added.is_payload.has };
+          has = record { names = eqb-true pps.seq_parameter_set_id sps.seq_parameter_set_id named; set = added.is_payload.has };
           chosen = added.is_payload.chosen;
           parts = added.is_payload.parts;
         };

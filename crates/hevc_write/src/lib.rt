@@ -2,6 +2,8 @@
 #![tactic(auto)]
 
 mod picture_unit;
+mod piece;
+mod rewriting;
 mod sequence_set;
 mod slice_unit;
 mod syntax;
@@ -11,6 +13,7 @@ mod video_set;
 
 pub use hevc_write_units::WriteError;
 pub use picture_unit::PictureUnit;
+pub use rewriting::rewrite;
 pub use slice_unit::SliceUnit;
 pub use syntax::Syntax;
 pub use unit::write_unit;

@@ -42,7 +42,7 @@ impl Syntax for PictureUnit<'_> {
 
     fn write_payload(&self, header: &NaluHeader, payload: &mut Vec<u8>) -> Result<(), WriteError> {
         let &PictureUnit { pps, sps } = self;
-        if !is_of_type(header, NaluType::PpsNut as u8) || !is_named(pps, sps, header) {
+        if !is_of_type(header, NaluType::PpsNut as u8) || !is_named(pps, sps) {
             return Err(WriteError::NotFormed);
         }
         let alloc = *payload.allocator();
@@ -59,14 +59,11 @@ impl Syntax for PictureUnit<'_> {
     ghost meant = { λ unit header bytes parsed is. picture_set_meant (plain_sps unit.sps.now) (plain_pps unit.pps.now) header bytes parsed is };
 }
 
-/// Whether the picture set names the sequence set, and is of the sub-layer of a unit with this header.
-fn is_named(pps: &Pps, sps: &Sps, header: &NaluHeader) -> bool
-    ensures { result
-        ≡ (pps.now.seq_parameter_set_id == sps.now.seq_parameter_set_id
-        && pps.now.temporal_id == temporal_id header.now) }
+/// Whether the picture set names the sequence set.
+fn is_named(pps: &Pps, sps: &Sps) -> bool
+    ensures { result ≡ (pps.now.seq_parameter_set_id == sps.now.seq_parameter_set_id) }
 {
     pps.seq_parameter_set_id == sps.seq_parameter_set_id
-        && pps.temporal_id == header.temporal_id_plus1() - 1
 }
 
 /// The bits of a set in a unit with this header, up to a whole byte.
