@@ -3,6 +3,7 @@
 
 mod picture_unit;
 mod piece;
+mod program;
 mod rewriting;
 mod sequence_set;
 mod slice_unit;
@@ -13,6 +14,7 @@ mod video_set;
 
 pub use hevc_write_units::WriteError;
 pub use picture_unit::PictureUnit;
+pub use program::{INPUT_LIMIT, run_write};
 pub use rewriting::rewrite;
 pub use slice_unit::SliceUnit;
 pub use syntax::Syntax;
