@@ -1,10 +1,10 @@
-//! The program: reads an H.265 byte stream from
-//! standard input, and writes it with its parameter sets written anew.
+//! The program: reads an H.265 byte stream from standard input, and writes it with its parameter
+//! sets written anew.
 #![tactic(auto)]
 
-use hevc_write::run_write;
 use hevc_io::{StdSink, StdSource, StdWords, command_line};
 use hevc_usage::explain;
+use hevc_write::run_write;
 use std::io;
 use std::process::ExitCode;
 
