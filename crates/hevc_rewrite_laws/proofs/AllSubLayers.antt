@@ -22,7 +22,7 @@ low_checked h g low e = by_tests (nat_le 48 h.nal_unit_type) (h.nuh_temporal_id_
         let same : h ≡ g = cc e in
         subst (λ (x : UnitHeader). temporal_id x ≤ 6) same (omega arith)
 
-low_header : (bytes : List ℕ) (h : UnitHeader) → unit_header bytes ≡ Ok h → temporal_id h ≤ 6
+pub low_header : (bytes : List ℕ) (h : UnitHeader) → unit_header bytes ≡ Ok h → temporal_id h ≤ 6
 low_header [] h e = absurd (cc e)
 low_header (_ ∷ []) h e = absurd (cc e)
 low_header (first ∷ second ∷ bytes) h e = low_checked (header_fields first second) h (omega arith) e

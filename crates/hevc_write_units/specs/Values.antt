@@ -25,11 +25,11 @@ pub record SetLines {A : Type 0} (nal_unit_type : ℕ) (t : Table A) (set : A) (
 abbrev pub only_sequence_set : PlainSps → ℕ → Option PlainSps
 only_sequence_set sps = with_set sps.seq_parameter_set_id sps (λ id. None)
 
--- The lines of a picture set (table 11) that names the sequence set, in a unit of its sub-layer.
+-- The lines of a picture set (table 11) that names the sequence set; they give it the temporal id of
+-- its unit.
 pub record PictureSetLines (sps : PlainSps) (pps : PlainPps) (header : UnitHeader)
     (lines : List Line) : Type 0 where
   pub names : pps.seq_parameter_set_id ≡ sps.seq_parameter_set_id
-  pub sub_layer : pps.temporal_id ≡ temporal_id header
   pub set : SetLines 34 (picture_parameter_set (temporal_id header) (only_sequence_set sps)) pps
       header lines
 

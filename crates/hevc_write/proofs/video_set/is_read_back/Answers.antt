@@ -1,0 +1,17 @@
+use Rattle.std.proofs.Common.{subst, sym, ap, ◌∙◌, ℕ, List}
+use Rattle.hevc_spec.specs.UnitHeader.{UnitHeader}
+use Rattle.hevc_tables.specs.VpsTable.{video_parameter_set}
+use Rattle.hevc_types_b.specs.Vps.{plain_vps}
+use Rattle.hevc_record_laws.proofs.Values.{vps}
+use Rattle.hevc_write_units.specs.Trials.{IsTrial}
+use Rattle.hevc_write.proofs.ReadBack.{same_read, trial_read}
+use Rattle.hevc_write.proofs.video_set.is_read_back.Goals as goal
+
+pub returns-in-Ok : goal.returns-in-Ok
+returns-in-Ok c =
+    let header = c.args.header.now in
+    let bits = c.args.w.now in
+    let trial = subst (λ (s : List ℕ). IsTrial header bits s) (sym c.deref.ensures.value) c.in_ok-stream.ensures in
+    let typed = ap (λ (h : UnitHeader). h.nal_unit_type) (c.trial_unit.ensures.header header bits trial) ∙ c.requires.typed in
+    let was = trial_read video_parameter_set (plain_vps c.in-Ok.read) bits _ (c.trial_unit.ensures.bits header bits trial) (c.in-Ok.ensures.read typed) in
+    same_read plain_vps video_parameter_set c.args.set.now c.in-Ok.read bits c.vps_eq.result vps c.vps_eq.ensures was

@@ -1,0 +1,3 @@
+pub mod HeaderKeeps
+pub mod LongTerm
+pub mod Sizes

@@ -1,0 +1,17 @@
+use Rattle.std.proofs.Common.{refl, sym, ◌∙◌}
+use Rattle.hevc_tables.specs.SliceHeaderTable.{active_counts, has_list_modification, list_modification, reference_lists, with_pictures}
+use Rattle.hevc_types_c.specs.Sps.{plain_sps}
+use Rattle.hevc_types_d.specs.Pps.{plain_pps}
+use Rattle.hevc_write_slice_header.specs.HeaderParts as own
+use Rattle.hevc_write_slice_header.proofs.HeaderKeeps.{active_counts_keeps, list_modification_keeps}
+use Rattle.hevc_writing.proofs.Steps.{by, part_then, when_part_written}
+use Rattle.hevc_write_slice_header.proofs.lists.write_reference_lists.Goals as goal
+
+pub returns : goal.returns
+unfolding reference_lists with_pictures
+returns c = record {
+  written = λ y w.
+      part_then (active_counts _) own.active_counts (active_counts_keeps _) (with_pictures (plain_sps c.args.sps.now) (plain_pps c.args.pps.now) y) c.in_ok-write_active_counts.ensures refl (λ v1 b1 h1.
+      when_part_written list_modification own.list_modification list_modification_keeps _ c.in_ok-write_list_modification_if.ensures refl (λ v2 b2 h2 e at.
+      h2 (by e (λ r. has_list_modification (plain_pps c.args.pps.now) r) ∙ sym c.has_list_modification.ensures) _ e refl (h1 _ e refl at)));
+}

@@ -1,0 +1,146 @@
+//! Entry points, and no extension (7.3.6.1, rows 48 to 52 of table 14).
+ghost use Rattle.std.specs.Prelude.{◌≡◌, ◌≤◌, ◌+◌, ℕ, OnOk};
+ghost use Rattle.hevc_tables.specs.SliceHeaderTable as table;
+ghost use Rattle.hevc_types_c.specs.Sps.{plain_sps};
+ghost use Rattle.hevc_types_d.specs.Pps.{plain_pps};
+ghost use Rattle.hevc_types_d.specs.SliceHeader.{plain_slice_header};
+ghost use Rattle.hevc_write_slice_header.specs.HeaderParts as own;
+ghost use Rattle.hevc_writing.specs.Filling.{Writes, WritesIf, WritesTable};
+
+use crate::rows::has_parallel_parts;
+use hevc_bit_writer::BitWriter;
+use hevc_types_c::Sps;
+use hevc_types_d::{Pps, SliceHeader};
+use hevc_writing::rows::{bits, ue, ue_u8};
+use std::alloc::AllocError;
+
+/// Rows 48 to 52 of table 14.
+pub(crate) fn write_ending(
+    w: &mut BitWriter,
+    sps: &Sps,
+    pps: &Pps,
+    x: &SliceHeader,
+) -> Result<(), AllocError>
+    ensures { OnOk result (Writes (table.ending (plain_sps sps.now) (plain_pps pps.now))
+        own.ending (plain_slice_header x.now) w.old w.new) }
+{
+    write_parallel_parts_if(w, has_parallel_parts(pps), sps, pps, x)?;
+    write_header_extension_if(w, pps.slice_segment_header_extension_present_flag, x)?;
+    Ok(())
+}
+
+/// Rows 48 to 50 of table 14, where they are present.
+fn write_parallel_parts_if(
+    w: &mut BitWriter,
+    present: bool,
+    sps: &Sps,
+    pps: &Pps,
+    x: &SliceHeader,
+) -> Result<(), AllocError>
+    ensures { OnOk result (WritesIf present
+        (Writes (table.parallel_parts (plain_sps sps.now) (plain_pps pps.now))
+        own.parallel_parts (plain_slice_header x.now)) w.old w.new) }
+{
+    if present {
+        write_parallel_parts(w, sps, pps, x)
+    } else {
+        Ok(())
+    }
+}
+
+/// Rows 48 to 50 of table 14.
+fn write_parallel_parts(
+    w: &mut BitWriter,
+    sps: &Sps,
+    pps: &Pps,
+    x: &SliceHeader,
+) -> Result<(), AllocError>
+    ensures { OnOk result (Writes (table.parallel_parts (plain_sps sps.now) (plain_pps pps.now))
+        own.parallel_parts (plain_slice_header x.now) w.old w.new) }
+{
+    ue(w, x.num_entry_point_offsets)?;
+    write_entry_point_offsets_if(w, x.num_entry_point_offsets != 0, x)?;
+    Ok(())
+}
+
+/// Rows 49 and 50 of table 14, where they are present.
+fn write_entry_point_offsets_if(
+    w: &mut BitWriter,
+    present: bool,
+    x: &SliceHeader,
+) -> Result<(), AllocError>
+    ensures { OnOk result (WritesIf present
+        (Writes table.entry_point_offsets
+        own.entry_point_offsets (plain_slice_header x.now)) w.old w.new) }
+{
+    if present {
+        write_entry_point_offsets(w, x)
+    } else {
+        Ok(())
+    }
+}
+
+/// Rows 49 and 50 of table 14.
+fn write_entry_point_offsets(w: &mut BitWriter, x: &SliceHeader) -> Result<(), AllocError>
+    ensures { OnOk result (Writes table.entry_point_offsets
+        own.entry_point_offsets (plain_slice_header x.now) w.old w.new) }
+{
+    ue_u8(w, x.offset_len_minus1)?;
+    write_entry_points(
+        w,
+        offset_len_minus1(x),
+        x.entry_point_offset_minus1.as_slice(),
+    )?;
+    Ok(())
+}
+
+/// Rows 51 and 52 of table 14: no extension, where they are present.
+fn write_header_extension_if(
+    w: &mut BitWriter,
+    present: bool,
+    x: &SliceHeader,
+) -> Result<(), AllocError>
+    ensures { OnOk result (WritesIf present
+        (Writes table.header_extension
+        own.header_extension (plain_slice_header x.now)) w.old w.new) }
+{
+    if present {
+        write_header_extension(w, x)
+    } else {
+        Ok(())
+    }
+}
+
+/// Rows 51 and 52 of table 14: no extension.
+fn write_header_extension(w: &mut BitWriter, x: &SliceHeader) -> Result<(), AllocError>
+    ensures { OnOk result (Writes table.header_extension
+        own.header_extension (plain_slice_header x.now) w.old w.new) }
+{
+    ue(w, 0)?;
+    Ok(())
+}
+
+/// How many bits an entry point has, less 1: at most 31, which is what a table gives.
+fn offset_len_minus1(x: &SliceHeader) -> u8
+    ensures few { result ≤ 31 }
+    ensures value { x.now.offset_len_minus1 ≤ 31 → result ≡ x.now.offset_len_minus1 }
+{
+    x.offset_len_minus1.min(31)
+}
+
+/// Row 50 of table 14, for each entry point.
+fn write_entry_points(
+    w: &mut BitWriter,
+    num_bits_minus1: u8,
+    offsets: &[u32],
+) -> Result<(), AllocError>
+    requires { num_bits_minus1 ≤ 31 }
+    ensures { (count : ℕ) → OnOk result (WritesTable
+        (table.entry_points (num_bits_minus1 + 1) count) offsets.now w.old w.new) }
+{
+    let num_bits = u32::from(num_bits_minus1) + 1;
+    for i in 0..offsets.len() {
+        bits(w, num_bits, offsets[i])?;
+    }
+    Ok(())
+}

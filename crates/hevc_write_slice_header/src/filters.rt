@@ -1,0 +1,109 @@
+//! Filters (7.3.6.1, rows 22, 23 and 43 to 47 of table 14).
+ghost use Rattle.std.specs.Prelude.{OnOk};
+ghost use Rattle.hevc_tables.specs.SliceHeaderTable as table;
+ghost use Rattle.hevc_types_c.specs.Sps.{plain_sps};
+ghost use Rattle.hevc_types_d.specs.Pps.{plain_pps};
+ghost use Rattle.hevc_types_d.specs.SliceHeader.{plain_slice_header};
+ghost use Rattle.hevc_write_slice_header.specs.HeaderParts as own;
+ghost use Rattle.hevc_writing.specs.Filling.{Writes, WritesIf};
+
+use crate::rows::{goes_across, has_chroma_offset};
+use hevc_bit_writer::BitWriter;
+use hevc_types_c::Sps;
+use hevc_types_d::{Pps, SliceHeader};
+use hevc_writing::rows::{flag, flag_if, se_i8};
+use std::alloc::AllocError;
+
+/// Rows 22 and 23 of table 14.
+pub(crate) fn write_adaptive_offset(
+    w: &mut BitWriter,
+    sps: &Sps,
+    x: &SliceHeader,
+) -> Result<(), AllocError>
+    ensures { OnOk result (Writes (table.adaptive_offset (plain_sps sps.now))
+        own.adaptive_offset (plain_slice_header x.now) w.old w.new) }
+{
+    flag_if(w, sps.sample_adaptive_offset_enabled_flag, x.sao_luma_flag)?;
+    flag_if(w, has_chroma_offset(sps), x.sao_chroma_flag)?;
+    Ok(())
+}
+
+/// Rows 43 to 47 of table 14.
+pub(crate) fn write_filters(w: &mut BitWriter, pps: &Pps, x: &SliceHeader) -> Result<(), AllocError>
+    ensures { OnOk result (Writes (table.filters (plain_pps pps.now))
+        own.seen_by_filters (plain_slice_header x.now) w.old w.new) }
+{
+    flag_if(
+        w,
+        pps.deblocking_filter_override_enabled_flag,
+        x.deblocking_filter_override_flag,
+    )?;
+    write_own_deblocking_if(w, x.deblocking_filter_override_flag, x)?;
+    write_across_slices(w, pps, x)?;
+    Ok(())
+}
+
+/// Rows 44 to 46 of table 14, where they are present.
+fn write_own_deblocking_if(
+    w: &mut BitWriter,
+    present: bool,
+    x: &SliceHeader,
+) -> Result<(), AllocError>
+    ensures { OnOk result (WritesIf present
+        (Writes table.own_deblocking own.own_deblocking (plain_slice_header x.now)) w.old w.new) }
+{
+    if present {
+        write_own_deblocking(w, x)
+    } else {
+        Ok(())
+    }
+}
+
+/// Rows 44 to 46 of table 14.
+fn write_own_deblocking(w: &mut BitWriter, x: &SliceHeader) -> Result<(), AllocError>
+    ensures { OnOk result (Writes table.own_deblocking
+        own.own_deblocking (plain_slice_header x.now) w.old w.new) }
+{
+    flag(w, x.deblocking_filter_disabled_flag)?;
+    write_filter_offsets_if(w, !x.deblocking_filter_disabled_flag, x)?;
+    Ok(())
+}
+
+/// Rows 45 and 46 of table 14, where they are present.
+fn write_filter_offsets_if(
+    w: &mut BitWriter,
+    present: bool,
+    x: &SliceHeader,
+) -> Result<(), AllocError>
+    ensures { OnOk result (WritesIf present
+        (Writes table.filter_offsets own.filter_offsets (plain_slice_header x.now)) w.old w.new) }
+{
+    if present {
+        write_filter_offsets(w, x)
+    } else {
+        Ok(())
+    }
+}
+
+/// Rows 45 and 46 of table 14.
+fn write_filter_offsets(w: &mut BitWriter, x: &SliceHeader) -> Result<(), AllocError>
+    ensures { OnOk result (Writes table.filter_offsets
+        own.filter_offsets (plain_slice_header x.now) w.old w.new) }
+{
+    se_i8(w, x.beta_offset_div2)?;
+    se_i8(w, x.tc_offset_div2)?;
+    Ok(())
+}
+
+/// Row 47 of table 14.
+fn write_across_slices(w: &mut BitWriter, pps: &Pps, x: &SliceHeader) -> Result<(), AllocError>
+    ensures { OnOk result (Writes (table.across_slices (plain_pps pps.now))
+        own.seen_by_across_slices (plain_slice_header x.now) w.old w.new) }
+{
+    flag_if(
+        w,
+        goes_across(pps, x),
+        x.loop_filter_across_slices_enabled_flag,
+    )?;
+    Ok(())
+}

@@ -1,0 +1,99 @@
+//! The reference picture lists (7.3.6.1, rows 24 to 27 of table 14).
+ghost use Rattle.std.specs.Prelude.{OnOk};
+ghost use Rattle.hevc_tables.specs.SliceHeaderTable as table;
+ghost use Rattle.hevc_types_c.specs.Sps.{plain_sps};
+ghost use Rattle.hevc_types_d.specs.Pps.{plain_pps};
+ghost use Rattle.hevc_types_d.specs.SliceHeader.{plain_slice_header};
+ghost use Rattle.hevc_write_slice_header.specs.HeaderParts as own;
+ghost use Rattle.hevc_writing.specs.Filling.{Writes, WritesIf};
+
+use crate::rows::{has_list_modification, is_b};
+use hevc_bit_writer::BitWriter;
+use hevc_types_c::Sps;
+use hevc_types_d::{Pps, SliceHeader};
+use hevc_write_slices::write_ref_pic_list_modification;
+use hevc_writing::rows::{flag, ue_u8, ue_u8_if};
+use std::alloc::AllocError;
+
+/// Rows 24 to 27 of table 14.
+pub(crate) fn write_reference_lists(
+    w: &mut BitWriter,
+    sps: &Sps,
+    pps: &Pps,
+    x: &SliceHeader,
+) -> Result<(), AllocError>
+    ensures { OnOk result (Writes (table.reference_lists (plain_sps sps.now) (plain_pps pps.now))
+        own.seen_by_lists (plain_slice_header x.now) w.old w.new) }
+{
+    write_active_counts(w, pps, x)?;
+    write_list_modification_if(w, has_list_modification(pps, x), x)?;
+    Ok(())
+}
+
+/// Rows 24 to 26 of table 14.
+fn write_active_counts(w: &mut BitWriter, pps: &Pps, x: &SliceHeader) -> Result<(), AllocError>
+    ensures { OnOk result (Writes (table.active_counts (plain_pps pps.now))
+        own.seen_by_counts (plain_slice_header x.now) w.old w.new) }
+{
+    flag(w, x.num_ref_idx_active_override_flag)?;
+    write_own_active_counts_if(w, x.num_ref_idx_active_override_flag, x)?;
+    Ok(())
+}
+
+/// Rows 25 and 26 of table 14, where they are present.
+fn write_own_active_counts_if(
+    w: &mut BitWriter,
+    present: bool,
+    x: &SliceHeader,
+) -> Result<(), AllocError>
+    ensures { OnOk result (WritesIf present
+        (Writes table.own_active_counts
+        own.seen_by_own_counts (plain_slice_header x.now)) w.old w.new) }
+{
+    if present {
+        write_own_active_counts(w, x)
+    } else {
+        Ok(())
+    }
+}
+
+/// Rows 25 and 26 of table 14.
+fn write_own_active_counts(w: &mut BitWriter, x: &SliceHeader) -> Result<(), AllocError>
+    ensures { OnOk result (Writes table.own_active_counts
+        own.seen_by_own_counts (plain_slice_header x.now) w.old w.new) }
+{
+    ue_u8(w, x.num_ref_idx_l0_active_minus1)?;
+    ue_u8_if(w, is_b(x), x.num_ref_idx_l1_active_minus1)?;
+    Ok(())
+}
+
+/// Row 27 of table 14, where it is present.
+fn write_list_modification_if(
+    w: &mut BitWriter,
+    present: bool,
+    x: &SliceHeader,
+) -> Result<(), AllocError>
+    ensures { OnOk result (WritesIf present
+        (Writes table.list_modification
+        own.seen_by_list_modification (plain_slice_header x.now)) w.old w.new) }
+{
+    if present {
+        write_list_modification(w, x)
+    } else {
+        Ok(())
+    }
+}
+
+/// Row 27 of table 14.
+fn write_list_modification(w: &mut BitWriter, x: &SliceHeader) -> Result<(), AllocError>
+    ensures { OnOk result (Writes table.list_modification
+        own.seen_by_list_modification (plain_slice_header x.now) w.old w.new) }
+{
+    write_ref_pic_list_modification(
+        w,
+        is_b(x),
+        x.num_pic_total_curr,
+        &x.ref_pic_list_modification,
+    )?;
+    Ok(())
+}

@@ -1,0 +1,108 @@
+//! Prediction from other pictures (7.3.6.1, rows 24 to 34 of table 14).
+ghost use Rattle.std.specs.Prelude.{OnOk};
+ghost use Rattle.hevc_tables.specs.SliceTypes.{is_b as is_b_of};
+ghost use Rattle.hevc_tables.specs.WeightedPredictionTable.{pred_weight_table};
+ghost use Rattle.hevc_types_a.specs.SliceType.{slice_type_number};
+ghost use Rattle.hevc_types_b.specs.PredWeightTable.{plain_pred_weight_table};
+ghost use Rattle.hevc_tables.specs.SliceHeaderTable as table;
+ghost use Rattle.hevc_types_c.specs.Sps.{plain_sps};
+ghost use Rattle.hevc_types_d.specs.Pps.{plain_pps};
+ghost use Rattle.hevc_types_d.specs.SliceHeader.{plain_slice_header};
+ghost use Rattle.hevc_write_slice_header.specs.HeaderParts as own;
+ghost use Rattle.hevc_writing.specs.Filling.{Writes, WritesIf, WritesTable};
+
+use crate::lists::write_reference_lists;
+use crate::rows::{has_chroma, has_collocated_index, has_collocated_list, is_b, is_weighted};
+use hevc_bit_writer::BitWriter;
+use hevc_types_c::Sps;
+use hevc_types_d::{Pps, SliceHeader};
+use hevc_write_slices::write_pred_weight_table;
+use hevc_writing::rows::{flag_if, ue_u8, ue_u8_if};
+use std::alloc::AllocError;
+
+/// Rows 24 to 34 of table 14, where they are present.
+pub(crate) fn write_prediction_if(
+    w: &mut BitWriter,
+    present: bool,
+    sps: &Sps,
+    pps: &Pps,
+    x: &SliceHeader,
+) -> Result<(), AllocError>
+    ensures { OnOk result (WritesIf present
+        (Writes (table.prediction (plain_sps sps.now) (plain_pps pps.now))
+        own.seen_by_prediction (plain_slice_header x.now)) w.old w.new) }
+{
+    if present {
+        write_prediction(w, sps, pps, x)
+    } else {
+        Ok(())
+    }
+}
+
+/// Rows 24 to 34 of table 14.
+pub(crate) fn write_prediction(
+    w: &mut BitWriter,
+    sps: &Sps,
+    pps: &Pps,
+    x: &SliceHeader,
+) -> Result<(), AllocError>
+    ensures { OnOk result (Writes (table.prediction (plain_sps sps.now) (plain_pps pps.now))
+        own.seen_by_prediction (plain_slice_header x.now) w.old w.new) }
+{
+    write_reference_lists(w, sps, pps, x)?;
+    write_motion(w, pps, x)?;
+    write_weights(w, sps, pps, x)?;
+    Ok(())
+}
+
+/// Rows 28 to 31 of table 14.
+fn write_motion(w: &mut BitWriter, pps: &Pps, x: &SliceHeader) -> Result<(), AllocError>
+    ensures { OnOk result (Writes (table.motion (plain_pps pps.now))
+        own.seen_by_motion (plain_slice_header x.now) w.old w.new) }
+{
+    flag_if(w, is_b(x), x.mvd_l1_zero_flag)?;
+    flag_if(w, pps.cabac_init_present_flag, x.cabac_init_flag)?;
+    flag_if(w, has_collocated_list(x), x.collocated_from_l0_flag)?;
+    ue_u8_if(w, has_collocated_index(x), x.collocated_ref_idx)?;
+    Ok(())
+}
+
+/// Rows 32 to 34 of table 14.
+fn write_weights(w: &mut BitWriter, sps: &Sps, pps: &Pps, x: &SliceHeader) -> Result<(), AllocError>
+    ensures { OnOk result (Writes (table.weights (plain_sps sps.now) (plain_pps pps.now))
+        own.seen_by_weights (plain_slice_header x.now) w.old w.new) }
+{
+    write_pred_weight_table_if(w, is_weighted(pps, x), sps, x)?;
+    ue_u8(w, x.five_minus_max_num_merge_cand)?;
+    flag_if(
+        w,
+        sps.scc_extension.motion_vector_resolution_control_idc == 2,
+        x.use_integer_mv_flag,
+    )?;
+    Ok(())
+}
+
+/// Row 32 of table 14, where it is present.
+fn write_pred_weight_table_if(
+    w: &mut BitWriter,
+    present: bool,
+    sps: &Sps,
+    x: &SliceHeader,
+) -> Result<(), AllocError>
+    ensures { OnOk result (WritesIf present (WritesTable
+        (pred_weight_table (plain_sps sps.now) (is_b_of (slice_type_number x.now.type_))
+        x.now.num_ref_idx_l0_active_minus1 x.now.num_ref_idx_l1_active_minus1)
+        (plain_pred_weight_table x.now.pred_weight_table)) w.old w.new) }
+{
+    if present {
+        write_pred_weight_table(
+            w,
+            has_chroma(sps),
+            is_b(x),
+            x.num_ref_idx_l0_active_minus1,
+            x.num_ref_idx_l1_active_minus1,
+            &x.pred_weight_table,
+        )?;
+    }
+    Ok(())
+}

@@ -1,0 +1,119 @@
+//! The order count and the reference pictures (7.3.6.1, rows 10 to 21 of table 14).
+ghost use Rattle.std.specs.Prelude.{◌≡◌, ℕ, OnOk};
+ghost use Rattle.hevc_tables.specs.ShortTermTable.{short_term_ref_pic_set};
+ghost use Rattle.hevc_types_a.specs.ShortTermRefPicSet.{plain_short_term_ref_pic_set};
+ghost use Rattle.hevc_tables.specs.SliceHeaderTable as table;
+ghost use Rattle.hevc_types_c.specs.Sps.{plain_sps};
+ghost use Rattle.hevc_types_d.specs.SliceHeader.{plain_slice_header};
+ghost use Rattle.hevc_write_slice_header.specs.HeaderParts as own;
+ghost use Rattle.hevc_writing.specs.Filling.{Writes, WritesEither, WritesIf, WritesTable};
+
+use crate::long_term::write_long_term_if;
+use crate::rows::{index_if, order_count};
+use hevc_bit_writer::BitWriter;
+use hevc_types_c::Sps;
+use hevc_types_d::SliceHeader;
+use hevc_write_short_term::write_short_term_ref_pic_set;
+use hevc_writing::rows::{flag, flag_if};
+use std::alloc::AllocError;
+
+/// Rows 10 to 21 of table 14, where they are present.
+pub(crate) fn write_reference_pictures_if(
+    w: &mut BitWriter,
+    present: bool,
+    sps: &Sps,
+    x: &SliceHeader,
+) -> Result<(), AllocError>
+    ensures { OnOk result (WritesIf present
+        (Writes (own.reference_picture_rows (plain_sps sps.now))
+        own.seen_by_reference_pictures (plain_slice_header x.now)) w.old w.new) }
+{
+    if present {
+        write_reference_pictures(w, sps, x)
+    } else {
+        Ok(())
+    }
+}
+
+/// Rows 10 to 21 of table 14.
+pub(crate) fn write_reference_pictures(
+    w: &mut BitWriter,
+    sps: &Sps,
+    x: &SliceHeader,
+) -> Result<(), AllocError>
+    ensures { OnOk result (Writes (own.reference_picture_rows (plain_sps sps.now))
+        own.seen_by_reference_pictures (plain_slice_header x.now) w.old w.new) }
+{
+    write_short_term(w, sps, x)?;
+    write_long_term_if(w, sps.long_term_ref_pics_present_flag, sps, x)?;
+    flag_if(
+        w,
+        sps.temporal_mvp_enabled_flag,
+        x.temporal_mvp_enabled_flag,
+    )?;
+    Ok(())
+}
+
+/// Rows 10 to 13 of table 14.
+fn write_short_term(w: &mut BitWriter, sps: &Sps, x: &SliceHeader) -> Result<(), AllocError>
+    ensures { OnOk result (Writes (own.short_term_rows (plain_sps sps.now))
+        own.seen_by_short_term (plain_slice_header x.now) w.old w.new) }
+{
+    order_count(w, sps, x.pic_order_cnt_lsb)?;
+    flag(w, x.short_term_ref_pic_set_sps_flag)?;
+    write_current_set(w, sps, x)?;
+    Ok(())
+}
+
+/// Row 13 of table 14.
+fn write_candidate_short_term_set(
+    w: &mut BitWriter,
+    sps: &Sps,
+    x: &SliceHeader,
+) -> Result<(), AllocError>
+    ensures { OnOk result (Writes (table.candidate_short_term_set (plain_sps sps.now))
+        own.short_term_elements (plain_slice_header x.now) w.old w.new) }
+{
+    index_if(
+        w,
+        sps.num_short_term_ref_pic_sets,
+        x.short_term_ref_pic_set_idx,
+    )?;
+    Ok(())
+}
+
+/// Row 12 of table 14.
+fn write_own_short_term_set(w: &mut BitWriter, sps: &Sps, x: &SliceHeader) -> Result<(), AllocError>
+    ensures { OnOk result (Writes (own.own_set_rows (plain_sps sps.now))
+        own.short_term_elements (plain_slice_header x.now) w.old w.new) }
+{
+    write_own_set(w, sps, x)?;
+    Ok(())
+}
+
+/// Row 12 of table 14: the set, which comes after all of the sequence set.
+fn write_own_set(w: &mut BitWriter, sps: &Sps, x: &SliceHeader) -> Result<(), AllocError>
+    ensures { (most : ℕ) → OnOk result (WritesTable
+        (short_term_ref_pic_set (plain_sps sps.now).short_term_ref_pic_set
+        sps.now.num_short_term_ref_pic_sets most sps.now.num_short_term_ref_pic_sets)
+        (plain_short_term_ref_pic_set x.now.short_term_ref_pic_set) w.old w.new) }
+{
+    let count = sps.num_short_term_ref_pic_sets;
+    let sets = sps.short_term_ref_pic_set.as_slice();
+    write_short_term_ref_pic_set(w, sets, count, count, &x.short_term_ref_pic_set)
+}
+
+/// Row 12 or 13 of table 14.
+fn write_current_set(w: &mut BitWriter, sps: &Sps, x: &SliceHeader) -> Result<(), AllocError>
+    ensures { OnOk result (WritesEither x.now.short_term_ref_pic_set_sps_flag
+        (Writes (table.candidate_short_term_set (plain_sps sps.now))
+        own.short_term_elements (plain_slice_header x.now))
+        (Writes (own.own_set_rows (plain_sps sps.now))
+        own.short_term_elements (plain_slice_header x.now)) w.old w.new) }
+{
+    if x.short_term_ref_pic_set_sps_flag {
+        write_candidate_short_term_set(w, sps, x)
+    } else {
+        write_own_short_term_set(w, sps, x)
+    }
+}
