@@ -7,8 +7,7 @@
 set -eu
 cd "$(dirname "$0")/.."
 command -v x265 > /dev/null || { echo "x265 isn't installed: no stream is made"; exit 1; }
-folder=${1:-$(mktemp -d)}
-mkdir -p "$folder"
+if [ $# -gt 0 ]; then folder=$1; mkdir -p "$folder"; else folder=$(mktemp -d); trap 'rm -rf "$folder"' EXIT; fi
 
 encode() { # NAME WIDTH HEIGHT PICTURES OPTION..
     local name=$1 width=$2 height=$3 count=$4; shift 4

@@ -56,9 +56,9 @@ status_of_reading (Ok value) = 0
 status_of_reading (Err error) = status_of_refusal error
 
 -- what is told of a unit whose content was read, or refused
-abbrev pub read_unit : {T : Type 0} → FoundUnit UnitHeader → Result T ParseError → UnitCall
-read_unit u (Ok value) = told_unit u
-read_unit u (Err error) =
+abbrev pub told_of_read : {T : Type 0} → FoundUnit UnitHeader → Result T ParseError → UnitCall
+told_of_read u (Ok value) = told_unit u
+told_of_read u (Err error) =
     record (told_unit u) { table = table_of_refusal error; row = row_of_refusal error }
 
 -- what is told of a set or a header; all else stays
@@ -118,7 +118,7 @@ pub record ReadsUnit (u : FoundUnit UnitHeader) (before now : Kept) (old new : U
     (status : ℕ) : Type 0 where
   pub answer : Result (Unit {0}) ParseError
   pub content : ReadsContent u answer before now (record old { unit = new.unit }) new
-  pub unit_is : new.unit ≡ read_unit u answer
+  pub unit_is : new.unit ≡ told_of_read u answer
   pub status_is : status ≡ status_of_reading answer
 
 -- the unit, or why there is none: then nothing is kept, and nothing else is told
