@@ -34,11 +34,13 @@ impl Syntax for PictureUnit<'_> {
     ghost use Rattle.hevc_write_units.specs.Values.{MeansPictureSet, PictureSetLines};
     ghost use Rattle.hevc_write_units.proofs.PictureSets.{no_end_unit, picture_set_meant};
 
-    ghost has_lines = { λ unit header lines. PictureSetLines (plain_sps unit.sps.now) (plain_pps unit.pps.now) header lines };
+    ghost has_lines = { λ unit header lines. PictureSetLines (plain_sps unit.sps.now)
+        (plain_pps unit.pps.now) header lines };
 
     ghost body = { λ unit. [] };
 
-    ghost means = { λ unit header bytes. MeansPictureSet (plain_sps unit.sps.now) (plain_pps unit.pps.now) header bytes };
+    ghost means = { λ unit header bytes. MeansPictureSet (plain_sps unit.sps.now)
+        (plain_pps unit.pps.now) header bytes };
 
     fn write_payload(&self, header: &NaluHeader, payload: &mut Vec<u8>) -> Result<(), WriteError> {
         let &PictureUnit { pps, sps } = self;
@@ -54,9 +56,11 @@ impl Syntax for PictureUnit<'_> {
         Ok(())
     }
 
-    ghost has_payload = { λ unit header lines has. no_end_unit (plain_sps unit.sps.now) (plain_pps unit.pps.now) header lines has };
+    ghost has_payload = { λ unit header lines has. no_end_unit (plain_sps unit.sps.now)
+        (plain_pps unit.pps.now) header lines has };
 
-    ghost meant = { λ unit header bytes parsed is. picture_set_meant (plain_sps unit.sps.now) (plain_pps unit.pps.now) header bytes parsed is };
+    ghost meant = { λ unit header bytes parsed is. picture_set_meant (plain_sps unit.sps.now)
+        (plain_pps unit.pps.now) header bytes parsed is };
 }
 
 /// Whether the picture set names the sequence set.

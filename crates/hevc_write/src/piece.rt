@@ -4,7 +4,8 @@ ghost use Rattle.hevc_write.specs.declared.piece.Piece.{Piece};
 
 use hevc_bits::{Header, UnitError};
 
-/// In the place of a header: all bytes up to the next start code are a unit's own, without the zeros at their end.
+/// In the place of a header: all bytes up to the next start code are a unit's own, without the
+/// zeros at their end.
 #[derive(Clone, Copy)]
 pub(crate) struct Piece;
 

@@ -12,8 +12,9 @@ use std::alloc::Global;
 /// The longest input that is taken, in bytes.
 pub const INPUT_LIMIT: usize = 268_435_456;
 
-/// Reads the source's stream to its end, and writes it with its sets written anew, as `rewrite` does. `words` are those of the
-/// command line after the program's name: none. Answers the status of the program, which is never 1:
+/// Reads the source's stream to its end, and writes it with its sets written anew, as `rewrite`
+/// does. `words` are those of the command line after the program's name: none. Answers the status
+/// of the program, which is never 1:
 ///
 /// | status | where |
 /// |---|---|

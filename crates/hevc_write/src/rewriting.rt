@@ -32,10 +32,11 @@ use hevc_vps::read_vps;
 use hevc_write_units::WriteError;
 use std::alloc::{AllocError, Global};
 
-/// Adds the units of a stream of less than 2^60 bytes to `out`, each after 00 00 01: a video, sequence or picture parameter set that
-/// is read where it is, is written anew, with the sets that are kept there (7.4.2.4.2), and any other unit byte for byte. After an end
-/// unit whose second byte is 0 there is one byte 80, since that zero would else be dropped (B.2). What is decoded from them is what is
-/// decoded from the stream (`DecodesTheSame`).
+/// Adds the units of a stream of less than 2^60 bytes to `out`, each after 00 00 01: a video,
+/// sequence or picture parameter set that is read where it is, is written anew, with the sets that
+/// are kept there (7.4.2.4.2), and any other unit byte for byte. After an end unit whose second
+/// byte is 0 there is one byte 80, since that zero would else be dropped (B.2). What is decoded
+/// from them is what is decoded from the stream (`DecodesTheSame`).
 ///
 /// After a refusal `out` is as before.
 pub fn rewrite(alloc: Global, stream: &[u8], out: &mut Vec<u8>) -> Result<(), AllocError>
@@ -67,7 +68,8 @@ fn append_rewritten(alloc: Global, stream: &[u8], out: &mut Vec<u8>) -> Result<(
     Ok(())
 }
 
-/// Adds the first unit whose start code is at `position` or after it, if there is one, and gives the place after it.
+/// Adds the first unit whose start code is at `position` or after it, if there is one, and gives
+/// the place after it.
 fn append_next(
     alloc: Global,
     stream: &[u8],
@@ -243,7 +245,8 @@ fn append_bytes(bytes: &[u8], out: &mut Vec<u8>) -> Result<(), AllocError>
     out.extend_from_slice(bytes)
 }
 
-/// Adds the first unit whose start code is at `position` or after it, whose header is refused, and gives the place after it.
+/// Adds the first unit whose start code is at `position` or after it, whose header is refused, and
+/// gives the place after it.
 fn append_refused(stream: &[u8], position: usize, out: &mut Vec<u8>) -> Result<usize, AllocError>
     requires within { position ≤ length stream.now }
     requires refused { (u : NalUnit) × ((others : List NalUnit) × ((error : unit_error)
@@ -259,7 +262,8 @@ fn append_refused(stream: &[u8], position: usize, out: &mut Vec<u8>) -> Result<u
     Ok(piece.offset() + piece.size())
 }
 
-/// Adds the unit of these bytes, up to the next start code, byte for byte, with the byte 80 after an end unit whose second byte is 0.
+/// Adds the unit of these bytes, up to the next start code, byte for byte, with the byte 80 after
+/// an end unit whose second byte is 0.
 fn append_completed(piece: &[u8], out: &mut Vec<u8>) -> Result<(), AllocError>
     ensures ok { OnOk result
         (out.new.items ≡ out.old.items ++ started (completed (kept_bytes piece.now))) }

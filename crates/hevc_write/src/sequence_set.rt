@@ -21,7 +21,8 @@ impl Syntax for Sps {
     ghost use Rattle.hevc_write_units.specs.Values.{MeansSequenceSet, SetLines};
     ghost use Rattle.hevc_write_units.proofs.Meant.{no_end, sequence_set_meant};
 
-    ghost has_lines = { λ set header lines. SetLines 33 sequence_parameter_set (plain_sps set) header lines };
+    ghost has_lines = { λ set header lines. SetLines 33 sequence_parameter_set (plain_sps set)
+        header lines };
 
     ghost body = { λ set. [] };
 
@@ -40,9 +41,11 @@ impl Syntax for Sps {
         Ok(())
     }
 
-    ghost has_payload = { λ set header lines has. no_end 33 sequence_parameter_set (plain_sps set) header lines refl has };
+    ghost has_payload = { λ set header lines has. no_end 33 sequence_parameter_set (plain_sps set)
+        header lines refl has };
 
-    ghost meant = { λ set header bytes parsed is. sequence_set_meant (plain_sps set) header bytes parsed is };
+    ghost meant = { λ set header bytes parsed is. sequence_set_meant (plain_sps set) header bytes
+        parsed is };
 }
 
 /// The bits of a set, up to a whole byte.

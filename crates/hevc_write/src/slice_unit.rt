@@ -33,7 +33,8 @@ use std::collections::BTreeMap;
 /// A slice segment: its header, the parameter sets that this names, and the bytes after it.
 #[derive(Clone, Copy)]
 pub struct SliceUnit<'a> {
-    /// The header. Its three sizes (`header_bit_size`, `n_emulation_prevention_bytes` and `st_rps_bits`) aren't looked at.
+    /// The header. Its three sizes (`header_bit_size`, `n_emulation_prevention_bytes` and
+    /// `st_rps_bits`) aren't looked at.
     pub header: &'a SliceHeader,
     pub pps: &'a Pps,
     pub sps: &'a Sps,
@@ -45,11 +46,13 @@ impl Syntax for SliceUnit<'_> {
     ghost use Rattle.hevc_write_units.specs.Slices.{MeansSlice, SliceLines};
     ghost use Rattle.hevc_write_units.proofs.SliceHeaders.{no_end_slice, slice_meant};
 
-    ghost has_lines = { λ unit header lines. SliceLines (plain_sps unit.sps.now) (plain_pps unit.pps.now) (plain_slice_header unit.header.now) header lines };
+    ghost has_lines = { λ unit header lines. SliceLines (plain_sps unit.sps.now)
+        (plain_pps unit.pps.now) (plain_slice_header unit.header.now) header lines };
 
     ghost body = { λ unit. unit.body.now };
 
-    ghost means = { λ unit header bytes. MeansSlice (plain_sps unit.sps.now) (plain_pps unit.pps.now) (plain_slice_header unit.header.now) header bytes };
+    ghost means = { λ unit header bytes. MeansSlice (plain_sps unit.sps.now)
+        (plain_pps unit.pps.now) (plain_slice_header unit.header.now) header bytes };
 
     fn write_payload(&self, header: &NaluHeader, payload: &mut Vec<u8>) -> Result<(), WriteError> {
         if !is_of_slice(header) || !is_named(self.header, self.pps, self.sps) {
@@ -67,9 +70,12 @@ impl Syntax for SliceUnit<'_> {
         Ok(())
     }
 
-    ghost has_payload = { λ unit header lines has. no_end_slice (plain_sps unit.sps.now) (plain_pps unit.pps.now) (plain_slice_header unit.header.now) header lines has };
+    ghost has_payload = { λ unit header lines has. no_end_slice (plain_sps unit.sps.now)
+        (plain_pps unit.pps.now) (plain_slice_header unit.header.now) header lines has };
 
-    ghost meant = { λ unit header bytes parsed is. slice_meant (plain_sps unit.sps.now) (plain_pps unit.pps.now) (plain_slice_header unit.header.now) unit.body.now header bytes parsed is };
+    ghost meant = { λ unit header bytes parsed is. slice_meant (plain_sps unit.sps.now)
+        (plain_pps unit.pps.now) (plain_slice_header unit.header.now) unit.body.now header bytes
+        parsed is };
 }
 
 /// Whether the header names the picture set, and this the sequence set.
@@ -109,11 +115,13 @@ fn is_read_back(
     requires typed { is_slice header.now.nal_unit_type ≡ true }
     requires whole { IsWhole w.now }
     requires named { slice.now.pps.now.seq_parameter_set_id ≡ slice.now.sps.now.seq_parameter_set_id }
-    ensures found { IfOk result (λ same. IsTrue same → HasElements (elements header.now.nal_unit_type
+    ensures found { IfOk result (λ same. IsTrue same
+        → HasElements (elements header.now.nal_unit_type
         (only_sets (plain_sps slice.now.sps.now) (plain_pps slice.now.pps.now)))
         (plain_slice_header slice.now.header.now)) }
     ensures read { IfOk result (λ same. (own : PlainSliceSegmentHeader) (front : List Bool)
-        → w.now ≡ with_trailing_bits front → IsSameButSizes own (plain_slice_header slice.now.header.now)
+        → w.now ≡ with_trailing_bits front
+        → IsSameButSizes own (plain_slice_header slice.now.header.now)
         → read (elements header.now.nal_unit_type
         (only_sets (plain_sps slice.now.sps.now) (plain_pps slice.now.pps.now))) w.now
         ≡ gives own (trailing_bits (length front)) → IsTrue same) }
@@ -140,7 +148,8 @@ fn refusal(error: ParseError) -> Result<bool, AllocError>
 
 /// A picture set alone, under its id.
 fn picture_set_alone(alloc: Global, pps: &Pps) -> Result<BTreeMap<u8, Pps>, AllocError>
-    ensures { IfOk result (λ sets. sets_by_id plain_pps sets ≡ only_picture_set (plain_pps pps.now)) }
+    ensures { IfOk result
+        (λ sets. sets_by_id plain_pps sets ≡ only_picture_set (plain_pps pps.now)) }
 {
     let mut sets = BTreeMap::new(alloc);
     sets.insert(pps.pic_parameter_set_id, *pps)?;

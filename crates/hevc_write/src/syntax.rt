@@ -11,10 +11,11 @@ ghost use Rattle.hevc_write_units.specs.Payloads.{AddsPayload, IsPayload};
 use hevc_bits::NaluHeader;
 use hevc_write_units::WriteError;
 
-/// A value that is the payload of a unit: lines of a syntax table (7.3), a one and zeros up to a whole byte, and the bytes
-/// after them.
+/// A value that is the payload of a unit: lines of a syntax table (7.3), a one and zeros up to a
+/// whole byte, and the bytes after them.
 pub trait Syntax {
-    /// These are lines of the value in a unit of this header, all of them allowed. Where there are none, the value can't be written.
+    /// These are lines of the value in a unit of this header, all of them allowed. Where there are
+    /// none, the value can't be written.
     ghost has_lines: { Self → UnitHeader → List Line → Type 0 };
 
     /// The bytes after the lines: those of a slice after its header.
@@ -23,10 +24,11 @@ pub trait Syntax {
     /// What a unit of this header and these bytes means, if it has the value as its payload.
     ghost means: { Self → UnitHeader → List ℕ → Type 0 };
 
-    /// Adds the bytes of the payload of a unit with this header, before any 03 is put between them (7.3.1.1).
+    /// Adds the bytes of the payload of a unit with this header, before any 03 is put between them
+    /// (7.3.1.1).
     ///
-    /// Errors: `NotFormed` where no lines of the value are allowed; then `ZeroEnd` where the bytes after them aren't none and end in 00;
-    /// `NoMemory`. The bytes are as before then.
+    /// Errors: `NotFormed` where no lines of the value are allowed; then `ZeroEnd` where the bytes
+    /// after them aren't none and end in 00; `NoMemory`. The bytes are as before then.
     fn write_payload(&self, header: &NaluHeader, payload: &mut Vec<u8>) -> Result<(), WriteError>
         ensures added { OnOk result (AddsPayload (has_lines self.now header.now) (body self.now)
             payload.old.items payload.new.items) }

@@ -9,11 +9,13 @@ use hevc_bits::NaluHeader;
 use hevc_write_units::{WriteError, header_bytes};
 use std::alloc::Global;
 
-/// Adds a unit with this header and this value to a stream (7.3.1, B.2.1): 00 00 01, the two bytes of the header, and the payload,
-/// with a 03 before each byte of at most 3 that would come directly after two zero bytes.
+/// Adds a unit with this header and this value to a stream (7.3.1, B.2.1): 00 00 01, the two bytes
+/// of the header, and the payload, with a 03 before each byte of at most 3 that would come directly
+/// after two zero bytes.
 ///
-/// Errors: `NotFormed` where the value can't be read from such a unit, whatever its payload is; then `ZeroEnd` where the bytes after
-/// a slice header aren't none and end in 00; `NoMemory`. The stream is as before then.
+/// Errors: `NotFormed` where the value can't be read from such a unit, whatever its payload is;
+/// then `ZeroEnd` where the bytes after a slice header aren't none and end in 00; `NoMemory`. The
+/// stream is as before then.
 pub fn write_unit<R: Syntax>(
     alloc: Global,
     value: &R,

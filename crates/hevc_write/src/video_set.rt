@@ -12,8 +12,8 @@ use hevc_elements::ParseError;
 use hevc_types_b::Vps;
 use hevc_types_b::comparisons::vps_eq;
 use hevc_vps::read_vps;
-use hevc_write_vps::write_vps;
 use hevc_write_units::{WriteError, trial_stream, trial_unit};
+use hevc_write_vps::write_vps;
 use std::alloc::{AllocError, Global};
 
 impl Syntax for Vps {
@@ -21,7 +21,8 @@ impl Syntax for Vps {
     ghost use Rattle.hevc_write_units.specs.Values.{MeansVideoSet, SetLines};
     ghost use Rattle.hevc_write_units.proofs.Meant.{no_end, video_set_meant};
 
-    ghost has_lines = { λ set header lines. SetLines 32 video_parameter_set (plain_vps set) header lines };
+    ghost has_lines = { λ set header lines. SetLines 32 video_parameter_set (plain_vps set) header
+        lines };
 
     ghost body = { λ set. [] };
 
@@ -40,9 +41,11 @@ impl Syntax for Vps {
         Ok(())
     }
 
-    ghost has_payload = { λ set header lines has. no_end 32 video_parameter_set (plain_vps set) header lines refl has };
+    ghost has_payload = { λ set header lines has. no_end 32 video_parameter_set (plain_vps set)
+        header lines refl has };
 
-    ghost meant = { λ set header bytes parsed is. video_set_meant (plain_vps set) header bytes parsed is };
+    ghost meant = { λ set header bytes parsed is. video_set_meant (plain_vps set) header bytes
+        parsed is };
 }
 
 /// The bits of a set, up to a whole byte.

@@ -353,7 +353,8 @@ header from x = ending from (independent_segment from (later_segment from (infer
 -- rows 4 to 52, with what they go by
 abbrev pub seen_by_header : PlainSliceSegmentHeader → PlainSliceSegmentHeader
     → PlainSliceSegmentHeader
-seen_by_header from x = record (ending from (seen_by_independent_segment from (later_segment from x))) {
+seen_by_header from x =
+  record (ending from (seen_by_independent_segment from (later_segment from x))) {
   first_slice_segment_in_pic_flag = from.first_slice_segment_in_pic_flag;
 }
 
