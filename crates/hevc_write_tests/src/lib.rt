@@ -8,8 +8,12 @@ mod lists;
 #[cfg(test)]
 mod parts;
 #[cfg(test)]
+mod rewriting;
+#[cfg(test)]
 mod sets;
 #[cfg(test)]
 mod slices;
+#[cfg(test)]
+mod units;
 #[cfg(test)]
 mod written;

@@ -1,0 +1,249 @@
+//! Slices, and their refusals, as units (7.3.1.1).
+use hevc_bits::{Nalu, NaluHeader};
+use hevc_slice_header::read_slice_header;
+use hevc_types_c::Sps;
+use hevc_types_d::{Pps, SliceHeader};
+use hevc_write::{PictureUnit, SliceUnit, Syntax, WriteError, write_unit};
+use std::alloc::Global;
+use std::collections::BTreeMap;
+use std::process::Abort;
+use std::test::Fail;
+
+/// An I slice of an IDR picture, and a byte of its data.
+const INTRA: &[u8] = &[0x00, 0x00, 0x01, 0x26, 0x01, 0xaf, 0x80];
+
+/// A dependent segment that begins at block 9 of 16.
+const LATER_SEGMENT: &[u8] = &[0x00, 0x00, 0x01, 0x02, 0x01, 0x73, 0x80];
+
+/// A P slice whose own short-term set has the picture four before it.
+const ONE_BEFORE: &[u8] = &[0x00, 0x00, 0x01, 0x02, 0x01, 0xd2, 0x14, 0x97, 0x80];
+
+/// A B slice: long-term pictures, an ordered list and weights.
+const TWO_LISTS: &[u8] = &[
+    0x00, 0x00, 0x01, 0x02, 0x01, 0xf0, 0x49, 0x74, 0xd3, 0x3e, 0xc4, 0xda, 0xe2, 0xcb, 0x02, 0x19,
+    0x19, 0xe0, 0x80,
+];
+
+/// A P slice: long-term pictures of three kinds, an ordered list and weights.
+const ONE_LIST: &[u8] = &[
+    0x00, 0x00, 0x01, 0x02, 0x01, 0xd4, 0x9a, 0xd9, 0x53, 0x4c, 0xfa, 0xc4, 0x99, 0x31, 0xb6, 0xda,
+    0xca, 0x72, 0x14, 0xd3, 0xb9, 0x0a, 0x89, 0x80,
+];
+
+/// An I slice with an entry point of 32 bits.
+const FAR_ENTRY_POINT: &[u8] = &[
+    0x00, 0x00, 0x01, 0x26, 0x01, 0xae, 0x81, 0x04, 0x00, 0x00, 0x03, 0x00, 0x0c, 0x80,
+];
+
+/// An I slice with 33 entry points.
+const MANY_ENTRY_POINTS: &[u8] = &[
+    0x00, 0x00, 0x01, 0x26, 0x01, 0xae, 0x08, 0x84, 0x2a, 0xaa, 0xaa, 0xaa, 0xaa, 0xaa, 0xaa, 0xaa,
+    0xaa, 0xaa, 0xaa, 0xaa, 0xaa, 0xaa, 0xaa, 0xaa, 0xaa, 0xaa, 0xaa, 0xaa, 0xaa, 0xaa, 0xaa, 0xaa,
+    0xaa, 0xaa, 0xaa, 0xaa, 0xaa, 0xaa, 0xaa, 0xaa, 0xd3, 0x40, 0x80,
+];
+
+/// An I slice whose header has an extension.
+const EXTENDED: &[u8] = &[
+    0x00, 0x00, 0x01, 0x26, 0x01, 0xae, 0x50, 0x00, 0x00, 0x03, 0x00, 0x08, 0x00, 0x00, 0x03, 0x01,
+    0x80,
+];
+
+/// A sequence set of a column of blocks of 8x8 luma samples, with two long-term pictures.
+fn column(alloc: Global, blocks: u16) -> Sps {
+    let mut sps = Sps::new(alloc);
+    sps.pic_height_in_luma_samples = blocks.saturating_mul(8);
+    sps.pic_height_in_ctbs_y = u32::from(blocks);
+    sps.pic_size_in_ctbs_y = u32::from(blocks);
+    sps.chroma_format_idc = 1;
+    sps.chroma_array_type = 1;
+    sps.max_dec_pic_buffering_minus1 = [4, 0, 0, 0, 0, 0, 0];
+    sps
+}
+
+/// One with motion vectors of other pictures, and two long-term pictures.
+fn referring_column(alloc: Global) -> Sps {
+    let mut sps = column(alloc, 16);
+    sps.long_term_ref_pics_present_flag = true;
+    sps.num_long_term_ref_pics_sps = 2;
+    let mut counts = [0; 32];
+    counts[0] = 3;
+    counts[1] = 9;
+    sps.lt_ref_pic_poc_lsb_sps = counts;
+    let mut used = [false; 32];
+    used[0] = true;
+    sps.used_by_curr_pic_lt_sps_flag = used;
+    sps.temporal_mvp_enabled_flag = true;
+    sps
+}
+
+/// A picture set whose slices order their lists, and weigh those of two kinds or of one.
+fn weighing_set(two_lists: bool) -> Pps {
+    let mut pps = Pps::new();
+    pps.lists_modification_present_flag = true;
+    pps.cabac_init_present_flag = true;
+    pps.weighted_bipred_flag = two_lists;
+    pps.weighted_pred_flag = !two_lists;
+    pps
+}
+
+/// The slice header of a stream's first unit, with these sets, and the unit's header.
+fn read(
+    rt: &impl Abort,
+    alloc: Global,
+    sps: &Sps,
+    pps: &Pps,
+    stream: &[u8],
+) -> Result<(NaluHeader, SliceHeader), Fail> {
+    assert!(rt; stream.len() < 1000);
+    let mut spses = BTreeMap::new(alloc);
+    spses.insert(0, sps.try_clone()?)?;
+    let mut ppses = BTreeMap::new(alloc);
+    ppses.insert(0, *pps)?;
+    let mut position = 0;
+    let unit = Nalu::<NaluHeader>::next(stream, &mut position)?;
+    let mut header = SliceHeader::new(alloc);
+    read_slice_header(alloc, &unit, &spses, &ppses, &mut header)?;
+    Ok((*unit.header(), header))
+}
+
+/// A slice with a body of one byte is written as it was.
+fn assert_slice(
+    rt: &impl Abort,
+    alloc: Global,
+    sps: &Sps,
+    pps: &Pps,
+    stream: &[u8],
+) -> Result<(), Fail> {
+    let (unit, header) = read(rt, alloc, sps, pps, stream)?;
+    let slice = SliceUnit {
+        header: &header,
+        pps,
+        sps,
+        body: &[0x80],
+    };
+    let mut out = Vec::new(alloc);
+    write_unit(alloc, &slice, &unit, &mut out)?;
+    assert!(rt; out.as_slice() == stream);
+    Ok(())
+}
+
+#[test]
+fn slices_are_written_as_they_were(rt: HostRuntime) -> Result<(), Fail> {
+    let alloc = rt.alloc();
+    let plain = column(alloc, 16);
+    let referring = referring_column(alloc);
+    let mut dependent = Pps::new();
+    dependent.dependent_slice_segments_enabled_flag = true;
+    assert_slice(&rt, alloc, &plain, &Pps::new(), ONE_BEFORE)?;
+    assert_slice(&rt, alloc, &plain, &dependent, LATER_SEGMENT)?;
+    assert_slice(&rt, alloc, &referring, &weighing_set(true), TWO_LISTS)?;
+    assert_slice(&rt, alloc, &referring, &weighing_set(false), ONE_LIST)
+}
+
+#[test]
+fn entry_points_are_written_as_they_were(rt: HostRuntime) -> Result<(), Fail> {
+    let alloc = rt.alloc();
+    let tall = column(alloc, 440);
+    let mut pps = Pps::new();
+    pps.entropy_coding_sync_enabled_flag = true;
+    assert_slice(&rt, alloc, &tall, &pps, FAR_ENTRY_POINT)?;
+    assert_slice(&rt, alloc, &tall, &pps, MANY_ENTRY_POINTS)
+}
+
+#[test]
+fn the_body_comes_after_the_header(rt: HostRuntime) -> Result<(), Fail> {
+    let alloc = rt.alloc();
+    let sps = column(alloc, 16);
+    assert_slice(&rt, alloc, &sps, &Pps::new(), INTRA)?;
+    let (unit, header) = read(&rt, alloc, &sps, &Pps::new(), INTRA)?;
+    let pps = Pps::new();
+    let slice = SliceUnit {
+        header: &header,
+        pps: &pps,
+        sps: &sps,
+        body: &[0, 0, 1],
+    };
+    let mut out = Vec::new(alloc);
+    write_unit(alloc, &slice, &unit, &mut out)?;
+    assert!(rt; out.as_slice() == [0, 0, 1, 0x26, 0x01, 0xaf, 0, 0, 3, 1].as_slice());
+    let mut payload = Vec::from_slice(alloc, &[7])?;
+    slice.write_payload(&unit, &mut payload)?;
+    assert!(rt; payload.as_slice() == [7, 0xaf, 0, 0, 1].as_slice());
+    Ok(())
+}
+
+#[test]
+fn a_body_ends_in_no_zero(rt: HostRuntime) -> Result<(), Fail> {
+    let alloc = rt.alloc();
+    let sps = column(alloc, 16);
+    let pps = Pps::new();
+    let (unit, header) = read(&rt, alloc, &sps, &pps, INTRA)?;
+    let slice = SliceUnit {
+        header: &header,
+        pps: &pps,
+        sps: &sps,
+        body: &[0x80, 0],
+    };
+    let mut out = Vec::from_slice(alloc, &[7])?;
+    assert_eq!(rt;
+        write_unit(alloc, &slice, &unit, &mut out),
+        Err(WriteError::ZeroEnd)
+    );
+    assert_eq!(rt;
+        slice.write_payload(&unit, &mut out),
+        Err(WriteError::ZeroEnd)
+    );
+    assert!(rt; out.as_slice() == [7].as_slice());
+    Ok(())
+}
+
+#[test]
+fn no_extension_is_written(rt: HostRuntime) -> Result<(), Fail> {
+    let alloc = rt.alloc();
+    let sps = column(alloc, 16);
+    let mut pps = Pps::new();
+    pps.slice_segment_header_extension_present_flag = true;
+    let (unit, header) = read(&rt, alloc, &sps, &pps, EXTENDED)?;
+    let slice = SliceUnit {
+        header: &header,
+        pps: &pps,
+        sps: &sps,
+        body: &[],
+    };
+    let mut out = Vec::new(alloc);
+    write_unit(alloc, &slice, &unit, &mut out)?;
+    assert!(rt; out.as_slice() == [0, 0, 1, 0x26, 0x01, 0xaf, 0x80].as_slice());
+    Ok(())
+}
+
+#[test]
+fn what_no_unit_has_is_not_formed(rt: HostRuntime) -> Result<(), Fail> {
+    let alloc = rt.alloc();
+    let sps = column(alloc, 16);
+    let pps = Pps::new();
+    let (unit, header) = read(&rt, alloc, &sps, &pps, INTRA)?;
+    let mut other = Pps::new();
+    other.pic_parameter_set_id = 1;
+    let slice = SliceUnit {
+        header: &header,
+        pps: &other,
+        sps: &sps,
+        body: &[0x80, 0],
+    };
+    let mut out = Vec::new(alloc);
+    assert_eq!(rt;
+        write_unit(alloc, &slice, &unit, &mut out),
+        Err(WriteError::NotFormed)
+    );
+    other.pic_parameter_set_id = 64;
+    let set = PictureUnit {
+        pps: &other,
+        sps: &sps,
+    };
+    assert_eq!(rt;
+        write_unit(alloc, &set, &unit, &mut out),
+        Err(WriteError::NotFormed)
+    );
+    assert!(rt; out.is_empty());
+    Ok(())
+}
