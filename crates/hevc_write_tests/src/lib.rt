@@ -8,6 +8,8 @@ mod lists;
 #[cfg(test)]
 mod parts;
 #[cfg(test)]
+mod records;
+#[cfg(test)]
 mod rewriting;
 #[cfg(test)]
 mod sets;
