@@ -354,9 +354,9 @@ header from x = ending from (independent_segment from (later_segment from (infer
 abbrev pub seen_by_header : PlainSliceSegmentHeader → PlainSliceSegmentHeader
     → PlainSliceSegmentHeader
 seen_by_header from x =
-  record (ending from (seen_by_independent_segment from (later_segment from x))) {
-  first_slice_segment_in_pic_flag = from.first_slice_segment_in_pic_flag;
-}
+    record (ending from (seen_by_independent_segment from (later_segment from x))) {
+      first_slice_segment_in_pic_flag = from.first_slice_segment_in_pic_flag;
+    }
 
 -- ---- long-term pictures
 
