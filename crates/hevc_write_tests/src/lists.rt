@@ -16,8 +16,11 @@ fn predicted_lists_get_entries_of_their_own(rt: HostRuntime) -> Result<(), Fail>
     write_scaling_list_data(&mut w, &lists)?;
     w.write_trailing_bits()?;
     // Each flag is 1, so the first entry of the first matrix, 16, comes as 8 after 8: 1 000010000.
-    assert_eq!(rt; w.as_bytes()[0], 0x84);
-    let mut r = NaluReader::new(w.as_bytes());
+    let bytes = w.as_bytes();
+    assert!(rt; !bytes.is_empty());
+    assert!(rt; bytes.len() < 10_000);
+    assert_eq!(rt; bytes[0], 0x84);
+    let mut r = NaluReader::new(bytes);
     match read_scaling_list_data(&mut r) {
         Ok(read) => assert!(rt; read == lists),
         Err(_) => assert!(rt; false),

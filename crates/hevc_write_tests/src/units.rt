@@ -48,21 +48,32 @@ const EXTENDED: &[u8] = &[
     0x80,
 ];
 
-/// A sequence set of a column of blocks of 8x8 luma samples, with two long-term pictures.
-fn column(alloc: Global, blocks: u16) -> Sps {
+/// A sequence set of 16 blocks of 8x8 luma samples, one over another.
+fn column(alloc: Global) -> Sps {
     let mut sps = Sps::new(alloc);
-    sps.pic_height_in_luma_samples = blocks.saturating_mul(8);
-    sps.pic_height_in_ctbs_y = u32::from(blocks);
-    sps.pic_size_in_ctbs_y = u32::from(blocks);
+    sps.pic_height_in_luma_samples = 128;
+    sps.pic_height_in_ctbs_y = 16;
+    sps.pic_size_in_ctbs_y = 16;
+    sps.pic_size_in_samples_y = 128;
     sps.chroma_format_idc = 1;
     sps.chroma_array_type = 1;
     sps.max_dec_pic_buffering_minus1 = [4, 0, 0, 0, 0, 0, 0];
     sps
 }
 
+/// One of 440 blocks.
+fn tall_column(alloc: Global) -> Sps {
+    let mut sps = Sps::new(alloc);
+    sps.pic_height_in_luma_samples = 3520;
+    sps.pic_height_in_ctbs_y = 440;
+    sps.pic_size_in_ctbs_y = 440;
+    sps.pic_size_in_samples_y = 3520;
+    sps
+}
+
 /// One with motion vectors of other pictures, and two long-term pictures.
 fn referring_column(alloc: Global) -> Sps {
-    let mut sps = column(alloc, 16);
+    let mut sps = column(alloc);
     sps.long_term_ref_pics_present_flag = true;
     sps.num_long_term_ref_pics_sps = 2;
     let mut counts = [0; 32];
@@ -130,7 +141,7 @@ fn assert_slice(
 #[test]
 fn slices_are_written_as_they_were(rt: HostRuntime) -> Result<(), Fail> {
     let alloc = rt.alloc();
-    let plain = column(alloc, 16);
+    let plain = column(alloc);
     let referring = referring_column(alloc);
     let mut dependent = Pps::new();
     dependent.dependent_slice_segments_enabled_flag = true;
@@ -143,7 +154,7 @@ fn slices_are_written_as_they_were(rt: HostRuntime) -> Result<(), Fail> {
 #[test]
 fn entry_points_are_written_as_they_were(rt: HostRuntime) -> Result<(), Fail> {
     let alloc = rt.alloc();
-    let tall = column(alloc, 440);
+    let tall = tall_column(alloc);
     let mut pps = Pps::new();
     pps.entropy_coding_sync_enabled_flag = true;
     assert_slice(&rt, alloc, &tall, &pps, FAR_ENTRY_POINT)?;
@@ -153,7 +164,7 @@ fn entry_points_are_written_as_they_were(rt: HostRuntime) -> Result<(), Fail> {
 #[test]
 fn the_body_comes_after_the_header(rt: HostRuntime) -> Result<(), Fail> {
     let alloc = rt.alloc();
-    let sps = column(alloc, 16);
+    let sps = column(alloc);
     assert_slice(&rt, alloc, &sps, &Pps::new(), INTRA)?;
     let (unit, header) = read(&rt, alloc, &sps, &Pps::new(), INTRA)?;
     let pps = Pps::new();
@@ -175,7 +186,7 @@ fn the_body_comes_after_the_header(rt: HostRuntime) -> Result<(), Fail> {
 #[test]
 fn a_body_ends_in_no_zero(rt: HostRuntime) -> Result<(), Fail> {
     let alloc = rt.alloc();
-    let sps = column(alloc, 16);
+    let sps = column(alloc);
     let pps = Pps::new();
     let (unit, header) = read(&rt, alloc, &sps, &pps, INTRA)?;
     let slice = SliceUnit {
@@ -200,7 +211,7 @@ fn a_body_ends_in_no_zero(rt: HostRuntime) -> Result<(), Fail> {
 #[test]
 fn no_extension_is_written(rt: HostRuntime) -> Result<(), Fail> {
     let alloc = rt.alloc();
-    let sps = column(alloc, 16);
+    let sps = column(alloc);
     let mut pps = Pps::new();
     pps.slice_segment_header_extension_present_flag = true;
     let (unit, header) = read(&rt, alloc, &sps, &pps, EXTENDED)?;
@@ -219,7 +230,7 @@ fn no_extension_is_written(rt: HostRuntime) -> Result<(), Fail> {
 #[test]
 fn what_no_unit_has_is_not_formed(rt: HostRuntime) -> Result<(), Fail> {
     let alloc = rt.alloc();
-    let sps = column(alloc, 16);
+    let sps = column(alloc);
     let pps = Pps::new();
     let (unit, header) = read(&rt, alloc, &sps, &pps, INTRA)?;
     let mut other = Pps::new();
