@@ -4,7 +4,7 @@ import subprocess
 import unittest
 
 CRATES = pathlib.Path(__file__).resolve().parent.parent / "crates"
-PROGRAMS = {"hevc_trace": [], "hevc_checker": [], "hevc_splicer": [], "hevc_extractor": ["0"], "hevc_bench": []}
+PROGRAMS = {"hevc_trace": [], "hevc_checker": [], "hevc_splicer": [], "hevc_extractor": ["0"], "hevc_rewriter": [], "hevc_bench": []}
 LIMIT = 268435456
 
 
