@@ -31,6 +31,12 @@ abbrev pub MayFind : Option ℕ → Place → Place → Found → Type 0
 MayFind (Some n) old new f = (f ≡ found n (bits new)) × IsAhead old new × IsReached old new
 MayFind None old new f = new ≡ old
 
+-- A number was found, and another reader is after it; or none was looked for.
+abbrev pub IsHeld : Option (ℕ × Place) → Place → Found → Type 0
+IsHeld (Some held) old f =
+    (f ≡ found held.0 (bits held.1)) × IsAhead old held.1 × IsReached old held.1
+IsHeld None old f = Unit {0}
+
 -- The answer to whether there is more, by the place with a byte loaded: where there is more the
 -- reader is there, and where not, after all bytes.
 abbrev pub LooksForMore : Bool → Place → Place → Option Place → Type 0

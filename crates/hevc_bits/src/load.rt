@@ -16,7 +16,8 @@ pub struct Loaded<'a> {
     pub dropped: usize,
 }
 
-fn zeros_behind(zeros: u8, byte: u8) -> u8
+/// The zero bytes directly before the byte after `byte`, counted up to 2.
+pub fn zeros_behind(zeros: u8, byte: u8) -> u8
     requires { zeros ≤ 2 }
     ensures value { result ≡ run_behind zeros byte }
     ensures small { result ≤ 2 }

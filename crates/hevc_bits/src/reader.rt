@@ -1,10 +1,10 @@
 //! A reader of payload bits.
 
-ghost use Rattle.std.specs.Prelude.{◌≡◌, ℕ, ◌+◌, ◌*◌, ◌≤◌, ◌≤ℤ◌, ◌<◌, ◌^◌, List, Bool, false, not, ◌==◌, ◌++◌, [], length, take, IfOk, Ok, Err};
+ghost use Rattle.std.specs.Prelude.{◌≡◌, ℕ, ◌+◌, ◌*◌, ◌≤◌, ◌≤ℤ◌, ◌<◌, ◌^◌, List, Bool, false, not, ◌==◌, ◌++◌, [], length, take, IfOk, IfSome, Ok, Err};
 ghost use Rattle.hevc_spec.specs.Payload.{Place, bits, payload_bits, first_place, bits_left, with_bits, has_more, low_bits, IsAhead, IsReached};
 ghost use Rattle.std.specs.List.{list_any};
 ghost use Rattle.hevc_spec.specs.Bits.{u, skip, ue, number, IsSpelled, IsAtFront, bits_at, bits_after, golomb_at, ue_at, within, in_range, in_signed_range, signed as signed_of};
-ghost use Rattle.hevc_bits.specs.Reading.{TakesBit, Finds, FindsSigned, LooksForMore, MayFind, PassesZeros};
+ghost use Rattle.hevc_bits.specs.Reading.{TakesBit, Finds, FindsSigned, LooksForMore, MayFind, IsHeld, PassesZeros};
 ghost use Rattle.hevc_bits.specs.declared.stream_limit.TheConstants.{STREAM_LIMIT};
 
 use crate::bit_error::BitError;
@@ -98,6 +98,31 @@ impl<'a> NaluReader<'a> {
         self.read_behind(0, num_bits)
     }
 
+    /// The same of at most 31 bits, `OutOfRange` below `min` and above `max` too.
+    pub fn read_bits_bounded(
+        &mut self,
+        num_bits: usize,
+        min: u32,
+        max: u32,
+    ) -> Result<u32, BitError>
+        requires { num_bits ≤ 31 }
+        ensures read { Finds (λ n. n) result self.old self.new
+            (within (in_range min max) (bits_at num_bits (bits self.old))) }
+        ensures moves { IsAhead self.old self.new }
+        ensures place { IsReached self.old self.new }
+        ensures bounds { IfOk result (λ n. (min ≤ n) × (n ≤ max)) }
+    {
+        self.fill();
+        let Some((value, ahead)) = self.held_bits(num_bits) else {
+            return self.read_any_bits_bounded(num_bits, min, max);
+        };
+        if value < min || value > max {
+            return Err(BitError::OutOfRange);
+        }
+        *self = ahead;
+        Ok(value)
+    }
+
     /// Passes the next `num_bits` bits over. `OutOfBits` where fewer are left.
     pub fn skip_bits(&mut self, num_bits: usize) -> Result<(), BitError>
         ensures read { Finds (λ _. number (take num_bits (bits self.old))) result self.old self.new
@@ -159,8 +184,10 @@ impl<'a> NaluReader<'a> {
         ensures place { IsReached self.old self.new }
         ensures bounds { IfOk result (λ n. (min ≤ n) × (n ≤ max)) }
     {
-        let mut ahead = self.fork();
-        let value = ahead.read_ue()?;
+        self.fill();
+        let Some((value, ahead)) = self.held_golomb() else {
+            return self.read_any_ue_bounded(min, max);
+        };
         if value < min || value > max {
             return Err(BitError::OutOfRange);
         }
@@ -185,8 +212,107 @@ impl<'a> NaluReader<'a> {
         ensures place { IsReached self.old self.new }
         ensures bounds { IfOk result (λ n. (min ≤ℤ n) × (n ≤ℤ max)) }
     {
+        self.fill();
+        let Some((number, ahead)) = self.held_golomb() else {
+            return self.read_any_se_bounded(min, max);
+        };
+        let value = signed(number);
+        if value < min || value > max {
+            return Err(BitError::OutOfRange);
+        }
+        *self = ahead;
+        Ok(value)
+    }
+
+    /// Has the word hold 32 bits, or all that are left.
+    #[inline(always)]
+    fn fill(&mut self)
+        ensures { self.new ≡ self.old }
+    {
+        self.word.has(32);
+    }
+
+    /// The next bits as a number, and a reader after them, where they are in the word.
+    #[inline(always)]
+    fn held_bits(&self, num_bits: usize) -> Option<(u32, NaluReader<'a>)>
+        requires { num_bits ≤ 31 }
+        ensures { IsHeld result self.now (bits_at num_bits (bits self.now)) }
+    {
+        let mut word = self.word;
+        if num_bits > word.left {
+            return None;
+        }
+        let value = word.take(num_bits) as u32;
+        Some((value, NaluReader { word }))
+    }
+
+    /// The next Exp-Golomb number, and a reader after it, where its bits are in the word.
+    #[inline(always)]
+    fn held_golomb(&self) -> Option<(u32, NaluReader<'a>)>
+        ensures read { IsHeld result self.now (ue_at (bits self.now)) }
+        ensures bound { IfSome result (λ held. held.0 ≤ 2147483647) }
+    {
+        let mut word = self.word;
+        let value = word.take_golomb()?;
+        Some((value, NaluReader { word }))
+    }
+
+    /// `read_bits_bounded` of any bits.
+    #[cold]
+    #[inline(never)]
+    fn read_any_bits_bounded(
+        &mut self,
+        num_bits: usize,
+        min: u32,
+        max: u32,
+    ) -> Result<u32, BitError>
+        requires { num_bits ≤ 31 }
+        ensures read { Finds (λ n. n) result self.old self.new
+            (within (in_range min max) (bits_at num_bits (bits self.old))) }
+        ensures moves { IsAhead self.old self.new }
+        ensures place { IsReached self.old self.new }
+        ensures bounds { IfOk result (λ n. (min ≤ n) × (n ≤ max)) }
+    {
         let mut ahead = self.fork();
-        let value = signed(ahead.read_ue()?);
+        let value = ahead.read_bits(num_bits)?;
+        if value < min || value > max {
+            return Err(BitError::OutOfRange);
+        }
+        *self = ahead;
+        Ok(value)
+    }
+
+    /// `read_ue_bounded` of any number.
+    #[cold]
+    #[inline(never)]
+    fn read_any_ue_bounded(&mut self, min: u32, max: u32) -> Result<u32, BitError>
+        ensures read { Finds (λ n. n) result self.old self.new
+            (within (in_range min max) (ue_at (bits self.old))) }
+        ensures moves { IsAhead self.old self.new }
+        ensures place { IsReached self.old self.new }
+        ensures bounds { IfOk result (λ n. (min ≤ n) × (n ≤ max)) }
+    {
+        let mut ahead = self.fork();
+        let value = ahead.read_any_golomb()?;
+        if value < min || value > max {
+            return Err(BitError::OutOfRange);
+        }
+        *self = ahead;
+        Ok(value)
+    }
+
+    /// `read_se_bounded` of any number.
+    #[cold]
+    #[inline(never)]
+    fn read_any_se_bounded(&mut self, min: i32, max: i32) -> Result<i32, BitError>
+        ensures read { FindsSigned result self.old self.new
+            (within (in_signed_range min max) (ue_at (bits self.old))) }
+        ensures moves { IsAhead self.old self.new }
+        ensures place { IsReached self.old self.new }
+        ensures bounds { IfOk result (λ n. (min ≤ℤ n) × (n ≤ℤ max)) }
+    {
+        let mut ahead = self.fork();
+        let value = signed(ahead.read_any_golomb()?);
         if value < min || value > max {
             return Err(BitError::OutOfRange);
         }

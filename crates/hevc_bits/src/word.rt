@@ -7,7 +7,7 @@ ghost use Rattle.hevc_bits.specs.Cached.{loaded_place, place_of, marked, IsFille
 ghost use Rattle.hevc_bits.specs.Reading.{LoadsByte};
 ghost use Rattle.hevc_bits.specs.declared.stream_limit.TheConstants.{STREAM_LIMIT};
 
-use crate::load::{Loaded, next_byte};
+use crate::load::{Loaded, next_byte, zeros_behind};
 
 /// A place among the payload bits of a byte slice, with up to 63 of the next ones in a word.
 #[derive(Clone, Copy)]
@@ -50,6 +50,7 @@ impl<'a> Word<'a> {
     }
 
     /// Whether so many unread bits are in the word, which is filled where there are fewer.
+    #[inline(always)]
     pub fn has(&mut self, num_bits: usize) -> bool
         requires filled { IsFilled self.old }
         requires few { num_bits ≤ 32 }
@@ -77,7 +78,8 @@ impl<'a> Word<'a> {
         }
     }
 
-    /// Puts the next four bytes in, where none of them is 0 nor dropped.
+    /// Puts the next four bytes in, where none of them is 3, so none is dropped.
+    #[inline(always)]
     fn fill_plain(&mut self) -> bool
         requires filled { IsFilled self.old }
         requires few { self.old.left < 32 }
@@ -90,7 +92,7 @@ impl<'a> Word<'a> {
         let &[first, second, third, fourth, ..] = bytes else {
             return false;
         };
-        if self.zeros > 1 || first == 0 || second == 0 || third == 0 || fourth == 0 {
+        if first == 3 || second == 3 || third == 3 || fourth == 3 {
             return false;
         }
         self.push_plain(first, &bytes[1..]);
@@ -116,28 +118,30 @@ impl<'a> Word<'a> {
         }
     }
 
-    /// Puts a byte in that isn't 0 nor comes after two zero bytes.
+    /// Puts a byte in that isn't 3.
+    #[inline(always)]
     fn push_plain(&mut self, byte: u8, behind: &'a [u8])
         requires filled { IsFilled self.old }
         requires fits { self.old.left < 56 }
         requires next { self.old.rest.now ≡ byte ∷ behind.now }
-        requires not_dropped { self.old.zeros ≤ 1 }
-        requires nonzero { byte ≢ 0 }
+        requires kept { byte ≢ 3 }
         ensures filled { IsFilled self.new }
         ensures same { place_of self.new ≡ place_of self.old }
         ensures more { self.new.left ≡ self.old.left + 8 }
         ensures rest { self.new.rest.now ≡ behind.now }
-        ensures zeros { self.new.zeros ≡ 0 }
     {
+        let zeros = zeros_behind(self.zeros, byte);
         let dropped = self.dropped;
         self.push(Loaded {
             byte,
-            zeros: 0,
+            zeros,
             behind,
             dropped,
         });
     }
 
+    /// Puts the next payload byte in.
+    #[inline(always)]
     fn push(&mut self, next: Loaded<'a>)
         requires filled { IsFilled self.old }
         requires fits { self.old.left < 56 }
@@ -163,6 +167,7 @@ impl<'a> Word<'a> {
     }
 
     /// The next bits as a number.
+    #[inline(always)]
     pub fn take(&mut self, num_bits: usize) -> u64
         requires filled { IsFilled self.old }
         requires held { num_bits ≤ self.old.left }
@@ -176,6 +181,7 @@ impl<'a> Word<'a> {
     }
 
     /// The next Exp-Golomb number, where its bits are in the word and it has at most 30 zeros.
+    #[inline(always)]
     pub fn take_golomb(&mut self) -> Option<u32>
         requires { IsFilled self.old }
         ensures { MatchOption result (self.new ≡ self.old) (λ v. TakesGolomb v self.old self.new) }
@@ -188,6 +194,7 @@ impl<'a> Word<'a> {
     }
 
     /// How many zeros are before the first one of the unread bits, all where they hold none.
+    #[inline(always)]
     fn zeros(&self) -> usize
         requires { IsFilled self.now }
         ensures within { result ≤ self.now.left }

@@ -153,6 +153,16 @@ fn reads_numbers_within_bounds(rt: HostRuntime) {
     assert_eq!(rt; bounded.skip_bits(6), Ok(()));
     assert_eq!(rt; bounded.skip_bits(5), Err(BitError::OutOfBits));
     assert_eq!(rt; bounded.num_bits_left(), 4);
+    assert_eq!(rt;
+        bounded.read_bits_bounded(3, 1, 7),
+        Err(BitError::OutOfRange)
+    );
+    assert_eq!(rt; bounded.read_bits_bounded(3, 0, 0), Ok(0));
+    assert_eq!(rt;
+        bounded.read_bits_bounded(3, 0, 7),
+        Err(BitError::OutOfBits)
+    );
+    assert_eq!(rt; bounded.num_bits_left(), 1);
 }
 
 #[test]
