@@ -111,6 +111,9 @@ fn read_offsets(
     Ok(())
 }
 
+/// Entry points for which room is made at once: those of a picture of 64 rows of blocks.
+const USUAL_COUNT: u32 = 63;
+
 /// Row 50 of table 14, for so many entry points.
 #[tactic(auto, using(hevc_elements::proofs::Loops::growing_loops), unfolding(hevc_tables::specs::SliceHeaderTable::entry_points, hevc_tables::specs::SliceHeaderTable::entry_point))]
 fn read_entry_points(
@@ -125,6 +128,7 @@ fn read_entry_points(
     ensures moves { IsAhead r.old r.new }
 {
     let mut offsets = Items::new(alloc);
+    offsets.reserve(count.min(USUAL_COUNT) as usize)?;
     for i in 0..count {
         let offset = read_entry_point(r, num_bits)?;
         offsets.push(offset)?;

@@ -29,6 +29,15 @@ impl<T> Items<T> {
         }
     }
 
+    /// Makes room for so many more items. The list stays as it is.
+    ///
+    /// Errors: no memory.
+    pub fn reserve(&mut self, additional: usize) -> Result<(), AllocError>
+        ensures { self.new ≡ self.old }
+    {
+        self.items.reserve(additional)
+    }
+
     /// Puts `item` at the end.
     ///
     /// Errors: no memory; the list then stays as it was, and `item` is dropped.
