@@ -9,6 +9,7 @@ mod backend;
 mod last;
 mod line;
 mod list;
+mod number;
 mod summary;
 
 pub(crate) use backend::ReportBackend;

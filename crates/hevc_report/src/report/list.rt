@@ -6,6 +6,7 @@ ghost use Rattle.std.specs.String.{string_bytes};
 ghost use Rattle.hevc_refs.specs.Lists.{plain_place, plain_places};
 ghost use Rattle.hevc_report.specs.Report.{list_text, more_places, place_text};
 
+use super::number::push_number;
 use hevc_refs::RefPicListEntry;
 use std::alloc::AllocError;
 
@@ -46,6 +47,6 @@ fn push_place(text: &mut String, place: Option<RefPicListEntry>) -> Result<(), A
     match place {
         None => text.push_str("x"),
         Some(RefPicListEntry::CurrentPicture) => text.push_str("c"),
-        Some(RefPicListEntry::DpbEntry(number)) => write!(text, "{number}"),
+        Some(RefPicListEntry::DpbEntry(number)) => push_number(text, number),
     }
 }
