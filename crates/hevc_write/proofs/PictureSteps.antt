@@ -15,6 +15,13 @@ use Rattle.hevc_tables.specs.PpsTable.{ids, named, picture_set_of, picture_param
 use Rattle.hevc_write_units.specs.Values.{PictureSetLines, only_sequence_set}
 use Rattle.hevc_write.proofs.Taking.{lines_of}
 
+-- lines are those of a picture set after the sequence set that is kept
+pub lines_of_one : (header : UnitHeader) (pps : PlainPps) (lines : List Line) (s sps : PlainSps) (kept : Option PlainSps) → kept ≡ Some s → kept ≡ Some sps → PictureSetLines s pps header lines → PictureSetLines sps pps header lines
+lines_of_one header pps lines s sps kept p q has =
+    let both : Some s ≡ Some sps = sym p ∙ q in
+    let same : s ≡ sps = cc both in
+    subst (λ (set : PlainSps). PictureSetLines set pps header lines) same has
+
 pub names : (tid : ℕ) (kept : ℕ → Option PlainSps) (bits rest : List Bool) (pps : PlainPps) → read (picture_parameter_set tid kept) bits ≡ gives pps rest → (sps : PlainSps) × (kept pps.seq_parameter_set_id ≡ Some sps)
 names tid kept bits rest pps e =
     let is = (picture_set_gives kept tid).each bits pps rest e in

@@ -34,6 +34,7 @@ module _ {A : Type 0} (n : ℕ) (t : Table A) (x : A) (header : UnitHeader) (bit
         lines = was.lines;
         has = record { typed = typed; has = was.has; good = was.good };
         chosen = was.chosen;
+        fewest = λ others h. was.fewest others h.has h.good;
         parts = bytes ∙ ap packed was.parts ∙ sym (append-nil (packed (with_trailing_bits (joined was.lines))));
       } in
       record { payload = payload; parts = grew; is_payload = is_payload }
@@ -67,6 +68,7 @@ module _ (sps : PlainSps) (pps : PlainPps) (header : UnitHeader) (bits : List Bo
           lines = added.is_payload.lines;
           has = record { names = eqb-true pps.seq_parameter_set_id sps.seq_parameter_set_id named; set = added.is_payload.has };
           chosen = added.is_payload.chosen;
+          fewest = λ others h. added.is_payload.fewest others h.set;
           parts = added.is_payload.parts;
         };
       }

@@ -1,5 +1,5 @@
 -- What is read back of a slice tells whether its header has lines.
-use Rattle.std.proofs.Common.{arith, get_or, ◌+◌, ◌≡◌, ◌≢◌, ℕ, Bool, true, false, cond, eqb, List, [], ◌∷◌, ◌++◌, length, refl, sym, ap, ap₂, ◌∙◌, subst, append-nil, Option, Some, None, Result, Ok, Err}
+use Rattle.std.proofs.Common.{arith, get_or, ◌+◌, ◌≤◌, ◌≡◌, ◌≢◌, ℕ, Bool, true, false, cond, eqb, List, [], ◌∷◌, ◌++◌, length, refl, sym, ap, ap₂, ◌∙◌, subst, append-nil, Option, Some, None, Result, Ok, Err}
 use Rattle.std.specs.Prelude.{IfOk, drop, option_and_then}
 use Rattle.hevc_spec.specs.Lines.{Line, joined}
 use Rattle.hevc_spec.specs.Payload.{payload}
@@ -19,7 +19,8 @@ use Rattle.hevc_slice_header.specs.Answers.{ReadsSlice}
 use Rattle.hevc_tables.specs.SliceHeaderTable.{ActiveSets, active_sets, with_named_sequence_set, elements, slice_segment_header, with_sizes}
 use Rattle.hevc_types_d.specs.declared.slice_header.SliceHeader.{SliceHeader}
 use Rattle.hevc_types_d.specs.SliceHeader.{plain_slice_header}
-use Rattle.hevc_writing.specs.Choices.{AreChosen}
+use Rattle.hevc_writing.specs.Choices.{AreChosen, set_flags}
+use Rattle.hevc_writing.proofs.Counting.{same_set}
 use Rattle.hevc_write_units.specs.Payloads.{AddsPayload, with_trailing_bits}
 use Rattle.hevc_write_units.specs.Slices.{HasElements, IsSameButSizes, SliceLines, WritesSized, with_sizes_of, only_picture_set, only_sets}
 use Rattle.hevc_write_units.specs.Values.{only_sequence_set}
@@ -108,13 +109,18 @@ module _ (sps : PlainSps) (pps : PlainPps) (x : PlainSliceSegmentHeader) (header
     (written : WritesSized (elements header.nal_unit_type (only_sets sps pps)) x [] front) (whole : bits ≡ with_trailing_bits front) where
   pub slice_lines : is_slice header.nal_unit_type ≡ true → x.pic_parameter_set_id ≡ pps.pic_parameter_set_id → pps.seq_parameter_set_id ≡ sps.seq_parameter_set_id
       → HasElements (elements header.nal_unit_type (only_sets sps pps)) x → (lines : List Line) × SliceLines sps pps x header lines × AreChosen lines × (bits ≡ with_trailing_bits (joined lines))
+      × ((others : List Line) → SliceLines sps pps x header others → set_flags lines ≤ set_flags others)
   slice_lines typed names named e =
       let w = written.written e.own e.lines e.has e.good e.same in
-      let formed = w.3 in (
+      let formed = w.3.formed in (
         formed.lines,
         record { typed = typed; names = names; named = named; own = w.0; same = w.2; has = formed.has; good = formed.good },
         formed.chosen,
         whole ∙ ap with_trailing_bits (w.4 ∙ formed.parts),
+        (λ others has.
+            let o = written.written has.own others has.has has.good has.same in
+            let same = same_set (elements header.nal_unit_type (only_sets sps pps)) w.0 o.0 formed.lines o.3.formed.lines formed.has formed.good o.3.formed.has o.3.formed.good (sym (w.4 ∙ formed.parts) ∙ (o.4 ∙ o.3.formed.parts)) in
+            omega (arith, same, o.3.fewer)),
       )
 
   pub slice_added : (payload body old new : List ℕ) → is_slice header.nal_unit_type ≡ true → x.pic_parameter_set_id ≡ pps.pic_parameter_set_id → pps.seq_parameter_set_id ≡ sps.seq_parameter_set_id
@@ -124,7 +130,7 @@ module _ (sps : PlainSps) (pps : PlainPps) (x : PlainSliceSegmentHeader) (header
       record {
         payload = payload ++ body;
         parts = grew;
-        is_payload = record { lines = l.0; has = l.1; chosen = l.2; parts = ap (λ (b : List ℕ). b ++ body) (bytes ∙ ap packed l.3) };
+        is_payload = record { lines = l.0; has = l.1; chosen = l.2; fewest = l.4; parts = ap (λ (b : List ℕ). b ++ body) (bytes ∙ ap packed l.3) };
       }
 
   -- what has lines is read back
@@ -132,7 +138,7 @@ module _ (sps : PlainSps) (pps : PlainPps) (x : PlainSliceSegmentHeader) (header
       → (lines : List Line) → ¬ (SliceLines sps pps x header lines)
   none_sliced other lines has =
       let w = written.written has.own lines has.has has.good has.same in
-      let formed = w.3 in
+      let formed = w.3.formed in
       let t = elements header.nal_unit_type (only_sets sps pps) in
       let end = trailing_bits (length front) in
       let again : read t bits ≡ gives w.0 end = ap (read t) (whole ∙ ap (λ (b : List Bool). b ++ end) (w.4 ∙ formed.parts)) ∙ read_lines t w.0 formed.lines end formed.has formed.good in

@@ -105,9 +105,9 @@ read_is_all nothing e = refl
 
 pub anew : (kept : Kept) (bytes : List ℕ) (header : UnitHeader) (c : Content) (Lines : List Line → Type 0) (Means : List ℕ → Type 0) (old new : List ℕ) (sets : ℕ → Option PlainSps)
     → unit_header bytes ≡ Ok header → content default_options kept bytes ≡ c → is_read_set c ≡ true → (added : AddsUnit header Lines [] Means old new)
-    → ((lines : List Line) → Lines lines → set_lines kept header c lines) → content default_options kept added.bytes ≡ c
+    → ((lines : List Line) → Lines lines → set_lines kept header c lines) → ((lines : List Line) → set_lines kept header c lines → Lines lines) → content default_options kept added.bytes ≡ c
     → sets ≡ (kept_behind default_options kept bytes).sequence_sets → TakesOne kept bytes old new sets
-anew kept bytes header c Lines Means old new sets parsed is set added all meant kept_are =
+anew kept bytes header c Lines Means old new sets parsed is set added all back meant kept_are =
     let piece = added.bytes in
     let whole = headed_piece 0 (started piece) (record { offset = 3; bytes = piece }) [] header added.found added.header_is in
     let p = added.payload in
@@ -115,6 +115,7 @@ anew kept bytes header c Lines Means old new sets parsed is set added all meant 
       lines = p.lines;
       has = subst (λ (d : Content). set_lines kept header d p.lines) (sym is) (all p.lines p.has);
       chosen = p.chosen;
+      fewest = λ others has. p.fewest others (back others (subst (λ (d : Content). set_lines kept header d others) is has));
       parts = p.parts;
     } in
     record {

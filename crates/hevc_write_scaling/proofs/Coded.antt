@@ -8,15 +8,16 @@ use Rattle.std.proofs.lemmas.Grind.{common_steps}
 use Rattle.hevc_spec.specs.declared.Row.{Row}
 use Rattle.hevc_spec.specs.Bits.{se, signed, in_signed_range}
 use Rattle.hevc_spec.specs.Table.{Table, done, part}
-use Rattle.hevc_spec.specs.Rows.{row, se_row, when, either, repeat}
+use Rattle.hevc_spec.specs.Rows.{row, flag_row, ue_row, se_row, when, either, repeat}
 use Rattle.hevc_bit_writer.specs.Writing.{CanSpell, spelled, code_number}
 use Rattle.hevc_bit_writer.proofs.Spellings.{signed_back}
 use Rattle.hevc_records.specs.ScalingLists.{PlainScalingLists}
 use Rattle.hevc_records.specs.DefaultScalingLists.{flat_list, intra_list, inter_list, default_lists_8x8}
-use Rattle.hevc_tables.specs.ScalingListTable.{Size, size_4x4, size_8x8, size_16x16, size_32x32, coef_num, has_dc_coef, matrix_step, has_matrix, Coefs, sum_modulo_256, next_entry, coefs, Matrices, list_of, with_matrix, coded_matrix, matrix, next_matrix, matrices, scaling_list_data}
+use Rattle.hevc_tables.specs.ScalingListTable.{Size, size_4x4, size_8x8, size_16x16, size_32x32, coef_num, has_dc_coef, matrix_step, has_matrix, Coefs, sum_modulo_256, next_entry, coefs, Matrices, list_of, with_matrix, coded_matrix, predicted_matrix, matrix, next_matrix, matrices, scaling_list_data}
 use Rattle.hevc_writing.specs.Choices.{IsFormed, is_chosen}
 use Rattle.hevc_writing.specs.Filling.{EachFilling, WritesTable}
 use Rattle.hevc_writing.proofs.Fillings.{weakened, instead_filled, done_filled}
+use Rattle.hevc_writing.proofs.Counting.{SetsNone, none_filled, done_none, element_none, then_none, when_none, either_none, turns_none}
 use Rattle.hevc_writing.proofs.Parts.{IsFillable}
 use Rattle.hevc_spec.specs.Lines.{Line, HasLines}
 use Rattle.hevc_writing.proofs.Forming.{done_formed, part_formed, element_formed, flag_formed}
@@ -230,6 +231,13 @@ kept_all : (ds : List ℤ) → map (kept_dc true) ds ≡ ds
 kept_all [] = refl
 kept_all (d ∷ ds) = ap (λ (es : List ℤ). d ∷ es) (kept_all ds)
 
+matrices_none : (size : Size) (defaults : List (List ℕ)) → SetsNone (matrices size defaults)
+unfolding matrices next_matrix matrix coded_matrix predicted_matrix coefs next_entry flag_row ue_row se_row
+matrices_none size defaults =
+    turns_none (λ i m. when_none _ _ (then_none (element_none _ _ _ _ refl) (λ flag. either_none flag
+    (then_none (when_none _ _ (element_none _ _ _ _ refl)) (λ d. then_none (turns_none (λ j c. then_none (element_none _ _ _ _ refl) (λ delta. done_none)) 0 _ _) (λ c. done_none)))
+    (then_none (element_none _ _ _ _ refl) (λ delta. done_none))))) 0 6 _
+
 module _ {B : Type 0} (size : Size) (defaults : List (List ℕ)) (are : (i : ℕ) → i < 6 → IsList size (list_of defaults i)) (k : Matrices → Table B) {w : List Bool} {Q : B → List Bool → Type 0} where
   -- a size without numbers of its own for first entries
   plain_then : has_dc_coef size ≡ false
@@ -239,10 +247,11 @@ module _ {B : Type 0} (size : Size) (defaults : List (List ℕ)) (are : (i : ℕ
       let shaped = (matrices_given size defaults are).all m lines has good in
       let formed = matrices_formed size defaults m shaped in
       let bits : matrices_bits (has_dc_coef size) (matrix_step size) 0 m.dc_coef_minus8 m.entries ≡ matrices_bits false (matrix_step size) 0 no_dc m.entries =
-      ap (λ (t : Bool). matrices_bits t (matrix_step size) 0 m.dc_coef_minus8 m.entries) plain ∙ bits_any (matrix_step size) 0 m.dc_coef_minus8 no_dc m.entries shaped.0 in (
+      ap (λ (t : Bool). matrices_bits t (matrix_step size) 0 m.dc_coef_minus8 m.entries) plain ∙ bits_any (matrix_step size) 0 m.dc_coef_minus8 no_dc m.entries shaped.0 in
+      let mine = subst (λ (b : List Bool). IsFormed (matrices size defaults) (record { dc_coef_minus8 = map (kept_dc (has_dc_coef size)) m.dc_coef_minus8; entries = m.entries }) b) bits formed in (
         record { dc_coef_minus8 = map (kept_dc (has_dc_coef size)) m.dc_coef_minus8; entries = m.entries },
         matrices_bits false (matrix_step size) 0 no_dc m.entries,
-        subst (λ (b : List Bool). IsFormed (matrices size defaults) (record { dc_coef_minus8 = map (kept_dc (has_dc_coef size)) m.dc_coef_minus8; entries = m.entries }) b) bits formed,
+        none_filled (matrices_none size defaults) mine lines,
         same m (map (kept_dc (has_dc_coef size)) m.dc_coef_minus8),
         f m,
       ))
@@ -253,10 +262,11 @@ module _ {B : Type 0} (size : Size) (defaults : List (List ℕ)) (are : (i : ℕ
       let shaped = (matrices_given size defaults are).all m lines has good in
       let formed = matrices_formed size defaults m shaped in
       let all : map (kept_dc (has_dc_coef size)) m.dc_coef_minus8 ≡ m.dc_coef_minus8 = ap (λ (t : Bool). map (kept_dc t) m.dc_coef_minus8) numbered ∙ kept_all m.dc_coef_minus8 in
-      let mine = subst (λ (ds : List ℤ). IsFormed (matrices size defaults) (record { dc_coef_minus8 = ds; entries = m.entries }) (matrices_bits (has_dc_coef size) (matrix_step size) 0 m.dc_coef_minus8 m.entries)) all formed in (
+      let kept = subst (λ (ds : List ℤ). IsFormed (matrices size defaults) (record { dc_coef_minus8 = ds; entries = m.entries }) (matrices_bits (has_dc_coef size) (matrix_step size) 0 m.dc_coef_minus8 m.entries)) all formed in
+      let mine = subst (λ (t : Bool). IsFormed (matrices size defaults) m (matrices_bits t (matrix_step size) 0 m.dc_coef_minus8 m.entries)) numbered kept in (
         m,
         matrices_bits true (matrix_step size) 0 m.dc_coef_minus8 m.entries,
-        subst (λ (t : Bool). IsFormed (matrices size defaults) m (matrices_bits t (matrix_step size) 0 m.dc_coef_minus8 m.entries)) numbered mine,
+        none_filled (matrices_none size defaults) mine lines,
         (λ z rest h. h),
         f m,
       ))

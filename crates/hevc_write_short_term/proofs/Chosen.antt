@@ -1,6 +1,6 @@
 -- The flags of row 5 that are written give the members that any flags give (7.4.8).
-use Rattle.std.proofs.Common.{◌≡◌, ◌≢◌, zero, suc, Bool, true, false, cond, List, [], ◌∷◌, ◌++◌, length, refl, sym, ap, ap₂, subst, ◌∙◌, arith, inl, inr, Some, None, Option, negsuc}
-use Rattle.std.specs.Prelude.{◌⊎◌, ℤ, pos, ◌+ℤ◌, int_lt, filter, reverse, not, ◌&&◌}
+use Rattle.std.proofs.Common.{◌≡◌, ◌≢◌, ℕ, ◌+◌, ◌≤◌, zero, suc, Bool, true, false, cond, List, [], ◌∷◌, ◌++◌, length, refl, sym, ap, ap₂, subst, ◌∙◌, arith, inl, inr, Some, None, Option, negsuc}
+use Rattle.std.specs.Prelude.{◌⊎◌, ℤ, pos, ◌+ℤ◌, int_lt, filter, reverse, not, ◌&&◌, if◌then◌else◌}
 use Rattle.std.specs.Ordering.{int_eq}
 use Rattle.std.proofs.lemmas.Int.{ints}
 use Rattle.std.proofs.lemmas.Bool.{true≢false}
@@ -20,6 +20,14 @@ In x (y ∷ ys) = (x ≡ y) ⊎ In x ys
 abbrev pub Distinct : List ℤ → Type 0
 Distinct [] = Unit {0}
 Distinct (d ∷ ds) = (In d ds → ⊥) × Distinct ds
+
+-- how many flags are set: at most one of each difference (7.3.7)
+abbrev pub one_set : MemberFlags → ℕ
+one_set f = if f.used_by_curr_pic_flag then 1 else if f.use_delta_flag then 1 else 0
+
+abbrev pub all_set : List MemberFlags → ℕ
+all_set [] = 0
+all_set (f ∷ fs) = one_set f + all_set fs
 
 -- the members on both sides of the set that flags give
 abbrev pub sides_of : ℤ → List ℤ → List MemberFlags → List ShortTermMember
@@ -210,26 +218,43 @@ module _ (shift : ℤ) (all : List ShortTermMember) where
           elim (back (make u) refl (use_found (d +ℤ shift) u all g)) [ inl same ↦ ap (λ (m : ShortTermMember). m ∷ []) same | inr none ↦ absurd none ]
       by_zero false e (Some u) g false h there back = absurd (back (make u) refl (use_found (d +ℤ shift) u all g))
 
+  -- no flag is set where no member is found
+  fewer_one : (d : ℤ) (f : MemberFlags) → ((m : ShortTermMember) → m.delta_poc ≡ d +ℤ shift → In m all → In m (shifted_one shift d f)) → one_set (flags_of (use_of (d +ℤ shift) all)) ≤ one_set f
+  unfolding shifted_one
+  fewer_one d f back = by_use (use_of (d +ℤ shift) all) refl f.used_by_curr_pic_flag f.use_delta_flag back
+    where
+      by_use : (o : Option Bool) → use_of (d +ℤ shift) all ≡ o → (u t : Bool)
+          → ((m : ShortTermMember) → m.delta_poc ≡ d +ℤ shift → In m all → In m (cond (t && not (int_eq (d +ℤ shift) (pos 0))) (record { delta_poc = d +ℤ shift; used_by_curr_pic = u } ∷ []) []))
+          → one_set (flags_of o) ≤ one_set (record { used_by_curr_pic_flag = u; use_delta_flag = t })
+      by_use None e u t back = omega arith
+      by_use (Some v) e u false back = absurd (back (record { delta_poc = d +ℤ shift; used_by_curr_pic = v }) refl (use_found (d +ℤ shift) v all e))
+      by_use (Some true) e true true back = omega arith
+      by_use (Some true) e false true back = omega arith
+      by_use (Some false) e true true back = omega arith
+      by_use (Some false) e false true back = omega arith
+
   same_shifted : (ds : List ℤ) (fs : List MemberFlags) → Distinct ds → length fs ≡ length ds → ((m : ShortTermMember) → m.delta_poc ≢ pos 0 → In m (shifted shift ds fs) → In m all)
-      → ((m : ShortTermMember) (d : ℤ) → In d ds → m.delta_poc ≡ d +ℤ shift → In m all → In m (shifted shift ds fs)) → shifted shift ds (chosen_flags shift ds all) ≡ shifted shift ds fs
+      → ((m : ShortTermMember) (d : ℤ) → In d ds → m.delta_poc ≡ d +ℤ shift → In m all → In m (shifted shift ds fs)) → (shifted shift ds (chosen_flags shift ds all) ≡ shifted shift ds fs) × (all_set (chosen_flags shift ds all) ≤ all_set fs)
   unfolding shifted
-  same_shifted [] fs apart long there back = refl
+  same_shifted [] fs apart long there back = (refl, omega arith)
   same_shifted (d ∷ ds) [] apart long there back = absurd (omega arith)
   same_shifted (d ∷ ds) (f ∷ fs) apart long there back =
-      let first = same_one d f (shifted shift ds fs) there
-      (λ m e h. elim (in_append m (shifted_one shift d f) (shifted shift ds fs) (back m d (inl refl) e h)) [ inl p ↦ p | inr q ↦ absurd (not_shifted shift d ds fs m apart.0 q e) ]) in
+      let own : (m : ShortTermMember) → m.delta_poc ≡ d +ℤ shift → In m all → In m (shifted_one shift d f) =
+      λ m e h. elim (in_append m (shifted_one shift d f) (shifted shift ds fs) (back m d (inl refl) e h)) [ inl p ↦ p | inr q ↦ absurd (not_shifted shift d ds fs m apart.0 q e) ] in
+      let first = same_one d f (shifted shift ds fs) there own in
       let rest = same_shifted ds fs apart.1 (omega arith) (λ m some h. there m some (in_append_second m (shifted_one shift d f) (shifted shift ds fs) h))
       (λ m c i e h. elim (in_append m (shifted_one shift d f) (shifted shift ds fs) (back m c (inr i) e h)) [
         | inl p ↦ absurd (apart.0 (subst (λ (x : ℤ). In x ds) (same_place c m e (one_is shift d f m p)) i))
         | inr q ↦ q
       ]) in
-      ap₂ (λ (p q : List ShortTermMember). p ++ q) first rest
+      (ap₂ (λ (p q : List ShortTermMember). p ++ q) first rest.0, omega (arith, fewer_one d f own, rest.1))
     where
       same_place : (c : ℤ) (m : ShortTermMember) → m.delta_poc ≡ c +ℤ shift → m.delta_poc ≡ d +ℤ shift → c ≡ d
       same_place c m a b = omega (arith, ints)
 
--- The flags that are written for the set that any flags give, give the same members.
-pub chosen_give_the_same : (shift : ℤ) (ds : List ℤ) (flags : List MemberFlags) → Distinct ds → length flags ≡ length ds → shifted shift ds (chosen_flags shift ds (sides_of shift ds flags)) ≡ shifted shift ds flags
+-- The flags that are written for the set that any flags give, give the same members, and no more of them are set.
+pub chosen_give_the_same : (shift : ℤ) (ds : List ℤ) (flags : List MemberFlags) → Distinct ds → length flags ≡ length ds
+    → (shifted shift ds (chosen_flags shift ds (sides_of shift ds flags)) ≡ shifted shift ds flags) × (all_set (chosen_flags shift ds (sides_of shift ds flags)) ≤ all_set flags)
 chosen_give_the_same shift ds flags apart long =
     let ms = shifted shift ds flags in
     same_shifted shift (members_before (rising ms) ++ members_after (rising ms)) ds flags apart long

@@ -1,23 +1,24 @@
 -- The parts of table 7, filled in.
-use Rattle.std.proofs.Common.{◌≡◌, ℕ, suc, ◌+◌, ◌<◌, Bool, true, false, List, [], ◌∷◌, ◌++◌, length, take, get_or, refl, sym, ap, subst, ◌∙◌, arith, inl, inr, append-nil, append_assoc}
+use Rattle.std.proofs.Common.{◌≡◌, ℕ, zero, suc, ◌+◌, ◌<◌, ◌≤◌, Bool, true, false, List, [], ◌∷◌, ◌++◌, length, take, get_or, refl, sym, ap, subst, ◌∙◌, arith, inl, inr, append-nil, append_assoc}
 use Rattle.std.specs.Prelude.{Option, Some, None, if◌then◌else◌, ℤ, pos, ◌+ℤ◌, ◌-◌, slice_index_or, not, ◌==◌}
 use Rattle.hevc_spec.specs.Table.{Table, part, done}
-use Rattle.hevc_spec.specs.Rows.{row, repeat, when}
+use Rattle.hevc_spec.specs.Rows.{row, flag_row, repeat, when}
 use Rattle.hevc_spec.specs.Lines.{Line, HasLines, AreGood}
 use Rattle.hevc_records.specs.ShortTermRefPicSet.{PlainShortTermRefPicSet, default_short_term_ref_pic_set}
 use Rattle.hevc_tables.specs.declared.member_flags.MemberFlags.{MemberFlags}
 use Rattle.hevc_tables.specs.declared.short_term_member.ShortTermMember.{ShortTermMember}
 use Rattle.hevc_tables.specs.ShortTermTable.{last_delta, member_before, next_member_before, member_after, next_member_after, listed_before, listed_after, listed_set, member_flags, next_member_flags, all_member_flags, fitting_set, prediction, predicted_set, short_term_ref_pic_set, with_members, rising, shifted, differences, shift_of, reference_index, members_before, members_after, has_room, predicted_members}
 use Rattle.hevc_spec.specs.Bits.{u}
-use Rattle.hevc_writing.specs.Choices.{IsFormed, is_chosen}
+use Rattle.hevc_writing.specs.Choices.{IsFormed, IsFilled, is_chosen, set_flags}
 use Rattle.hevc_writing.specs.Filling.{EachFilling, Keeps, WritesTable, WritesTurn, WritesTurns, are_first}
 use Rattle.hevc_writing.proofs.Fillings.{weakened, then_filled, done_filled, instead_filled}
 use Rattle.hevc_writing.proofs.RowRules.{check_held}
 use Rattle.hevc_writing.proofs.Steps.{IsFillable, filled, IsDecided, numbers, flags, integers, lists_decided, both_decided, flag_fillable, ue_fillable, when_fillable, pairs, either_kept}
 use Rattle.hevc_writing.proofs.Growing.{item_written, items_written, items_fillable, grows}
+use Rattle.hevc_writing.proofs.Counting.{set_flags-append, one_line, no_lines}
 use Rattle.hevc_writing.proofs.Forming.{done_formed, part_formed, flag_formed}
 use Rattle.hevc_write_short_term.specs.Members.{members_of, use_of, flags_of, chosen_flags, flag_bits, WritesFlags}
-use Rattle.hevc_write_short_term.proofs.Chosen.{Distinct, sides_of, chosen_give_the_same}
+use Rattle.hevc_write_short_term.proofs.Chosen.{Distinct, sides_of, one_set, all_set, chosen_give_the_same}
 use Rattle.hevc_write_short_term.proofs.MemberLists.{members_same, chosen-length, bits_append}
 
 -- ---- members that are written out
@@ -125,6 +126,50 @@ all_flags_formed : (n : ℕ) (fs : List MemberFlags) → AreUsable fs → length
 unfolding all_member_flags
 all_flags_formed n fs usable long = subst (λ (k : ℕ). IsFormed (repeat next_member_flags 0 k []) fs (flag_bits fs)) long (flags_formed 0 [] fs usable)
 
+-- ---- how many flags are set
+
+flag_counted : (b : Bool) (lines : List Line) → HasLines (flag_row (row 7 5)) b lines → set_flags lines ≡ (if b then 1 else 0)
+unfolding flag_row
+flag_counted b lines has =
+    one_line _ lines has.3 ∙ ap (λ (t : Bool). if t then 1 else 0) has.2
+
+one_counted : (f : MemberFlags) (lines : List Line) → HasLines member_flags f lines → set_flags lines ≡ one_set f
+unfolding member_flags when
+one_counted f lines has = by_used has.0 has.1 has.2 (flag_counted has.0 has.1 has.3) has.4 has.5
+  where
+    by_used : (b : Bool) (first others : List Line) → set_flags first ≡ (if b then 1 else 0)
+        → HasLines (part (when (not b) true (flag_row (row 7 5))) (λ d. done (record { used_by_curr_pic_flag = b; use_delta_flag = d }))) f others → lines ≡ first ++ others → set_flags lines ≡ one_set f
+    by_used true first others count has e =
+        omega (arith, count, ap set_flags e, set_flags-append first others, ap set_flags has.5, set_flags-append has.1 has.2, no_lines has.1 has.3.1, no_lines has.2 has.4.1, ap one_set has.4.0)
+    by_used false first others count has e =
+        omega (arith, count, ap set_flags e, set_flags-append first others, ap set_flags has.5, set_flags-append has.1 has.2, flag_counted has.0 has.1 has.3, no_lines has.2 has.4.1, ap one_set has.4.0)
+
+all_set-append : (fs gs : List MemberFlags) → all_set (fs ++ gs) ≡ all_set fs + all_set gs
+all_set-append [] gs = omega arith
+all_set-append (f ∷ fs) gs = omega (arith, all_set-append fs gs)
+
+turns_counted : (i n : ℕ) (ys fs : List MemberFlags) (lines : List Line) → HasLines (repeat next_member_flags i n ys) fs lines → all_set ys + set_flags lines ≡ all_set fs
+unfolding repeat next_member_flags
+turns_counted i zero ys fs lines has = omega (arith, ap all_set has.0, no_lines lines has.1)
+turns_counted i (suc n) ys fs lines has =
+    let turn = has.3 in
+    omega (
+      arith,
+      turns_counted (i + 1) n has.0 fs has.2 has.4,
+      one_counted turn.0 turn.1 turn.3,
+      all_set-append ys (turn.0 ∷ []),
+      ap all_set turn.4.0,
+      ap set_flags turn.5,
+      set_flags-append turn.1 turn.2,
+      no_lines turn.2 turn.4.1,
+      ap set_flags has.5,
+      set_flags-append has.1 has.2,
+    )
+
+flags_counted : (n : ℕ) (fs : List MemberFlags) (lines : List Line) → HasLines (all_member_flags n) fs lines → set_flags lines ≡ all_set fs
+unfolding all_member_flags
+flags_counted n fs lines has = omega (arith, turns_counted 0 (n + 1) [] fs lines has)
+
 -- ---- row 6
 
 fitting_filled : (ms : List ShortTermMember) (set : PlainShortTermRefPicSet) {w : List Bool} {Q : PlainShortTermRefPicSet → List Bool → Type 0} → Q (with_members set (members_before ms) (members_after ms)) w → EachFilling (fitting_set ms set) w Q
@@ -150,16 +195,19 @@ rows_five_written x set n shift ds w old new apart long writes =
     all_ds = ds ++ pos 0 ∷ []
 
     by_decision : (flags : List MemberFlags) (lines : List Line) → HasLines (all_member_flags n) flags lines → AreGood lines → IsDecided (sides_of shift all_ds flags) (members_of x)
-        → (other : List MemberFlags) × (bits : List Bool) × IsFormed (all_member_flags n) other bits
+        → (other : List MemberFlags) × (bits : List Bool) × IsFilled (all_member_flags n) other lines bits
         × ((z : PlainShortTermRefPicSet) (rest : List Line) → HasLines (fitting_set (rising (shifted shift all_ds flags)) set) z rest → HasLines (fitting_set (rising (shifted shift all_ds other)) set) z rest)
         × EachFilling (fitting_set (rising (shifted shift all_ds flags)) set) (w ++ bits) (λ z all. z ≡ x → w ≡ old → all ≡ new)
     by_decision flags lines has good (inl same) =
         let many : length flags ≡ n + 1 = ((all_flags_long n w).all flags lines has good).2 in
         let other = chosen_flags shift all_ds (members_of x) in
-        let gives : shifted shift all_ds other ≡ shifted shift all_ds flags = ap (λ (ms : List ShortTermMember). shifted shift all_ds (chosen_flags shift all_ds ms)) (sym same) ∙ chosen_give_the_same shift all_ds flags apart (many ∙ sym long) in (
+        let chosen = chosen_give_the_same shift all_ds flags apart (many ∙ sym long) in
+        let gives : shifted shift all_ds other ≡ shifted shift all_ds flags = ap (λ (ms : List ShortTermMember). shifted shift all_ds (chosen_flags shift all_ds ms)) (sym same) ∙ chosen.0 in
+        let formed = all_flags_formed n other (chosen_usable shift all_ds (members_of x)) (chosen-length shift all_ds (members_of x) ∙ long) in
+        let set_are = ap (λ (ms : List ShortTermMember). all_set (chosen_flags shift all_ds ms)) same in (
           other,
           flag_bits other,
-          all_flags_formed n other (chosen_usable shift all_ds (members_of x)) (chosen-length shift all_ds (members_of x) ∙ long),
+          record { formed = formed; fewer = omega (arith, flags_counted n other formed.lines formed.has, flags_counted n flags lines has, set_are, chosen.1) },
           (λ z rest h. subst (λ (ms : List ShortTermMember). HasLines (fitting_set (rising ms) set) z rest) (sym gives) h),
           fitting_filled _ set (λ e at. ap (λ (b : List Bool). b ++ flag_bits other) at ∙ sym writes),
         )

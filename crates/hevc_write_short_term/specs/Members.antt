@@ -1,9 +1,10 @@
 -- The members of a short-term reference picture set, and what another set's row 5 says of them (7.4.8).
-use Rattle.std.specs.Prelude.{◌≡◌, ℤ, ◌+ℤ◌, Bool, true, false, List, [], ◌∷◌, ◌++◌, take, if◌then◌else◌, Option, Some, None}
+use Rattle.std.specs.Prelude.{◌≡◌, ℕ, ℤ, pos, ◌+ℤ◌, Bool, true, false, List, [], ◌∷◌, ◌++◌, take, slice_index_or, if◌then◌else◌, Option, Some, None}
 use Rattle.std.specs.Ordering.{int_eq}
-use Rattle.hevc_records.specs.ShortTermRefPicSet.{PlainShortTermRefPicSet}
+use Rattle.hevc_records.specs.ShortTermRefPicSet.{PlainShortTermRefPicSet, default_short_term_ref_pic_set}
 use Rattle.hevc_tables.specs.declared.member_flags.MemberFlags.{MemberFlags}
 use Rattle.hevc_tables.specs.declared.short_term_member.ShortTermMember.{ShortTermMember}
+use Rattle.hevc_tables.specs.ShortTermTable.{differences, reference_index, shift_of}
 
 -- ---- the members of a set
 
@@ -55,6 +56,19 @@ flag_bits (f ∷ fs) =
 -- these flags are added
 abbrev pub WritesFlags : List MemberFlags → List Bool → List Bool → Type 0
 WritesFlags flags old new = new ≡ old ++ flag_bits flags
+
+-- the flags of a set by its number: for the differences of the set before it that predicts it, and
+-- for that set's own picture
+abbrev pub flags_of_set : List PlainShortTermRefPicSet → ℕ → PlainShortTermRefPicSet
+    → List MemberFlags
+flags_of_set sets st_rps_idx x =
+    let other : PlainShortTermRefPicSet =
+    slice_index_or sets (reference_index st_rps_idx x) default_short_term_ref_pic_set in
+    chosen_flags (shift_of x) (differences other ++ pos 0 ∷ []) (members_of x)
+
+-- what was written ends in these flags
+abbrev pub EndsInFlags : List MemberFlags → List Bool → Type 0
+EndsInFlags flags new = (front : List Bool) × WritesFlags flags front new
 
 -- ---- the elements that rows 2 to 12 set: all of one record
 

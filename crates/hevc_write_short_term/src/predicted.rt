@@ -21,9 +21,12 @@ pub(crate) fn write_predicted_set(
     st_rps_idx: u8,
     x: &ShortTermRefPicSet,
 ) -> Result<(), AllocError>
-    ensures { OnOk result (Writes
+    ensures rows { OnOk result (Writes
         (table.predicted_set (map plain_short_term_ref_pic_set sets.now) count st_rps_idx)
         own.whole (plain_short_term_ref_pic_set x.now) w.old w.new) }
+    ensures flags { OnOk result (own.EndsInFlags
+        (own.flags_of_set (map plain_short_term_ref_pic_set sets.now) st_rps_idx
+        (plain_short_term_ref_pic_set x.now)) w.new) }
 {
     ue_u8_if(w, st_rps_idx == count, x.delta_idx_minus1)?;
     flag(w, x.delta_rps_sign)?;

@@ -1,5 +1,5 @@
 //! Short-term reference picture sets (7.3.7, table 7).
-ghost use Rattle.std.specs.Prelude.{◌≡◌, ℕ, map, not, ◌==◌, OnOk};
+ghost use Rattle.std.specs.Prelude.{◌≡◌, ℕ, true, map, not, ◌==◌, OnOk};
 ghost use Rattle.hevc_tables.specs.ShortTermTable as table;
 ghost use Rattle.hevc_types_a.specs.ShortTermRefPicSet.{plain_short_term_ref_pic_set};
 ghost use Rattle.hevc_write_short_term.specs.Members as own;
@@ -14,7 +14,7 @@ use std::alloc::AllocError;
 
 /// Table 7, for number `st_rps_idx` of `count` sets of a sequence set or for one after them; `sets` are those before it.
 ///
-/// Of a predicted set, row 5 is as the set says: a member of the other set is used where it is, and taken where there is one.
+/// Row 5 of a predicted set is as the set says: used and kept where the sum is a member of it, and both flags 0 where it isn't.
 pub fn write_short_term_ref_pic_set(
     w: &mut BitWriter,
     sets: &[ShortTermRefPicSet],
@@ -22,10 +22,14 @@ pub fn write_short_term_ref_pic_set(
     st_rps_idx: u8,
     x: &ShortTermRefPicSet,
 ) -> Result<(), AllocError>
-    ensures { (max_dec_pic_buffering_minus1 : ℕ) → OnOk result (WritesTable
+    ensures rows { (max_dec_pic_buffering_minus1 : ℕ) → OnOk result (WritesTable
         (table.short_term_ref_pic_set (map plain_short_term_ref_pic_set sets.now) count
         max_dec_pic_buffering_minus1 st_rps_idx)
         (plain_short_term_ref_pic_set x.now) w.old w.new) }
+    ensures flags { x.now.inter_ref_pic_set_prediction_flag ≡ true
+        → OnOk result (own.EndsInFlags
+        (own.flags_of_set (map plain_short_term_ref_pic_set sets.now) st_rps_idx
+        (plain_short_term_ref_pic_set x.now)) w.new) }
 {
     flag_if(w, st_rps_idx != 0, x.inter_ref_pic_set_prediction_flag)?;
     write_members(w, sets, count, st_rps_idx, x)?;
@@ -40,12 +44,16 @@ fn write_members(
     st_rps_idx: u8,
     x: &ShortTermRefPicSet,
 ) -> Result<(), AllocError>
-    ensures { (max_dec_pic_buffering_minus1 : ℕ) → OnOk result
+    ensures rows { (max_dec_pic_buffering_minus1 : ℕ) → OnOk result
         (WritesEither x.now.inter_ref_pic_set_prediction_flag
         (Writes (table.predicted_set (map plain_short_term_ref_pic_set sets.now) count st_rps_idx)
         own.whole (plain_short_term_ref_pic_set x.now))
         (Writes (table.listed_set max_dec_pic_buffering_minus1)
         own.whole (plain_short_term_ref_pic_set x.now)) w.old w.new) }
+    ensures flags { x.now.inter_ref_pic_set_prediction_flag ≡ true
+        → OnOk result (own.EndsInFlags
+        (own.flags_of_set (map plain_short_term_ref_pic_set sets.now) st_rps_idx
+        (plain_short_term_ref_pic_set x.now)) w.new) }
 {
     if x.inter_ref_pic_set_prediction_flag {
         write_predicted_set(w, sets, count, st_rps_idx, x)

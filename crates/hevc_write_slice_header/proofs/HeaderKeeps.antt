@@ -19,6 +19,7 @@ use Rattle.hevc_writing.proofs.RowRules.{IsKept, flag_written, zero_written, eit
 use Rattle.hevc_writing.proofs.Steps.{IsFillable, bits_fillable, by, check_fillable, check_then, counted_part_written, done_either_kept, done_filled, either_kept, filled, flag_fillable, part_kept, se_fillable, then_filled, ue_fillable, when_fillable, when_kept, zeros_fillable, numbers, lists_decided, bits_table}
 use Rattle.hevc_writing.proofs.Loops.{turns_keep, all_turns, all_same}
 use Rattle.hevc_writing.proofs.Growing.{item_written, items_written, items_fillable}
+use Rattle.hevc_writing.proofs.Counting.{done_none, element_none, none_filled, then_none}
 use Rattle.hevc_writing.proofs.Forming.{done_formed, part_formed, element_formed}
 use Rattle.hevc_write_short_term.proofs.Tables.{short_term_set_fillable}
 use Rattle.hevc_write_slices.proofs.ListKeeps.{list_modification_fillable}
@@ -212,10 +213,10 @@ pub header_extension_filled : (h : PlainSliceSegmentHeader) (w : List Bool) {Q :
 unfolding header_extension ue_row skip_row is_chosen
 header_extension_filled h w {Q = Q} q = record {
   all = λ z lines has good.
-      let formed = part_formed {k = λ length. part (skip_row (row 14 52) (8 * length)) (λ _. done h)} (element_formed (row 14 51) ue (in_range 0 256) (λ v. v) 0 refl (omega arith) refl) (part_formed (element_formed (row 14 52) (skip 0) (λ _. true) (λ _. 0) 0 refl (omega arith) refl) (done_formed h)) in (
+      let zeros = part_formed {k = λ length. part (skip_row (row 14 52) (8 * length)) (λ _. done h)} (element_formed (row 14 51) ue (in_range 0 256) (λ v. v) 0 refl (omega arith) refl) (part_formed (element_formed (row 14 52) (skip 0) (λ _. true) (λ _. 0) 0 refl (omega arith) refl) (done_formed h)) in
+      let formed = subst (λ (y : PlainSliceSegmentHeader). IsFormed (header_extension h) y (spelled ue 0)) has.4.4.0 (subst (λ (b : List Bool). IsFormed (header_extension h) h b) (append-nil (spelled ue 0)) zeros) in (
         spelled ue 0,
-        subst (λ (y : PlainSliceSegmentHeader). IsFormed (header_extension h) y (spelled ue 0)) has.4.4.0
-            (subst (λ (b : List Bool). IsFormed (header_extension h) h b) (append-nil (spelled ue 0)) formed),
+        none_filled (then_none (element_none _ _ _ _ refl) (λ length. then_none (element_none _ _ _ _ refl) (λ v. done_none))) formed lines,
         subst (λ (y : PlainSliceSegmentHeader). Q y (w ++ spelled ue 0)) has.4.4.0 q,
       );
 }

@@ -264,12 +264,12 @@ module _ (nalu_type : ℕ) (kept : ℕ → Option ActiveSets) where
   sized_written filling = record {
     written = λ h lines has good same.
         let plain = filling.all (with_set_size 0 h) lines (elements_without.lines h lines has) good in
-        let formed = plain.1 in
+        let formed = plain.1.formed in
         let sized = elements_sized.lines (with_set_size 0 h) formed.lines formed.has in (
           with_set_size sized.0 h,
           plain.0,
           ap (with_set_size sized.0) same,
-          record { lines = formed.lines; has = sized.1; good = formed.good; chosen = formed.chosen; parts = formed.parts },
+          record { formed = record { lines = formed.lines; has = sized.1; good = formed.good; chosen = formed.chosen; parts = formed.parts }; fewer = plain.1.fewer },
           sym (plain.2 (ap (with_set_size 0) same)),
         );
   }

@@ -1,12 +1,12 @@
 -- Reading back decides whether a record has lines.
-use Rattle.std.proofs.Common.{◌≡◌, Bool, List, [], ◌++◌, length, ap, ◌∙◌}
+use Rattle.std.proofs.Common.{◌≡◌, ◌≤◌, Bool, List, [], ◌++◌, length, sym, ap, ◌∙◌}
 use Rattle.hevc_spec.specs.Lines.{Line, HasLines, AreGood, joined}
 use Rattle.hevc_spec.specs.Table.{Table, read}
 use Rattle.hevc_reading_laws.proofs.TableLaws.{spelled_from_read, read_lines}
 use Rattle.hevc_bit_writer.specs.Writing.{trailing_bits}
-use Rattle.hevc_writing.specs.Choices.{AreChosen}
+use Rattle.hevc_writing.specs.Choices.{AreChosen, set_flags}
 use Rattle.hevc_writing.specs.Deciding.{WritesFormed, ReadsBack}
-use Rattle.hevc_writing.proofs.Deciding.{writes_formed, reads_back}
+use Rattle.hevc_writing.proofs.Deciding.{writes_formed, writes_fewest, reads_back}
 use Rattle.hevc_write_units.specs.Payloads.{with_trailing_bits}
 use Rattle.hevc_write_units.specs.Trials.{IsReadAs, WritesWhole}
 
@@ -16,6 +16,7 @@ pub record IsTried {A : Type 0} (t : Table A) (x : A) (bits : List Bool) : Type 
   pub has : HasLines t x lines
   pub good : AreGood lines
   pub chosen : AreChosen lines
+  pub fewest : (others : List Line) → HasLines t x others → AreGood others → set_flags lines ≤ set_flags others
   pub parts : bits ≡ with_trailing_bits (joined lines)
 
 module _ {A : Type 0} (t : Table A) (x : A) (bits : List Bool) (written : WritesWhole t x bits) where
@@ -24,7 +25,9 @@ module _ {A : Type 0} (t : Table A) (x : A) (bits : List Bool) (written : Writes
   tried is =
       let s = spelled_from_read t bits x is.0 is.1 in
       let f = writes_formed t x s.lines [] written.front s.has s.good written.written in
-      record { lines = f.1.lines; has = f.1.has; good = f.1.good; chosen = f.1.chosen; parts = written.whole ∙ ap with_trailing_bits (f.2 ∙ f.1.parts) }
+      let formed = f.1.formed in
+      let are = f.2 ∙ formed.parts in
+      record { lines = formed.lines; has = formed.has; good = formed.good; chosen = formed.chosen; fewest = λ others has good. writes_fewest t x written.front formed.lines others written.written formed.has formed.good (sym are) has good; parts = written.whole ∙ ap with_trailing_bits are }
 
   pub read_again : (lines : List Line) → HasLines t x lines → AreGood lines → IsReadAs t x bits
   unfolding ReadsBack

@@ -1,9 +1,9 @@
 -- The payload of a unit as the lines of a value, and the bytes after them (7.3.1.1).
-use Rattle.std.specs.Prelude.{◌≡◌, ℕ, Bool, List, ◌++◌, length}
+use Rattle.std.specs.Prelude.{◌≡◌, ◌≤◌, ℕ, Bool, List, ◌++◌, length}
 use Rattle.hevc_spec.specs.Lines.{Line, joined}
 use Rattle.hevc_spec.specs.Units.{without_trailing_zeros}
 use Rattle.hevc_bit_writer.specs.Writing.{packed, trailing_bits}
-use Rattle.hevc_writing.specs.Choices.{AreChosen}
+use Rattle.hevc_writing.specs.Choices.{AreChosen, set_flags}
 
 -- bits, with a one and zeros up to a whole byte (7.3.2.11, 7.3.2.12)
 abbrev pub with_trailing_bits : List Bool → List Bool
@@ -15,6 +15,8 @@ pub record IsPayload (HasLines : List Line → Type 0) (body payload : List ℕ)
   pub lines : List Line
   pub has : HasLines lines
   pub chosen : AreChosen lines
+  -- a difference of another set whose sum isn't a member has no flag set in row 5 of table 7
+  pub fewest : (others : List Line) → HasLines others → set_flags lines ≤ set_flags others
   pub parts : payload ≡ packed (with_trailing_bits (joined lines)) ++ body
 
 -- bytes grew by such a payload

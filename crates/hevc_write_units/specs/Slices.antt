@@ -12,7 +12,7 @@ use Rattle.hevc_stream.specs.Contents.{slice, content}
 use Rattle.hevc_stream.specs.Kept.{Kept, with_set}
 use Rattle.hevc_stream.specs.Options.{Options}
 use Rattle.hevc_stream.specs.Slices.{temporal_id}
-use Rattle.hevc_writing.specs.Choices.{IsFormed}
+use Rattle.hevc_writing.specs.Choices.{IsFilled}
 
 -- ---- sizes
 
@@ -30,13 +30,13 @@ abbrev pub IsSameButSizes : PlainSliceSegmentHeader → PlainSliceSegmentHeader 
 IsSameButSizes h x = h ≡ with_sizes_of h x
 
 -- Where the table gives a header that is this one but for its sizes, lines of such a header are
--- added, with the chosen values.
+-- added, with the chosen values, and with no more flags of row 5 of table 7 set.
 pub record WritesSized (t : Table PlainSliceSegmentHeader) (x : PlainSliceSegmentHeader)
     (old new : List Bool) : Type 0 where
   pub written : (h : PlainSliceSegmentHeader) (lines : List Line) → HasLines t h lines
       → AreGood lines → IsSameButSizes h x
       → (own : PlainSliceSegmentHeader) × (added : List Bool) × IsSameButSizes own x
-      × IsFormed t own added × (new ≡ old ++ added)
+      × IsFilled t own lines added × (new ≡ old ++ added)
 
 -- lines of a header that is this one but for its sizes
 pub record HasElements (t : Table PlainSliceSegmentHeader) (x : PlainSliceSegmentHeader) : Type 0

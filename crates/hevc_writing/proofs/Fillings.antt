@@ -10,7 +10,8 @@ use Rattle.hevc_spec.proofs.BitSteps.{spelled-bound}
 use Rattle.hevc_reading_laws.proofs.TableLaws.{joined-append, AreGood-append, AreGood-front, AreGood-rest}
 use Rattle.hevc_bit_writer.specs.Writing.{CanSpell, spelled}
 use Rattle.hevc_bit_writer.proofs.Spellings.{is_spelled}
-use Rattle.hevc_writing.specs.Choices.{is_chosen, AreChosen, IsFormed}
+use Rattle.hevc_writing.specs.Choices.{is_chosen, AreChosen, IsFilled, flags_of_row}
+use Rattle.hevc_writing.proofs.Counting.{fewer_joined, none_first, one_fewer}
 use Rattle.hevc_writing.specs.Filling.{EachFilling}
 
 pub AreChosen-append : (a b : List Line) → AreChosen a → AreChosen b → AreChosen (a ++ b)
@@ -37,6 +38,30 @@ can_spell se v bits s = golomb_bounded v bits s
 can_spell (skip n) v bits s = bounded n v bits s.0 s.1
 can_spell check v bits s = s.1
 
+-- ---- lines
+
+-- the lines of two parts
+both_filled : {A B : Type 0} {t : Table A} {k : A → Table B} {first second : List Bool} (x : A) (y : B) (a b lines : List Line) → lines ≡ a ++ b → IsFilled t x a first → IsFilled (k x) y b second → IsFilled (part t k) y lines (first ++ second)
+both_filled x y a b lines e p q =
+    let f = p.formed in
+    let g = q.formed in
+    record {
+      formed = record {
+        lines = f.lines ++ g.lines;
+        has = (x, f.lines, g.lines, f.has, g.has, refl);
+        good = AreGood-append f.lines g.lines f.good g.good;
+        chosen = AreChosen-append f.lines g.lines f.chosen g.chosen;
+        parts = ap₂ (λ (p q : List Bool). p ++ q) f.parts g.parts ∙ sym (joined-append f.lines g.lines);
+      };
+      fewer = fewer_joined f.lines g.lines a b lines e p.fewer q.fewer;
+    }
+
+-- the same lines, of another table
+same_lines : {A B : Type 0} {t : Table A} {s : Table B} {x : A} {y : B} {bits : List Bool} (others : List Line) (p : IsFilled t x others bits) → HasLines s y p.formed.lines → IsFilled s y others bits
+same_lines others p has =
+    let f = p.formed in
+    record { formed = record { lines = f.lines; has = has; good = f.good; chosen = f.chosen; parts = f.parts }; fewer = p.fewer }
+
 -- ---- tables
 
 module _ {A : Type 0} {t : Table A} {w : List Bool} where
@@ -49,7 +74,7 @@ module _ {A : Type 0} {t : Table A} {w : List Bool} where
 
 pub done_filled : {A : Type 0} {x : A} {w : List Bool} {Q : A → List Bool → Type 0} → Q x w → EachFilling (done x) w Q
 done_filled {x = x} {w = w} {Q = Q} q = record {
-  all = λ y lines has good. ([], record { lines = []; has = (has.0, refl); good = tt; chosen = tt; parts = refl }, subst (λ z. Q z (w ++ [])) has.0 (rw append-nil q));
+  all = λ y lines has good. ([], record { formed = record { lines = []; has = (has.0, refl); good = tt; chosen = tt; parts = refl }; fewer = none_first lines }, subst (λ z. Q z (w ++ [])) has.0 (rw append-nil q));
 }
 
 pub then_filled : {A B : Type 0} {t : Table A} {k : A → Table B} {w : List Bool} {Q : B → List Bool → Type 0} → EachFilling t w (λ x all. EachFilling (k x) all Q) → EachFilling (part t k) w Q
@@ -59,20 +84,14 @@ then_filled {t = t} {k = k} {w = w} {Q = Q} h = record {
       let a = h.all has.0 has.1 has.3 (AreGood-front has.1 has.2 all) in
       let b = a.2.all y has.2 has.4 (AreGood-rest has.1 has.2 all) in (
         a.0 ++ b.0,
-        record {
-          lines = a.1.lines ++ b.1.lines;
-          has = (has.0, a.1.lines, b.1.lines, a.1.has, b.1.has, refl);
-          good = AreGood-append a.1.lines b.1.lines a.1.good b.1.good;
-          chosen = AreChosen-append a.1.lines b.1.lines a.1.chosen b.1.chosen;
-          parts = ap₂ (λ (p q : List Bool). p ++ q) a.1.parts b.1.parts ∙ sym (joined-append a.1.lines b.1.lines);
-        },
+        both_filled {k = k} has.0 y has.1 has.2 lines has.5 a.1 b.1,
         subst (Q y) (append_assoc w a.0 b.0) b.2,
       );
 }
 
 -- an element: some other value that gives the same record is written, or the same value
 pub element_filled : {A : Type 0} (r : Row) (form : Form) (allowed : ℕ → Bool) (value : ℕ → A) (w : List Bool) (Q : A → List Bool → Type 0)
-    → ((v : ℕ) → allowed v ≡ true → CanSpell form v → (n : ℕ) × (value n ≡ value v) × (allowed n ≡ true) × CanSpell form n × (is_chosen r form n ≡ true) × Q (value v) (w ++ spelled form n))
+    → ((v : ℕ) → allowed v ≡ true → CanSpell form v → (n : ℕ) × (value n ≡ value v) × (allowed n ≡ true) × CanSpell form n × (is_chosen r form n ≡ true) × Q (value v) (w ++ spelled form n) × (flags_of_row r n ≤ flags_of_row r v))
     → EachFilling (element r form allowed value) w Q
 element_filled r form allowed value w Q f = record {
   all = λ y lines has good.
@@ -82,11 +101,14 @@ element_filled r form allowed value w Q f = record {
       let m : Line = record { head = record { row = r; form = form; allowed = allowed }; value = n.0; bits = spelled form n.0 } in (
         spelled form n.0,
         record {
-          lines = m ∷ [];
-          has = (n.0, spelled form n.0, n.1 ∙ has.2, refl);
-          good = ((n.2, is_spelled form n.0 n.3), tt);
-          chosen = (n.4, tt);
-          parts = sym (append-nil (spelled form n.0));
+          formed = record {
+            lines = m ∷ [];
+            has = (n.0, spelled form n.0, n.1 ∙ has.2, refl);
+            good = ((n.2, is_spelled form n.0 n.3), tt);
+            chosen = (n.4, tt);
+            parts = sym (append-nil (spelled form n.0));
+          };
+          fewer = one_fewer m l lines has.3 n.6;
         },
         subst (λ z. Q z (w ++ spelled form n.0)) has.2 n.5,
       );
@@ -98,13 +120,13 @@ pub same_filled : {A : Type 0} (t s : Table A) (w : List Bool) (Q : A → List B
 same_filled t s w Q there back h = record {
   all = λ x lines has good.
       let r = h.all x lines (there x lines has) good in
-      (r.0, record { lines = r.1.lines; has = back x r.1.lines r.1.has; good = r.1.good; chosen = r.1.chosen; parts = r.1.parts }, r.2);
+      (r.0, same_lines lines r.1 (back x r.1.formed.lines r.1.formed.has), r.2);
 }
 
 -- other lines are written for the first of two parts: those of something from which the second gives the same
 pub instead_filled : {A B : Type 0} (t : Table A) (k : A → Table B) (w : List Bool) (Q : B → List Bool → Type 0)
     → ((x : A) (lines : List Line) → HasLines t x lines → AreGood lines
-    → (other : A) × (bits : List Bool) × IsFormed t other bits × ((z : B) (rest : List Line) → HasLines (k x) z rest → HasLines (k other) z rest) × EachFilling (k x) (w ++ bits) Q)
+    → (other : A) × (bits : List Bool) × IsFilled t other lines bits × ((z : B) (rest : List Line) → HasLines (k x) z rest → HasLines (k other) z rest) × EachFilling (k x) (w ++ bits) Q)
     → EachFilling (part t k) w Q
 instead_filled t k w Q h = record {
   all = λ y lines has good.
@@ -112,13 +134,7 @@ instead_filled t k w Q h = record {
       let a = h has.0 has.1 has.3 (AreGood-front has.1 has.2 all) in
       let b = a.4.all y has.2 has.4 (AreGood-rest has.1 has.2 all) in (
         a.1 ++ b.0,
-        record {
-          lines = a.2.lines ++ b.1.lines;
-          has = (a.0, a.2.lines, b.1.lines, a.2.has, a.3 y b.1.lines b.1.has, refl);
-          good = AreGood-append a.2.lines b.1.lines a.2.good b.1.good;
-          chosen = AreChosen-append a.2.lines b.1.lines a.2.chosen b.1.chosen;
-          parts = ap₂ (λ (p q : List Bool). p ++ q) a.2.parts b.1.parts ∙ sym (joined-append a.2.lines b.1.lines);
-        },
+        both_filled {k = k} a.0 y has.1 has.2 lines has.5 a.2 (same_lines has.2 b.1 (a.3 y b.1.formed.lines b.1.formed.has)),
         subst (Q y) (append_assoc w a.1 b.0) b.2,
       );
 }

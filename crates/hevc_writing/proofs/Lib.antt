@@ -1,3 +1,4 @@
+pub mod Counting
 pub mod Fillings
 pub mod RowRules
 pub mod Parts

@@ -13,6 +13,7 @@ use Rattle.hevc_spec.specs.Rows.{flag_row, zero_row, bits_row, ue_row, se_row, c
 use Rattle.hevc_bit_writer.specs.Writing.{CanSpell, spelled, code_number}
 use Rattle.hevc_writing.specs.Choices.{is_chosen, is_value, skipped, chosen_value}
 use Rattle.hevc_writing.specs.Filling.{EachFilling, WritesFlag, WritesUe, WritesSe, WritesBits, WritesZeros}
+use Rattle.hevc_writing.proofs.Counting.{as_many, none_more, zero_counts_none, skipped_counts_none}
 use Rattle.hevc_writing.proofs.Fillings.{done_filled, element_filled}
 
 -- the other way round from hevc_bit_writer's signed_back
@@ -48,7 +49,7 @@ any_chosen r v kept = rw kept refl
 module _ (r : Row) {w old new : List Bool} where
   pub flag_written : IsKept r → {value : Bool} {Q : Bool → List Bool → Type 0} → WritesFlag value old new → ((v : Bool) (all : List Bool) → (v ≡ value → w ≡ old → all ≡ new) → Q v all) → EachFilling (flag_row r) w Q
   unfolding flag_row is_chosen
-  flag_written kept {value = value} {Q = Q} writes h = element_filled r (u 1) (λ _. true) (λ v. eqb v 1) w Q (λ v a s. (v, refl, a, s, any_chosen r v kept, by_value v s))
+  flag_written kept {value = value} {Q = Q} writes h = element_filled r (u 1) (λ _. true) (λ v. eqb v 1) w Q (λ v a s. (v, refl, a, s, any_chosen r v kept, by_value v s, as_many r v))
     where
       same : (b : Bool) → b ≡ value → w ≡ old → w ++ b ∷ [] ≡ new
       same b is at = rw (is, at) (sym writes)
@@ -69,18 +70,19 @@ module _ (r : Row) {w old new : List Bool} where
     any_chosen r v kept,
     let e : v ≡ 0 = eqb-true v 0 a in
         subst (λ (k : ℕ). Q (eqb k 1) (w ++ spelled (u 1) k)) (sym e) (h (w ++ false ∷ []) (λ at. rw at (sym writes))),
+    as_many r v,
   ))
 
   pub bits_written : IsKept r → (n min max : ℕ) {value : ℕ} {Q : ℕ → List Bool → Type 0} → WritesBits n value old new
       → ((v : ℕ) → in_range min max v ≡ true → (all : List Bool) → (v ≡ value → w ≡ old → all ≡ new) → Q v all) → EachFilling (bits_row r n min max) w Q
   unfolding bits_row is_chosen
-  bits_written kept n min max {Q = Q} writes h = element_filled r (u n) (in_range min max) (λ v. v) w Q (λ v a s. (v, refl, a, s, any_chosen r v kept, h v a _ (λ is at. rw (is, at) (sym writes))))
+  bits_written kept n min max {Q = Q} writes h = element_filled r (u n) (in_range min max) (λ v. v) w Q (λ v a s. (v, refl, a, s, any_chosen r v kept, h v a _ (λ is at. rw (is, at) (sym writes)), as_many r v))
 
   -- a number of which some values are allowed
   pub number_written : IsKept r → (n : ℕ) (allowed : ℕ → Bool) {value : ℕ} {Q : ℕ → List Bool → Type 0} → WritesBits n value old new
       → ((v : ℕ) (all : List Bool) → (v ≡ value → w ≡ old → all ≡ new) → Q v all) → EachFilling (element r (u n) allowed (λ v. v)) w Q
   unfolding is_chosen
-  number_written kept n allowed {Q = Q} writes h = element_filled r (u n) allowed (λ v. v) w Q (λ v a s. (v, refl, a, s, any_chosen r v kept, h v _ (λ is at. rw (is, at) (sym writes))))
+  number_written kept n allowed {Q = Q} writes h = element_filled r (u n) allowed (λ v. v) w Q (λ v a s. (v, refl, a, s, any_chosen r v kept, h v _ (λ is at. rw (is, at) (sym writes)), as_many r v))
 
   pub ue_written : IsKept r → (min max : ℕ) {value : ℕ} {Q : ℕ → List Bool → Type 0} → WritesUe value old new
       → ((v : ℕ) → in_range min max v ≡ true → (all : List Bool) → (v ≡ value → w ≡ old → all ≡ new) → Q v all) → EachFilling (ue_row r min max) w Q
@@ -92,6 +94,7 @@ module _ (r : Row) {w old new : List Bool} where
     s,
     any_chosen r v kept,
     h v a _ (λ is at. ap (λ (k : ℕ). w ++ spelled ue k) is ∙ ap (λ (b : List Bool). b ++ spelled ue value) at ∙ sym (writes (subst (CanSpell ue) is s))),
+    as_many r v,
   ))
 
   pub se_written : IsKept r → (min max : ℤ) {value : ℤ} {Q : ℤ → List Bool → Type 0} → WritesSe value old new
@@ -106,25 +109,26 @@ module _ (r : Row) {w old new : List Bool} where
     h (signed v) _ (λ is at.
         let code : v ≡ code_number value = sym (code_back v) ∙ ap code_number is in
         ap (λ (k : ℕ). w ++ spelled se k) code ∙ ap (λ (b : List Bool). b ++ spelled se (code_number value)) at ∙ sym (writes (subst (CanSpell se) code s))),
+    as_many r v,
   ))
 
   -- zeros that are not kept
   pub zeros_written : (n : ℕ) {Q : ℕ → List Bool → Type 0} → skipped r n ≡ 0 → WritesZeros n old new → ((all : List Bool) → (w ≡ old → all ≡ new) → Q 0 all) → EachFilling (skip_row r n) w Q
   unfolding skip_row is_chosen
   zeros_written n {Q = Q} none writes h = element_filled r (skip n) (λ _. true) (λ _. 0) w Q (λ v a s.
-      (0, refl, refl, pow_pos n, rw none refl, h _ (λ at. rw (zeros_low n, at) (sym writes))))
+      (0, refl, refl, pow_pos n, rw none refl, h _ (λ at. rw (zeros_low n, at) (sym writes)), none_more r 0 v (zero_counts_none r)))
 
   -- a number that is not kept
   pub skip_written : (n : ℕ) {Q : ℕ → List Bool → Type 0} → skipped r n < 2 ^ n → WritesBits n (skipped r n) old new → ((all : List Bool) → (w ≡ old → all ≡ new) → Q 0 all) → EachFilling (skip_row r n) w Q
   unfolding skip_row is_chosen
   skip_written n {Q = Q} fits writes h = element_filled r (skip n) (λ _. true) (λ _. 0) w Q (λ v a s.
-      (skipped r n, refl, refl, fits, eqb-same (skipped r n), h _ (λ at. rw at (sym writes))))
+      (skipped r n, refl, refl, fits, eqb-same (skipped r n), h _ (λ at. rw at (sym writes)), none_more r (skipped r n) v (skipped_counts_none r n)))
 
 -- a condition
 pub check_held : (r : Row) (holds : Bool) {w : List Bool} {Q : ℕ → List Bool → Type 0} → (holds ≡ true → Q 0 w) → EachFilling (check_row r holds) w Q
 unfolding check_row is_chosen
 check_held r holds {w = w} {Q = Q} h = element_filled r check (λ _. holds) (λ v. v) w Q (λ v a s.
-    (v, refl, a, s, refl, subst (λ (k : ℕ). Q k (w ++ [])) (sym s) (subst (λ (all : List Bool). Q 0 all) (sym (append-nil w)) (h a))))
+    (v, refl, a, s, refl, subst (λ (k : ℕ). Q k (w ++ [])) (sym s) (subst (λ (all : List Bool). Q 0 all) (sym (append-nil w)) (h a)), as_many r v))
 
 -- ---- rows that are present only under a condition
 

@@ -1,5 +1,5 @@
 -- What is written for elements that no record keeps.
-use Rattle.std.specs.Prelude.{◌≡◌, ℕ, ◌-◌, ◌^◌, ◌==◌, ◌&&◌, Bool, true, if◌then◌else◌, List, [], ◌∷◌, Option, Some, None}
+use Rattle.std.specs.Prelude.{◌≡◌, ℕ, ◌-◌, ◌+◌, ◌≤◌, ◌^◌, ◌==◌, ◌&&◌, Bool, true, if◌then◌else◌, List, [], ◌∷◌, Option, Some, None}
 use Rattle.hevc_spec.specs.Lines.{Line, HasLines, AreGood, joined}
 use Rattle.hevc_spec.specs.Table.{Table}
 use Rattle.hevc_spec.specs.declared.Row.{Row}
@@ -36,6 +36,16 @@ abbrev pub AreChosen : List Line → Type 0
 AreChosen [] = Unit {0}
 AreChosen (l ∷ ls) = (is_chosen l.head.row l.head.form l.value ≡ true) × AreChosen ls
 
+-- 1 for a flag of row 5 of table 7 that is set
+abbrev pub flags_of_row : Row → ℕ → ℕ
+flags_of_row r v = if is_row r 7 5 && v == 1 then 1 else 0
+
+-- How many flags of row 5 of table 7 are set. A difference whose sum is a member of the new set has
+-- one that is set, and any other difference none if the fewest are.
+unfoldable pub set_flags : List Line → ℕ
+set_flags [] = 0
+set_flags (l ∷ ls) = flags_of_row l.head.row l.value + set_flags ls
+
 -- A record's lines by a table, with the values that are written for what it doesn't keep: all are
 -- allowed, and the bits spell them.
 pub record IsFormed {A : Type 0} (t : Table A) (x : A) (bits : List Bool) : Type 0 where
@@ -44,3 +54,9 @@ pub record IsFormed {A : Type 0} (t : Table A) (x : A) (bits : List Bool) : Type
   pub good : AreGood lines
   pub chosen : AreChosen lines
   pub parts : bits ≡ joined lines
+
+-- So formed, with no more flags of row 5 of table 7 set than in these lines.
+pub record IsFilled {A : Type 0} (t : Table A) (x : A) (others : List Line) (bits : List Bool)
+    : Type 0 where
+  pub formed : IsFormed t x bits
+  pub fewer : set_flags formed.lines ≤ set_flags others

@@ -2,15 +2,16 @@
 use Rattle.std.specs.Prelude.{◌≡◌, Bool, List, [], ◌++◌}
 use Rattle.hevc_spec.specs.Lines.{Line, HasLines, AreGood}
 use Rattle.hevc_spec.specs.Table.{Table, read, gives}
-use Rattle.hevc_writing.specs.Choices.{IsFormed}
+use Rattle.hevc_writing.specs.Choices.{IsFilled}
 use Rattle.hevc_writing.specs.Filling.{WritesTable}
 
 -- What is added for a record that has lines which are allowed are lines of it, with the chosen
--- values.
+-- values, and with no more flags of row 5 of table 7 set.
 unfoldable pub WritesFormed : {A : Type 0} → Table A → Type 0
 WritesFormed {A = A} t =
     (x : A) (lines : List Line) (old new : List Bool) → HasLines t x lines → AreGood lines
-    → WritesTable t x old new → (added : List Bool) × IsFormed t x added × (new ≡ old ++ added)
+    → WritesTable t x old new
+    → (added : List Bool) × IsFilled t x lines added × (new ≡ old ++ added)
 
 -- What is written for a record that any bits are read as is read as that record, whatever comes
 -- after it. So a record that isn't read back is one that no bits are read as.

@@ -7,14 +7,15 @@ use Rattle.hevc_spec.specs.Table.{Table}
 use Rattle.hevc_spec.specs.Rows.{repeat}
 use Rattle.hevc_spec.specs.Lines.{Line, HasLines, AreGood}
 use Rattle.hevc_bit_writer.specs.Writing.{CanSpell, spelled, code_number}
-use Rattle.hevc_writing.specs.Choices.{IsFormed}
+use Rattle.hevc_writing.specs.Choices.{IsFilled}
 
 -- Whichever record the table gives by lines that are allowed: it has lines with the chosen values,
--- whose bits, added to w, make up bits of which Q holds with the record.
+-- whose bits, added to w, make up bits of which Q holds with the record. No more flags of row 5 of
+-- table 7 are set in them.
 pub record EachFilling {A : Type 0} (t : Table A) (w : List Bool) (Q : A → List Bool → Type 0)
     : Type 0 where
   pub all : (x : A) (lines : List Line) → HasLines t x lines → AreGood lines
-      → (bits : List Bool) × IsFormed t x bits × Q x (w ++ bits)
+      → (bits : List Bool) × IsFilled t x lines bits × Q x (w ++ bits)
 
 -- ---- elements
 

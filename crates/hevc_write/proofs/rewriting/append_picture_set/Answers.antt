@@ -16,7 +16,7 @@ use Rattle.hevc_types_d.specs.declared.pps.Pps.{Pps}
 use Rattle.hevc_types_d.specs.Pps.{plain_pps}
 use Rattle.hevc_write_units.specs.Values.{PictureSetLines, MeansPictureSet}
 use Rattle.hevc_write.specs.Steps.{ReadsOne}
-use Rattle.hevc_write.proofs.PictureSteps.{at_some, names, picture_lines, some_mapped}
+use Rattle.hevc_write.proofs.PictureSteps.{at_some, lines_of_one, names, picture_lines, some_mapped}
 use Rattle.hevc_write.proofs.Taking.{anew, copied, header_is, on_ok, other_sequences, picture_is, picture_unread, wanted}
 use Rattle.hevc_write.proofs.rewriting.append_picture_set.Goals as goal
 
@@ -66,7 +66,7 @@ returns-in-Some-clause-takes c =
     let found : kept.sequence_sets id ≡ Some sps = ap (λ (s : ℕ → Option PlainSps). s id) (sym before) ∙ at in
     let is = picture_is kept bytes header parsed pps was.0 typed here in
     anew kept bytes header (picture_set pps) (PictureSetLines sps pps header) (MeansPictureSet sps pps header) c.args.out.now.items c.append_anew.new.out.items (kept_by c.read_picture_set.new.parser).sequence_sets
-    parsed is refl added (λ lines has. (sps, found, has)) (added.meant default_options kept (wanted bytes header parsed) found) (c.in_ok-pps.ensures.sets ∙ before ∙ sym (other_sequences bytes kept (picture_set pps) is refl)))
+    parsed is refl added (λ lines has. (sps, found, has)) (λ lines has. lines_of_one header pps lines has.0 sps (kept.sequence_sets id) has.1 found has.2) (added.meant default_options kept (wanted bytes header parsed) found) (c.in_ok-pps.ensures.sets ∙ before ∙ sym (other_sequences bytes kept (picture_set pps) is refl)))
     c.append_anew.ensures.added
 
 pub returns-in-None-clause-takes : goal.returns-in-None-clause-takes

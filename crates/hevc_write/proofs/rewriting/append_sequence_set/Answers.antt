@@ -27,7 +27,7 @@ returns-in_ok-keep_sequence_set-in-Ok-clause-takes c =
     let is = sequence_is kept bytes header parsed set was.0 typed was.1 in
     let kept_are = ap (λ (k : Kept). k.sequence_sets) c.in_ok-keep_sequence_set-in-Ok.ensures.kept ∙ ap (with_set set.seq_parameter_set_id set) before ∙ sym (own_sequences bytes kept set is) in
     anew kept bytes header (sequence_set set) (SetLines 33 sequence_parameter_set set header) (MeansSequenceSet set header) c.args.out.now.items c.append_anew.new.out.items (kept_by c.keep_sequence_set.new.self).sequence_sets
-    parsed is refl added (λ lines has. has) (added.meant default_options kept (wanted bytes header parsed)) kept_are
+    parsed is refl added (λ lines has. has) (λ lines has. has) (added.meant default_options kept (wanted bytes header parsed)) kept_are
 
 pub returns-in-Err-clause-takes : goal.returns-in-Err-clause-takes
 returns-in-Err-clause-takes c =

@@ -24,7 +24,7 @@ returns-in-Ok-clause-takes c =
     on_ok c.append_anew.result _ _ (λ added kept before.
     let is = video_is kept bytes header parsed set was.0 typed was.1 in
     anew kept bytes header (video_set set) (SetLines 32 video_parameter_set set header) (MeansVideoSet set header) c.args.out.now.items c.append_anew.new.out.items (kept_by c.args.parser.now).sequence_sets
-    parsed is refl added (λ lines has. has) (added.meant default_options kept (wanted bytes header parsed)) (before ∙ sym (other_sequences bytes kept (video_set set) is refl)))
+    parsed is refl added (λ lines has. has) (λ lines has. has) (added.meant default_options kept (wanted bytes header parsed)) (before ∙ sym (other_sequences bytes kept (video_set set) is refl)))
     c.append_anew.ensures.added
 
 pub returns-in-Err-clause-takes : goal.returns-in-Err-clause-takes

@@ -1,15 +1,17 @@
-use Rattle.std.proofs.Common.{map, refl, sym, ◌∙◌, arith}
+use Rattle.std.proofs.Common.{◌++◌, [], ◌∷◌, pos, subst, map, refl, sym, ◌∙◌, arith}
 use Rattle.hevc_types_a.specs.ShortTermRefPicSet.{plain_short_term_ref_pic_set}
-use Rattle.hevc_tables.specs.ShortTermTable.{predicted_set, prediction, predicted_members}
+use Rattle.hevc_tables.specs.ShortTermTable.{differences, shift_of, predicted_set, prediction, predicted_members}
+use Rattle.hevc_records.specs.ShortTermRefPicSet.{PlainShortTermRefPicSet}
+use Rattle.hevc_write_short_term.specs.Members.{chosen_flags, members_of, WritesFlags}
 use Rattle.hevc_writing.proofs.Fillings.{weakened, beside}
 use Rattle.hevc_writing.proofs.Steps.{by, done_filled, then_filled, flag_then, ue_then, ue_if_then}
 use Rattle.hevc_write_short_term.proofs.Distinct.{apart, many}
 use Rattle.hevc_write_short_term.proofs.Tables.{members_written, rows_before_kept}
 use Rattle.hevc_write_short_term.proofs.predicted.write_predicted_set.Goals as goal
 
-pub returns : goal.returns
+pub returns-clause-rows : goal.returns-clause-rows
 unfolding predicted_set prediction predicted_members
-returns c =
+returns-clause-rows c =
     let other = c.other_set.result in
     record {
       written = λ y w.
@@ -20,3 +22,8 @@ returns c =
           (members_written (map plain_short_term_ref_pic_set c.args.sets.now) c.args.st_rps_idx (plain_short_term_ref_pic_set c.args.x.now) _ (plain_short_term_ref_pic_set other) b3 _ _ c.other_set.ensures (apart other (omega arith) (omega arith)) (many other (omega arith) (omega arith)) c.in_ok-write_member_flags.ensures)) (λ z all h e at.
           h.1 e (h3 (sym h.0.2 ∙ by e (λ r. r.abs_delta_rps_minus1) ∙ sym c.from.ensures) (h2 (sym h.0.1 ∙ by e (λ r. r.delta_rps_sign)) (h1 refl (sym h.0.0 ∙ by e (λ r. r.delta_idx_minus1)) at)))))))));
     }
+
+pub returns-clause-flags : goal.returns-clause-flags
+returns-clause-flags c =
+    let x = plain_short_term_ref_pic_set c.args.x.now in
+    (c.ue.new.w, subst (λ (other : PlainShortTermRefPicSet). WritesFlags (chosen_flags (shift_of x) (differences other ++ pos 0 ∷ []) (members_of x)) c.ue.new.w c.write_member_flags.new.w) c.other_set.ensures c.in_ok-write_member_flags.ensures)
