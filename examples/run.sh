@@ -32,6 +32,23 @@ compare() { # NAME COMMAND..: the report of each stream
     echo "$name: ${#streams[@]} of ${#streams[@]} the same"
 }
 
+alike() { # NAME EXAMPLE COMMAND..: what an example in C prints of each stream
+    local name=$1 example=$2 stream; shift 2
+    for stream in "${streams[@]}"; do
+        "$work/$example" "$stream" > "$work/wanted"
+        "$@" "$stream" > "$work/given" 2> "$work/said" || { echo "$name: $stream:"; head -5 "$work/said"; exit 1; }
+        cmp -s "$work/given" "$work/wanted" || { echo "$name: $stream: other lines than $example.c"; exit 1; }
+    done
+    echo "$name: ${#streams[@]} of ${#streams[@]} the same"
+}
+
+rusted() { # NAME: an example in Rust
+    local link=() file
+    for file in $library; do link+=(-C "link-arg=$file"); done
+    rustc --edition 2024 -O -D warnings "${link[@]}" "examples/rust/$1.rs" -o "$work/$1-rust" 2> "$work/said" ||
+        rustc --edition 2024 -O "${link[@]}" "examples/rust/$1.rs" -o "$work/$1-rust"
+}
+
 command -v gcc > /dev/null || { echo "gcc isn't installed: nothing can be built"; exit 1; }
 [ -x "$program" ] || { echo "$program isn't there: nothing to compare with"; exit 1; }
 each() { # NAME COMMAND..: a command on each stream, which says by its status whether all is as it should be
@@ -46,14 +63,6 @@ built layout -O2
 "$work/layout"
 built show -O2
 compare show "$work/show"
-if command -v rustc > /dev/null; then
-    link=(); for file in $library; do link+=(-C "link-arg=$file"); done
-    rustc --edition 2024 -O -D warnings "${link[@]}" examples/rust/show.rs -o "$work/show-rust" 2> "$work/said" ||
-        rustc --edition 2024 -O "${link[@]}" examples/rust/show.rs -o "$work/show-rust"
-    compare "show in Rust" "$work/show-rust"
-else
-    echo "rustc isn't installed: examples/rust isn't checked"
-fi
 built trials -O2
 each trials "$work/trials"
 built units -O2
@@ -63,6 +72,16 @@ built controls -O2
 each "structs of Linux" "$work/controls"
 built memory -O2 -Wl,--wrap=malloc,--wrap=realloc
 each "memory, each allocation failed in turn" "$work/memory"
+if command -v rustc > /dev/null; then
+    rusted show
+    compare "show in Rust" "$work/show-rust"
+    for name in sets controls; do
+        rusted $name
+        alike "$name in Rust" $name "$work/$name-rust"
+    done
+else
+    echo "rustc isn't installed: examples/rust isn't checked"
+fi
 if built show-sanitized -g -fsanitize=address,undefined -fno-sanitize-recover=all 2> "$work/said"; then
     compare "show with AddressSanitizer" "$work/show-sanitized"
     built trials-sanitized -g -fsanitize=address,undefined -fno-sanitize-recover=all
@@ -81,6 +100,11 @@ if command -v valgrind > /dev/null; then
     for name in trials sets controls; do
         each "$name under valgrind" valgrind -q --leak-check=full --error-exitcode=9 "$work/$name"
     done
+    if command -v rustc > /dev/null; then
+        for name in sets controls; do
+            alike "$name in Rust under valgrind" $name valgrind -q --leak-check=full --error-exitcode=9 "$work/$name-rust"
+        done
+    fi
 else
     echo "valgrind isn't installed: not checked"
 fi

@@ -42,7 +42,7 @@ extern "C" {
 
 /* The version of the calls and structs: 65536 * major + minor. One that has another major number isn't this header's. */
 #define FEZHALUM_API_MAJOR 0
-#define FEZHALUM_API_MINOR 2
+#define FEZHALUM_API_MINOR 3
 uint32_t fezhalum_api_version(void);
 
 /* What a call answers. FEZHALUM_NO_UNIT, FEZHALUM_FORMAT and FEZHALUM_NO_FRAMES refuse nothing of the stream. What is left after each is
@@ -168,7 +168,8 @@ void fezhalum_init(fezhalum *decoder);
  * of the highest sub-layer that is wanted (8.1.2), 6 for all, as is a number above 6. fezhalum_init takes 0 and 6. */
 void fezhalum_init_with(fezhalum *decoder, uint32_t handle_cra_as_bla, uint32_t highest_tid);
 
-void fezhalum_end(fezhalum *decoder);
+/* Ends a decoder, with all that waits. The answer is how many events of the kinds 1 to 5 were not taken. */
+size_t fezhalum_end(fezhalum *decoder);
 
 /* A decoder on the heap, NULL where the allocation fails. */
 static inline fezhalum *fezhalum_new(void) {

@@ -136,6 +136,18 @@ def code_calls():
     return calls
 
 
+def in_rust(text):
+    """Types of the crates by their names in examples/rust."""
+    names = {ours: ''.join(word.capitalize() for word in theirs.split('_')[1:]) for theirs, (_, ours) in STRUCTS.items()}
+    return re.sub(r'\b[A-Z]\w+', lambda word: names.get(word[0], re.sub('^V4l2(Ctrl)?Hevc', 'V4l2', word[0])), text)
+
+
+def struct_lines(text):
+    """Each struct's fields, a line each."""
+    found = re.findall(r'^#\[repr\(C\)\]\n(?:#[^\n]*\n)*pub struct (\w+) \{\n(.*?)^\}', text, re.S | re.M)
+    return {name: re.findall(r'^ +(?:pub )?(\w+: .*),$', body, re.M) for name, body in found}
+
+
 class Header(unittest.TestCase):
     maxDiff = None
 
@@ -167,6 +179,16 @@ class Header(unittest.TestCase):
 
     def test_calls(self):
         self.same(header_calls(header_text()), code_calls(), 'call')
+
+    def test_rust(self):
+        text = (TOP / 'examples/rust/sys.rs').read_text()
+        files = {path for path, _ in STRUCTS.values()} | {f'hevc_v4l2/src/{path.name}' for path in (TOP / 'crates/hevc_v4l2/src').glob('*.rt')}
+        code = struct_lines(in_rust(''.join(map(crate, sorted(files)))))
+        self.same({name: lines for name, lines in struct_lines(text).items() if '_opaque: [u8; 0]' not in lines}, code, 'struct in Rust')
+        calls = re.findall(r'pub fn (\w+)\(([^)]*)\)(?: -> (\w+))?;', text)
+        given = {name: (result or 'void', re.findall(r': ([^,]+)', kinds)) for name, kinds, result in calls}
+        code = {name: (result, [in_rust(kind) for kind in kinds]) for name, (result, kinds) in code_calls().items() if '_layout_' not in name}
+        self.same(given, code, 'call in Rust')
 
     def test_version(self):
         major, minor = (int(re.search(rf'#define FEZHALUM_API_{part} (\d+)', header_text())[1]) for part in ('MAJOR', 'MINOR'))

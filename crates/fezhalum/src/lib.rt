@@ -5,15 +5,16 @@ mod controls;
 mod layout;
 mod sets;
 
-ghost use Rattle.std.specs.Prelude.{◌≡◌};
+ghost use Rattle.std.specs.Prelude.{◌≡◌, length};
 ghost use Rattle.std.specs.Borrow.{full_share, sem};
 ghost use Rattle.std.specs.Ptr.{lies_at, room_at};
 ghost use prog.Memory.{capped, size};
 ghost use denote.Param.{layout};
 ghost use Rattle.hevc_pull.specs.contracts.decoder.PullDecoder.{the_row};
+ghost use Rattle.hevc_pull.specs.Views.{view_in};
 ghost use Rattle.hevc_calls.specs.Calls.{Accepts, Decodes, FlushesAll, TakesNext};
 ghost use Rattle.hevc_calls.specs.Units.{FindsUnit};
-ghost use Rattle.fezhalum.specs.Handles.{Becomes};
+ghost use Rattle.fezhalum.specs.Handles.{Becomes, Leaves};
 ghost use Rattle.fezhalum.specs.Fresh.{IsFresh, IsFreshWith, options_given};
 
 use hevc_calls::{DecodeCall, UnitCall, accept_format, decode, flush, next_event, next_unit};
@@ -39,9 +40,9 @@ pub extern "C" fn fezhalum_size() -> usize
 /// The version of the calls and the structs: 65536 times its first number, and its second.
 #[unsafe(no_mangle)]
 pub extern "C" fn fezhalum_api_version() -> u32
-    ensures { result ≡ 2 }
+    ensures { result ≡ 3 }
 {
-    2
+    3
 }
 
 fn fresh(alloc: Global) -> PullDecoder
@@ -92,16 +93,20 @@ pub unsafe extern "C" fn fezhalum_init_with(
     );
 }
 
-fn end_in(_decoder: PullDecoder) {}
+fn end_in(decoder: PullDecoder) -> usize
+    ensures { result ≡ length (view_in decoder).backend.waiting }
+{
+    decoder.end()
+}
 
-/// Ends a decoder, with all that waits in it. The room is left.
+/// Ends a decoder, with all that waits in it. Answers how many calls weren't taken. The room is left.
 #[unsafe(no_mangle)]
-pub unsafe extern "C" fn fezhalum_end(d: *mut Fezhalum)
+pub unsafe extern "C" fn fezhalum_end(d: *mut Fezhalum) -> usize
     ghost x: { the_row.Denot }
     requires* { sem 𝓛 (lies_at the_row full_share d x) }
-    ensures* { sem 𝓛 (room_at the_row d) }
+    ensures* { sem 𝓛 (Leaves the_row d (result ≡ length (view_in x).backend.waiting)) }
 {
-    end_in(std::ptr::read(d as *mut PullDecoder));
+    end_in(std::ptr::read(d as *mut PullDecoder))
 }
 
 fn decode_in(decoder: &mut PullDecoder, bytes: &[u8], call: &mut DecodeCall) -> u32

@@ -32,6 +32,13 @@ fn take_all(decoder: &mut PullDecoder, came: &mut Came) -> Result<(), Fail> {
 /// Decodes a stream of a few units.
 fn decode_all(alloc: Global, stream: &[u8]) -> Result<Came, Fail> {
     let mut decoder = PullDecoder::new(alloc, Options::new());
+    let came = decode_with(&mut decoder, alloc, stream);
+    let _waiting = decoder.end();
+    came
+}
+
+/// The same, with a decoder that is left.
+fn decode_with(decoder: &mut PullDecoder, alloc: Global, stream: &[u8]) -> Result<Came, Fail> {
     let mut came = Came {
         events: 0,
         outputs: Vec::new(alloc),
@@ -46,18 +53,18 @@ fn decode_all(alloc: Global, stream: &[u8]) -> Result<Came, Fail> {
     let mut at = 0usize;
     for _ in 0..100 {
         let rest = stream.get(at..).ok_or("past the end")?;
-        let status = decode(&mut decoder, rest, &mut call);
-        take_all(&mut decoder, &mut came)?;
+        let status = decode(decoder, rest, &mut call);
+        take_all(decoder, &mut came)?;
         if status == 2 {
-            let _accepted = accept_format(&mut decoder);
+            let _accepted = accept_format(decoder);
         } else if status == 0 {
             at = at.saturating_add(call.taken as usize);
         } else {
             break;
         }
     }
-    let _flushed = flush(&mut decoder);
-    take_all(&mut decoder, &mut came)?;
+    let _flushed = flush(decoder);
+    take_all(decoder, &mut came)?;
     Ok(came)
 }
 
@@ -75,6 +82,7 @@ fn nine_pictures_are_output_in_order(rt: HostRuntime) -> Result<(), Fail> {
 fn a_format_that_is_not_awaited(rt: HostRuntime) {
     let mut decoder = PullDecoder::new(rt.alloc(), Options::new());
     assert_eq!(rt; accept_format(&mut decoder), 16);
+    assert_eq!(rt; decoder.end(), 0);
 }
 
 #[test]

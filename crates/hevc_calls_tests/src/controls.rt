@@ -5,6 +5,8 @@ use hevc_calls::{
 use hevc_driver::Options;
 use hevc_made::make_stream;
 use hevc_pull::PullDecoder;
+use hevc_queue::PictureControls;
+use hevc_v4l2::V4l2CtrlHevcSliceParams;
 use std::test::Fail;
 
 /// Decodes the units of a stream up to the second picture.
@@ -30,6 +32,18 @@ fn decode_some(decoder: &mut PullDecoder, stream: &[u8]) -> Result<(), Fail> {
     Ok(())
 }
 
+/// The structs of the second picture and its slice segment.
+fn structs_of(
+    decoder: &mut PullDecoder,
+    stream: &[u8],
+) -> Result<(PictureControls, V4l2CtrlHevcSliceParams), Fail> {
+    decode_some(decoder, stream)?;
+    let filled = decoder.picture_controls().ok_or("no structs")?;
+    let picture = filled.or(Err("not held"))?;
+    let filled = decoder.slice_control().ok_or("no struct")?;
+    Ok((picture, filled.or(Err("not held"))?))
+}
+
 #[test]
 fn structs_of_the_latest_picture(rt: HostRuntime) -> Result<(), Fail> {
     let stream = make_stream(rt.alloc(), 2)?;
@@ -37,11 +51,13 @@ fn structs_of_the_latest_picture(rt: HostRuntime) -> Result<(), Fail> {
     assert!(rt; decoder.picture_controls().is_none() && decoder.slice_control().is_none());
     assert_eq!(rt; want_controls(&mut decoder), 0);
     assert!(rt; decoder.picture_controls().is_none());
-    decode_some(&mut decoder, stream.as_slice())?;
-    let filled = decoder.picture_controls().ok_or("no structs")?;
-    let mut picture = filled.or(Err("not held"))?;
-    let filled = decoder.slice_control().ok_or("no struct")?;
-    let mut slice = filled.or(Err("not held"))?;
+    let (mut picture, mut slice) = match structs_of(&mut decoder, stream.as_slice()) {
+        Ok(structs) => structs,
+        Err(fail) => {
+            let _waiting = decoder.end();
+            return Err(fail);
+        }
+    };
     picture.decode_params.num_active_dpb_entries = 0;
     slice.bit_size = 0;
     assert_eq!(rt; picture_controls(&decoder, &mut picture), 0);
@@ -52,5 +68,7 @@ fn structs_of_the_latest_picture(rt: HostRuntime) -> Result<(), Fail> {
     assert_eq!(rt; slice_control(&decoder, &mut slice), 0);
     assert!(rt; slice.slice_pic_order_cnt == 8 && slice.ref_idx_l0[0] == 0);
     assert!(rt; slice.bit_size != 0);
+    // A sequence, three calls for each picture, and that the first is whole.
+    assert_eq!(rt; decoder.end(), 1 + 2 * 3 + 1);
     Ok(())
 }

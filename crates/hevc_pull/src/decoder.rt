@@ -31,8 +31,7 @@ pub struct NotAwaited;
 /// The decoder of a stream, which is given unit by unit and calls nobody: what it asks a backend for, and the pictures that are output,
 /// wait until they are taken.
 ///
-/// Pictures and handles are numbers, from 0 in order of decoding.
-#[derive(Drop)]
+/// Pictures and handles are numbers, from 0 in order of decoding. It isn't `Drop`: `end` alone lets it go, with what waits.
 pub struct PullDecoder {
     alloc: Global,
     decoder: StatelessDecoder<QueueBackend>,
@@ -49,6 +48,14 @@ impl PullDecoder {
             alloc,
             decoder: StatelessDecoder::new_with(alloc, QueueBackend::new(alloc), options),
         }
+    }
+
+    /// Ends the decoder, with all that waits. The answer is how many calls weren't taken.
+    pub fn end(self) -> usize
+        ensures { result ≡ length (view_in self).backend.waiting }
+    {
+        let PullDecoder { alloc: _, decoder } = self;
+        decoder.into_backend().end()
     }
 
     /// Takes the first unit of the input, of less than 2^60 bytes, with the time at which its picture is to be output, in the caller's
@@ -151,7 +158,7 @@ impl PullDecoder {
         let stand_in = self.decoder.backend().stand_in(self.alloc);
         let mut backend = self.decoder.replace_backend(stand_in);
         let event = backend.take_event();
-        let _stand_in = self.decoder.replace_backend(backend);
+        let _none_wait = self.decoder.replace_backend(backend).end();
         event
     }
 
@@ -167,7 +174,7 @@ impl PullDecoder {
         let stand_in = self.decoder.backend().stand_in(self.alloc);
         let mut backend = self.decoder.replace_backend(stand_in);
         backend.set_free_frames(free_frames);
-        let _stand_in = self.decoder.replace_backend(backend);
+        let _none_wait = self.decoder.replace_backend(backend).end();
     }
 
     /// From here on, the structs of Linux's stateless decoders are filled with each picture that begins, and each slice segment of it.
@@ -184,7 +191,7 @@ impl PullDecoder {
         let stand_in = self.decoder.backend().stand_in(self.alloc);
         let mut backend = self.decoder.replace_backend(stand_in);
         let done = backend.want_controls(self.alloc);
-        let _stand_in = self.decoder.replace_backend(backend);
+        let _none_wait = self.decoder.replace_backend(backend).end();
         done
     }
 

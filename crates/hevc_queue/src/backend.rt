@@ -25,8 +25,7 @@ use std::marker::Model;
 /// allocation does, or 2^64 - 1 calls were made.
 ///
 /// It keeps no call: its log is there in proofs alone. Its pictures and handles are the numbers of pictures. The events that were taken,
-/// followed by those that wait, are those of the calls of its log.
-#[derive(Drop)]
+/// followed by those that wait, are those of the calls of its log. It isn't `Drop`: `end` alone lets it go, with what waits.
 pub struct QueueBackend {
     /// The events that wait.
     events: VecDeque<Event>,
@@ -106,6 +105,24 @@ impl QueueBackend {
             controls: None,
             history: self.history.again(),
         }
+    }
+
+    /// Ends it: the events that wait are dropped. The answer is how many these were.
+    pub fn end(self) -> usize
+        ensures { result ≡ length self.waiting }
+    {
+        let QueueBackend {
+            events,
+            taken: _,
+            called: _,
+            free_frames: _,
+            faults: _,
+            empty_answers: _,
+            room: _,
+            controls: _,
+            history: _,
+        } = self;
+        events.len()
     }
 
     /// Whether a sequence begins by the first event that waits.

@@ -1,10 +1,11 @@
--- `fezhalum_end` takes what lies at the pointer and lets it go; the room is left.
-use Rattle.fezhalum.proofs.Steps.{[], ◌∷◌, refl, ap, proved, full_share, id⊢, ftrue, fat, Val, vunit, tables, ‵, raw, ◌⊛◌, some, later, prop, ◌$◌, ◌∵◌, !, qed, done, move, keep, drop, use1, split, join, feq_l, feq_i, pick, await, regoal, suffices, group, enter, of_opd, unit_lit, load, look, stop, no_more, and_then, returns, alloc_all, pass_all, free_all, look_at, get, through, sets, lands_as, yes, Is, shows, part_out, Ptr, RawPtr, block_ptr, lies_at, room_at, in_a_block, rawptr_vals, rawptr_Tells, plain, nothing, peeks, calls_at, lasts, on_entry, triple_of, framed, Stays, walk_of, stay_dropped, Goes-dropped, ends_at, WpFn, unit, only}
+-- `fezhalum_end` takes what lies at the pointer and ends it; the room is left.
+use Rattle.fezhalum.proofs.Steps.{[], ◌∷◌, ◌≡◌, ℕ, length, refl, w64, proved, full_share, id⊢, ftrue, fat, Val, fact, tables, ‵, raw, ◌⊛◌, some, later, prop, ◌$◌, ◌∵◌, !, qed, done, move, keep, drop, use1, split, join, fpack, pick, await, regoal, suffices, group, enter, of_opd, load, look, stop, no_more, and_then, returns, alloc_all, pass_all, free_all, look_at, get, through, sets, lands_as, yes, Is, shows, part_out, usize, uint_Lawful, Ptr, RawPtr, block_ptr, lies_at, room_at, in_a_block, rawptr_vals, rawptr_Tells, plain, nothing, heard, peeks, calls_at, lasts, on_entry, triple_of, framed, Stays, walk_of, stay_dropped, Goes-dropped, ends_at, WpFn}
 use mir.Syntax.{Ty}
 use denote.Memory.{lone}
 use denote.Triple.Clauses.{Lasts}
 use Rattle.hevc_pull.specs.contracts.decoder.PullDecoder.{the_row as R}
 use Rattle.hevc_pull.proofs.decoder.PullDecoder.TheLaws.{the_row_laws}
+use Rattle.hevc_pull.specs.Views.{view_in}
 use Rattle.fezhalum.specs.contracts.fezhalum_end as f
 use Rattle.fezhalum.proofs.fezhalum_end.Statement.{statement}
 use Rattle.fezhalum.proofs.fezhalum_end.Code as code
@@ -34,11 +35,13 @@ fezhalum_end_spec 𝓤 𝓛 𝓜 𝓡 wired =
     let z : G.Ghost = ((tt, tt, tt, (x, tt), (v ∷ [], tt)), tt) in
     nothing ! $ move ! (1 ∷ 0 ∷ []) $ join ! $ nothing ! $ join ! $ nothing ! $ move ! (1 ∷ 0 ∷ []) $ join ! $ use1 𝓛 (raw (G.pre z)) (id⊢ 𝓤 _) $
     calls_at ! (framed 𝓤 𝓛.H 𝓜 𝓣) G (met 𝓤 𝓛 𝓜 𝓡 (code.calls-fezhalum::end_in 𝓡.env wired)) z (and_then ! (get ! refl) (no_more !)) (λ u.
-    use1 𝓛 (later (some (λ (r : Unit {0}). (‵ ftrue ⊛ ‵ (unit.own_val r (u ∷ []))) ⊛
-    some (λ (ws : Lasts g.ended z.0.0 z.0.3). ‵ (lasts g.ended z.0.0 z.0.3 ws) ⊛ ‵ ftrue)))) (id⊢ 𝓤 _) $
-    await ! tt $ pick ! (λ r. split ! $ split ! $ drop ! $ feq_l ! (λ is_unit. drop ! $ lands_as ! (ap only is_unit) refl (tt, tt) $
-    sets ! (of_opd ! (unit_lit !)) refl (tt, tt) $
-    returns ! (look_at ! 0 refl) $ free_all ! refl $ keep ! (0 ∷ []) $
+    use1 𝓛 (later (some (λ (r : ℕ). (‵ ftrue ⊛ ‵ (usize.own_val r (u ∷ []))) ⊛
+    some (λ (ws : Lasts g.ended z.0.0 z.0.3). ‵ (lasts g.ended z.0.0 z.0.3 ws) ⊛ raw (fact 𝓤 (r ≡ length (view_in x).backend.waiting)))))) (id⊢ 𝓤 _) $
+    await ! tt $ pick ! (λ r. split ! $ split ! $ drop ! $ move ! (1 ∷ []) $ pick ! (λ ws. split ! $ drop ! $ heard ! _ (λ told.
+    -- [the result; the cell; the locals]
+    peeks ! usize (Is usize) (shows 𝓛 usize) r (u ∷ []) (λ is. lands_as ! refl refl ((uint_Lawful 𝓛 w64).typed r _ is).0 $
+    returns ! (look_at ! 0 refl) $ free_all ! refl $ keep ! (1 ∷ 0 ∷ []) $
     use1 𝓛 (‵ (room_at R (block_ptr b o))) (𝓛.laws.at_room τ b o v) $
-    suffices ! _ (ends_at 𝓛 f.ended stayed c (y (block_ptr b o)) vunit tt (tt, tt) (tt, tt)) $
-    feq_i ! _ (vunit ∷ []) _ refl $ nothing ! $ nothing ! $ join ! $ nothing ! $ group ! 3 $ done !))))))))
+    fpack ! (r ≡ length (view_in x).backend.waiting) (λ _. room_at R (block_ptr b o)) told $ move ! (1 ∷ 0 ∷ []) $
+    suffices ! _ (ends_at 𝓛 f.ended stayed c (y (block_ptr b o)) u r (tt, tt) (tt, tt)) $
+    nothing ! $ nothing ! $ join ! $ nothing ! $ group ! 3 $ done !))))))))))
