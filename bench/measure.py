@@ -6,7 +6,7 @@ import tempfile
 import time
 from typing import NamedTuple
 
-TURNS = 5
+TURNS = 15
 
 
 class Run(NamedTuple):

@@ -14,7 +14,7 @@ import sys
 from measure import in_turns, least, once, peak
 
 # How many times the original decodes or cuts a stream in a run.
-RUNS = 4
+RUNS = 2
 
 HEAD = [
     "stream", "decode", "cut", "report", "ours: decode MB/s", "cut MB/s", "report MB/s", "original: decode MB/s", "cut MB/s", "`wc -l` MB/s",
