@@ -36,7 +36,7 @@ abbrev pub AreChosen : List Line → Type 0
 AreChosen [] = Unit {0}
 AreChosen (l ∷ ls) = (is_chosen l.head.row l.head.form l.value ≡ true) × AreChosen ls
 
--- 1 for a flag of row 5 of table 7 that is set
+-- 1 for a flag of row 5 of table 7 that is set (7.3.7)
 abbrev pub flags_of_row : Row → ℕ → ℕ
 flags_of_row r v = if is_row r 7 5 && v == 1 then 1 else 0
 
