@@ -6,7 +6,7 @@ ghost use Rattle.hevc_bits.specs.FoundUnit.{FoundUnit, IsCutOut, bytes_of, unit_
 ghost use Rattle.hevc_bits.specs.StartCode.{IsFirstCut};
 
 use crate::header::{Header, UnitError};
-use crate::start_code::{end_of_unit, find_start_code, trim_trailing_zeros};
+use crate::start_code::{end_of_unit, next_start_code, trim_trailing_zeros};
 use std::convert::AsSlice;
 use std::marker::Model;
 
@@ -27,7 +27,7 @@ fn first_cut(stream: &[u8], from: usize) -> Option<Cut<'_>>
         (λ c. c.bytes.now ≡ take (length c.bytes.now) (drop c.offset stream.now)) }
     ensures within { IfSome result (λ c. c.offset + length c.bytes.now ≤ length stream.now) }
 {
-    let start = find_start_code(stream, from)?;
+    let start = next_start_code(stream, from)?;
     let offset = start + 3;
     let end = end_of_unit(stream, offset);
     let bytes = trim_trailing_zeros(&stream[offset..end]);

@@ -34,6 +34,18 @@ pub fn find_start_code(stream: &[u8], from: usize) -> Option<usize>
     None
 }
 
+/// The place of the first start code at `from` or after it. After a unit it is mostly right there, with or without a zero byte before it.
+pub(crate) fn next_start_code(stream: &[u8], from: usize) -> Option<usize>
+    requires { from ≤ length stream.now }
+    ensures { IsFirstStart stream.now from result }
+{
+    match &stream[from..] {
+        [0, 0, 1, ..] => Some(from),
+        [0, 0, 0, 1, ..] => Some(from + 1),
+        _ => find_start_code(stream, from),
+    }
+}
+
 /// The place of the next start code after a unit's first byte, or the end of the stream.
 pub fn end_of_unit(stream: &[u8], offset: usize) -> usize
     requires { offset ≤ length stream.now }

@@ -1,5 +1,5 @@
 //! Members that are written out (7.3.7, rows 9 to 12 of table 7).
-ghost use Rattle.std.specs.Prelude.{◌≡◌, ◌≤◌, ℤ, pos, negsuc, ◌+ℤ◌, ◌-ℤ◌, ◌<ℤ◌, ◌≤ℤ◌, IfOk, length};
+ghost use Rattle.std.specs.Prelude.{◌≡◌, ◌≤◌, ℤ, pos, negsuc, ◌+ℤ◌, ◌-ℤ◌, ◌<ℤ◌, ◌≤ℤ◌, [], IfOk, OnOk, length};
 ghost use Rattle.hevc_spec.specs.Payload.{bits, IsAhead};
 ghost use Rattle.hevc_spec.specs.Table.{read};
 ghost use Rattle.hevc_elements.specs.Reads.{Reads};
@@ -13,24 +13,26 @@ use hevc_elements::rows::{flag, ue};
 use hevc_spec::Row;
 use hevc_tables::ShortTermMember;
 
-/// Rows 9 and 10 of table 7, for so many members.
+/// Rows 9 and 10 of table 7, for so many members, into an empty list.
 #[tactic(auto, using(hevc_elements::proofs::Loops::loops, hevc_short_term_laws::proofs::Listed::listed), unfolding(hevc_tables::specs::ShortTermTable::listed_before, hevc_tables::specs::ShortTermTable::next_member_before))]
 pub(crate) fn read_listed_before(
     r: &mut NaluReader<'_>,
     count: u8,
-) -> Result<ArrayVec<ShortTermMember, 17>, ParseError>
-    requires { count ≤ 16 }
-    ensures read { Reads (λ ms. ms.items) result r.new (read (listed_before count) (bits r.old)) }
+    members: &mut ArrayVec<ShortTermMember, 17>,
+) -> Result<(), ParseError>
+    requires few { count ≤ 16 }
+    requires none { members.old.items ≡ [] }
+    ensures read { Reads (λ _. members.new.items) result r.new
+        (read (listed_before count) (bits r.old)) }
     ensures moves { IsAhead r.old r.new }
-    ensures all { IfOk result (λ ms. length ms.items ≡ count) }
-    ensures before { IfOk result (λ ms. LieBefore ms.items) }
+    ensures all { OnOk result (length members.new.items ≡ count) }
+    ensures before { OnOk result (LieBefore members.new.items) }
 {
-    let mut members = ArrayVec::new();
     for i in 0..count {
         let member = read_member_before(r, members.as_slice())?;
         members.push(member);
     }
-    Ok(members)
+    Ok(())
 }
 
 /// Rows 9 and 10 of table 7, for the member after these.
@@ -55,24 +57,26 @@ fn read_member_before(
     })
 }
 
-/// Rows 11 and 12 of table 7, for so many members.
+/// Rows 11 and 12 of table 7, for so many members, into an empty list.
 #[tactic(auto, using(hevc_elements::proofs::Loops::loops, hevc_short_term_laws::proofs::Listed::listed), unfolding(hevc_tables::specs::ShortTermTable::listed_after, hevc_tables::specs::ShortTermTable::next_member_after))]
 pub(crate) fn read_listed_after(
     r: &mut NaluReader<'_>,
     count: u8,
-) -> Result<ArrayVec<ShortTermMember, 17>, ParseError>
-    requires { count ≤ 16 }
-    ensures read { Reads (λ ms. ms.items) result r.new (read (listed_after count) (bits r.old)) }
+    members: &mut ArrayVec<ShortTermMember, 17>,
+) -> Result<(), ParseError>
+    requires few { count ≤ 16 }
+    requires none { members.old.items ≡ [] }
+    ensures read { Reads (λ _. members.new.items) result r.new
+        (read (listed_after count) (bits r.old)) }
     ensures moves { IsAhead r.old r.new }
-    ensures all { IfOk result (λ ms. length ms.items ≡ count) }
-    ensures after { IfOk result (λ ms. LieAfter ms.items) }
+    ensures all { OnOk result (length members.new.items ≡ count) }
+    ensures after { OnOk result (LieAfter members.new.items) }
 {
-    let mut members = ArrayVec::new();
     for i in 0..count {
         let member = read_member_after(r, members.as_slice())?;
         members.push(member);
     }
-    Ok(members)
+    Ok(())
 }
 
 /// Rows 11 and 12 of table 7, for the member after these.

@@ -1,7 +1,6 @@
 //! How a P or B slice is predicted (7.3.6.1, rows 24 to 34 of table 14).
 ghost use Rattle.std.specs.Prelude.{◌≡◌, OnErr};
-ghost use Rattle.hevc_elements.specs.Words.{bits, IsAhead, IsReached, read, when, Reads, Means, Fills};
-ghost use Rattle.hevc_records.specs.PredWeightTable.{default_pred_weight_table};
+ghost use Rattle.hevc_elements.specs.Words.{bits, IsAhead, IsReached, read, Reads, Means, Fills};
 ghost use Rattle.hevc_tables.specs.SliceHeaderTable as table;
 ghost use Rattle.hevc_tables.specs.SliceTypes.{is_i as is_i_type};
 ghost use Rattle.hevc_slice_header.specs.Weights.{weights_of};
@@ -71,7 +70,7 @@ fn last_collocated(h: &SliceHeader) -> u8
 }
 
 /// Rows 32 to 34 of table 14.
-#[tactic(auto, unfolding(hevc_tables::specs::SliceHeaderTable::weights))]
+#[tactic(auto, unfolding(hevc_tables::specs::SliceHeaderTable::weights, hevc_spec::specs::Rows::when))]
 fn read_weights(
     r: &mut NaluReader<'_>,
     sps: &Sps,
@@ -81,8 +80,11 @@ fn read_weights(
     ensures { Fills plain_slice_header
         (table.weights (plain_sps sps.now) (plain_pps pps.now)) result h.old h.new r.old r.new }
 {
-    let weights = read_weights_if(r, sps, is_weighted(pps, h), h)?;
-    h.pred_weight_table = weights;
+    if is_weighted(pps, h) {
+        read_into(h, r, sps)?;
+    } else {
+        h.pred_weight_table = PredWeightTable::new();
+    }
     h.five_minus_max_num_merge_cand = ue_u8(r, Row(14, 33), 0, 255)?;
     let told = sps.scc_extension.motion_vector_resolution_control_idc == 2;
     h.use_integer_mv_flag = flag_or(r, told, h.use_integer_mv_flag, Row(14, 34))?;
@@ -95,26 +97,6 @@ fn is_weighted(pps: &Pps, h: &SliceHeader) -> bool
 {
     let number = h.type_.number();
     (pps.weighted_pred_flag && number == 1) || (pps.weighted_bipred_flag && number == 0)
-}
-
-/// Row 32 of table 14, where it is present.
-#[tactic(auto, unfolding(hevc_spec::specs::Rows::when))]
-fn read_weights_if(
-    r: &mut NaluReader<'_>,
-    sps: &Sps,
-    present: bool,
-    h: &SliceHeader,
-) -> Result<PredWeightTable, ParseError>
-    ensures read { Reads plain_pred_weight_table result r.new
-        (read (when present default_pred_weight_table
-        (weights_of (plain_sps sps.now) (plain_slice_header h.now))) (bits r.old)) }
-    ensures moves { IsAhead r.old r.new }
-{
-    if present {
-        read_table(r, sps, h)
-    } else {
-        Ok(PredWeightTable::new())
-    }
 }
 
 /// Row 32 of table 14.

@@ -1,7 +1,9 @@
 //! The reference picture lists (7.3.6.1, rows 24 to 27 of table 14).
 ghost use Rattle.std.specs.Prelude.{◌≡◌, ◌≤◌};
 ghost use Rattle.hevc_elements.specs.Words.{Fills};
+ghost use Rattle.hevc_records.specs.RefPicListModification.{default_ref_pic_list_modification};
 ghost use Rattle.hevc_tables.specs.SliceHeaderTable as table;
+ghost use Rattle.hevc_types_a.specs.RefPicListModification.{plain_ref_pic_list_modification};
 ghost use Rattle.hevc_types_c.specs.Sps.{plain_sps};
 ghost use Rattle.hevc_types_d.specs.Pps.{plain_pps};
 ghost use Rattle.hevc_types_d.specs.SliceHeader.{plain_slice_header};
@@ -49,7 +51,19 @@ fn set_pictures(sps: &Sps, pps: &Pps, h: &mut SliceHeader)
     ensures few { h.new.num_pic_total_curr ≤ 33 }
 {
     h.num_pic_total_curr = num_pic_total_curr(sps, pps, h);
-    h.ref_pic_list_modification = RefPicListModification::new();
+    clear(&mut h.ref_pic_list_modification);
+}
+
+/// No modification of lists.
+fn clear(modification: &mut RefPicListModification)
+    ensures none { plain_ref_pic_list_modification modification.new
+        ≡ default_ref_pic_list_modification }
+    ensures unordered { IsUnordered modification.new }
+{
+    modification.ref_pic_list_modification_flag_l0 = false;
+    modification.list_entry_l0.clear();
+    modification.ref_pic_list_modification_flag_l1 = false;
+    modification.list_entry_l1.clear();
 }
 
 /// Row 27 of table 14.

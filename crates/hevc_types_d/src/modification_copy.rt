@@ -8,21 +8,27 @@ use hevc_types_a::RefPicListModification;
 pub(crate) fn modification_copy(modification: &RefPicListModification) -> RefPicListModification
     ensures { result ≡ modification.now }
 {
-    RefPicListModification {
-        ref_pic_list_modification_flag_l0: modification.ref_pic_list_modification_flag_l0,
-        list_entry_l0: list_copy(&modification.list_entry_l0),
-        ref_pic_list_modification_flag_l1: modification.ref_pic_list_modification_flag_l1,
-        list_entry_l1: list_copy(&modification.list_entry_l1),
-    }
+    let mut copy = RefPicListModification::new();
+    copy_modification(&mut copy, modification);
+    copy
 }
 
-// The same entries.
-fn list_copy(list: &ArrayVec<u32, 15>) -> ArrayVec<u32, 15>
-    ensures { result ≡ list.now }
+/// Makes a modification the same as another one.
+pub(crate) fn copy_modification(to: &mut RefPicListModification, from: &RefPicListModification)
+    ensures { to.new ≡ from.now }
 {
-    let mut copy = ArrayVec::new();
-    for entry in list.as_slice() {
-        copy.push(*entry);
+    to.ref_pic_list_modification_flag_l0 = from.ref_pic_list_modification_flag_l0;
+    copy_list(&mut to.list_entry_l0, &from.list_entry_l0);
+    to.ref_pic_list_modification_flag_l1 = from.ref_pic_list_modification_flag_l1;
+    copy_list(&mut to.list_entry_l1, &from.list_entry_l1);
+}
+
+/// Makes a list the same as another one.
+fn copy_list(to: &mut ArrayVec<u32, 15>, from: &ArrayVec<u32, 15>)
+    ensures { to.new ≡ from.now }
+{
+    to.clear();
+    for entry in from.as_slice() {
+        to.push(*entry);
     }
-    copy
 }

@@ -2,7 +2,7 @@
 ghost use Rattle.std.specs.Prelude.{◌≡◌, ◌+◌, ◌≤◌, IsTrue, IfOk};
 ghost use Rattle.arrayvec.specs.ArrayVec.{array_vec_len};
 
-use crate::modification_copy::modification_copy;
+use crate::modification_copy::{copy_modification, modification_copy};
 use crate::pps::Pps;
 use hevc_types_a::{Items, RefPicListModification, ShortTermRefPicSet, SliceType};
 use hevc_types_b::PredWeightTable;
@@ -241,7 +241,10 @@ impl SliceHeader {
         self.num_ref_idx_active_override_flag = independent.num_ref_idx_active_override_flag;
         self.num_ref_idx_l0_active_minus1 = independent.num_ref_idx_l0_active_minus1;
         self.num_ref_idx_l1_active_minus1 = independent.num_ref_idx_l1_active_minus1;
-        self.ref_pic_list_modification = modification_copy(&independent.ref_pic_list_modification);
+        copy_modification(
+            &mut self.ref_pic_list_modification,
+            &independent.ref_pic_list_modification,
+        );
         self.mvd_l1_zero_flag = independent.mvd_l1_zero_flag;
         self.cabac_init_flag = independent.cabac_init_flag;
         self.collocated_from_l0_flag = independent.collocated_from_l0_flag;
