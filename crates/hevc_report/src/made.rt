@@ -1,7 +1,6 @@
 //! A made stream, decoded, and one line of it.
 ghost use Rattle.std.specs.Prelude.{◌≡◌, ◌≤◌, ◌<◌, ◌⊎◌, length, IfOk, is_ok, true};
 ghost use Rattle.std.specs.Io.KnownBytes.{Appends};
-ghost use Rattle.std.specs.String.{string_bytes};
 ghost use Rattle.hevc_faults.specs.Faults.{Rose};
 ghost use Rattle.hevc_made.specs.Made.{made};
 ghost use Rattle.hevc_walk.specs.Clean.{IsClean};
@@ -39,7 +38,7 @@ pub(crate) fn run_made<K: Sink>(alloc: Global, pictures: u32, sink: &mut K) -> u
     let Ok(report) = summary_on(alloc, pictures) else {
         return 5;
     };
-    match write_all(sink, report.text.as_bytes()) {
+    match write_all(sink, &report.text) {
         Ok(()) if report.is_decoded => 0,
         Ok(()) => 1,
         Err(SinkError::Failed) => 4,
@@ -51,7 +50,7 @@ pub(crate) fn run_made<K: Sink>(alloc: Global, pictures: u32, sink: &mut K) -> u
 fn summary_on(alloc: Global, pictures: u32) -> Result<Report, AllocError>
     requires { (1 ≤ pictures) × (pictures ≤ 100000) }
     ensures text { IfOk result (λ report.
-        string_bytes report.text ≡ summary_of (made pictures)) }
+        report.text.items ≡ summary_of (made pictures)) }
     ensures decoded { IfOk result (λ report.
         report.is_decoded ≡ is_ok (ending_of default_options (made pictures))) }
     ensures clean { IfOk result (λ report.
@@ -64,7 +63,7 @@ fn summary_on(alloc: Global, pictures: u32) -> Result<Report, AllocError>
 /// The line of a stream.
 fn decoded_line(alloc: Global, stream: &[u8]) -> Result<Report, AllocError>
     requires { length stream.now ≤ INPUT_LIMIT }
-    ensures text { IfOk result (λ report. string_bytes report.text ≡ summary_of stream.now) }
+    ensures text { IfOk result (λ report. report.text.items ≡ summary_of stream.now) }
     ensures decoded { IfOk result (λ report.
         report.is_decoded ≡ is_ok (ending_of default_options stream.now)) }
     ensures clean { IfOk result (λ report.
@@ -78,7 +77,7 @@ fn decoded_line(alloc: Global, stream: &[u8]) -> Result<Report, AllocError>
     }
     let text = summary_text(alloc, &shown, decoded.result)?;
     Ok(Report {
-        text,
+        text: text.into_bytes(),
         is_decoded: decoded.result.is_ok(),
     })
 }

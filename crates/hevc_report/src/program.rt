@@ -1,7 +1,6 @@
 //! The top call: from the words of the command line to the status.
 ghost use Rattle.std.specs.Prelude.{◌≡◌, ◌==◌, ◌≤◌, ◌<◌, ◌⊎◌, ◌↔◌, ℕ, List, length, IfOk, IfSome, IsErrOf, IsTrue, OnErr, OnOk};
 ghost use Rattle.std.specs.declared.option.Option.TheVariants.{None, Some};
-ghost use Rattle.std.specs.String.{string_bytes};
 ghost use Rattle.std.specs.Io.KnownBytes.{Appends, IsAtEnd};
 ghost use Rattle.hevc_faults.specs.Faults.{Rose};
 ghost use Rattle.hevc_walk.specs.Clean.{IsClean};
@@ -30,7 +29,7 @@ pub const INPUT_LIMIT: usize = 268_435_456;
 /// A report, and whether the stream was decoded.
 #[derive(Drop)]
 pub(crate) struct Report {
-    pub(crate) text: String,
+    pub(crate) text: Vec<u8>,
     pub(crate) is_decoded: bool,
 }
 
@@ -141,7 +140,7 @@ fn write_report<S: Source, K: Sink>(
         → (sink.new ≡ sink.old) × IfSome (S.left source.old) (λ s. INPUT_LIMIT < length s) }
 {
     let report = report_on(alloc, options, source)?;
-    write_all(sink, report.text.as_bytes())?;
+    write_all(sink, &report.text)?;
     Ok(report.is_decoded)
 }
 
@@ -149,7 +148,7 @@ fn write_report<S: Source, K: Sink>(
 fn report_on<S: Source>(alloc: Global, options: Options, source: &mut S) -> Result<Report, Stop>
     ensures end { OnOk result (IsAtEnd (S.left source.new)) }
     ensures text { OfSource result (S.left source.old) (λ report s.
-        string_bytes report.text ≡ report_of (options_of options) s) }
+        report.text.items ≡ report_of (options_of options) s) }
     ensures tells { OfSource result (S.left source.old) (λ report s.
         Tells INPUT_LIMIT (options_of options) s report.is_decoded) }
     ensures read { IsErrOf result Stop.Read → Rose (S.faults source.old) (S.faults source.new) }
@@ -165,7 +164,7 @@ fn report_on<S: Source>(alloc: Global, options: Options, source: &mut S) -> Resu
         return Err(Stop::NoMemory);
     }
     let mut text = backend.into_text();
-    push_rest(&mut text, &shown, result)?;
+    push_rest(alloc, &mut text, &shown, result)?;
     Ok(Report {
         text,
         is_decoded: result.is_ok(),

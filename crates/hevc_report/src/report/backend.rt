@@ -1,7 +1,6 @@
 //! A backend that decodes nothing, and writes the lines of its calls.
-ghost use Rattle.std.specs.Prelude.{◌≡◌, [], false, None, Some};
+ghost use Rattle.std.specs.Prelude.{◌≡◌, ◌++◌, [], ℕ, List, length, false, None, Some, OnOk, OnErr};
 ghost use Rattle.std.specs.List.{flat_map};
-ghost use Rattle.std.specs.String.{string_bytes};
 ghost use Rattle.hevc_backend.specs.Handles.{AreCounted};
 ghost use Rattle.hevc_report.specs.Lines.{log_line};
 ghost use Rattle.hevc_report.specs.Reported.{Reported};
@@ -13,7 +12,7 @@ use hevc_history::History;
 use hevc_refs::{RefPicList, RefPicSet};
 use hevc_types_c::Sps;
 use hevc_types_d::{Pps, Slice};
-use std::alloc::Global;
+use std::alloc::{AllocError, Global};
 use std::marker::Model;
 
 /// A backend that decodes nothing, and writes the line of each call as it comes. It fails only where an allocation does,
@@ -23,10 +22,9 @@ use std::marker::Model;
 /// and so on, in the order of submission.
 #[derive(Drop)]
 pub(crate) struct ReportBackend {
+    alloc: Global,
     /// The lines of the calls.
-    text: String,
-    /// The line of one call, before it is in the text.
-    line: String,
+    text: Vec<u8>,
     /// How many pictures were submitted: the next handle.
     submitted: u64,
     /// It was asked for frames, and no picture has begun since.
@@ -38,7 +36,6 @@ pub(crate) struct ReportBackend {
 impl Model for ReportBackend {
     ghost use Rattle.std.specs.Prelude.{◌≡◌};
     ghost use Rattle.std.specs.List.{flat_map, range_with_len};
-    ghost use Rattle.std.specs.String.{string_bytes};
     ghost use Rattle.hevc_backend.specs.Handles.{handles};
     ghost use Rattle.hevc_report.specs.Lines.{log_line};
     ghost use Rattle.hevc_report.specs.Reported.{Reported};
@@ -47,7 +44,7 @@ impl Model for ReportBackend {
 
     ghost view = { λ b. record { log = b.history.items; room = b.room } };
 
-    ghost invariant = { λ b. (string_bytes b.text ≡ flat_map log_line b.history.items)
+    ghost invariant = { λ b. (b.text.items ≡ flat_map log_line b.history.items)
         × (handles b.history.items ≡ range_with_len 0 b.submitted) };
 }
 
@@ -58,8 +55,8 @@ impl ReportBackend {
         ensures room { result.room ≡ false }
     {
         ReportBackend {
-            text: String::new(alloc),
-            line: String::new(alloc),
+            alloc,
+            text: Vec::new(alloc),
             submitted: 0,
             room: false,
             history: History::new(),
@@ -67,12 +64,29 @@ impl ReportBackend {
     }
 
     /// The lines of the calls. The handles among these are 0, 1, 2 and so on.
-    pub(crate) fn into_text(self) -> String
-        ensures lines { string_bytes result ≡ flat_map log_line self.log }
+    pub(crate) fn into_text(self) -> Vec<u8>
+        ensures lines { result.items ≡ flat_map log_line self.log }
         ensures handles { AreCounted self.log }
     {
         self.text
     }
+}
+
+/// Gives up what came after so many bytes of a text, where a line wasn't added whole.
+fn whole_or_none(
+    text: &mut Vec<u8>,
+    before: usize,
+    added: Result<(), AllocError>,
+) -> Result<(), AllocError>
+    ensures same { result ≡ added }
+    ensures whole { OnOk result (text.new.items ≡ text.old.items) }
+    ensures none { (old more : List ℕ) → before ≡ length old → text.old.items ≡ old ++ more
+        → OnErr result (text.new.items ≡ old) }
+{
+    if added.is_err() {
+        text.truncate(before);
+    }
+    added
 }
 
 impl StatelessH265DecoderBackend for ReportBackend {
@@ -93,9 +107,9 @@ impl StatelessH265DecoderBackend for ReportBackend {
     ghost is_faultless = { λ _. Unit {0} };
 
     fn new_sequence(&mut self, sps: &Sps) -> Result<(), BackendError> {
-        self.line.clear();
-        push_sequence(&mut self.line, &NegotiationInfo::from(sps))?;
-        self.text.push_str(&self.line)?;
+        let mut line = String::new(self.alloc);
+        push_sequence(&mut line, &NegotiationInfo::from(sps))?;
+        self.text.extend_from_slice(line.as_bytes())?;
         self.history = self.history.and(sps);
         Ok(())
     }
@@ -106,15 +120,15 @@ impl StatelessH265DecoderBackend for ReportBackend {
         picture: &PictureData,
         timestamp: u64,
     ) -> Result<u64, BackendError> {
-        self.line.clear();
-        push_picture(
-            &mut self.line,
+        let before = self.text.len();
+        let added = push_picture(
+            &mut self.text,
             number,
             picture.nalu_type,
             picture.pic_order_cnt_val,
             picture.pic_output_flag,
-        )?;
-        self.text.push_str(&self.line)?;
+        );
+        whole_or_none(&mut self.text, before, added)?;
         self.history = self.history.and(&(number, picture, timestamp));
         self.room = false;
         Ok(number)
@@ -146,16 +160,16 @@ impl StatelessH265DecoderBackend for ReportBackend {
         ref_pic_list0: &RefPicList,
         ref_pic_list1: &RefPicList,
     ) -> Result<(), BackendError> {
-        self.line.clear();
-        push_slice(
-            &mut self.line,
+        let before = self.text.len();
+        let added = push_slice(
+            &mut self.text,
             number,
             slice.header().segment_address,
             slice.nalu().as_ref().len(),
             ref_pic_list0.as_slice(),
             ref_pic_list1.as_slice(),
-        )?;
-        self.text.push_str(&self.line)?;
+        );
+        whole_or_none(&mut self.text, before, added)?;
         self.history = self
             .history
             .and(&(number, slice, ref_pic_list0, ref_pic_list1));
@@ -164,9 +178,9 @@ impl StatelessH265DecoderBackend for ReportBackend {
 
     fn submit_picture(&mut self, number: u64, _picture: u64) -> Result<u64, BackendError> {
         let handle = self.submitted;
-        self.line.clear();
-        push_submission(&mut self.line, number, handle)?;
-        self.text.push_str(&self.line)?;
+        let before = self.text.len();
+        let added = push_submission(&mut self.text, number, handle);
+        whole_or_none(&mut self.text, before, added)?;
         self.history = self.history.and(&(number, handle));
         self.submitted += 1;
         Ok(handle)

@@ -1,11 +1,13 @@
 //! One line of the report.
-ghost use Rattle.std.specs.Prelude.{◌≡◌, ◌++◌, OnOk};
+ghost use Rattle.std.specs.Prelude.{◌≡◌, ◌++◌, codes, decimal, OnOk, if◌then◌else◌};
+ghost use Rattle.std.specs.Fmt.{signed_decimal};
 ghost use Rattle.std.specs.String.{string_bytes};
 ghost use Rattle.hevc_bits.specs.NaluType.{nalu_type_number};
 ghost use Rattle.hevc_backend.specs.Negotiation.{format_of};
 ghost use Rattle.hevc_refs.specs.Lists.{plain_places};
+ghost use Rattle.hevc_report.specs.Grows.{Grows};
 ghost use Rattle.hevc_report.specs.Lines.{shown_line};
-ghost use Rattle.hevc_report.specs.Report.{sequence_line, picture_line, slice_line, submission_line};
+ghost use Rattle.hevc_report.specs.Report.{list_text, sequence_line, picture_line, slice_line, submission_line};
 
 use super::list::push_list;
 use super::number::{push_number, push_signed};
@@ -43,14 +45,15 @@ fn type_number(nalu_type: NaluType) -> u64
 /// Adds the line of a picture that begins: its number, the type of its first slice, its order count, and
 /// whether it is to be output.
 pub(crate) fn push_picture(
-    text: &mut String,
+    text: &mut Vec<u8>,
     number: u64,
     nalu_type: NaluType,
     order_count: i32,
     is_output: bool,
 ) -> Result<(), AllocError>
-    ensures { OnOk result (string_bytes text.new ≡ string_bytes text.old
+    ensures ok { OnOk result (text.new.items ≡ text.old.items
         ++ picture_line number (nalu_type_number nalu_type) order_count is_output) }
+    ensures grows { Grows text.old.items text.new.items }
 {
     push_picture_of(text, number, type_number(nalu_type), order_count, is_output)
 }
@@ -58,76 +61,128 @@ pub(crate) fn push_picture(
 /// The same, for a type of this number.
 #[tactic(auto, using(std::proofs::Common::append_assoc))]
 fn push_picture_of(
-    text: &mut String,
+    text: &mut Vec<u8>,
     number: u64,
     kind: u64,
     order_count: i32,
     is_output: bool,
 ) -> Result<(), AllocError>
-    ensures { OnOk result (string_bytes text.new ≡ string_bytes text.old
+    ensures ok { OnOk result (text.new.items ≡ text.old.items
         ++ picture_line number kind order_count is_output) }
+    ensures grows { Grows text.old.items text.new.items }
 {
-    text.push_str("pic ")?;
+    text.extend_from_slice(b"pic ")?;
     push_number(text, number)?;
-    text.push_str(" type ")?;
+    text.extend_from_slice(b" type ")?;
     push_number(text, kind)?;
-    text.push_str(" poc ")?;
+    push_output(text, order_count, is_output)?;
+    Ok(())
+}
+
+/// Adds the order count of a picture, and whether it is to be output, and ends its line.
+#[tactic(auto, using(std::proofs::Common::append_assoc))]
+fn push_output(text: &mut Vec<u8>, order_count: i32, is_output: bool) -> Result<(), AllocError>
+    ensures ok { OnOk result (text.new.items ≡ text.old.items
+        ++ codes " poc " ++ signed_decimal order_count
+        ++ codes " output " ++ decimal (if is_output then 1 else 0) ++ codes "\n") }
+    ensures grows { Grows text.old.items text.new.items }
+{
+    text.extend_from_slice(b" poc ")?;
     push_signed(text, order_count)?;
-    text.push_str(" output ")?;
-    push_number(text, u64::from(is_output))?;
-    text.push_str("\n")
+    push_output_flag(text, is_output)?;
+    Ok(())
+}
+
+/// Adds whether a picture is to be output, and ends its line.
+fn push_output_flag(text: &mut Vec<u8>, is_output: bool) -> Result<(), AllocError>
+    ensures ok { OnOk result (text.new.items ≡ text.old.items
+        ++ codes " output " ++ decimal (if is_output then 1 else 0) ++ codes "\n") }
+    ensures grows { Grows text.old.items text.new.items }
+{
+    if is_output {
+        text.extend_from_slice(b" output 1\n")
+    } else {
+        text.extend_from_slice(b" output 0\n")
+    }
 }
 
 /// Adds the line of a slice: its picture's number, its address, how many bytes its unit has, and its
 /// reference picture lists.
 #[tactic(auto, using(std::proofs::Common::append_assoc))]
 pub(crate) fn push_slice(
-    text: &mut String,
+    text: &mut Vec<u8>,
     number: u64,
     address: u32,
     size: usize,
     list0: &[Option<RefPicListEntry>],
     list1: &[Option<RefPicListEntry>],
 ) -> Result<(), AllocError>
-    ensures { OnOk result (string_bytes text.new ≡ string_bytes text.old ++ slice_line
-        number address size (plain_places list0.now) (plain_places list1.now)) }
+    ensures ok { OnOk result (text.new.items ≡ text.old.items
+        ++ slice_line number address size (plain_places list0.now) (plain_places list1.now)) }
+    ensures grows { Grows text.old.items text.new.items }
 {
-    text.push_str("slice ")?;
+    text.extend_from_slice(b"slice ")?;
     push_number(text, number)?;
-    text.push_str(" at ")?;
+    text.extend_from_slice(b" at ")?;
     push_number(text, u64::from(address))?;
-    text.push_str(" size ")?;
+    text.extend_from_slice(b" size ")?;
     push_number(text, size as u64)?;
-    text.push_str(" list0 ")?;
+    push_lists(text, list0, list1)
+}
+
+/// Adds the reference picture lists of a slice, and ends its line.
+#[tactic(auto, using(std::proofs::Common::append_assoc))]
+fn push_lists(
+    text: &mut Vec<u8>,
+    list0: &[Option<RefPicListEntry>],
+    list1: &[Option<RefPicListEntry>],
+) -> Result<(), AllocError>
+    ensures ok { OnOk result (text.new.items ≡ text.old.items
+        ++ codes " list0 " ++ list_text (plain_places list0.now)
+        ++ codes " list1 " ++ list_text (plain_places list1.now) ++ codes "\n") }
+    ensures grows { Grows text.old.items text.new.items }
+{
+    if let ([], []) = (list0, list1) {
+        return text.extend_from_slice(b" list0 - list1 -\n");
+    }
+    text.extend_from_slice(b" list0 ")?;
     push_list(text, list0)?;
-    text.push_str(" list1 ")?;
+    text.extend_from_slice(b" list1 ")?;
     push_list(text, list1)?;
-    text.push_str("\n")
+    text.extend_from_slice(b"\n")?;
+    Ok(())
 }
 
 /// Adds the line of a picture that is whole: its number and its handle.
 #[tactic(auto, using(std::proofs::Common::append_assoc))]
-pub(crate) fn push_submission(text: &mut String, number: u64, handle: u64) -> Result<(), AllocError>
-    ensures { OnOk result
-        (string_bytes text.new ≡ string_bytes text.old ++ submission_line number handle) }
+pub(crate) fn push_submission(
+    text: &mut Vec<u8>,
+    number: u64,
+    handle: u64,
+) -> Result<(), AllocError>
+    ensures ok { OnOk result (text.new.items ≡ text.old.items ++ submission_line number handle) }
+    ensures grows { Grows text.old.items text.new.items }
 {
-    text.push_str("submit ")?;
+    text.extend_from_slice(b"submit ")?;
     push_number(text, number)?;
-    text.push_str(" handle ")?;
+    text.extend_from_slice(b" handle ")?;
     push_number(text, handle)?;
-    text.push_str("\n")
+    text.extend_from_slice(b"\n")?;
+    Ok(())
 }
 
 /// Adds the line of an output.
 #[tactic(auto, using(std::proofs::Common::append_assoc))]
-pub(crate) fn push_shown(text: &mut String, output: &Shown<u64>) -> Result<(), AllocError>
-    ensures { OnOk result (string_bytes text.new ≡ string_bytes text.old ++ shown_line output.now) }
+pub(crate) fn push_shown(text: &mut Vec<u8>, output: &Shown<u64>) -> Result<(), AllocError>
+    ensures ok { OnOk result (text.new.items ≡ text.old.items ++ shown_line output.now) }
+    ensures grows { Grows text.old.items text.new.items }
 {
-    text.push_str("show ")?;
+    text.extend_from_slice(b"show ")?;
     push_number(text, output.number)?;
-    text.push_str(" poc ")?;
+    text.extend_from_slice(b" poc ")?;
     push_signed(text, output.order_count)?;
-    text.push_str(" unit ")?;
+    text.extend_from_slice(b" unit ")?;
     push_number(text, output.unit)?;
-    text.push_str("\n")
+    text.extend_from_slice(b"\n")?;
+    Ok(())
 }

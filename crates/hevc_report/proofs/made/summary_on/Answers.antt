@@ -1,6 +1,5 @@
 use Rattle.std.proofs.Common.{◌≡◌, List, ℕ, length, ap, ◌∙◌, subst, arith}
 use Rattle.std.specs.Prelude.{IfOk, is_ok}
-use Rattle.std.specs.String.{string_bytes}
 use Rattle.hevc_made.proofs.Sizes.{short}
 use Rattle.hevc_stream.specs.Options.{default_options}
 use Rattle.hevc_report.specs.Report.{ending_of}
@@ -13,7 +12,7 @@ decoded_line-requires c =
     omega (arith, long, short c.args.pictures, c.requires.1)
 
 pub returns-clause-text : goal.returns-clause-text
-returns-clause-text c = subst (λ (s : List ℕ). IfOk c.decoded_line.result (λ report. string_bytes report.text ≡ summary_of s)) (c.deref.ensures.value ∙ c.in_ok-stream.ensures) c.decoded_line.ensures.text
+returns-clause-text c = subst (λ (s : List ℕ). IfOk c.decoded_line.result (λ report. report.text.items ≡ summary_of s)) (c.deref.ensures.value ∙ c.in_ok-stream.ensures) c.decoded_line.ensures.text
 
 pub returns-clause-decoded : goal.returns-clause-decoded
 returns-clause-decoded c = subst (λ (s : List ℕ). IfOk c.decoded_line.result (λ report. report.is_decoded ≡ is_ok (ending_of default_options s))) (c.deref.ensures.value ∙ c.in_ok-stream.ensures) c.decoded_line.ensures.decoded

@@ -1,9 +1,8 @@
 use Rattle.std.proofs.Common.{◌≡◌, ◌++◌, take}
-use Rattle.std.specs.String.{string_bytes}
 use Rattle.hevc_refs.specs.Lists.{plain_places}
 use Rattle.hevc_report.specs.Report.{more_places}
 use Rattle.hevc_report.proofs.report.list.push_more.Given as goal
 
 -- the places so far
 abbrev pub invariant-loop-place : goal.invariant-loop-place
-invariant-loop-place l = string_bytes l.text ≡ string_bytes l.initial.text ++ more_places (plain_places (take l.place-index l.places))
+invariant-loop-place l = l.text.items ≡ l.initial.text.items ++ more_places (plain_places (take l.place-index l.places))
