@@ -103,7 +103,7 @@ impl<B: StatelessH265DecoderBackend> StatelessDecoder<B> {
         }
         // That its bytes parse to its header, `header` says.
         let _header = nalu.header();
-        self.take_unit(timestamp, nalu.copy())
+        self.take_unit(timestamp, nalu)
     }
 
     /// The stream ends, or is left: the open picture is over, and all that waits is output. After it an IDR picture or a sequence

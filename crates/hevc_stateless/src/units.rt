@@ -127,12 +127,12 @@ impl<B: StatelessH265DecoderBackend> StatelessDecoder<B> {
     }
 
     /// Takes the unit of a slice segment that is decoded.
-    fn take_slice(&mut self, timestamp: u64, nalu: Nalu<'_, NaluHeader>) -> Result<(), DecodeError>
-        requires short { length nalu.stream < STREAM_LIMIT }
-        requires parsed { unit_header (bytes_of nalu) ≡ Ok nalu.header }
-        requires typed { is_slice nalu.header.nal_unit_type ≡ true }
-        requires wanted { temporal_id nalu.header ≤ (options_in self.old.kept).highest_tid }
-        requires decoding { is_decoding (state_at (is_idr nalu.header.nal_unit_type)
+    fn take_slice(&mut self, timestamp: u64, nalu: &Nalu<'_, NaluHeader>) -> Result<(), DecodeError>
+        requires short { length nalu.now.stream < STREAM_LIMIT }
+        requires parsed { unit_header (bytes_of nalu.now) ≡ Ok nalu.now.header }
+        requires typed { is_slice nalu.now.header.nal_unit_type ≡ true }
+        requires wanted { temporal_id nalu.now.header ≤ (options_in self.old.kept).highest_tid }
+        requires decoding { is_decoding (state_at (is_idr nalu.now.header.nal_unit_type)
             self.old.session.state) ≡ true }
         ensures few { OutputsFew self.old.session self.new.session }
         ensures fair { IsFair B.counts B.is_faultless B.info self.old.session.backend
@@ -140,18 +140,18 @@ impl<B: StatelessH265DecoderBackend> StatelessDecoder<B> {
         ensures kept { self.new.kept ≡ self.old.kept }
         ensures latest { MovesLatest result
             (latest_at (unit_at (options_in self.old.kept) (kept_of self.old.kept)
-            nalu.entry.header (bytes_of nalu.entry)).meaning
-            (own_header (options_in self.old.kept) (kept_of self.old.kept) (bytes_of nalu.entry))
+            nalu.now.header (bytes_of nalu.now)).meaning
+            (own_header (options_in self.old.kept) (kept_of self.old.kept) (bytes_of nalu.now))
             self.old.session.latest)
             self.old.session.latest self.new.session.latest }
         ensures takes { TakesIn result
             (given_with timestamp (unit_at (options_in self.old.kept) (kept_of self.old.kept)
-            nalu.entry.header (bytes_of nalu.entry)).meaning
+            nalu.now.header (bytes_of nalu.now)).meaning
             (segment_at (options_in self.old.kept) (kept_of self.old.kept) self.old.session.latest
-            (bytes_of nalu.entry)) self.old.session.standing)
-            (unit_at (options_in self.old.kept) (kept_of self.old.kept) nalu.entry.header
-            (bytes_of nalu.entry)).meaning
-            (state_at (is_idr nalu.entry.header.nal_unit_type) self.old.session.state)
+            (bytes_of nalu.now)) self.old.session.standing)
+            (unit_at (options_in self.old.kept) (kept_of self.old.kept) nalu.now.header
+            (bytes_of nalu.now)).meaning
+            (state_at (is_idr nalu.now.header.nal_unit_type) self.old.session.state)
             (moment_of (B.log self.old.session.backend) (B.handed self.old.session.backend)
             self.old.session)
             (moment_of (B.log self.new.session.backend) (B.handed self.new.session.backend)
@@ -159,7 +159,7 @@ impl<B: StatelessH265DecoderBackend> StatelessDecoder<B> {
     {
         let nalu_type = nalu.header().nalu_type();
         let parser = self.kept.parser();
-        let mut slice = parser.new_slice(nalu);
+        let mut slice = parser.new_slice(nalu.copy());
         let sets = match parser.read_slice(&mut slice) {
             Ok(sets) => sets,
             Err(error) => match error {
@@ -201,22 +201,22 @@ impl<B: StatelessH265DecoderBackend> StatelessDecoder<B> {
     }
 
     /// Takes a unit that is no parameter set.
-    fn take_coded(&mut self, timestamp: u64, nalu: Nalu<'_, NaluHeader>) -> Result<(), DecodeError>
-        requires short { length nalu.stream < STREAM_LIMIT }
-        requires parsed { unit_header (bytes_of nalu) ≡ Ok nalu.header }
-        requires other { is_parameter_set nalu.header.nal_unit_type ≡ false }
-        requires wanted { temporal_id nalu.header ≤ (options_in self.old.kept).highest_tid }
+    fn take_coded(&mut self, timestamp: u64, nalu: &Nalu<'_, NaluHeader>) -> Result<(), DecodeError>
+        requires short { length nalu.now.stream < STREAM_LIMIT }
+        requires parsed { unit_header (bytes_of nalu.now) ≡ Ok nalu.now.header }
+        requires other { is_parameter_set nalu.now.header.nal_unit_type ≡ false }
+        requires wanted { temporal_id nalu.now.header ≤ (options_in self.old.kept).highest_tid }
         requires going { is_awaited self.old.session.state ≡ false }
         ensures few { OutputsFew self.old.session self.new.session }
         ensures fair { IsFair B.counts B.is_faultless B.info self.old.session.backend
             self.new.session.backend result }
         ensures options { options_in self.new.kept ≡ options_in self.old.kept }
         ensures step { Step result
-            (given_to timestamp (options_in self.old.kept) nalu.entry.header (bytes_of nalu.entry)
+            (given_to timestamp (options_in self.old.kept) nalu.now.header (bytes_of nalu.now)
             (seen (B.log self.old.session.backend) (B.handed self.old.session.backend)
             self.old.session self.old.kept))
             (options_in self.old.kept)
-            nalu.entry.header (bytes_of nalu.entry)
+            nalu.now.header (bytes_of nalu.now)
             (seen (B.log self.old.session.backend) (B.handed self.old.session.backend)
             self.old.session self.old.kept)
             (seen (B.log self.new.session.backend) (B.handed self.new.session.backend)
@@ -229,7 +229,7 @@ impl<B: StatelessH265DecoderBackend> StatelessDecoder<B> {
         if nalu_type.is_slice() {
             return self.take_slice(timestamp, nalu);
         }
-        self.take_end(&nalu);
+        self.take_end(nalu);
         Ok(())
     }
 
@@ -237,21 +237,21 @@ impl<B: StatelessH265DecoderBackend> StatelessDecoder<B> {
     pub(crate) fn take_unit(
         &mut self,
         timestamp: u64,
-        nalu: Nalu<'_, NaluHeader>,
+        nalu: &Nalu<'_, NaluHeader>,
     ) -> Result<(), DecodeError>
-        requires short { length nalu.stream < STREAM_LIMIT }
-        requires parsed { unit_header (bytes_of nalu) ≡ Ok nalu.header }
+        requires short { length nalu.now.stream < STREAM_LIMIT }
+        requires parsed { unit_header (bytes_of nalu.now) ≡ Ok nalu.now.header }
         requires going { is_awaited self.old.session.state ≡ false }
         ensures few { OutputsFew self.old.session self.new.session }
         ensures fair { IsFair B.counts B.is_faultless B.info self.old.session.backend
             self.new.session.backend result }
         ensures options { options_in self.new.kept ≡ options_in self.old.kept }
         ensures step { Step result
-            (given_to timestamp (options_in self.old.kept) nalu.entry.header (bytes_of nalu.entry)
+            (given_to timestamp (options_in self.old.kept) nalu.now.header (bytes_of nalu.now)
             (seen (B.log self.old.session.backend) (B.handed self.old.session.backend)
             self.old.session self.old.kept))
             (options_in self.old.kept)
-            nalu.entry.header (bytes_of nalu.entry)
+            nalu.now.header (bytes_of nalu.now)
             (seen (B.log self.old.session.backend) (B.handed self.old.session.backend)
             self.old.session self.old.kept)
             (seen (B.log self.new.session.backend) (B.handed self.new.session.backend)
@@ -262,9 +262,9 @@ impl<B: StatelessH265DecoderBackend> StatelessDecoder<B> {
             return Ok(());
         }
         match header.nalu_type() {
-            NaluType::VpsNut => self.take_video_set(&nalu),
-            NaluType::SpsNut => self.take_sequence_set(&nalu),
-            NaluType::PpsNut => self.take_picture_set(&nalu),
+            NaluType::VpsNut => self.take_video_set(nalu),
+            NaluType::SpsNut => self.take_sequence_set(nalu),
+            NaluType::PpsNut => self.take_picture_set(nalu),
             _ => self.take_coded(timestamp, nalu),
         }
     }

@@ -123,11 +123,25 @@ pub(crate) fn push_slice(
 {
     text.extend_from_slice(b"slice ")?;
     push_number(text, number)?;
+    push_address(text, address)?;
+    push_number(text, size as u64)?;
+    push_lists(text, list0, list1)
+}
+
+/// Adds the address of a slice, which is 0 for a picture's first one, up to the number of its bytes.
+#[tactic(auto, using(std::proofs::Common::append_assoc))]
+fn push_address(text: &mut Vec<u8>, address: u32) -> Result<(), AllocError>
+    ensures ok { OnOk result (text.new.items ≡ text.old.items
+        ++ codes " at " ++ decimal address ++ codes " size ") }
+    ensures grows { Grows text.old.items text.new.items }
+{
+    if address == 0 {
+        return text.extend_from_slice(b" at 0 size ");
+    }
     text.extend_from_slice(b" at ")?;
     push_number(text, u64::from(address))?;
     text.extend_from_slice(b" size ")?;
-    push_number(text, size as u64)?;
-    push_lists(text, list0, list1)
+    Ok(())
 }
 
 /// Adds the reference picture lists of a slice, and ends its line.

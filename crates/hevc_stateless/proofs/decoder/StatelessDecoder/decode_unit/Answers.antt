@@ -1,8 +1,6 @@
-use Rattle.std.proofs.Common.{◌∙◌, sym, subst}
-use Rattle.hevc_spec.specs.UnitHeader.{UnitHeader}
-use Rattle.hevc_bits.specs.FoundUnit.{FoundUnit, bytes_of}
+use Rattle.std.proofs.Common.{◌∙◌, sym}
+use Rattle.hevc_bits.specs.FoundUnit.{bytes_of}
 use Rattle.hevc_stateless.specs.Decoders.{set_for, seen_by}
-use Rattle.hevc_stateless.specs.Steps.{Step, given_to}
 use Rattle.hevc_stateless.proofs.Calling.{steps_in, told_first}
 use Rattle.hevc_stateless.proofs.decoder.StatelessDecoder.decode_unit.Goals as goal
 
@@ -13,4 +11,4 @@ returns-then-awaiting_format-clause-takes g c =
 pub returns-clause-takes : goal.returns-clause-takes
 returns-clause-takes g c =
     steps_in c.args.timestamp (set_for c.args.self.now) (seen_by g.B.StatelessH265DecoderBackend.log g.B.StatelessH265DecoderBackend.handed c.args.self.now) (seen_by g.B.StatelessH265DecoderBackend.log g.B.StatelessH265DecoderBackend.handed c.take_unit.new.self) c.take_unit.result c.args.nalu.now.header (bytes_of c.args.nalu.now) (sym c.awaiting_format.ensures ∙ c.if-awaiting_format.false)
-    (subst (λ (n : FoundUnit UnitHeader). Step c.take_unit.result (given_to c.args.timestamp (set_for c.args.self.now) n.header (bytes_of n) (seen_by g.B.StatelessH265DecoderBackend.log g.B.StatelessH265DecoderBackend.handed c.args.self.now)) (set_for c.args.self.now) n.header (bytes_of n) (seen_by g.B.StatelessH265DecoderBackend.log g.B.StatelessH265DecoderBackend.handed c.args.self.now) (seen_by g.B.StatelessH265DecoderBackend.log g.B.StatelessH265DecoderBackend.handed c.take_unit.new.self)) c.copy.ensures c.take_unit.ensures.step)
+    c.take_unit.ensures.step
