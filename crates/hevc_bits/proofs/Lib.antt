@@ -7,5 +7,6 @@ pub mod Spelled
 pub mod WordSteps
 pub mod WordCounts
 pub mod WordFills
+pub mod WordFours
 pub mod WordReads
 pub mod WordBits

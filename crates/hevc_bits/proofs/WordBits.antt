@@ -7,7 +7,7 @@ use Rattle.hevc_spec.specs.Bits.{found, bits_after, ue_at}
 use Rattle.hevc_spec.proofs.PlaceLaws.{low_bits_length, with_bits_keeps, with_bits_none, passed}
 use Rattle.hevc_spec.proofs.LowBits.{low_bits-add, spells, drop-low_bits, golomb-low_bits}
 use Rattle.hevc_bits.specs.declared.word.Word.{Word}
-use Rattle.hevc_bits.specs.Cached.{byte_on, bytes_on, loaded_with, place_in, place_of, base_of, end_of, IsNext, Holds, IsFilled, Fills, Takes, TakesGolomb}
+use Rattle.hevc_bits.specs.Cached.{byte_on, bytes_on, loaded_with, place_in, place_of, base_of, end_of, ahead, IsNext, Holds, IsFilled, Fills, Takes, TakesGolomb}
 use Rattle.hevc_bits.proofs.WordSteps.{holds_ends, holds_first, holds_others, Stands, passes, loads}
 
 bits-loaded : (unread n : ℕ) (p : Place) → bits (loaded_with unread n p) ≡ low_bits unread n ++ payload_bits p.zero_run p.behind
@@ -41,27 +41,28 @@ bits-stands left ahead filled c marks base end s =
     bits-loaded (left - 8 * ahead) (c / 2 ^ (8 * ahead)) here ∙ ap (λ (x : List Bool). high ++ x) (bits-held ahead c marks here end s.holds) ∙ sym (append_assoc high (low_bits (8 * ahead) c) rest)
     ∙ ap (λ (x : List Bool). x ++ rest) (sym (low_bits-add (left - 8 * ahead) (8 * ahead) c)) ∙ ap (λ (x : ℕ). low_bits x c ++ rest) e
 
-pub stands : (w : Word) → IsFilled w → Stands w.left w.ahead w.filled w.cache w.marks (base_of w) (end_of w)
-stands w f = record { unread = f.unread; whole = f.whole; among = f.among; holds = f.holds }
+pub stands : (w : Word) → IsFilled w → Stands w.left (ahead w) w.filled w.cache w.marks (base_of w) (end_of w)
+stands w f = record { unread = omega arith; whole = f.whole; among = omega (arith, f.among); holds = f.holds }
 
 -- the unread bits of a word and those after it
 pub bits-word : (w : Word) → IsFilled w → bits (place_of w) ≡ low_bits w.left w.cache ++ payload_bits w.zeros w.rest.now
-bits-word w f = bits-stands w.left w.ahead w.filled w.cache w.marks (base_of w) (end_of w) (stands w f)
+bits-word w f = bits-stands w.left (ahead w) w.filled w.cache w.marks (base_of w) (end_of w) (stands w f)
 
 -- a word as `take` leaves it
 abbrev pub taken_word : ℕ → Word → Word
-taken_word num w = record w { left = w.left - num; ahead = min w.ahead ((w.left - num) / 8) }
+taken_word num w = record w { left = w.left - num }
 
 pub taken : (num : ℕ) (w : Word) → IsFilled w → num ≤ w.left → Takes num ((w.cache / 2 ^ (w.left - num)) % 2 ^ num) w (taken_word num w)
 taken num w f le =
-    let p = passes num w.left w.ahead w.filled w.cache w.marks (base_of w) (end_of w) le (stands w f) in
     let new = taken_word num w in
-    let s = p.stands in
-    let filled : IsFilled new = record { unread = s.unread; whole = s.whole; fits = omega (arith, f.fits); among = s.among; zeros = f.zeros; part = f.part; short = f.short; few = f.few; holds = s.holds } in
+    let p = passes num w.left (ahead w) w.filled w.cache w.marks (base_of w) (end_of w) le (stands w f) in
+    let least : min (ahead w) ((w.left - num) / 8) ≡ ahead new = omega arith in
+    let s = rw least at p.stands in
+    let filled : IsFilled new = record { whole = s.whole; fits = omega (arith, f.fits); among = f.among; zeros = f.zeros; part = f.part; short = f.short; few = f.few; holds = s.holds } in
     let rest = payload_bits w.zeros w.rest.now in
     record {
       filled = filled;
-      passes = p.moves;
+      passes = rw least at p.moves;
       spells = λ front. ap (bits_after front num) (bits-word w f) ∙ spells front num w.left w.cache rest le ∙ ap (λ (x : List Bool). found (front * 2 ^ num + (w.cache / 2 ^ (w.left - num)) % 2 ^ num) x) (sym (bits-word new filled));
     }
 
@@ -118,31 +119,34 @@ none_to_load p few = by_loading (with_bits p) refl
         absurd (omega (arith, k.2, long, ap length k.0))
 
 -- how many bits of the byte that is reached are unread is told by where the word is
-pub same_unread : (v w : Word) → place_of v ≡ place_of w → v.left - 8 * v.ahead ≡ w.left - 8 * w.ahead
+pub same_unread : (v w : Word) → place_of v ≡ place_of w → v.left - 8 * ahead v ≡ w.left - 8 * ahead w
 same_unread v w e =
     let long = ap (λ (p : Place). length p.loaded) e in
-    sym (low_bits_length (v.left - 8 * v.ahead) (v.cache / 2 ^ (8 * v.ahead))) ∙ long ∙ low_bits_length (w.left - 8 * w.ahead) (w.cache / 2 ^ (8 * w.ahead))
+    sym (low_bits_length (v.left - 8 * ahead v) (v.cache / 2 ^ (8 * ahead v))) ∙ long ∙ low_bits_length (w.left - 8 * ahead w) (w.cache / 2 ^ (8 * ahead w))
 
 -- the word as `load` leaves it
 abbrev pub reaching : Word → Word
-reaching w = record w { ahead = w.ahead - 1 }
+reaching w = record w { most_ahead = ahead w - 1 }
 
 pub record Reaches (old w : Word) : Type 0 where
+  pub some_ahead : 1 ≤ ahead w
   pub filled : IsFilled (reaching w)
   pub loads : with_bits (place_of old) ≡ Some (place_of (reaching w))
   pub some : 0 < length (place_of (reaching w)).loaded
 
-pub reaches : (old w : Word) → IsFilled w → place_of w ≡ place_of old → old.left ≤ 8 * old.ahead → 1 ≤ w.left → Reaches old w
+pub reaches : (old w : Word) → IsFilled w → place_of w ≡ place_of old → old.left ≤ 8 * ahead old → 1 ≤ w.left → Reaches old w
 reaches old w f same read_up held =
-    let e : w.left ≡ 8 * w.ahead = omega (arith, same_unread w old same, f.unread) in
-    let a = w.ahead - 1 in
-    let k : w.ahead ≡ suc a = omega arith in
+    let e : w.left ≡ 8 * ahead w = omega (arith, same_unread w old same) in
+    let a = ahead w - 1 in
+    let k : ahead w ≡ suc a = omega arith in
+    let new : ahead (reaching w) ≡ a = omega arith in
     let s : Stands w.left (suc a) w.filled w.cache w.marks (base_of w) (end_of w) = subst (λ (x : ℕ). Stands w.left x w.filled w.cache w.marks (base_of w) (end_of w)) k (stands w f) in
     let l = loads w.left a w.filled w.cache w.marks (base_of w) (end_of w) (omega arith) s in
-    let t = l.1 in
+    let t = subst (λ (x : ℕ). Stands w.left x w.filled w.cache w.marks (base_of w) (end_of w)) (sym new) l.1 in
     let here : place_of w ≡ place_in w.left (suc a) w.filled w.cache (base_of w) = ap (λ (x : ℕ). place_in w.left x w.filled w.cache (base_of w)) k in
     record {
-      filled = record { unread = t.unread; whole = t.whole; fits = f.fits; among = t.among; zeros = f.zeros; part = f.part; short = f.short; few = f.few; holds = t.holds };
-      loads = ap with_bits (sym same ∙ here) ∙ l.0;
-      some = omega (arith, low_bits_length (w.left - 8 * a) (w.cache / 2 ^ (8 * a)));
+      some_ahead = omega arith;
+      filled = record { whole = t.whole; fits = f.fits; among = omega (arith, f.among); zeros = f.zeros; part = f.part; short = f.short; few = f.few; holds = t.holds };
+      loads = subst (λ (x : ℕ). with_bits (place_of old) ≡ Some (place_in w.left x w.filled w.cache (base_of w))) (sym new) (ap with_bits (sym same ∙ here) ∙ l.0);
+      some = subst (λ (x : ℕ). 0 < length (low_bits (w.left - 8 * x) (w.cache / 2 ^ (8 * x)))) (sym new) (omega (arith, low_bits_length (w.left - 8 * a) (w.cache / 2 ^ (8 * a))));
     }

@@ -11,7 +11,7 @@ use Rattle.std.proofs.Math.Seq.{drop-length}
 use Rattle.hevc_spec.specs.Payload.{Place, low_bits, run_behind, loading}
 use Rattle.hevc_spec.proofs.UnitLaws.{drop-drop}
 use Rattle.hevc_bits.specs.declared.word.Word.{Word}
-use Rattle.hevc_bits.specs.Cached.{byte_on, bytes_on, place_of, base_of, end_of, marked, Holds, IsFilled}
+use Rattle.hevc_bits.specs.Cached.{byte_on, bytes_on, place_of, base_of, end_of, ahead, marked, Holds, IsFilled}
 use Rattle.hevc_bits.proofs.WordSteps.{holds_ends, holds_first, holds_others, bytes_on-zero, bytes_on-suc}
 
 ones-digit : (x : ℕ) → x < 2 → count_ones x ≡ x
@@ -41,8 +41,8 @@ counts (suc n) c marks p end h =
     let others = counts n c marks (byte_on p) end (holds_others n c marks p end h) in
     rw (ones-suc n marks) (record { long = omega (arith, first.shorter, others.long); dropped = omega (arith, first.dropped, others.dropped) })
 
-pub counted : (w : Word) → IsFilled w → (length (place_of w).behind ≡ length w.rest.now + w.ahead + marked w) × (w.dropped ≡ (place_of w).dropped + marked w)
-counted w f = let k = counts w.ahead w.cache w.marks (bytes_on (w.filled - w.ahead) (base_of w)) (end_of w) f.holds in (k.long, k.dropped)
+pub counted : (w : Word) → IsFilled w → (length (place_of w).behind ≡ length w.rest.now + ahead w + marked w) × (w.dropped ≡ (place_of w).dropped + marked w)
+counted w f = let k = counts (ahead w) w.cache w.marks (bytes_on (w.filled - ahead w) (base_of w)) (end_of w) f.holds in (k.long, k.dropped)
 
 -- ---- the bytes after a place are the last ones of all
 
@@ -86,15 +86,15 @@ last_ones m some all e = by_order (cases_lt m (length all))
         let k : length all - length some ≡ length all = omega (arith, ap length none) in
         rw k (none ∙ sym (drop-length all))
 
-pub behind_word : (w : Word) → IsFilled w → (place_of w).behind ≡ drop (length w.bytes.now - (length w.rest.now + w.ahead + marked w)) w.bytes.now
+pub behind_word : (w : Word) → IsFilled w → (place_of w).behind ≡ drop (length w.bytes.now - (length w.rest.now + ahead w + marked w)) w.bytes.now
 behind_word w f =
-    let k = bytes_on-part (w.filled - w.ahead) (base_of w) in
+    let k = bytes_on-part (w.filled - ahead w) (base_of w) in
     let long = (counted w f).0 in
     rw (← long) (last_ones k.0 (place_of w).behind w.bytes.now k.1)
 
-pub behind_word_fits : (w : Word) → IsFilled w → length w.rest.now + w.ahead + marked w ≤ length w.bytes.now
+pub behind_word_fits : (w : Word) → IsFilled w → length w.rest.now + ahead w + marked w ≤ length w.bytes.now
 behind_word_fits w f =
-    let k = bytes_on-part (w.filled - w.ahead) (base_of w) in
+    let k = bytes_on-part (w.filled - ahead w) (base_of w) in
     let long = (counted w f).0 in
     let short : length (place_of w).behind ≡ length w.bytes.now - k.0 = ap length k.1 ∙ length-drop k.0 w.bytes.now in
     omega (arith, long, short)

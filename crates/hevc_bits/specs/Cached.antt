@@ -1,5 +1,5 @@
 -- Payload bits that are ahead of a place in a word.
-use Rattle.std.specs.Prelude.{◌≡◌, ℕ, zero, suc, ◌+◌, ◌-◌, ◌*◌, ◌/◌, ◌^◌, ◌<◌, ◌≤◌, Bool, true, false, List, [], length, Some, unwrap_or, ◌%◌, count_ones}
+use Rattle.std.specs.Prelude.{◌≡◌, ℕ, zero, suc, ◌+◌, ◌-◌, ◌*◌, ◌/◌, ◌^◌, ◌<◌, ◌≤◌, Bool, true, false, List, [], length, Some, unwrap_or, ◌%◌, count_ones, min}
 use Rattle.std.specs.Int.{bit_at}
 use Rattle.hevc_spec.specs.Payload.{Place, bits, low_bits, loading, place_behind, IsAhead, IsReached}
 use Rattle.hevc_spec.specs.Bits.{found, bits_after, ue_at}
@@ -41,10 +41,14 @@ base_of w = record { loaded = []; zero_run = 0; behind = w.bytes.now; dropped = 
 abbrev pub end_of : Word → Place
 end_of w = record { loaded = []; zero_run = w.zeros; behind = w.rest.now; dropped = w.dropped }
 
+-- how many bytes of a word aren't reached yet
+abbrev pub ahead : Word → ℕ
+ahead w = min w.most_ahead (w.left / 8)
+
 -- where a word is: at the byte that holds the next bit or that is read up,
 -- whatever bytes it holds after that
 abbrev pub place_of : Word → Place
-place_of w = place_in w.left w.ahead w.filled w.cache (base_of w)
+place_of w = place_in w.left (ahead w) w.filled w.cache (base_of w)
 
 -- The next payload byte has these bits, and a mark tells whether a 03 is dropped before it.
 pub record IsNext (byte : List Bool) (mark : ℕ) (old new : Place) : Type 0 where
@@ -67,15 +71,14 @@ Holds (suc n) cache marks p end =
 
 -- what every word keeps
 pub record IsFilled (w : Word) : Type 0 where
-  pub unread : 8 * w.ahead ≤ w.left
-  pub whole : w.left ≤ 8 * w.ahead + 8
+  pub whole : w.left ≤ 8 * ahead w + 8
   pub fits : w.left ≤ 63
-  pub among : w.ahead ≤ w.filled
+  pub among : w.most_ahead ≤ w.filled
   pub zeros : w.zeros ≤ 2
   pub part : w.filled + length w.rest.now ≤ length w.bytes.now
   pub short : length w.bytes.now < STREAM_LIMIT
   pub few : w.dropped + length w.rest.now < STREAM_LIMIT
-  pub holds : Holds w.ahead w.cache w.marks (bytes_on (w.filled - w.ahead) (base_of w)) (end_of w)
+  pub holds : Holds (ahead w) w.cache w.marks (bytes_on (w.filled - ahead w) (base_of w)) (end_of w)
 
 -- The word is where it was, with bits put in: so many, unless the payload has fewer.
 pub record Fills (num_bits : ℕ) (enough : Bool) (old new : Word) : Type 0 where
@@ -101,4 +104,4 @@ pub record TakesGolomb (value : ℕ) (old new : Word) : Type 0 where
 
 -- how many 03 were dropped before bytes of a word that aren't reached
 abbrev pub marked : Word → ℕ
-marked w = count_ones (w.marks % 2 ^ w.ahead)
+marked w = count_ones (w.marks % 2 ^ ahead w)

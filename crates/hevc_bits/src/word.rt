@@ -3,11 +3,11 @@
 ghost use Rattle.std.specs.Prelude.{◌≡◌, ◌≢◌, ◌∷◌, ℕ, ◌+◌, ◌-◌, ◌*◌, ◌/◌, ◌≤◌, ◌<◌, ◌^◌, ◌%◌, length, true, false, Some, None, MatchOption, IfSome};
 ghost use Rattle.hevc_spec.specs.Payload.{first_place, loading, bits, PassesBytes};
 ghost use Rattle.hevc_spec.specs.Bits.{found, ue_at};
-ghost use Rattle.hevc_bits.specs.Cached.{loaded_place, place_of, marked, IsFilled, Fills, Takes, TakesGolomb};
+ghost use Rattle.hevc_bits.specs.Cached.{loaded_place, place_of, ahead, marked, IsFilled, Fills, Takes, TakesGolomb};
 ghost use Rattle.hevc_bits.specs.Reading.{LoadsByte};
 ghost use Rattle.hevc_bits.specs.declared.stream_limit.TheConstants.{STREAM_LIMIT};
 
-use crate::load::{Loaded, next_byte, zeros_behind};
+use crate::load::{Loaded, next_byte};
 
 /// A place among the payload bits of a byte slice, with up to 63 of the next ones in a word.
 #[derive(Clone, Copy)]
@@ -23,8 +23,9 @@ pub struct Word<'a> {
     /// How many low bits are unread of the payload bytes as one number, the last one lowest.
     pub left: usize,
     pub cache: u64,
-    /// How many bytes of it aren't reached yet, and for each whether a 03 was dropped before it, the last one lowest.
-    pub ahead: usize,
+    /// How many bytes of it aren't reached yet, unless fewer whole ones are unread, and for each whether a 03 was
+    /// dropped before it, the last one lowest.
+    pub most_ahead: usize,
     pub marks: u8,
 }
 
@@ -44,7 +45,7 @@ impl<'a> Word<'a> {
             dropped: 0,
             cache: 0,
             left: 0,
-            ahead: 0,
+            most_ahead: 0,
             marks: 0,
         }
     }
@@ -73,14 +74,14 @@ impl<'a> Word<'a> {
         ensures full { self.new.left < 32
             → loading self.new.zeros self.new.dropped self.new.rest.now ≡ None }
     {
-        if !self.fill_plain() {
+        if !self.fill_four() {
             self.fill_each();
         }
     }
 
-    /// Puts the next four bytes in, where none of them is 3, so none is dropped.
+    /// Puts the next four bytes in at once, where none of them is 3, so none is dropped, and the last one isn't 0.
     #[inline(always)]
-    fn fill_plain(&mut self) -> bool
+    fn fill_four(&mut self) -> bool
         requires filled { IsFilled self.old }
         requires few { self.old.left < 32 }
         ensures filled { IsFilled self.new }
@@ -92,13 +93,17 @@ impl<'a> Word<'a> {
         let &[first, second, third, fourth, ..] = bytes else {
             return false;
         };
-        if first == 3 || second == 3 || third == 3 || fourth == 3 {
+        if first == 3 || second == 3 || third == 3 || fourth == 3 || fourth == 0 {
             return false;
         }
-        self.push_plain(first, &bytes[1..]);
-        self.push_plain(second, &bytes[2..]);
-        self.push_plain(third, &bytes[3..]);
-        self.push_plain(fourth, &bytes[4..]);
+        let number = u32::from_be_bytes([first, second, third, fourth]);
+        self.filled += 4;
+        self.rest = &bytes[4..];
+        self.zeros = 0;
+        self.cache = (self.cache << 32) + u64::from(number);
+        self.left += 32;
+        self.most_ahead += 4;
+        self.marks <<= 4;
         true
     }
 
@@ -118,28 +123,6 @@ impl<'a> Word<'a> {
         }
     }
 
-    /// Puts a byte in that isn't 3.
-    #[inline(always)]
-    fn push_plain(&mut self, byte: u8, behind: &'a [u8])
-        requires filled { IsFilled self.old }
-        requires fits { self.old.left < 56 }
-        requires next { self.old.rest.now ≡ byte ∷ behind.now }
-        requires kept { byte ≢ 3 }
-        ensures filled { IsFilled self.new }
-        ensures same { place_of self.new ≡ place_of self.old }
-        ensures more { self.new.left ≡ self.old.left + 8 }
-        ensures rest { self.new.rest.now ≡ behind.now }
-    {
-        let zeros = zeros_behind(self.zeros, byte);
-        let dropped = self.dropped;
-        self.push(Loaded {
-            byte,
-            zeros,
-            behind,
-            dropped,
-        });
-    }
-
     /// Puts the next payload byte in.
     #[inline(always)]
     fn push(&mut self, next: Loaded<'a>)
@@ -152,8 +135,6 @@ impl<'a> Word<'a> {
         ensures filled { IsFilled self.new }
         ensures same { place_of self.new ≡ place_of self.old }
         ensures more { self.new.left ≡ self.old.left + 8 }
-        ensures rest { self.new.rest.now ≡ next.entry.behind.now }
-        ensures zeros { self.new.zeros ≡ next.entry.zeros }
     {
         let mark = (next.dropped - self.dropped) as u8;
         self.filled += 1;
@@ -162,7 +143,7 @@ impl<'a> Word<'a> {
         self.dropped = next.dropped;
         self.cache = (self.cache << 8) + u64::from(next.byte);
         self.left += 8;
-        self.ahead += 1;
+        self.most_ahead += 1;
         self.marks = (self.marks << 1) + mark;
     }
 
@@ -176,7 +157,6 @@ impl<'a> Word<'a> {
         ensures number { result ≡ (self.old.cache / 2 ^ (self.old.left - num_bits)) % 2 ^ num_bits }
     {
         self.left -= num_bits;
-        self.ahead = self.ahead.min(self.left / 8);
         (self.cache >> self.left) % (1 << num_bits)
     }
 
@@ -213,23 +193,31 @@ impl<'a> Word<'a> {
         ensures filled { IsFilled self.new }
         ensures loads { LoadsByte result (place_of self.old) (place_of self.new) }
     {
-        if self.left > 8 * self.ahead {
+        if self.left > 8 * self.ahead() {
             return true;
         }
         if !self.has(1) {
             return false;
         }
-        self.ahead -= 1;
+        self.most_ahead = self.ahead() - 1;
         true
+    }
+
+    /// How many bytes of the word aren't reached yet.
+    #[inline(always)]
+    fn ahead(&self) -> usize
+        ensures { result ≡ ahead self.now }
+    {
+        self.most_ahead.min(self.left / 8)
     }
 
     /// How many bits of the byte that is reached are unread.
     pub fn unread(&self) -> usize
         requires { IsFilled self.now }
-        ensures value { result ≡ self.now.left - 8 * self.now.ahead }
+        ensures value { result ≡ self.now.left - 8 * ahead self.now }
         ensures small { result ≤ 8 }
     {
-        self.left - 8 * self.ahead
+        self.left - 8 * self.ahead()
     }
 
     /// How many 03 were dropped between the byte that is reached and the last one in the word.
@@ -237,7 +225,7 @@ impl<'a> Word<'a> {
         requires { IsFilled self.now }
         ensures { result ≡ marked self.now }
     {
-        (self.marks % (1 << self.ahead)).count_ones() as usize
+        (self.marks % (1 << self.ahead())).count_ones() as usize
     }
 
     /// How many 03 were dropped up to the byte that is reached.
@@ -255,16 +243,16 @@ impl<'a> Word<'a> {
         ensures value { result.now ≡ (place_of self.now).behind }
         ensures short { length result.now < STREAM_LIMIT }
     {
-        let count = self.rest.len() + self.ahead + self.marked();
+        let count = self.rest.len() + self.ahead() + self.marked();
         &self.bytes[self.bytes.len() - count..]
     }
 
     /// The bytes up to the one that is reached as a number, that one lowest.
     pub fn reached(&self) -> u64
         requires { IsFilled self.now }
-        ensures { result ≡ self.now.cache / 2 ^ (8 * self.now.ahead) }
+        ensures { result ≡ self.now.cache / 2 ^ (8 * ahead self.now) }
     {
-        self.cache >> (8 * self.ahead)
+        self.cache >> (8 * self.ahead())
     }
 
     /// Passes all bytes after the one that is reached.
@@ -283,7 +271,7 @@ impl<'a> Word<'a> {
             dropped,
             cache: self.reached(),
             left: self.unread(),
-            ahead: 0,
+            most_ahead: 0,
             marks: 0,
         };
     }

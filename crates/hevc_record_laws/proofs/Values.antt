@@ -359,13 +359,13 @@ pps_scc_extension x y e = same pps_scc_extension_record.the_type x y (λ i. (
 
 pub ref_pic_list_modification : IsItsValues plain_ref_pic_list_modification
 ref_pic_list_modification x y e = same ref_pic_list_modification_record.the_type x y (λ i. (
-  (e i).ref_pic_list_modification_flag_l0,
+  record { items = (e i).list_entry_l0 },
   (
-    record { items = (e i).list_entry_l0 },
+    record { items = (e i).list_entry_l1 },
     (
-      (e i).ref_pic_list_modification_flag_l1,
+      (e i).ref_pic_list_modification_flag_l0,
       (
-        record { items = (e i).list_entry_l1 },
+        (e i).ref_pic_list_modification_flag_l1,
         tt,
       ),
     ),

@@ -111,7 +111,7 @@ pps_scc_extension a b = struct pps_scc_extension_record.the_type
 
 pub ref_pic_list_modification : IsEquality ref_pic_list_modification_eq.ghosts.eq
 ref_pic_list_modification a b = struct ref_pic_list_modification_record.the_type
-    (field (bool _ _)
+    (field (array_vec nat _ _)
     (field (array_vec nat _ _)
     (field (bool _ _)
-    (last (array_vec nat _ _)))))
+    (last (bool _ _)))))

@@ -8,14 +8,14 @@ use arrayvec::ArrayVec;
 /// An entry is an index into the initial list (8.3.4).
 #[derive(Drop, PartialEq, Eq)]
 pub struct RefPicListModification {
-    /// Whether the entries of list 0 are given.
-    pub ref_pic_list_modification_flag_l0: bool,
     /// The entries of list 0, one for each active place: 0 to NumPicTotalCurr less 1.
     pub list_entry_l0: ArrayVec<u32, 15>,
-    /// Whether the entries of list 1 are given.
-    pub ref_pic_list_modification_flag_l1: bool,
     /// The entries of list 1, one for each active place: 0 to NumPicTotalCurr less 1.
     pub list_entry_l1: ArrayVec<u32, 15>,
+    /// Whether the entries of list 0 are given.
+    pub ref_pic_list_modification_flag_l0: bool,
+    /// Whether the entries of list 1 are given.
+    pub ref_pic_list_modification_flag_l1: bool,
 }
 
 impl RefPicListModification {
@@ -27,10 +27,10 @@ impl RefPicListModification {
         ensures { plain_ref_pic_list_modification result ≡ default_ref_pic_list_modification }
     {
         RefPicListModification {
-            ref_pic_list_modification_flag_l0: false,
             list_entry_l0: ArrayVec::new(),
-            ref_pic_list_modification_flag_l1: false,
             list_entry_l1: ArrayVec::new(),
+            ref_pic_list_modification_flag_l0: false,
+            ref_pic_list_modification_flag_l1: false,
         }
     }
 

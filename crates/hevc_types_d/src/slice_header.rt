@@ -129,6 +129,7 @@ pub struct SliceHeader {
 
 impl SliceHeader {
     ghost use Rattle.hevc_records.specs.SliceHeader.{completed_header, default_slice_header, with_inferred};
+    ghost use Rattle.hevc_types_a.specs.RefPicListModification.{plain_ref_pic_list_modification};
     ghost use Rattle.hevc_types_d.specs.Pps.{plain_pps};
     ghost use Rattle.hevc_types_d.specs.SliceHeader.{plain_slice_header};
 
@@ -235,39 +236,111 @@ impl SliceHeader {
         self.used_by_curr_pic_lt = independent.used_by_curr_pic_lt;
         self.delta_poc_msb_present_flag = independent.delta_poc_msb_present_flag;
         self.delta_poc_msb_cycle_lt = independent.delta_poc_msb_cycle_lt;
-        self.temporal_mvp_enabled_flag = independent.temporal_mvp_enabled_flag;
-        self.sao_luma_flag = independent.sao_luma_flag;
-        self.sao_chroma_flag = independent.sao_chroma_flag;
-        self.num_ref_idx_active_override_flag = independent.num_ref_idx_active_override_flag;
-        self.num_ref_idx_l0_active_minus1 = independent.num_ref_idx_l0_active_minus1;
-        self.num_ref_idx_l1_active_minus1 = independent.num_ref_idx_l1_active_minus1;
+        self.complete_prediction(independent);
+        self.pred_weight_table = independent.pred_weight_table;
+        self.complete_quantisers(independent);
+        self.curr_rps_idx = independent.curr_rps_idx;
+        self.num_pic_total_curr = independent.num_pic_total_curr;
+        self.st_rps_bits = independent.st_rps_bits;
+    }
+
+    /// Takes over what is between the long-term members and the weights. Neighbours are read before they are written,
+    /// so that they move together.
+    fn complete_prediction(&mut self, independent: &SliceHeader)
+        ensures { plain_slice_header self.new ≡ record (plain_slice_header self.old) {
+          temporal_mvp_enabled_flag = independent.now.temporal_mvp_enabled_flag;
+          sao_luma_flag = independent.now.sao_luma_flag;
+          sao_chroma_flag = independent.now.sao_chroma_flag;
+          num_ref_idx_active_override_flag = independent.now.num_ref_idx_active_override_flag;
+          num_ref_idx_l0_active_minus1 = independent.now.num_ref_idx_l0_active_minus1;
+          num_ref_idx_l1_active_minus1 = independent.now.num_ref_idx_l1_active_minus1;
+          ref_pic_list_modification =
+              plain_ref_pic_list_modification independent.now.ref_pic_list_modification;
+          mvd_l1_zero_flag = independent.now.mvd_l1_zero_flag;
+          cabac_init_flag = independent.now.cabac_init_flag;
+          collocated_from_l0_flag = independent.now.collocated_from_l0_flag;
+          collocated_ref_idx = independent.now.collocated_ref_idx;
+        } }
+    {
+        let &SliceHeader {
+            temporal_mvp_enabled_flag,
+            sao_luma_flag,
+            sao_chroma_flag,
+            num_ref_idx_active_override_flag,
+            num_ref_idx_l0_active_minus1,
+            num_ref_idx_l1_active_minus1,
+            mvd_l1_zero_flag,
+            cabac_init_flag,
+            collocated_from_l0_flag,
+            collocated_ref_idx,
+            ..
+        } = independent;
+        self.temporal_mvp_enabled_flag = temporal_mvp_enabled_flag;
+        self.sao_luma_flag = sao_luma_flag;
+        self.sao_chroma_flag = sao_chroma_flag;
+        self.num_ref_idx_active_override_flag = num_ref_idx_active_override_flag;
+        self.num_ref_idx_l0_active_minus1 = num_ref_idx_l0_active_minus1;
+        self.num_ref_idx_l1_active_minus1 = num_ref_idx_l1_active_minus1;
         copy_modification(
             &mut self.ref_pic_list_modification,
             &independent.ref_pic_list_modification,
         );
-        self.mvd_l1_zero_flag = independent.mvd_l1_zero_flag;
-        self.cabac_init_flag = independent.cabac_init_flag;
-        self.collocated_from_l0_flag = independent.collocated_from_l0_flag;
-        self.collocated_ref_idx = independent.collocated_ref_idx;
-        self.pred_weight_table = independent.pred_weight_table;
-        self.five_minus_max_num_merge_cand = independent.five_minus_max_num_merge_cand;
-        self.use_integer_mv_flag = independent.use_integer_mv_flag;
-        self.qp_delta = independent.qp_delta;
-        self.cb_qp_offset = independent.cb_qp_offset;
-        self.cr_qp_offset = independent.cr_qp_offset;
-        self.slice_act_y_qp_offset = independent.slice_act_y_qp_offset;
-        self.slice_act_cb_qp_offset = independent.slice_act_cb_qp_offset;
-        self.slice_act_cr_qp_offset = independent.slice_act_cr_qp_offset;
-        self.cu_chroma_qp_offset_enabled_flag = independent.cu_chroma_qp_offset_enabled_flag;
-        self.deblocking_filter_override_flag = independent.deblocking_filter_override_flag;
-        self.deblocking_filter_disabled_flag = independent.deblocking_filter_disabled_flag;
-        self.beta_offset_div2 = independent.beta_offset_div2;
-        self.tc_offset_div2 = independent.tc_offset_div2;
-        self.loop_filter_across_slices_enabled_flag =
-            independent.loop_filter_across_slices_enabled_flag;
-        self.curr_rps_idx = independent.curr_rps_idx;
-        self.num_pic_total_curr = independent.num_pic_total_curr;
-        self.st_rps_bits = independent.st_rps_bits;
+        self.mvd_l1_zero_flag = mvd_l1_zero_flag;
+        self.cabac_init_flag = cabac_init_flag;
+        self.collocated_from_l0_flag = collocated_from_l0_flag;
+        self.collocated_ref_idx = collocated_ref_idx;
+    }
+
+    /// Takes over what is between the weights and the entry points.
+    fn complete_quantisers(&mut self, independent: &SliceHeader)
+        ensures { plain_slice_header self.new ≡ record (plain_slice_header self.old) {
+          five_minus_max_num_merge_cand = independent.now.five_minus_max_num_merge_cand;
+          use_integer_mv_flag = independent.now.use_integer_mv_flag;
+          qp_delta = independent.now.qp_delta;
+          cb_qp_offset = independent.now.cb_qp_offset;
+          cr_qp_offset = independent.now.cr_qp_offset;
+          slice_act_y_qp_offset = independent.now.slice_act_y_qp_offset;
+          slice_act_cb_qp_offset = independent.now.slice_act_cb_qp_offset;
+          slice_act_cr_qp_offset = independent.now.slice_act_cr_qp_offset;
+          cu_chroma_qp_offset_enabled_flag = independent.now.cu_chroma_qp_offset_enabled_flag;
+          deblocking_filter_override_flag = independent.now.deblocking_filter_override_flag;
+          deblocking_filter_disabled_flag = independent.now.deblocking_filter_disabled_flag;
+          beta_offset_div2 = independent.now.beta_offset_div2;
+          tc_offset_div2 = independent.now.tc_offset_div2;
+          loop_filter_across_slices_enabled_flag = independent.now.loop_filter_across_slices_enabled_flag;
+        } }
+    {
+        let &SliceHeader {
+            five_minus_max_num_merge_cand,
+            use_integer_mv_flag,
+            qp_delta,
+            cb_qp_offset,
+            cr_qp_offset,
+            slice_act_y_qp_offset,
+            slice_act_cb_qp_offset,
+            slice_act_cr_qp_offset,
+            cu_chroma_qp_offset_enabled_flag,
+            deblocking_filter_override_flag,
+            deblocking_filter_disabled_flag,
+            beta_offset_div2,
+            tc_offset_div2,
+            loop_filter_across_slices_enabled_flag,
+            ..
+        } = independent;
+        self.five_minus_max_num_merge_cand = five_minus_max_num_merge_cand;
+        self.use_integer_mv_flag = use_integer_mv_flag;
+        self.qp_delta = qp_delta;
+        self.cb_qp_offset = cb_qp_offset;
+        self.cr_qp_offset = cr_qp_offset;
+        self.slice_act_y_qp_offset = slice_act_y_qp_offset;
+        self.slice_act_cb_qp_offset = slice_act_cb_qp_offset;
+        self.slice_act_cr_qp_offset = slice_act_cr_qp_offset;
+        self.cu_chroma_qp_offset_enabled_flag = cu_chroma_qp_offset_enabled_flag;
+        self.deblocking_filter_override_flag = deblocking_filter_override_flag;
+        self.deblocking_filter_disabled_flag = deblocking_filter_disabled_flag;
+        self.beta_offset_div2 = beta_offset_div2;
+        self.tc_offset_div2 = tc_offset_div2;
+        self.loop_filter_across_slices_enabled_flag = loop_filter_across_slices_enabled_flag;
     }
 
     /// An equal header.

@@ -7,7 +7,6 @@ returns-clause-place c = rw bytes_on-zero refl
 
 pub returns-clause-filled : goal.returns-clause-filled
 returns-clause-filled c = record {
-  unread = omega arith;
   whole = omega arith;
   fits = omega arith;
   among = omega arith;

@@ -10,7 +10,7 @@ pub returns-clause-takes : goal.returns-clause-takes
 returns-clause-takes c =
     let w = c.args.self.now in
     let n = c.args.num_bits in
-    rw (one n (omega (arith, c.requires.held, c.requires.filled.fits)), c.min-self.ensures) (taken n w c.requires.filled c.requires.held)
+    rw (one n (omega (arith, c.requires.held, c.requires.filled.fits))) (taken n w c.requires.filled c.requires.held)
 
 pub returns-clause-number : goal.returns-clause-number
 returns-clause-number c = rw (one c.args.num_bits (omega (arith, c.requires.held, c.requires.filled.fits))) refl
