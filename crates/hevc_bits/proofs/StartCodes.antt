@@ -1,12 +1,14 @@
 -- A start code at a place of a stream, seen by its three bytes and at the front of the bytes from there on.
-use Rattle.std.proofs.Common.{◌≡◌, ◌≢◌, Some, ◌≤◌, ◌+◌, ◌-◌, ℕ, length, get_or, List, [], ◌∷◌, drop, take, Bool, true, false, refl, sym, ◌∙◌, arith}
+use Rattle.std.proofs.Common.{◌≡◌, ◌≢◌, Option, None, Some, ◌≤◌, ◌+◌, ◌-◌, ℕ, length, get_or, List, [], ◌∷◌, drop, take, Bool, true, false, refl, ap, sym, ◌∙◌, arith}
 use Rattle.std.proofs.lemmas.Bool.{eqb-true, and_parts}
 use Rattle.std.proofs.lemmas.List.{get_or-drop, take_all}
 use Rattle.std.proofs.Math.ListN.{length-drop}
 use Rattle.hevc_spec.specs.Units.{begins_with_start_code}
 use Rattle.hevc_spec.proofs.UnitLaws.{NoStartCode}
 use Rattle.memchr.specs.Find.{Nowhere, NoneBefore, Passes, is_byte}
-use Rattle.hevc_bits.specs.StartCode.{StandsAt, NoneStands, EndsFirst}
+use Rattle.memchr.specs.Pairs.{HasPair, reach_of}
+use Rattle.memchr.specs.declared.arch.all.packedpair.Finder.{Finder}
+use Rattle.hevc_bits.specs.StartCode.{StandsAt, NoneStands, IsFirstStart, EndsFirst, FindsEnding}
 
 front_stands : (xs : List ℕ) → begins_with_start_code xs ≡ true → StandsAt xs 0
 front_stands [] e = absurd cc
@@ -68,3 +70,44 @@ ends_first stream from ahead before here =
 
 pub none_joined : (stream : List ℕ) (from between to : ℕ) → NoneStands stream from between → NoneStands stream between to → NoneStands stream from to
 none_joined stream from between to before behind k low high stands = grind (arith, before k low, behind k, high, stands)
+
+-- ---- the last two bytes of a start code
+
+has_pair : (f : Finder) (hay : List ℕ) (k : ℕ) → FindsEnding f → get_or hay k 0 ≡ 0 → get_or hay (k + 1) 0 ≡ 1 → HasPair f hay k
+has_pair f hay k e zero one =
+    let here : k + 0 ≡ k = omega arith in
+    record {
+      first = ap (λ (i : ℕ). get_or hay (k + i) 0) e.first ∙ ap (λ (i : ℕ). get_or hay i 0) here ∙ zero ∙ sym (e.finder.byte1 ∙ ap (λ (i : ℕ). get_or (0 ∷ 1 ∷ []) i 0) e.first);
+      second = ap (λ (i : ℕ). get_or hay (k + i) 0) e.second ∙ one ∙ sym (e.finder.byte2 ∙ ap (λ (i : ℕ). get_or (0 ∷ 1 ∷ []) i 0) e.second);
+    }
+
+one_of_pair : (f : Finder) (hay : List ℕ) (k : ℕ) → FindsEnding f → HasPair f hay k → get_or hay (k + 1) 0 ≡ 1
+one_of_pair f hay k e here = sym (ap (λ (i : ℕ). get_or hay (k + i) 0) e.second) ∙ here.second ∙ e.finder.byte2 ∙ ap (λ (i : ℕ). get_or (0 ∷ 1 ∷ []) i 0) e.second
+
+reach : (f : Finder) → FindsEnding f → reach_of f ≡ 1
+reach f e = rw (e.first, e.second) refl
+
+no_pair : (f : Finder) (stream : List ℕ) (from count : ℕ) → FindsEnding f → Nowhere (HasPair f (drop (from + 1) stream)) 0 count → NoneStands stream from (from + count)
+no_pair f stream from count e none k low high stands =
+    let second : get_or (drop (from + 1) stream) (k - from) 0 ≡ 0 = get_or-drop (from + 1) stream (k - from) 0 ∙ grind (arith, stands.2, low) in
+    let third : get_or (drop (from + 1) stream) (k - from + 1) 0 ≡ 1 = get_or-drop (from + 1) stream (k - from + 1) 0 ∙ grind (arith, stands.3, low) in
+    none (k - from) (omega arith) (omega (arith, low, high)) (has_pair f (drop (from + 1) stream) (k - from) e second third)
+
+pub no_pair_follows : (f : Finder) (stream : List ℕ) (from : ℕ) → FindsEnding f → Nowhere (HasPair f (drop (from + 1) stream)) 0 (length (drop (from + 1) stream) - reach_of f) → NoneStands stream from (length stream)
+no_pair_follows f stream from e none k low high stands =
+    no_pair f stream from (length (drop (from + 1) stream) - reach_of f) e none k low (omega (arith, reach f e, length-drop (from + 1) stream, stands.0)) stands
+
+pub pair_is_first : (f : Finder) (stream : List ℕ) (from ahead : ℕ) → FindsEnding f → NoneBefore (HasPair f (drop (from + 1) stream)) 0 (length (drop (from + 1) stream) - reach_of f) ahead → HasPair f (drop (from + 1) stream) ahead → EndsFirst stream from (Some (from + ahead))
+pair_is_first f stream from ahead e before here =
+    let third : get_or stream (from + 1 + (ahead + 1)) 0 ≡ 1 = sym (get_or-drop (from + 1) stream (ahead + 1) 0) ∙ one_of_pair f (drop (from + 1) stream) ahead e here in
+    (omega arith, omega (arith, reach f e, length-drop (from + 1) stream, before.high), grind (arith, third), no_pair f stream from ahead e before.before)
+
+-- ---- the places after one
+
+-- a place whose third byte is 1 and that has no start code, and the two after it, which have none by that byte
+pub none_past : (stream : List ℕ) (from at : ℕ) → NoneStands stream from at → get_or stream (at + 2) 0 ≡ 1 → ¬ StandsAt stream at → NoneStands stream from (at + 3)
+none_past stream from at before one none k low high stands = grind (arith, before k low, one, none, low, high, stands)
+
+pub first_behind : (stream : List ℕ) (from at : ℕ) (found : Option ℕ) → from ≤ at → NoneStands stream from at → IsFirstStart stream at found → IsFirstStart stream from found
+first_behind stream from at None le before none = none_joined stream from at (length stream) before none
+first_behind stream from at (Some k) le before first = (omega (arith, first.0), first.1, none_joined stream from at k before first.2)

@@ -2,8 +2,9 @@
 
 ghost use Rattle.std.specs.Prelude.{◌≤◌, ◌<◌, ◌≡◌, ◌+◌, length, take};
 ghost use Rattle.hevc_spec.specs.Units.{without_trailing_zeros};
-ghost use Rattle.hevc_bits.specs.StartCode.{EndsFirst, IsFirstStart, NoneStands, StandsAt};
+ghost use Rattle.hevc_bits.specs.StartCode.{EndsFirst, FindsEnding, IsFirstStart, NoneStands, StandsAt};
 
+use memchr::arch::all::packedpair::{Finder, Pair};
 use memchr::memchr;
 
 /// The first place at `from` or after it whose third byte is 1, as that of a start code is.
@@ -17,15 +18,53 @@ fn find_end(stream: &[u8], from: usize) -> Option<usize>
     }
 }
 
-/// The place of the first start code at `from` or after it. After a place whose third byte is 1 but that is none, two more
-/// are ruled out.
+/// The last two bytes of a start code.
+const ENDING: [u8; 2] = [0, 1];
+
+/// A search for these.
+#[inline(always)]
+fn ending_finder() -> Finder
+    ensures { FindsEnding result }
+{
+    let pair = Pair::with_indices(&ENDING, 0, 1).unwrap();
+    Finder::with_pair(&ENDING, pair)
+}
+
+/// The first place at `from` or after it whose second byte is 0 and whose third byte is 1.
+fn find_ending(stream: &[u8], from: usize) -> Option<usize>
+    requires { from + 2 ≤ length stream.now }
+    ensures { EndsFirst stream.now from result }
+{
+    match ending_finder().find_prefilter(&stream[from + 1..]) {
+        Some(ahead) => Some(from + ahead),
+        None => None,
+    }
+}
+
+/// The place of the first start code at `from` or after it. A byte 1 is searched for, which is the fastest, and once one
+/// ended no start code, 0 and 1, since there are more of them in a long unit.
 pub fn find_start_code(stream: &[u8], from: usize) -> Option<usize>
+    requires { from ≤ length stream.now }
+    ensures { IsFirstStart stream.now from result }
+{
+    if stream.len() - from < 3 {
+        return None;
+    }
+    let at = find_end(stream, from)?;
+    if stream[at] == 0 && stream[at + 1] == 0 {
+        return Some(at);
+    }
+    find_behind(stream, at + 3)
+}
+
+/// The same. After a place whose last two bytes are those of a start code but that is none, two more are ruled out.
+fn find_behind(stream: &[u8], from: usize) -> Option<usize>
     requires { from ≤ length stream.now }
     ensures { IsFirstStart stream.now from result }
 {
     let mut at = from;
     while at + 2 < stream.len() {
-        at = find_end(stream, at)?;
+        at = find_ending(stream, at)?;
         if stream[at] == 0 && stream[at + 1] == 0 {
             return Some(at);
         }

@@ -1,7 +1,6 @@
 //! Short-term reference picture sets, and their reader.
 #![tactic(auto)]
 
-mod arrays;
 mod listed_members;
 mod listed_set;
 mod member_flags;
@@ -10,6 +9,7 @@ mod predicted_set;
 mod prediction;
 mod set_of_members;
 mod short_term_set;
+mod side;
 mod sides;
 
 pub use short_term_set::read_short_term_set;

@@ -6,7 +6,7 @@ ghost use Rattle.hevc_elements.specs.Reads.{Reads};
 ghost use Rattle.hevc_tables.specs.ShortTermTable.{member_before, member_after, listed_before, listed_after, last_delta};
 ghost use Rattle.hevc_short_term_laws.specs.Sides.{LieBefore, LieAfter};
 
-use arrayvec::ArrayVec;
+use crate::side::Side;
 use hevc_bits::NaluReader;
 use hevc_elements::ParseError;
 use hevc_elements::rows::{flag, ue};
@@ -18,18 +18,18 @@ use hevc_tables::ShortTermMember;
 pub(crate) fn read_listed_before(
     r: &mut NaluReader<'_>,
     count: u8,
-    members: &mut ArrayVec<ShortTermMember, 17>,
+    members: &mut Side,
 ) -> Result<(), ParseError>
     requires few { count ≤ 16 }
-    requires none { members.old.items ≡ [] }
-    ensures read { Reads (λ _. members.new.items) result r.new
+    requires none { members.old ≡ [] }
+    ensures read { Reads (λ _. members.new) result r.new
         (read (listed_before count) (bits r.old)) }
     ensures moves { IsAhead r.old r.new }
-    ensures all { OnOk result (length members.new.items ≡ count) }
-    ensures before { OnOk result (LieBefore members.new.items) }
+    ensures all { OnOk result (length members.new ≡ count) }
+    ensures before { OnOk result (LieBefore members.new) }
 {
-    for i in 0..count {
-        let member = read_member_before(r, members.as_slice())?;
+    for _ in 0..count {
+        let member = read_member_before(r, members)?;
         members.push(member);
     }
     Ok(())
@@ -37,12 +37,7 @@ pub(crate) fn read_listed_before(
 
 /// Rows 9 and 10 of table 7, for the member after these.
 #[tactic(auto, unfolding(hevc_tables::specs::ShortTermTable::member_before))]
-fn read_member_before(
-    r: &mut NaluReader<'_>,
-    members: &[ShortTermMember],
-) -> Result<ShortTermMember, ParseError>
-    requires least { negsuc 4294967295 ≤ℤ last_delta members.now }
-    requires most { last_delta members.now ≤ℤ pos 0 }
+fn read_member_before(r: &mut NaluReader<'_>, members: &Side) -> Result<ShortTermMember, ParseError>
     ensures read { Reads (λ m. m) result r.new
         (read (member_before (last_delta members.now)) (bits r.old)) }
     ensures moves { IsAhead r.old r.new }
@@ -52,7 +47,7 @@ fn read_member_before(
     let delta_poc_s0_minus1 = ue(r, Row(7, 9), 0, 32767)?;
     let used_by_curr_pic = flag(r, Row(7, 10))?;
     Ok(ShortTermMember {
-        delta_poc: difference_of_last(members) - (i64::from(delta_poc_s0_minus1) + 1),
+        delta_poc: i64::from(members.last_difference()) - (i64::from(delta_poc_s0_minus1) + 1),
         used_by_curr_pic,
     })
 }
@@ -62,18 +57,18 @@ fn read_member_before(
 pub(crate) fn read_listed_after(
     r: &mut NaluReader<'_>,
     count: u8,
-    members: &mut ArrayVec<ShortTermMember, 17>,
+    members: &mut Side,
 ) -> Result<(), ParseError>
     requires few { count ≤ 16 }
-    requires none { members.old.items ≡ [] }
-    ensures read { Reads (λ _. members.new.items) result r.new
+    requires none { members.old ≡ [] }
+    ensures read { Reads (λ _. members.new) result r.new
         (read (listed_after count) (bits r.old)) }
     ensures moves { IsAhead r.old r.new }
-    ensures all { OnOk result (length members.new.items ≡ count) }
-    ensures after { OnOk result (LieAfter members.new.items) }
+    ensures all { OnOk result (length members.new ≡ count) }
+    ensures after { OnOk result (LieAfter members.new) }
 {
-    for i in 0..count {
-        let member = read_member_after(r, members.as_slice())?;
+    for _ in 0..count {
+        let member = read_member_after(r, members)?;
         members.push(member);
     }
     Ok(())
@@ -81,12 +76,7 @@ pub(crate) fn read_listed_after(
 
 /// Rows 11 and 12 of table 7, for the member after these.
 #[tactic(auto, unfolding(hevc_tables::specs::ShortTermTable::member_after))]
-fn read_member_after(
-    r: &mut NaluReader<'_>,
-    members: &[ShortTermMember],
-) -> Result<ShortTermMember, ParseError>
-    requires least { pos 0 ≤ℤ last_delta members.now }
-    requires most { last_delta members.now ≤ℤ pos 4294967295 }
+fn read_member_after(r: &mut NaluReader<'_>, members: &Side) -> Result<ShortTermMember, ParseError>
     ensures read { Reads (λ m. m) result r.new
         (read (member_after (last_delta members.now)) (bits r.old)) }
     ensures moves { IsAhead r.old r.new }
@@ -96,18 +86,7 @@ fn read_member_after(
     let delta_poc_s1_minus1 = ue(r, Row(7, 11), 0, 32767)?;
     let used_by_curr_pic = flag(r, Row(7, 12))?;
     Ok(ShortTermMember {
-        delta_poc: difference_of_last(members) + (i64::from(delta_poc_s1_minus1) + 1),
+        delta_poc: i64::from(members.last_difference()) + (i64::from(delta_poc_s1_minus1) + 1),
         used_by_curr_pic,
     })
-}
-
-/// The difference of the last member, else 0.
-#[tactic(auto, using(hevc_short_term_laws::proofs::Listed::last_is))]
-fn difference_of_last(members: &[ShortTermMember]) -> i64
-    ensures { result ≡ last_delta members.now }
-{
-    match members.len() {
-        0 => 0,
-        count => members[count - 1].delta_poc,
-    }
 }

@@ -6,7 +6,7 @@ ghost use Rattle.hevc_types_a.specs.ShortTermRefPicSet.{plain_short_term_ref_pic
 
 use crate::listed_members::{read_listed_after, read_listed_before};
 use crate::set_of_members::put_members;
-use arrayvec::ArrayVec;
+use crate::side::Side;
 use hevc_bits::NaluReader;
 use hevc_elements::ParseError;
 use hevc_elements::rows::ue_u8;
@@ -26,10 +26,10 @@ pub(crate) fn read_listed_set(
 {
     let num_negative_pics = ue_u8(r, Row(7, 7), 0, buffering)?;
     let num_positive_pics = ue_u8(r, Row(7, 8), 0, buffering - num_negative_pics)?;
-    let mut before = ArrayVec::new();
+    let mut before = Side::new();
     read_listed_before(r, num_negative_pics, &mut before)?;
-    let mut after = ArrayVec::new();
+    let mut after = Side::new();
     read_listed_after(r, num_positive_pics, &mut after)?;
-    put_members(set, before.as_slice(), after.as_slice());
+    put_members(set, &before, &after);
     Ok(())
 }

@@ -55,6 +55,6 @@ fn fit_members(
     check(r, Row(7, 6), has_room(members))?;
     let before = members_before(members);
     let after = members_after(members);
-    put_members(set, before.as_slice(), after.as_slice());
+    put_members(set, &before, &after);
     Ok(())
 }

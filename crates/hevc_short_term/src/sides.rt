@@ -5,19 +5,19 @@ ghost use Rattle.hevc_tables.specs.ShortTermTable.{deltas, is_i32, members_befor
 ghost use Rattle.hevc_short_term_laws.specs.Orders.{Rises};
 ghost use Rattle.hevc_short_term_laws.specs.Sides.{LieBefore, LieAfter};
 
-use arrayvec::ArrayVec;
+use crate::side::Side;
 use hevc_tables::ShortTermMember;
 
 /// The members before the current picture, nearest first, out of members in rising order.
 #[tactic(auto, using(hevc_short_term_laws::proofs::Parts::parts), unfolding(hevc_tables::specs::ShortTermTable::members_before))]
-pub(crate) fn members_before(members: &[ShortTermMember]) -> ArrayVec<ShortTermMember, 17>
+pub(crate) fn members_before(members: &[ShortTermMember]) -> Side
     requires few { length members.now ≤ 16 }
     requires rises { Rises (deltas members.now) }
     requires fit { IsTrue (list_all is_i32 (deltas members.now)) }
-    ensures items { result.items ≡ before_by_table members.now }
-    ensures before { LieBefore result.items }
+    ensures items { result ≡ before_by_table members.now }
+    ensures before { LieBefore result }
 {
-    let mut before = ArrayVec::new();
+    let mut before = Side::new();
     for i in (0..members.len()).rev() {
         let member = members[i];
         if member.delta_poc < 0 {
@@ -29,14 +29,14 @@ pub(crate) fn members_before(members: &[ShortTermMember]) -> ArrayVec<ShortTermM
 
 /// The members after the current picture, nearest first, out of members in rising order.
 #[tactic(auto, using(hevc_short_term_laws::proofs::Parts::parts), unfolding(hevc_tables::specs::ShortTermTable::members_after))]
-pub(crate) fn members_after(members: &[ShortTermMember]) -> ArrayVec<ShortTermMember, 17>
+pub(crate) fn members_after(members: &[ShortTermMember]) -> Side
     requires few { length members.now ≤ 16 }
     requires rises { Rises (deltas members.now) }
     requires fit { IsTrue (list_all is_i32 (deltas members.now)) }
-    ensures items { result.items ≡ after_by_table members.now }
-    ensures after { LieAfter result.items }
+    ensures items { result ≡ after_by_table members.now }
+    ensures after { LieAfter result }
 {
-    let mut after = ArrayVec::new();
+    let mut after = Side::new();
     for i in 0..members.len() {
         let member = members[i];
         if 0 < member.delta_poc {

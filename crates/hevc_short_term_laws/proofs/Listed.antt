@@ -10,7 +10,7 @@ use Rattle.hevc_short_term_laws.specs.Orders.{AllAbove, AllBelow}
 use Rattle.hevc_short_term_laws.specs.Sides.{LieBefore, LieAfter}
 use Rattle.hevc_short_term_laws.proofs.OrderLaws.{AllAbove-weaken, AllBelow-weaken, AllAbove-append, AllBelow-append, Rises-append, Falls-append}
 
-last_of_push : (ms : List ShortTermMember) (m : ShortTermMember) → last_delta (ms ++ m ∷ []) ≡ m.delta_poc
+pub last_of_push : (ms : List ShortTermMember) (m : ShortTermMember) → last_delta (ms ++ m ∷ []) ≡ m.delta_poc
 last_of_push [] m = refl
 last_of_push (x ∷ []) m = refl
 last_of_push (x ∷ y ∷ ms) m = last_of_push (y ∷ ms) m

@@ -1,10 +1,9 @@
 -- Members on either side of the current picture.
-use Rattle.std.proofs.Common.{◌≡◌, ℕ, zero, suc, ◌+◌, ◌<◌, ◌≤◌, ℤ, pos, Bool, true, false, cond, List, [], ◌∷◌, length, reverse, get_or, map, filter, refl, arith, IsTrue, slice_index_or}
+use Rattle.std.proofs.Common.{◌≡◌, ℕ, zero, suc, ◌+◌, ◌<◌, ◌≤◌, ℤ, pos, Bool, true, false, cond, List, [], ◌∷◌, length, reverse, get_or, filter, refl, arith, IsTrue}
 use Rattle.std.specs.Prelude.{int_lt}
 use Rattle.std.specs.List.{list_all}
 use Rattle.std.proofs.lemmas.Bool.Decides.{nat_tests}
-use Rattle.std.proofs.lemmas.List.{length-reverse, get_or-map}
-use Rattle.hevc_records.specs.ShortTermRefPicSet.{PlainShortTermRefPicSet}
+use Rattle.std.proofs.lemmas.List.{length-reverse}
 use Rattle.hevc_tables.specs.declared.short_term_member.ShortTermMember.{ShortTermMember}
 use Rattle.hevc_tables.specs.ShortTermTable.{deltas, is_i32, members_before, members_after, has_room}
 use Rattle.hevc_short_term_laws.specs.Orders.{AllAbove, AllBelow, Rises}

@@ -6,10 +6,10 @@ use Rattle.hevc_tables.specs.ShortTermTable.{next_member_after, listed_after}
 use Rattle.hevc_short_term_laws.proofs.Listed.{UpTo}
 use Rattle.hevc_short_term.proofs.listed_members.read_listed_after.Given as goal
 
-abbrev pub invariant-loop-i : goal.invariant-loop-i
-invariant-loop-i l = record {
-  same : read (repeat next_member_after l.i (l.count - l.i) l.members.items) (bits l.r) ≡ read (listed_after l.count) (bits l.fn.r);
-  count : length l.members.items ≡ l.i;
-  order : UpTo l.members.items;
+abbrev pub invariant-loop : goal.invariant-loop
+invariant-loop l = record {
+  same : read (repeat next_member_after l.counter (l.count - l.counter) l.members) (bits l.r) ≡ read (listed_after l.count) (bits l.fn.r);
+  count : length l.members ≡ l.counter;
+  order : UpTo l.members;
   ahead : IsAhead l.fn.r l.r;
 }

@@ -6,10 +6,10 @@ use Rattle.hevc_tables.specs.ShortTermTable.{next_member_before, listed_before}
 use Rattle.hevc_short_term_laws.proofs.Listed.{DownTo}
 use Rattle.hevc_short_term.proofs.listed_members.read_listed_before.Given as goal
 
-abbrev pub invariant-loop-i : goal.invariant-loop-i
-invariant-loop-i l = record {
-  same : read (repeat next_member_before l.i (l.count - l.i) l.members.items) (bits l.r) ≡ read (listed_before l.count) (bits l.fn.r);
-  count : length l.members.items ≡ l.i;
-  order : DownTo l.members.items;
+abbrev pub invariant-loop : goal.invariant-loop
+invariant-loop l = record {
+  same : read (repeat next_member_before l.counter (l.count - l.counter) l.members) (bits l.r) ≡ read (listed_before l.count) (bits l.fn.r);
+  count : length l.members ≡ l.counter;
+  order : DownTo l.members;
   ahead : IsAhead l.fn.r l.r;
 }
