@@ -1,5 +1,5 @@
 -- What is written of the calls and the outputs is the report on the stream.
-use Rattle.std.proofs.Common.{◌≡◌, ℕ, suc, ◌+◌, ◌<◌, Bool, true, false, cond, nat_lt, nat_eq, List, [], ◌∷◌, ◌++◌, map, length, take, codes, decimal, Option, None, Some, IfSome, Result, Ok, Err, refl, sym, ap, ap₂, subst, ◌∙◌, is_ok, arith, length-append}
+use Rattle.std.proofs.Common.{◌≡◌, ℕ, suc, ◌+◌, ◌<◌, Bool, true, false, cond, nat_lt, nat_eq, List, [], ◌∷◌, ◌++◌, map, length, take, codes, decimal, Option, None, Some, IfSome, Result, Ok, Err, refl, sym, ap, ap₂, subst, ◌∙◌, is_ok, arith, append_assoc, length-append}
 use Rattle.std.proofs.lemmas.List.{map-append}
 use Rattle.std.proofs.lemmas.List.Elements.{filter-append}
 use Rattle.std.proofs.lemmas.Bool.Decides.{nat_tests}
@@ -23,7 +23,7 @@ use Rattle.hevc_decoder.specs.declared.decoded.Refused.{Refused}
 use Rattle.hevc_decoder.specs.Answers.{IsNoMemory, IsOkOrNoMemory, without_unit}
 use Rattle.hevc_decoder.specs.Headline.{Grew, Appended, AnswersError, AnswersVerdict, EndsCalls, EndsCallsAt, EndsOutputs, EndsOutputsAt, SubmitsLast, all_asked}
 use Rattle.hevc_decoder.specs.Names.{output_picture, answer_of}
-use Rattle.hevc_report.specs.Lines.{log_line, shown_line, shown_counts, summary_text, text_of}
+use Rattle.hevc_report.specs.Lines.{log_line, rest_text, shown_line, shown_counts, summary_text, text_of}
 use Rattle.hevc_report.specs.Report.{calls_text, submission_line, output_line, cause_text, last_line, ending_of, calls_made, outputs_given, text_for, report_of}
 use Rattle.hevc_report.specs.Status.{WantsMemory}
 use Rattle.hevc_report.specs.Summary.{lowest, highest, falls, counts_text, numbers_line, summary_for, summary_line, summary_of}
@@ -148,6 +148,10 @@ pub report_is : (options : Options) (stream : List ℕ) (empty after log : List 
 report_is options stream empty after log none given shown result p q r s b m c o a counted =
     let us = meanings options stream in
     text_is us log shown result (whole_of us empty after log none given shown result p q r s b m c o a) counted
+
+-- a text is the lines of the calls, and the rest
+pub in_parts : (log : List (Call ℕ)) (shown : List (Shown ℕ)) (result : Result ℕ Refused) → flat_map log_line log ++ rest_text shown result ≡ text_of log shown result
+in_parts log shown result = sym (append_assoc (flat_map log_line log) (flat_map shown_line shown) (last_line (length shown) result))
 
 -- what follows of the bytes that a source had left, where it exposes them
 pub told_by : (left : Option (List ℕ)) (P Q : List ℕ → Type 0) → ((s : List ℕ) → P s → Q s) → IfSome left P → IfSome left Q

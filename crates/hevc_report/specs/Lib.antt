@@ -1,4 +1,5 @@
 pub mod Command
+pub mod Digits
 pub mod Grows
 pub mod Lines
 pub mod Report

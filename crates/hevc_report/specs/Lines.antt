@@ -26,6 +26,10 @@ log_line (SubmitPicture number handle) = submission_line number handle
 abbrev pub shown_line : Shown ℕ → List ℕ
 shown_line output = output_line (output_picture output)
 
+-- what comes after the lines of the calls: a line for each output, and the last
+abbrev pub rest_text : List (Shown ℕ) → Result ℕ Refused → List ℕ
+rest_text shown result = flat_map shown_line shown ++ last_line (length shown) result
+
 -- a line for each call of the log, one for each output, and the last
 abbrev pub text_of : List (Call ℕ) → List (Shown ℕ) → Result ℕ Refused → List ℕ
 text_of log shown result =

@@ -11,13 +11,20 @@ ghost use Rattle.hevc_report.specs.Report.{ending_of};
 ghost use Rattle.hevc_report.specs.Status.{IsMade, status_of};
 ghost use Rattle.hevc_report.specs.Summary.{summary_of};
 
-use crate::program::{INPUT_LIMIT, Report, wants_memory};
+use crate::program::{INPUT_LIMIT, wants_memory};
 use crate::report::summary_text;
 use hevc_backend::Backend;
 use hevc_decoder::{Options, decode_stream_with};
 use hevc_io::{Sink, SinkError, write_all};
 use hevc_made::make_stream;
 use std::alloc::{AllocError, Global};
+
+/// A line on a stream, and whether the stream was decoded.
+#[derive(Drop)]
+struct Report {
+    text: Vec<u8>,
+    is_decoded: bool,
+}
 
 /// Makes a stream of so many pictures, decodes it over a backend that records its calls, and writes one line.
 /// Answers the status of the program.

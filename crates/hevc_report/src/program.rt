@@ -1,5 +1,5 @@
 //! The top call: from the words of the command line to the status.
-ghost use Rattle.std.specs.Prelude.{◌≡◌, ◌==◌, ◌≤◌, ◌<◌, ◌⊎◌, ◌↔◌, ℕ, List, length, IfOk, IfSome, IsErrOf, IsTrue, OnErr, OnOk};
+ghost use Rattle.std.specs.Prelude.{◌≡◌, ◌==◌, ◌≤◌, ◌<◌, ◌⊎◌, ◌↔◌, ◌++◌, ℕ, List, length, is_ok, IfOk, IfSome, IsErrOf, IsTrue, OnErr, OnOk};
 ghost use Rattle.std.specs.declared.option.Option.TheVariants.{None, Some};
 ghost use Rattle.std.specs.Io.KnownBytes.{Appends, IsAtEnd};
 ghost use Rattle.hevc_faults.specs.Faults.{Rose};
@@ -11,6 +11,7 @@ ghost use Rattle.hevc_made.specs.Made.{made};
 ghost use Rattle.hevc_stream.specs.Options.{default_options};
 ghost use Rattle.hevc_report.specs.Command.{command, pictures_to_make};
 ghost use Rattle.hevc_io.specs.Prefix.{AppendsPrefix, AppendsLess};
+ghost use Rattle.hevc_report.specs.Lines.{rest_text};
 ghost use Rattle.hevc_report.specs.Report.{ending_of, report_of};
 ghost use Rattle.hevc_report.specs.Status.{status_of, IsDone, IsMade, WantsMemory};
 ghost use Rattle.hevc_report.specs.Summary.{summary_of};
@@ -19,18 +20,19 @@ ghost use Rattle.hevc_report.specs.Tells.{Tells};
 use crate::command::{read_command, read_make};
 use crate::made::run_made;
 use crate::report::{ReportBackend, push_rest};
-use hevc_decoder::{DecodeError, Decoded, Options, Refused, decode_source_with};
+use hevc_decoder::{DecodeError, Decoded, Options, Refused, Shown, decode_source_with};
 use hevc_io::{Sink, Source, Stop, Word, write_all};
 use std::alloc::Global;
 
 /// The longest input that is taken, in bytes.
 pub const INPUT_LIMIT: usize = 268_435_456;
 
-/// A report, and whether the stream was decoded.
+/// What a run over a source's stream leaves to be written: the lines of the calls, the outputs, and the answer.
 #[derive(Drop)]
-pub(crate) struct Report {
-    pub(crate) text: Vec<u8>,
-    pub(crate) is_decoded: bool,
+struct Trace {
+    calls: Vec<u8>,
+    shown: Vec<Shown<u64>>,
+    verdict: Result<u64, Refused>,
 }
 
 /// Decodes the source's stream as it comes, over a backend that reports its calls, and writes the report. `words`
@@ -139,18 +141,41 @@ fn write_report<S: Source, K: Sink>(
     ensures long { IsErrOf result Stop.TooLong
         → (sink.new ≡ sink.old) × IfSome (S.left source.old) (λ s. INPUT_LIMIT < length s) }
 {
-    let report = report_on(alloc, options, source)?;
-    write_all(sink, &report.text)?;
-    Ok(report.is_decoded)
+    let trace = trace_of(alloc, options, source)?;
+    let is_decoded = trace.verdict.is_ok();
+    write_trace(alloc, trace, sink)?;
+    Ok(is_decoded)
 }
 
-/// The report on the stream that a source has left.
-fn report_on<S: Source>(alloc: Global, options: Options, source: &mut S) -> Result<Report, Stop>
+/// Writes the lines of the calls, and then the rest, which is rendered in the memory of these lines.
+fn write_trace<K: Sink>(alloc: Global, trace: Trace, sink: &mut K) -> Result<(), Stop>
+    ensures whole { OnOk result (Appends (K.written sink.old) (K.written sink.new)
+        (trace.calls.items ++ rest_text trace.shown.items trace.verdict)) }
+    ensures less { OnErr result (AppendsLess (K.written sink.old) (K.written sink.new)
+        (trace.calls.items ++ rest_text trace.shown.items trace.verdict)) }
+    ensures write { IsErrOf result Stop.Write → Rose (K.faults sink.old) (K.faults sink.new) }
+    ensures reads_nothing { (IsErrOf result Stop.Read → ⊥) × (IsErrOf result Stop.TooLong → ⊥) }
+{
+    let Trace {
+        calls: mut text,
+        shown,
+        verdict,
+    } = trace;
+    write_all(sink, &text)?;
+    text.clear();
+    push_rest(alloc, &mut text, &shown, verdict)?;
+    write_all(sink, &text)?;
+    Ok(())
+}
+
+/// What the stream that a source has left comes to.
+fn trace_of<S: Source>(alloc: Global, options: Options, source: &mut S) -> Result<Trace, Stop>
     ensures end { OnOk result (IsAtEnd (S.left source.new)) }
-    ensures text { OfSource result (S.left source.old) (λ report s.
-        report.text.items ≡ report_of (options_of options) s) }
-    ensures tells { OfSource result (S.left source.old) (λ report s.
-        Tells INPUT_LIMIT (options_of options) s report.is_decoded) }
+    ensures text { OfSource result (S.left source.old) (λ trace s.
+        trace.calls.items ++ rest_text trace.shown.items trace.verdict
+        ≡ report_of (options_of options) s) }
+    ensures tells { OfSource result (S.left source.old) (λ trace s.
+        Tells INPUT_LIMIT (options_of options) s (is_ok trace.verdict)) }
     ensures read { IsErrOf result Stop.Read → Rose (S.faults source.old) (S.faults source.new) }
     ensures long { IsErrOf result Stop.TooLong
         → IfSome (S.left source.old) (λ s. INPUT_LIMIT < length s) }
@@ -163,11 +188,10 @@ fn report_on<S: Source>(alloc: Global, options: Options, source: &mut S) -> Resu
     if wants_memory(result) {
         return Err(Stop::NoMemory);
     }
-    let mut text = backend.into_text();
-    push_rest(alloc, &mut text, &shown, result)?;
-    Ok(Report {
-        text,
-        is_decoded: result.is_ok(),
+    Ok(Trace {
+        calls: backend.into_text(),
+        shown,
+        verdict: result,
     })
 }
 

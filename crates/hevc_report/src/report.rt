@@ -1,8 +1,7 @@
 //! The report of a run: a line for each call of the backend, one for each output, and a last one.
-ghost use Rattle.std.specs.Prelude.{◌≡◌, ◌++◌, OnOk, length};
+ghost use Rattle.std.specs.Prelude.{◌≡◌, ◌++◌, OnOk};
 ghost use Rattle.std.specs.List.{flat_map};
-ghost use Rattle.hevc_report.specs.Lines.{shown_line};
-ghost use Rattle.hevc_report.specs.Report.{last_line};
+ghost use Rattle.hevc_report.specs.Lines.{rest_text, shown_line};
 
 mod backend;
 mod last;
@@ -27,8 +26,7 @@ pub(crate) fn push_rest(
     shown: &[Shown<u64>],
     verdict: Result<u64, Refused>,
 ) -> Result<(), AllocError>
-    ensures { OnOk result (text.new.items ≡ text.old.items
-        ++ flat_map shown_line shown.now ++ last_line (length shown.now) verdict) }
+    ensures { OnOk result (text.new.items ≡ text.old.items ++ rest_text shown.now verdict) }
 {
     push_outputs(text, shown)?;
     let mut line = String::new(alloc);
