@@ -1,5 +1,6 @@
 pub mod Trimming
 pub mod StartCodes
+pub mod Blocks
 pub mod TypeTags
 pub mod PlaceLemmas
 pub mod Steps

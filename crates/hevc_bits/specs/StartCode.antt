@@ -1,8 +1,6 @@
 -- Where start codes are in a stream, place by place.
-use Rattle.std.specs.Prelude.{◌≡◌, ℕ, ◌+◌, ◌<◌, ◌≤◌, List, [], ◌∷◌, Option, length, slice_index, MatchOption}
+use Rattle.std.specs.Prelude.{◌≡◌, ℕ, ◌+◌, ◌<◌, ◌≤◌, List, ◌∷◌, Option, length, slice_index, MatchOption}
 use Rattle.hevc_spec.specs.Units.{units_from}
-use Rattle.memchr.specs.Pairs.{IsPairFinderOf, first_index, second_index, pair_of}
-use Rattle.memchr.specs.declared.arch.all.packedpair.Finder.{Finder}
 
 -- 00 00 01 is at a place
 abbrev pub StandsAt : List ℕ → ℕ → Type 0
@@ -21,20 +19,6 @@ abbrev pub IsFirstStart : List ℕ → ℕ → Option ℕ → Type 0
 IsFirstStart stream from found =
     MatchOption found (NoneStands stream from (length stream))
     (λ k. (from ≤ k) × StandsAt stream k × NoneStands stream from k)
-
--- the first place from one on whose third byte is 1; a start code is at none before it
-abbrev pub EndsFirst : List ℕ → ℕ → Option ℕ → Type 0
-EndsFirst stream from found = MatchOption found (NoneStands stream from (length stream))
-    (λ k. (from ≤ k)
-    × (k + 2 < length stream)
-    × (slice_index stream (k + 2) ≡ 1)
-    × NoneStands stream from k)
-
--- a finder of 0 and 1, one after the other
-pub record FindsEnding (f : Finder) : Type 0 where
-  pub finder : IsPairFinderOf f (0 ∷ 1 ∷ [])
-  pub first : first_index (pair_of f) ≡ 0
-  pub second : second_index (pair_of f) ≡ 1
 
 -- The first unit from a place on has these bytes, of which any are kept,
 -- and the other units come after any part of them.

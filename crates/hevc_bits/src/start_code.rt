@@ -1,74 +1,66 @@
 //! The search for the start code 00 00 01, and what follows a unit.
 
-ghost use Rattle.std.specs.Prelude.{◌≤◌, ◌<◌, ◌≡◌, ◌+◌, length, take};
+ghost use Rattle.std.specs.Prelude.{◌≡◌, ◌↔◌, ◌≤◌, ◌<◌, ◌+◌, ℕ, length, slice_index, take};
+ghost use Rattle.std.specs.Int.{bit_at};
 ghost use Rattle.hevc_spec.specs.Units.{without_trailing_zeros};
-ghost use Rattle.hevc_bits.specs.StartCode.{EndsFirst, FindsEnding, IsFirstStart, NoneStands, StandsAt};
+ghost use Rattle.hevc_bits.specs.StartCode.{IsFirstStart, NoneStands, StandsAt};
 
-use memchr::arch::all::packedpair::{Finder, Pair};
-use memchr::memchr;
+use std::simd::prelude::*;
 
-/// The first place at `from` or after it whose third byte is 1, as that of a start code is.
-fn find_end(stream: &[u8], from: usize) -> Option<usize>
-    requires { from + 2 ≤ length stream.now }
-    ensures { EndsFirst stream.now from result }
-{
-    match memchr(1, &stream[from + 2..]) {
-        Some(ahead) => Some(from + ahead),
-        None => None,
-    }
-}
+/// How many bytes of a stream are looked at at once.
+const BLOCK: usize = 64;
 
-/// The last two bytes of a start code.
-const ENDING: [u8; 2] = [0, 1];
-
-/// A search for these.
+/// Where a block has this byte: a bit for each place, from the lowest on.
 #[inline(always)]
-fn ending_finder() -> Finder
-    ensures { FindsEnding result }
+fn places_of(byte: u8, block: u8x64) -> u64
+    ensures { (k : ℕ) → (bit_at result k ≡ 1) ↔ ((k < 64) × (slice_index block k ≡ byte)) }
 {
-    let pair = Pair::with_indices(&ENDING, 0, 1).unwrap();
-    Finder::with_pair(&ENDING, pair)
+    block.simd_eq(u8x64::splat(byte)).to_bitmask()
 }
 
-/// The first place at `from` or after it whose second byte is 0 and whose third byte is 1.
-fn find_ending(stream: &[u8], from: usize) -> Option<usize>
-    requires { from + 2 ≤ length stream.now }
-    ensures { EndsFirst stream.now from result }
+/// The place of the first start code in a block. Few blocks of a coded slice have two zeros in a row.
+#[inline(always)]
+fn find_in_block(block: u8x64) -> Option<usize>
+    ensures { IsFirstStart block 0 result }
 {
-    match ending_finder().find_prefilter(&stream[from + 1..]) {
-        Some(ahead) => Some(from + ahead),
-        None => None,
+    let zeros = places_of(0, block);
+    let pairs = zeros & (zeros >> 1);
+    if pairs == 0 {
+        return None;
     }
+    let starts = pairs & (places_of(1, block) >> 2);
+    if starts == 0 {
+        return None;
+    }
+    Some(starts.trailing_zeros() as usize)
 }
 
-/// The place of the first start code at `from` or after it. A byte 1 is searched for, which is the fastest, and once one
-/// ended no start code, 0 and 1, since there are more of them in a long unit.
+/// The place of the first start code at `from` or after it. Blocks overlap by two bytes, so each start code is within one.
 pub fn find_start_code(stream: &[u8], from: usize) -> Option<usize>
     requires { from ≤ length stream.now }
     ensures { IsFirstStart stream.now from result }
 {
-    if stream.len() - from < 3 {
-        return None;
+    let mut at = from;
+    while stream.len() - at >= BLOCK {
+        if let Some(ahead) = find_in_block(u8x64::from_slice(&stream[at..])) {
+            return Some(at + ahead);
+        }
+        at += BLOCK - 2;
     }
-    let at = find_end(stream, from)?;
-    if stream[at] == 0 && stream[at + 1] == 0 {
-        return Some(at);
-    }
-    find_behind(stream, at + 3)
+    find_in_last(stream, at)
 }
 
-/// The same. After a place whose last two bytes are those of a start code but that is none, two more are ruled out.
-fn find_behind(stream: &[u8], from: usize) -> Option<usize>
+/// The same, byte by byte: for the last bytes of a stream, fewer than a block.
+fn find_in_last(stream: &[u8], from: usize) -> Option<usize>
     requires { from ≤ length stream.now }
     ensures { IsFirstStart stream.now from result }
 {
     let mut at = from;
     while at + 2 < stream.len() {
-        at = find_ending(stream, at)?;
-        if stream[at] == 0 && stream[at + 1] == 0 {
+        if stream[at] == 0 && stream[at + 1] == 0 && stream[at + 2] == 1 {
             return Some(at);
         }
-        at += 3;
+        at += 1;
     }
     None
 }

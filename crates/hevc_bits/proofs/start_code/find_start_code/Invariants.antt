@@ -1,6 +1,6 @@
 use Rattle.std.proofs.Common.{length, ◌-◌, ◌≤◌}
 use Rattle.hevc_bits.specs.StartCode.{NoneStands}
-use Rattle.hevc_bits.proofs.start_code.find_behind.Given as goal
+use Rattle.hevc_bits.proofs.start_code.find_start_code.Given as goal
 
 abbrev pub invariant-loop-at : goal.invariant-loop-at
 invariant-loop-at l = (l.from ≤ l.at) × (l.at ≤ length l.stream) × NoneStands l.stream l.from l.at
