@@ -2,7 +2,7 @@
 use Rattle.std.specs.Prelude.{◌≡◌, ℕ, ◌+◌, ◌<◌, ◌≤◌, List, ◌∷◌, Option, length, slice_index, MatchOption}
 use Rattle.hevc_spec.specs.Units.{units_from}
 
--- 00 00 01 is at a place
+-- start_code_prefix_one_3bytes (H.265 B.2.2), 00 00 01, is at a place
 abbrev pub StandsAt : List ℕ → ℕ → Type 0
 StandsAt stream k =
     (k + 2 < length stream)
@@ -20,7 +20,7 @@ IsFirstStart stream from found =
     MatchOption found (NoneStands stream from (length stream))
     (λ k. (from ≤ k) × StandsAt stream k × NoneStands stream from k)
 
--- The first unit from a place on has these bytes, of which any are kept,
+-- The first unit from a place on (H.265 B.3) has these bytes, of which any are kept,
 -- and the other units come after any part of them.
 abbrev pub IsFirstCut : ℕ → List ℕ → ℕ → List ℕ → Type 0
 IsFirstCut from stream offset bytes = (kept : List ℕ → List ℕ) (size : ℕ) → size ≤ length bytes
