@@ -1,4 +1,5 @@
 //! A stream that is decoded by the calls for C.
+use crate::checks::check;
 use hevc_calls::{DecodeCall, UnitCall, accept_format, decode, flush, next_event, next_unit};
 use hevc_driver::Options;
 use hevc_made::make_stream;
@@ -72,23 +73,29 @@ fn decode_with(decoder: &mut PullDecoder, alloc: Global, stream: &[u8]) -> Resul
 fn nine_pictures_are_output_in_order(rt: HostRuntime) -> Result<(), Fail> {
     let stream = make_stream(rt.alloc(), 9)?;
     let came = decode_all(rt.alloc(), &stream)?;
-    assert!(rt; came.outputs.as_slice() == [0, 4, 3, 5, 2, 7, 6, 8, 1].as_slice());
-    // A sequence, four calls for each picture, and the outputs.
-    assert_eq!(rt; came.events, 1 + 4 * 9 + 9);
-    Ok(())
+    check(
+        came.outputs.as_slice() == [0, 4, 3, 5, 2, 7, 6, 8, 1].as_slice(),
+        "outputs",
+    )?;
+    check(
+        came.events == 1 + 4 * 9 + 9,
+        "a sequence, four calls for each picture, and the outputs",
+    )
 }
 
 #[test]
-fn a_format_that_is_not_awaited(rt: HostRuntime) {
+fn a_format_that_is_not_awaited(rt: HostRuntime) -> Result<(), Fail> {
     let mut decoder = PullDecoder::new(rt.alloc(), Options::new());
-    assert_eq!(rt; accept_format(&mut decoder), 16);
-    assert_eq!(rt; decoder.end(), 0);
+    let status = accept_format(&mut decoder);
+    check(
+        decoder.end() == 0 && status == 16,
+        "refused, and nothing waits",
+    )
 }
 
-#[test]
-fn units_of_a_stream(rt: HostRuntime) -> Result<(), Fail> {
-    let stream = [0, 0, 1, 0x40, 1, 12, 0, 0, 1, 0x46, 0x0B, 0x50];
-    let mut unit = UnitCall {
+/// The unit of a call that told nothing yet.
+fn no_unit() -> UnitCall {
+    UnitCall {
         offset: 0,
         size: 0,
         nal_unit_type: 0,
@@ -96,16 +103,39 @@ fn units_of_a_stream(rt: HostRuntime) -> Result<(), Fail> {
         temporal_id: 0,
         table: 0,
         row: 0,
-    };
-    assert_eq!(rt; next_unit(&stream, 0, &mut unit), 0);
-    assert!(rt; unit.offset == 3 && unit.size == 3 && unit.nal_unit_type == 32);
-    assert_eq!(rt; next_unit(&stream, 6, &mut unit), 0);
-    assert!(rt; unit.offset == 9 && unit.size == 3 && unit.nal_unit_type == 35);
-    assert!(rt; unit.layer_id == 1 && unit.temporal_id == 2);
-    assert_eq!(rt; next_unit(&stream, 12, &mut unit), 1);
-    assert_eq!(rt; next_unit(&stream, 13, &mut unit), 17);
-    assert_eq!(rt; next_unit(&[0, 0, 1, 0x42], 0, &mut unit), 5);
-    assert_eq!(rt; next_unit(&[0, 0, 1, 0x7C, 1], 0, &mut unit), 6);
-    assert_eq!(rt; unit.row, 62);
-    Ok(())
+    }
+}
+
+#[test]
+fn units_of_a_stream() -> Result<(), Fail> {
+    let stream = [0, 0, 1, 0x40, 1, 12, 0, 0, 1, 0x46, 0x0B, 0x50];
+    let mut unit = no_unit();
+    check(next_unit(&stream, 0, &mut unit) == 0, "the first unit")?;
+    check(
+        unit.offset == 3 && unit.size == 3 && unit.nal_unit_type == 32,
+        "its place and type",
+    )?;
+    check(next_unit(&stream, 6, &mut unit) == 0, "the second unit")?;
+    check(
+        unit.offset == 9 && unit.size == 3 && unit.nal_unit_type == 35,
+        "its place and type",
+    )?;
+    check(
+        unit.layer_id == 1 && unit.temporal_id == 2,
+        "its layer and sub-layer",
+    )?;
+    check(next_unit(&stream, 12, &mut unit) == 1, "no third unit")?;
+    check(
+        next_unit(&stream, 13, &mut unit) == 17,
+        "a place past the end",
+    )?;
+    check(
+        next_unit(&[0, 0, 1, 0x42], 0, &mut unit) == 5,
+        "a header that ends",
+    )?;
+    check(
+        next_unit(&[0, 0, 1, 0x7C, 1], 0, &mut unit) == 6,
+        "an unspecified type",
+    )?;
+    check(unit.row == 62, "its number")
 }

@@ -1,4 +1,5 @@
 //! The structs of Linux's stateless decoders over a decoder.
+use crate::checks::check;
 use hevc_calls::{
     DecodeCall, accept_format, decode, picture_controls, slice_control, want_controls,
 };
@@ -44,31 +45,54 @@ fn structs_of(
     Ok((picture, filled.or(Err("not held"))?))
 }
 
+/// Compares what the calls fill with what the decoder has.
+fn compare(decoder: &mut PullDecoder, stream: &[u8]) -> Result<(), Fail> {
+    check(
+        decoder.picture_controls().is_none() && decoder.slice_control().is_none(),
+        "no structs",
+    )?;
+    check(want_controls(decoder) == 0, "structs are wanted")?;
+    check(decoder.picture_controls().is_none(), "none is filled yet")?;
+    let (mut picture, mut slice) = structs_of(decoder, stream)?;
+    picture.decode_params.num_active_dpb_entries = 0;
+    slice.bit_size = 0;
+    check(
+        picture_controls(decoder, &mut picture) == 0,
+        "the structs of a picture",
+    )?;
+    check(picture.sps.pic_width_in_luma_samples == 16, "its width")?;
+    check(
+        picture.decode_params.pic_order_cnt_val == 8,
+        "its order count",
+    )?;
+    check(
+        picture.decode_params.num_active_dpb_entries == 1,
+        "its reference picture",
+    )?;
+    check(
+        picture.decode_params.dpb[0].timestamp == 0,
+        "that picture's number",
+    )?;
+    check(
+        slice_control(decoder, &mut slice) == 0,
+        "the struct of a slice segment",
+    )?;
+    check(
+        slice.slice_pic_order_cnt == 8 && slice.ref_idx_l0[0] == 0,
+        "its picture and reference",
+    )?;
+    check(slice.bit_size != 0, "its size")
+}
+
 #[test]
 fn structs_of_the_latest_picture(rt: HostRuntime) -> Result<(), Fail> {
     let stream = make_stream(rt.alloc(), 2)?;
     let mut decoder = PullDecoder::new(rt.alloc(), Options::new());
-    assert!(rt; decoder.picture_controls().is_none() && decoder.slice_control().is_none());
-    assert_eq!(rt; want_controls(&mut decoder), 0);
-    assert!(rt; decoder.picture_controls().is_none());
-    let (mut picture, mut slice) = match structs_of(&mut decoder, stream.as_slice()) {
-        Ok(structs) => structs,
-        Err(fail) => {
-            let _waiting = decoder.end();
-            return Err(fail);
-        }
-    };
-    picture.decode_params.num_active_dpb_entries = 0;
-    slice.bit_size = 0;
-    assert_eq!(rt; picture_controls(&decoder, &mut picture), 0);
-    assert_eq!(rt; picture.sps.pic_width_in_luma_samples, 16);
-    assert_eq!(rt; picture.decode_params.pic_order_cnt_val, 8);
-    assert_eq!(rt; picture.decode_params.num_active_dpb_entries, 1);
-    assert!(rt; picture.decode_params.dpb[0].timestamp == 0);
-    assert_eq!(rt; slice_control(&decoder, &mut slice), 0);
-    assert!(rt; slice.slice_pic_order_cnt == 8 && slice.ref_idx_l0[0] == 0);
-    assert!(rt; slice.bit_size != 0);
-    // A sequence, three calls for each picture, and that the first is whole.
-    assert_eq!(rt; decoder.end(), 1 + 2 * 3 + 1);
-    Ok(())
+    let compared = compare(&mut decoder, stream.as_slice());
+    let waiting = decoder.end();
+    compared?;
+    check(
+        waiting == 1 + 2 * 3 + 1,
+        "a sequence, three calls for each picture, that the first is whole",
+    )
 }

@@ -1,4 +1,5 @@
 //! Sets and headers that are read without a decoder.
+use crate::checks::check;
 use hevc_calls::{UnitCall, UnitRead, read_unit};
 use hevc_fields::{pps_fields, slice_fields, sps_fields, vps_fields};
 use hevc_made::make_stream;
@@ -28,24 +29,73 @@ fn nothing_read(alloc: Global) -> Result<UnitRead, Fail> {
     })
 }
 
+/// Reads three units of a stream of two pictures: each set, and the second picture's slice segment header.
+fn read_two_pictures(sets: &mut Parser, stream: &[u8], told: &mut UnitRead) -> Result<(), Fail> {
+    check(read_unit(sets, stream, told) == 0, "a sequence set")?;
+    check(told.unit.nal_unit_type == 33, "its type")?;
+    check(told.unit.offset == 3 && told.unit.size == 27, "its place")?;
+    check(
+        told.sps.pic_width_in_luma_samples == 16 && told.sps.chroma_format_idc == 1,
+        "its format",
+    )?;
+    check(told.sps.profile.general_level_idc == 60, "its level")?;
+    let rest = stream.get(30..).ok_or("short")?;
+    check(read_unit(sets, rest, told) == 0, "a picture set")?;
+    check(
+        told.unit.nal_unit_type == 34 && told.pps.init_qp_minus26 == 0,
+        "its fields",
+    )?;
+    let slices = stream.get(46..).ok_or("short")?;
+    check(read_unit(sets, slices, told) == 0, "a slice segment header")?;
+    check(
+        told.unit.nal_unit_type == 1 && told.slice.slice_pic_order_cnt_lsb == 8,
+        "its order count",
+    )?;
+    check(
+        told.slice.slice_type == 1 && told.slice.num_negative_pics == 1,
+        "its references",
+    )?;
+    check(
+        told.sps.pic_height_in_luma_samples == 16,
+        "the sequence set stays told",
+    )
+}
+
 #[test]
 fn sets_and_headers_of_a_stream(rt: HostRuntime) -> Result<(), Fail> {
     let stream = make_stream(rt.alloc(), 2)?;
     let mut sets = Parser::new(rt.alloc());
     let mut told = nothing_read(rt.alloc())?;
-    assert_eq!(rt; read_unit(&mut sets, stream.as_slice(), &mut told), 0);
-    assert!(rt; told.unit.nal_unit_type == 33 && told.unit.offset == 3 && told.unit.size == 27);
-    assert!(rt; told.sps.pic_width_in_luma_samples == 16 && told.sps.chroma_format_idc == 1);
-    assert_eq!(rt; told.sps.profile.general_level_idc, 60);
-    let rest = stream.as_slice().get(30..).ok_or("short")?;
-    assert_eq!(rt; read_unit(&mut sets, rest, &mut told), 0);
-    assert!(rt; told.unit.nal_unit_type == 34 && told.pps.init_qp_minus26 == 0);
-    let slices = stream.as_slice().get(46..).ok_or("short")?;
-    assert_eq!(rt; read_unit(&mut sets, slices, &mut told), 0);
-    assert!(rt; told.unit.nal_unit_type == 1 && told.slice.slice_pic_order_cnt_lsb == 8);
-    assert!(rt; told.slice.slice_type == 1 && told.slice.num_negative_pics == 1);
-    assert_eq!(rt; told.sps.pic_height_in_luma_samples, 16);
-    Ok(())
+    read_two_pictures(&mut sets, stream.as_slice(), &mut told)
+}
+
+/// Reads units that are refused, and two that are passed over.
+fn read_refused(sets: &mut Parser, stream: &[u8], told: &mut UnitRead) -> Result<(), Fail> {
+    let rest = stream.get(30..).ok_or("short")?;
+    check(
+        read_unit(sets, rest, told) == 18,
+        "a picture set without its sequence set",
+    )?;
+    check(
+        told.unit.row == 0 && told.unit.size == 6,
+        "the id that it names, and its size",
+    )?;
+    let slice = stream.get(39..).ok_or("short")?;
+    check(
+        read_unit(sets, slice, told) == 9,
+        "a slice segment without its picture set",
+    )?;
+    check(
+        read_unit(sets, &[0, 0, 1, 0x42, 1, 1], told) == 7,
+        "a sequence set that ends",
+    )?;
+    check(
+        read_unit(sets, &[0, 0, 1, 0x46, 1, 0x50], told) == 0,
+        "a delimiter",
+    )?;
+    check(told.unit.nal_unit_type == 35, "its type")?;
+    check(read_unit(sets, &[0, 0], told) == 1, "no unit")?;
+    check(told.unit.size == 0, "no bytes")
 }
 
 #[test]
@@ -53,18 +103,5 @@ fn what_is_refused_and_what_is_passed_over(rt: HostRuntime) -> Result<(), Fail> 
     let stream = make_stream(rt.alloc(), 1)?;
     let mut sets = Parser::new(rt.alloc());
     let mut told = nothing_read(rt.alloc())?;
-    let rest = stream.as_slice().get(30..).ok_or("short")?;
-    assert_eq!(rt; read_unit(&mut sets, rest, &mut told), 18);
-    assert!(rt; told.unit.row == 0 && told.unit.size == 6);
-    let slice = stream.as_slice().get(39..).ok_or("short")?;
-    assert_eq!(rt; read_unit(&mut sets, slice, &mut told), 9);
-    assert_eq!(rt; read_unit(&mut sets, &[0, 0, 1, 0x42, 1, 1], &mut told), 7);
-    assert_eq!(rt;
-        read_unit(&mut sets, &[0, 0, 1, 0x46, 1, 0x50], &mut told),
-        0
-    );
-    assert_eq!(rt; told.unit.nal_unit_type, 35);
-    assert_eq!(rt; read_unit(&mut sets, &[0, 0], &mut told), 1);
-    assert_eq!(rt; told.unit.size, 0);
-    Ok(())
+    read_refused(&mut sets, stream.as_slice(), &mut told)
 }

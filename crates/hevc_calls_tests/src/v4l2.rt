@@ -1,12 +1,15 @@
 //! The structs of Linux's stateless decoders: values from outside, and each call once.
+use crate::checks::check;
 use hevc_bits::{Nalu, NaluHeader};
 use hevc_dpb::{Dpb, PictureData};
 use hevc_refs::{RefPicSet, ReferencePicLists};
 use hevc_types_c::Sps;
 use hevc_types_d::{Pps, Slice, SliceHeader};
 use hevc_v4l2::{
-    ControlError, decode_control, pps_control, scaling_control, slice_control, sps_control,
+    ControlError, V4l2CtrlHevcDecodeParams, V4l2CtrlHevcScalingMatrix, V4l2CtrlHevcSliceParams,
+    V4l2CtrlHevcSps, decode_control, pps_control, scaling_control, slice_control, sps_control,
 };
+use std::alloc::Global;
 use std::test::Fail;
 
 /// A unit of type 1 with four bytes, after its start code.
@@ -19,72 +22,105 @@ const INTRA: [u8; 64] = [
     21, 22, 25, 31, 41, 54, 70, 88, 24, 25, 29, 36, 47, 65, 88, 115,
 ];
 
-#[test]
-fn a_sequence_set(rt: HostRuntime) {
-    let mut sps = Sps::new(rt.alloc());
+/// The struct of a sequence set with two flags more than a new one.
+fn sequence_struct(alloc: Global) -> V4l2CtrlHevcSps {
+    let mut sps = Sps::new(alloc);
     sps.amp_enabled_flag = true;
     sps.strong_intra_smoothing_enabled_flag = true;
-    let control = sps_control(&sps);
-    assert_eq!(rt; control.pic_width_in_luma_samples, 1);
-    assert_eq!(rt; control.flags, 0x104);
+    sps_control(&sps)
 }
 
 #[test]
-fn a_picture_set(rt: HostRuntime) -> Result<(), Fail> {
+fn a_sequence_set(rt: HostRuntime) -> Result<(), Fail> {
+    let control = sequence_struct(rt.alloc());
+    check(control.pic_width_in_luma_samples == 1, "its width")?;
+    check(control.flags == 0x104, "its flags")
+}
+
+#[test]
+fn a_picture_set() -> Result<(), Fail> {
     let mut pps = Pps::new();
     pps.column_width_minus1[0] = 255;
     let control = pps_control(&pps).or(Err("refused"))?;
-    assert_eq!(rt; control.num_tile_columns_minus1, 0);
-    assert_eq!(rt; control.column_width_minus1[0], 255);
-    assert_eq!(rt; control.flags, 0x10_2000);
+    check(control.num_tile_columns_minus1 == 0, "one column")?;
+    check(control.column_width_minus1[0] == 255, "its width")?;
+    check(control.flags == 0x10_2000, "its flags")?;
     pps.row_height_minus1[21] = 256;
-    assert!(rt; pps_control(&pps).err() == Some(ControlError::TileRows));
+    check(
+        pps_control(&pps).err() == Some(ControlError::TileRows),
+        "a row that is too high",
+    )?;
     pps.column_width_minus1[0] = 256;
-    assert!(rt; pps_control(&pps).err() == Some(ControlError::TileColumns));
-    Ok(())
+    check(
+        pps_control(&pps).err() == Some(ControlError::TileColumns),
+        "a column that is too wide",
+    )
+}
+
+/// The lists of sets without any, where coefficients are scaled by lists, or not.
+fn lists_of(alloc: Global, is_enabled: bool) -> V4l2CtrlHevcScalingMatrix {
+    let mut sps = Sps::new(alloc);
+    sps.scaling_list_enabled_flag = is_enabled;
+    scaling_control(&sps, &Pps::new())
 }
 
 #[test]
-fn default_lists_row_by_row(rt: HostRuntime) {
-    let mut sps = Sps::new(rt.alloc());
-    let pps = Pps::new();
-    assert!(rt; scaling_control(&sps, &pps).scaling_list_32x32 == [[16; 64]; 2]);
-    sps.scaling_list_enabled_flag = true;
-    let control = scaling_control(&sps, &pps);
-    assert!(rt; control.scaling_list_8x8[0] == INTRA && control.scaling_list_32x32[0] == INTRA);
-    assert!(rt; control.scaling_list_dc_coef_16x16 == [16; 6]);
+fn default_lists_row_by_row(rt: HostRuntime) -> Result<(), Fail> {
+    check(
+        lists_of(rt.alloc(), false).scaling_list_32x32 == [[16; 64]; 2],
+        "flat lists",
+    )?;
+    let control = lists_of(rt.alloc(), true);
+    check(control.scaling_list_8x8[0] == INTRA, "8x8")?;
+    check(control.scaling_list_32x32[0] == INTRA, "32x32")?;
+    check(
+        control.scaling_list_dc_coef_16x16 == [16; 6],
+        "first entries",
+    )
+}
+
+/// The struct of a slice segment of this unit, with nothing in the buffer and no lists, and that of its picture.
+fn structs_of(
+    alloc: Global,
+    nalu: Nalu<'_, NaluHeader>,
+) -> (
+    Result<V4l2CtrlHevcSliceParams, ControlError>,
+    Result<V4l2CtrlHevcDecodeParams, ControlError>,
+) {
+    let mut slice = Slice::new(SliceHeader::new(alloc), nalu);
+    slice.header.header_bit_size = 17;
+    slice.header.n_emulation_prevention_bytes = 2;
+    let mut picture = PictureData::default();
+    picture.is_irap = true;
+    picture.pic_order_cnt_val = -7;
+    let sps = Sps::new(alloc);
+    let dpb: Dpb<u64> = Dpb::new(alloc);
+    let lists = ReferencePicLists::new();
+    let (list0, list1) = (&lists.ref_pic_list0, &lists.ref_pic_list1);
+    (
+        slice_control(&picture, &slice, &sps, &dpb, list0, list1),
+        decode_control(&picture, &slice, &sps, &dpb, &RefPicSet::new()),
+    )
 }
 
 #[test]
 fn a_slice_and_its_picture(rt: HostRuntime) -> Result<(), Fail> {
     let mut position = 0;
     let nalu = Nalu::<NaluHeader>::next(&STREAM, &mut position).or(Err("no unit"))?;
-    let mut slice = Slice::new(SliceHeader::new(rt.alloc()), nalu);
-    slice.header.header_bit_size = 17;
-    slice.header.n_emulation_prevention_bytes = 2;
-    let sps = Sps::new(rt.alloc());
-    let dpb: Dpb<u64> = Dpb::new(rt.alloc());
-    let lists = ReferencePicLists::new();
-    let control = slice_control(
-        &slice,
-        -7,
-        &sps,
-        &dpb,
-        &lists.ref_pic_list0,
-        &lists.ref_pic_list1,
+    let (slice, picture) = structs_of(rt.alloc(), nalu);
+    let control = slice.or(Err("refused"))?;
+    check(
+        control.bit_size == 32 && control.data_byte_offset == 5,
+        "its sizes",
+    )?;
+    check(
+        control.nal_unit_type == 1 && control.slice_pic_order_cnt == -7,
+        "its picture",
+    )?;
+    check(control.ref_idx_l0 == [255; 16], "no reference picture")?;
+    let control = picture.or(Err("refused"))?;
+    check(
+        control.num_active_dpb_entries == 0 && control.flags == 1,
+        "the picture",
     )
-    .or(Err("refused"))?;
-    assert_eq!(rt; control.bit_size, 32);
-    assert_eq!(rt; control.data_byte_offset, 5);
-    assert_eq!(rt; control.nal_unit_type, 1);
-    assert_eq!(rt; control.slice_pic_order_cnt, -7);
-    assert!(rt; control.ref_idx_l0 == [255; 16]);
-    let mut picture = PictureData::default();
-    picture.is_irap = true;
-    let control = decode_control(&picture, &slice, &sps, &dpb, &RefPicSet::new()).or(Err(
-        "refused",
-    ))?;
-    assert_eq!(rt; control.num_active_dpb_entries, 0);
-    assert_eq!(rt; control.flags, 1);
-    Ok(())
 }

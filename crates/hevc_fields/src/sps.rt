@@ -5,8 +5,8 @@ ghost use Rattle.hevc_fields.specs.Sps.{fields_of_sps, sps_flags};
 
 use crate::profile::{ProfileFields, profile_fields};
 use crate::vui::{VuiFields, vui_fields};
+use hevc_control_parts::flag_bits;
 use hevc_types_c::Sps;
-use hevc_v4l2::flag_bits;
 
 /// The elements of a sequence parameter set (7.3.2.2.1), by their names in H.265.
 #[repr(C)]

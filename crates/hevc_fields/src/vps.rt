@@ -4,8 +4,8 @@ ghost use Rattle.hevc_types_b.specs.Vps.{plain_vps};
 ghost use Rattle.hevc_fields.specs.Vps.{fields_of_vps, vps_flags};
 
 use crate::profile::{ProfileFields, profile_fields};
+use hevc_control_parts::flag_bits;
 use hevc_types_b::Vps;
-use hevc_v4l2::flag_bits;
 
 /// The elements of a video parameter set (7.3.2.1), by their names in H.265.
 #[repr(C)]

@@ -1,11 +1,12 @@
 -- The structs of Linux's stateless decoders, of the latest calls.
-use Rattle.std.specs.Prelude.{◌≡◌, ℤ, List, Option, Some, None, Result, Ok, Err, IfSome}
+use Rattle.std.specs.Prelude.{◌≡◌, List, Option, Some, None, Result, Ok, Err, IfSome}
 use Rattle.std.specs.Option.{option_map, option_or}
 use Rattle.std.specs.Box.{box_value}
 use Rattle.std.specs.Global.{Box}
 use Rattle.hevc_types_c.specs.Sps.{plain_sps}
 use Rattle.hevc_types_d.specs.Pps.{plain_pps}
 use Rattle.hevc_types_d.specs.SliceHeader.{plain_slice_header}
+use Rattle.hevc_pictures.specs.declared.picture_data.PictureData.{PictureData}
 use Rattle.hevc_dpb.specs.Entries.{reference_numbers}
 use Rattle.hevc_dpb.specs.Views.{stored_entries}
 use Rattle.hevc_refs.specs.Lists.{places_of}
@@ -49,13 +50,13 @@ structs_of_picture b = record {
 abbrev pub picture_controls : BegunPicture → Result PictureControls ControlError
 picture_controls b = held (picture_error b) (structs_of_picture b)
 
--- that of a slice segment, of a picture with this order count
-abbrev pub slice_control : (order_count : ℤ) → GivenSlice
+-- that of a slice segment of this picture
+abbrev pub slice_control : PictureData → GivenSlice
     → Result V4l2CtrlHevcSliceParams ControlError
-slice_control order_count s =
+slice_control picture s =
     held
     (slice_error s.slice (plain_sps s.sps) (places_of s.list0) (places_of s.list1))
-    (control_of_slice s.slice order_count (plain_sps s.sps)
+    (control_of_slice picture s.slice (plain_sps s.sps)
     (reference_numbers (stored_entries s.buffer)) (places_of s.list0) (places_of s.list1))
 
 -- those of the latest picture that began
@@ -64,7 +65,7 @@ latest_picture_controls given = option_map picture_controls (latest_begun given)
 
 abbrev pub slice_of_picture : Option BegunPicture → Option GivenSlice
     → Option (Result V4l2CtrlHevcSliceParams ControlError)
-slice_of_picture (Some b) (Some s) = Some (slice_control b.picture.pic_order_cnt_val s)
+slice_of_picture (Some b) (Some s) = Some (slice_control b.picture s)
 slice_of_picture b s = None
 
 -- that of the latest slice segment
@@ -81,8 +82,7 @@ abbrev pub no_controls : Controls
 no_controls = record { begun = None; slice = None }
 
 abbrev pub begun_controls : BegunPicture → BegunControls
-begun_controls b =
-    record { order_count = b.picture.pic_order_cnt_val; filled = picture_controls b }
+begun_controls b = record { picture = b.picture; filled = picture_controls b }
 
 -- the structs once a picture begins, and after a slice segment of it
 abbrev pub with_begun : BegunPicture → Controls → Controls
@@ -90,7 +90,7 @@ with_begun b controls = record { begun = Some (begun_controls b); slice = None }
 
 abbrev pub with_slice : GivenSlice → Controls → Controls
 with_slice s controls = record controls {
-  slice = option_map (λ (b : BegunControls). slice_control b.order_count s) controls.begun;
+  slice = option_map (λ (b : BegunControls). slice_control b.picture s) controls.begun;
 }
 
 -- what is filled is of the latest calls

@@ -24,10 +24,10 @@ pub struct PictureControls {
     pub decode_params: V4l2CtrlHevcDecodeParams,
 }
 
-/// The same, or what they can't hold, with PicOrderCntVal.
+/// The same, or what they can't hold, with the picture.
 #[derive(Clone, Copy)]
 pub struct BegunControls {
-    pub order_count: i32,
+    pub picture: PictureData,
     pub filled: Result<PictureControls, ControlError>,
 }
 
@@ -86,7 +86,7 @@ pub(crate) fn fill_picture(
 {
     if let Some(controls) = controls {
         controls.begun = Some(BegunControls {
-            order_count: picture.pic_order_cnt_val,
+            picture: *picture,
             filled: picture_controls(picture, sps, pps, dpb, rps, slice),
         });
         controls.slice = None;
@@ -109,7 +109,7 @@ pub(crate) fn fill_slice(
 {
     if let Some(controls) = controls {
         let filled = match &controls.begun {
-            Some(begun) => Some(slice_control(slice, begun.order_count, sps, dpb, list0, list1)),
+            Some(begun) => Some(slice_control(&begun.picture, slice, sps, dpb, list0, list1)),
             None => None,
         };
         controls.slice = filled;

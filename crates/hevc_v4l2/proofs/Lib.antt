@@ -1,3 +1,4 @@
 pub mod Ranges
+pub mod Products
 pub mod Shifts
 pub mod Sums

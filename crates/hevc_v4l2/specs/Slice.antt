@@ -4,6 +4,7 @@ use Rattle.std.specs.List.{list_any}
 use Rattle.std.specs.Option.{option_or}
 use Rattle.hevc_records.specs.Sps.{PlainSps}
 use Rattle.hevc_records.specs.SliceHeader.{PlainSliceSegmentHeader}
+use Rattle.hevc_pictures.specs.declared.picture_data.PictureData.{PictureData}
 use Rattle.hevc_types_d.specs.declared.slice.Slice.{Slice}
 use Rattle.hevc_types_d.specs.SliceHeader.{plain_slice_header}
 use Rattle.hevc_refs.specs.declared.ref_pic_list.RefPicListEntry.{RefPicListEntry}
@@ -13,7 +14,7 @@ use Rattle.hevc_v4l2.specs.declared.weights.V4l2HevcPredWeightTable.{V4l2HevcPre
 use Rattle.hevc_v4l2.specs.declared.slice.V4l2CtrlHevcSliceParams.{V4l2CtrlHevcSliceParams}
 use Rattle.hevc_v4l2.specs.Arrays.{padded}
 use Rattle.hevc_v4l2.specs.Buffer.{is_current, place_index}
-use Rattle.hevc_v4l2.specs.Flags.{flags_of}
+use Rattle.hevc_control_parts.specs.Flags.{flags_of}
 use Rattle.hevc_v4l2.specs.LongTerm.{long_term_size}
 use Rattle.hevc_v4l2.specs.Weights.{control_of_weights, weights_error}
 
@@ -59,10 +60,10 @@ slice_flags h =
     h.dependent_slice_segment_flag ∷ [])
 
 -- Each field has the element of its name, the header of a dependent slice segment being completed.
-abbrev pub filled_control : Slice → (order_count : ℤ) → PlainSps
+abbrev pub filled_control : PictureData → Slice → PlainSps
     → (bit_size data_offset short_term_bits : ℕ) → V4l2HevcPredWeightTable
     → (ref_idx_l0 ref_idx_l1 : List ℕ) → V4l2CtrlHevcSliceParams
-filled_control slice order_count sps bit_size data_offset short_term_bits weights l0 l1 =
+filled_control picture slice sps bit_size data_offset short_term_bits weights l0 l1 =
     let h = plain_slice_header slice.header in
     record {
       bit_size = bit_size;
@@ -72,7 +73,7 @@ filled_control slice order_count sps bit_size data_offset short_term_bits weight
       nuh_temporal_id_plus1 = slice.nalu.header.nuh_temporal_id_plus1;
       slice_type = h.type_;
       colour_plane_id = h.colour_plane_id;
-      slice_pic_order_cnt = order_count;
+      slice_pic_order_cnt = picture.pic_order_cnt_val;
       num_ref_idx_l0_active_minus1 = h.num_ref_idx_l0_active_minus1;
       num_ref_idx_l1_active_minus1 = h.num_ref_idx_l1_active_minus1;
       collocated_ref_idx = h.collocated_ref_idx;
@@ -100,11 +101,11 @@ filled_control slice order_count sps bit_size data_offset short_term_bits weight
 -- Sizes and weights are those of the unit and its header, and each place of a list is where its
 -- picture is among the reference pictures of the buffer, whose numbers these are; 255 where
 -- there is no such picture, and after the list.
-abbrev pub control_of_slice : Slice → (order_count : ℤ) → PlainSps → (numbers : List ℕ)
+abbrev pub control_of_slice : PictureData → Slice → PlainSps → (numbers : List ℕ)
     → (places0 places1 : List (Option RefPicListEntry)) → V4l2CtrlHevcSliceParams
-control_of_slice slice order_count sps numbers places0 places1 =
+control_of_slice picture slice sps numbers places0 places1 =
     let h = plain_slice_header slice.header in
-    filled_control slice order_count sps
+    filled_control picture slice sps
     (8 * slice.nalu.size) (data_byte_offset h) h.st_rps_bits
     (control_of_weights (pos sps.wp_offset_half_range_c) h.pred_weight_table)
     (padded 255 (map (place_index numbers) places0))

@@ -1,14 +1,13 @@
 //! The scaling lists: `struct v4l2_ctrl_hevc_scaling_matrix`.
-ghost use Rattle.std.specs.Prelude.{◌≡◌, ◌≤ℤ◌, negsuc, pos, map, nat_lt, IsTrue};
-ghost use Rattle.std.specs.List.{list_all};
+ghost use Rattle.std.specs.Prelude.{◌≡◌, ◌≤ℤ◌, negsuc, pos, map};
+ghost use Rattle.hevc_control_parts.specs.Scan.{in_raster_order, scan_places_8x8};
 ghost use Rattle.hevc_records.specs.Bounds.{Within};
 ghost use Rattle.hevc_types_a.specs.ScalingLists.{plain_scaling_lists};
 ghost use Rattle.hevc_types_c.specs.Sps.{plain_sps};
 ghost use Rattle.hevc_types_d.specs.Pps.{plain_pps};
-ghost use Rattle.hevc_v4l2.specs.Scan.{in_raster_order, scan_places_8x8};
 ghost use Rattle.hevc_v4l2.specs.Scaling.{active_lists, control_of_lists, dc_coef, flat_lists, luma_lists, luma_coefs};
 
-use crate::scan::{SCAN_PLACES_4X4, SCAN_PLACES_8X8};
+use hevc_control_parts::{SCAN_PLACES_4X4, SCAN_PLACES_8X8, raster_list, raster_lists};
 use hevc_scaling::default_scaling_lists;
 use hevc_types_a::ScalingLists;
 use hevc_types_c::Sps;
@@ -74,30 +73,6 @@ fn control_of(lists: &ScalingLists) -> V4l2CtrlHevcScalingMatrix
         scaling_list_dc_coef_16x16: dc_coefs(&lists.scaling_list_dc_coef_minus8_16x16),
         scaling_list_dc_coef_32x32: luma_coefs(dc_coefs(&lists.scaling_list_dc_coef_minus8_32x32)),
     }
-}
-
-/// A list in raster order, by where each place of the block is on the scan.
-fn raster_list<const N: usize>(entries: &[u8; N], scan_places: &[u8; N]) -> [u8; N]
-    requires { IsTrue (list_all (λ place. nat_lt place N) scan_places.now) }
-    ensures { result ≡ in_raster_order scan_places.now entries.now }
-{
-    let mut ordered = [0; N];
-    for i in 0..N {
-        ordered[i] = entries[scan_places[i] as usize];
-    }
-    ordered
-}
-
-/// Each list in raster order.
-fn raster_lists<const N: usize>(lists: &[[u8; N]; 6], scan_places: &[u8; N]) -> [[u8; N]; 6]
-    requires { IsTrue (list_all (λ place. nat_lt place N) scan_places.now) }
-    ensures { result ≡ map (in_raster_order scan_places.now) lists.now }
-{
-    let mut ordered = *lists;
-    for list in ordered.iter_mut() {
-        *list = raster_list(list, scan_places);
-    }
-    ordered
 }
 
 /// The lists of luma in raster order.

@@ -1,5 +1,5 @@
 //! A slice segment: `struct v4l2_ctrl_hevc_slice_params`.
-ghost use Rattle.std.specs.Prelude.{◌≡◌, ◌*◌, pos, ◌≤ℤ◌, map, IfOk};
+ghost use Rattle.std.specs.Prelude.{◌≡◌, ◌*◌, pos, ◌≤ℤ◌, map, None, Some, IfNone, IfOk, IfSome};
 ghost use Rattle.std.specs.Result.{result_err};
 ghost use Rattle.hevc_types_a.specs.SliceType.{slice_type_number};
 ghost use Rattle.hevc_types_c.specs.Sps.{plain_sps};
@@ -7,16 +7,18 @@ ghost use Rattle.hevc_types_d.specs.SliceHeader.{plain_slice_header};
 ghost use Rattle.hevc_dpb.specs.Entries.{reference_numbers};
 ghost use Rattle.hevc_dpb.specs.Views.{stored_entries};
 ghost use Rattle.hevc_refs.specs.Lists.{places_of};
+ghost use Rattle.hevc_v4l2.specs.declared.error.ControlError.TheVariants.{CurrentPicture};
 ghost use Rattle.hevc_v4l2.specs.Arrays.{padded};
 ghost use Rattle.hevc_v4l2.specs.Buffer.{place_index};
 ghost use Rattle.hevc_v4l2.specs.Slice.{control_of_slice, data_byte_offset, filled_control, lists_error, sizes_error, slice_error, slice_flags};
 
 use crate::buffer::{has_current, place_indices};
 use crate::error::ControlError;
-use crate::flags::flag_bits;
 use crate::long_term::long_term_size;
 use crate::weights::{V4l2HevcPredWeightTable, weights_control};
+use hevc_control_parts::flag_bits;
 use hevc_dpb::Dpb;
+use hevc_pictures::PictureData;
 use hevc_refs::RefPicList;
 use hevc_types_a::SliceType;
 use hevc_types_c::Sps;
@@ -87,19 +89,19 @@ struct Indices {
     l1: [u8; 16],
 }
 
-/// A slice segment as a stateless decoder takes it: of the picture with this order count (8.3.1), with this sequence set, buffer and lists.
+/// A slice segment as a stateless decoder takes it: of this picture, with this sequence set, buffer and lists.
 ///
 /// Errors, the first that there is: `UnitSize`, `ShortTermSize`, `ChromaDenominator`, `LumaOffset`, `ChromaOffset`, `CurrentPicture`.
 pub fn slice_control(
+    picture: &PictureData,
     slice: &Slice<'_>,
-    order_count: i32,
     sps: &Sps,
     dpb: &Dpb<u64>,
     ref_pic_list0: &RefPicList,
     ref_pic_list1: &RefPicList,
 ) -> Result<V4l2CtrlHevcSliceParams, ControlError>
     ensures filled { IfOk result
-        (λ control. control ≡ control_of_slice slice.now order_count (plain_sps sps.now)
+        (λ control. control ≡ control_of_slice picture.now slice.now (plain_sps sps.now)
         (reference_numbers (stored_entries dpb.now))
         (places_of ref_pic_list0.now) (places_of ref_pic_list1.now)) }
     ensures refused { result_err result
@@ -108,8 +110,10 @@ pub fn slice_control(
 {
     let sizes = slice_sizes(slice)?;
     let weights = weights_control(&slice.header.pred_weight_table, half_range(sps))?;
-    let indices = list_indices(dpb, ref_pic_list0, ref_pic_list1)?;
-    Ok(filled_control(slice, order_count, sps, sizes, weights, indices))
+    let Some(indices) = list_indices(dpb, ref_pic_list0, ref_pic_list1) else {
+        return Err(ControlError::CurrentPicture);
+    };
+    Ok(filled_control(picture, slice, sps, sizes, weights, indices))
 }
 
 /// The sizes, where they can be held.
@@ -156,29 +160,29 @@ fn half_range(sps: &Sps) -> i32
     sps.wp_offset_half_range_c as i32
 }
 
-/// The indices of both lists, where the current picture is in none.
+/// The indices of both lists; None where the current picture is in one.
 fn list_indices(
     dpb: &Dpb<u64>,
     ref_pic_list0: &RefPicList,
     ref_pic_list1: &RefPicList,
-) -> Result<Indices, ControlError>
-    ensures list0 { IfOk result (λ indices. indices.l0
+) -> Option<Indices>
+    ensures list0 { IfSome result (λ indices. indices.l0
         ≡ padded 255 (map (place_index (reference_numbers (stored_entries dpb.now)))
         (places_of ref_pic_list0.now))) }
-    ensures list1 { IfOk result (λ indices. indices.l1
+    ensures list1 { IfSome result (λ indices. indices.l1
         ≡ padded 255 (map (place_index (reference_numbers (stored_entries dpb.now)))
         (places_of ref_pic_list1.now))) }
-    ensures refused { result_err result
-        ≡ lists_error (places_of ref_pic_list0.now) (places_of ref_pic_list1.now) }
+    ensures none { IfNone result
+        (lists_error (places_of ref_pic_list0.now) (places_of ref_pic_list1.now)
+        ≡ Some CurrentPicture) }
+    ensures some { IfSome result
+        (λ _. lists_error (places_of ref_pic_list0.now) (places_of ref_pic_list1.now) ≡ None) }
 {
-    if has_current(ref_pic_list0.as_slice()) {
-        return Err(ControlError::CurrentPicture);
-    }
-    if has_current(ref_pic_list1.as_slice()) {
-        return Err(ControlError::CurrentPicture);
+    if has_current(ref_pic_list0.as_slice()) || has_current(ref_pic_list1.as_slice()) {
+        return None;
     }
     let numbers = dpb.get_all_references();
-    Ok(Indices {
+    Some(Indices {
         l0: place_indices(ref_pic_list0.as_slice(), numbers.as_slice()),
         l1: place_indices(ref_pic_list1.as_slice(), numbers.as_slice()),
     })
@@ -186,14 +190,14 @@ fn list_indices(
 
 /// The control with these parts.
 fn filled_control(
+    picture: &PictureData,
     slice: &Slice<'_>,
-    order_count: i32,
     sps: &Sps,
     sizes: Sizes,
     weights: V4l2HevcPredWeightTable,
     indices: Indices,
 ) -> V4l2CtrlHevcSliceParams
-    ensures { result ≡ filled_control slice.now order_count (plain_sps sps.now)
+    ensures { result ≡ filled_control picture.now slice.now (plain_sps sps.now)
         sizes.bits sizes.data_byte_offset sizes.short_term_bits weights indices.l0 indices.l1 }
 {
     let header = &slice.header;
@@ -206,7 +210,7 @@ fn filled_control(
         nuh_temporal_id_plus1: slice.nalu.header().temporal_id_plus1(),
         slice_type: slice_type(header.type_),
         colour_plane_id: header.colour_plane_id,
-        slice_pic_order_cnt: order_count,
+        slice_pic_order_cnt: picture.pic_order_cnt_val,
         num_ref_idx_l0_active_minus1: header.num_ref_idx_l0_active_minus1,
         num_ref_idx_l1_active_minus1: header.num_ref_idx_l1_active_minus1,
         collocated_ref_idx: header.collocated_ref_idx,

@@ -205,6 +205,7 @@ fn chroma_weight(log2_denominator: u8, delta_weight: i8) -> i32
 }
 
 /// Half the range of offsets by a weight, over the denominator of weights.
+#[tactic(auto, using(crate::proofs::Products::weighted_within))]
 fn weighted_half_range(scale: ChromaScale, weight: i32) -> i32
     requires least { negsuc 127 ≤ℤ weight }
     requires most { weight ≤ℤ pos 255 }

@@ -1,6 +1,6 @@
 //! Flags of a control.
 ghost use Rattle.std.specs.Prelude.{◌≡◌, ◌≤◌, ◌<◌, ◌^◌, length};
-ghost use Rattle.hevc_v4l2.specs.Flags.{flags_of};
+ghost use Rattle.hevc_control_parts.specs.Flags.{flags_of};
 
 /// The flags in one number, each at the bit of its place: the first at bit 0.
 pub fn flag_bits(flags: &[bool]) -> u64

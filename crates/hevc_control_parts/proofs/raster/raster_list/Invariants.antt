@@ -1,6 +1,6 @@
 use Rattle.std.proofs.Common.{◌≡◌, length, take}
-use Rattle.hevc_v4l2.specs.Scan.{in_raster_order}
-use Rattle.hevc_v4l2.proofs.scaling.raster_list.Given as goal
+use Rattle.hevc_control_parts.specs.Scan.{in_raster_order}
+use Rattle.hevc_control_parts.proofs.raster.raster_list.Given as goal
 
 abbrev pub invariant-loop-i : goal.invariant-loop-i
 invariant-loop-i g l = record {

@@ -1,5 +1,5 @@
 use Rattle.std.proofs.Common.{[], ◌∷◌, refl, rules}
-use Rattle.hevc_v4l2.proofs.scan.scans_are_permutations.Goals as goal
+use Rattle.hevc_control_parts.proofs.scan.scans_are_permutations.Goals as goal
 
 -- the exchanges that lead to the table, the last one first
 pub returns-clause-permutation_4x4 : goal.returns-clause-permutation_4x4

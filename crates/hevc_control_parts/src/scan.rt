@@ -1,13 +1,13 @@
 //! The up-right diagonal scan, by which scaling lists are coded (6.5.3), and raster order, in which controls have them.
 ghost use Rattle.std.specs.Prelude.{◌≡◌, map, slice_index, IsPermutation};
 ghost use Rattle.std.specs.List.{range_with_len};
-ghost use Rattle.hevc_v4l2.specs.Scan.{up_right_diagonal, scan_places_4x4, scan_places_8x8};
+ghost use Rattle.hevc_control_parts.specs.Scan.{up_right_diagonal, scan_places_4x4, scan_places_8x8};
 
 /// Where each entry of a 4x4 block, row by row, is on the scan.
-pub(crate) const SCAN_PLACES_4X4: [u8; 16] = [0, 2, 5, 9, 1, 4, 8, 12, 3, 7, 11, 14, 6, 10, 13, 15];
+pub const SCAN_PLACES_4X4: [u8; 16] = [0, 2, 5, 9, 1, 4, 8, 12, 3, 7, 11, 14, 6, 10, 13, 15];
 
 /// Where each entry of an 8x8 block, row by row, is on the scan.
-pub(crate) const SCAN_PLACES_8X8: [u8; 64] = [
+pub const SCAN_PLACES_8X8: [u8; 64] = [
     0, 2, 5, 9, 14, 20, 27, 35, 1, 4, 8, 13, 19, 26, 34, 42, 3, 7, 12, 18, 25, 33, 41, 48, 6, 11,
     17, 24, 32, 40, 47, 53, 10, 16, 23, 31, 39, 46, 52, 57, 15, 22, 30, 38, 45, 51, 56, 60, 21, 29,
     37, 44, 50, 55, 59, 62, 28, 36, 43, 49, 54, 58, 61, 63,
