@@ -1,10 +1,10 @@
 """Runs a program over streams that are made to cost more than they should, beside two plain streams, of an encoder over a still picture
 and of larger pictures, and prints the time for each byte and the peak memory of each, also as multiples of those of the plain streams.
 
-hostile.py PROGRAM FOLDER [BYTES] [SECONDS] [KIND ..], where the folder has the encoder's stream, as still.h265
+hostile.py [--beside OTHER] PROGRAM FOLDER [BYTES] [SECONDS] [KIND ..], where the folder has the encoder's stream, as still.h265
 
 Each kind is run over a quarter of BYTES and over BYTES, so that what isn't linear shows. A run is given up after SECONDS, and has at most
-8 GB of memory.
+8 GB of memory. With OTHER, another revision's program, both run over BYTES in turns, five times each, and the least times are compared.
 """
 import os
 import resource
@@ -153,14 +153,33 @@ def run(program, path, patience):
         time.sleep(0.01)
 
 
+def compare(program, other, path, total, patience, kinds):
+    """Prints the least time of each program over each kind, and the ratio."""
+    print("kind                           MB   ns/byte  other's   ratio")
+    for kind in kinds:
+        size = write(path, KINDS[kind](total))
+        turns = [[run(each, path, patience) for each in (program, other)] for _ in range(5)]
+        if any(status is None for turn in turns for status, _, _ in turn):
+            print(f"{kind:25} {size / 1e6:8.1f}  given up")
+            continue
+        own, others = (min(turn[place][1] for turn in turns) / size * 1e9 for place in (0, 1))
+        print(f"{kind:25} {size / 1e6:8.1f} {own:9.2f} {others:8.2f} {own / others:7.2f}", flush=True)
+
+
 def main():
-    program, folder = sys.argv[1:3]
-    total = int(sys.argv[3]) if len(sys.argv) > 3 else 256_000_000
-    patience = float(sys.argv[4]) if len(sys.argv) > 4 else 120
-    chosen = sys.argv[5:] or [kind for kind in KINDS if kind not in PLAIN]
+    words = sys.argv[1:]
+    other = words.pop(words.index("--beside") + 1) if "--beside" in words else None
+    program, folder, *words = [word for word in words if word != "--beside"]
+    total = int(words[0]) if words else 256_000_000
+    patience = float(words[1]) if len(words) > 1 else 120
+    chosen = words[2:] or [kind for kind in KINDS if kind not in PLAIN]
     path = os.path.join(folder, "stream")
     with open(os.path.join(folder, "still.h265"), "rb") as still:
         KINDS[PLAIN[0]] = repeated(still.read())
+    if other:
+        compare(program, other, path, total, patience, [*PLAIN, *chosen])
+        os.remove(path)
+        return
     print("kind                           MB  status   ns/byte   x still  x larger   bytes/byte   x still  x larger")
     plain = {}
     for kind in [*PLAIN, *chosen]:
