@@ -1,7 +1,9 @@
 -- A stream that comes in pieces, cut before start codes, is taken as the whole is.
-use Rattle.std.proofs.Common.{◌≡◌, inl, inr, ◌⊎◌, ℕ, ◌+◌, ◌≤◌, true, List, [], ◌∷◌, ◌++◌, take, drop, length, refl, sym, ◌∙◌, ap, subst, append_assoc, append-nil, map, Option, Some, None, Result, Ok, Err, IfErr, IfSome}
-use Rattle.std.proofs.lemmas.List.{take-append-drop}
-use Rattle.hevc_bits.proofs.StartCodes.{begins_at}
+use Rattle.std.proofs.Common.{◌≡◌, inl, inr, ◌⊎◌, ℕ, ◌+◌, ◌≤◌, true, List, [], ◌∷◌, ◌++◌, take, drop, length, refl, sym, ◌∙◌, ap, subst, arith, append_assoc, append-nil, map, Option, Some, None, Result, Ok, Err, IfErr, IfSome}
+use Rattle.std.proofs.lemmas.List.{take-append-drop, drop-append-le}
+use Rattle.hevc_bits.specs.StartCode.{NoneStands}
+use Rattle.hevc_bits.proofs.StartCodes.{begins_at, none_begins}
+use Rattle.hevc_spec.proofs.UnitLaws.{units_from-skip}
 use Rattle.hevc_spec.specs.Units.{NalUnit, begins_with_start_code, units_at, units_from, kept_bytes, units}
 use Rattle.std.specs.Io.KnownBytes.{Consumes, IsAtEnd}
 use Rattle.std.proofs.KnownBytes.{Consumes-trans}
@@ -22,8 +24,8 @@ use Rattle.hevc_decoder.specs.Headline.{Appended, IsFront}
 use Rattle.hevc_decoder.specs.Scenes.{Scene, trail_of}
 use Rattle.hevc_decoder.specs.Runs.{Reached, TakesPiece, EndsRun, Ended}
 use Rattle.hevc_decoder.specs.Sources.{ComeOutFirst, Drained, Fed, Stopped, FedTo}
-use Rattle.hevc_decoder.specs.Windows.{IsLastStart}
-use Rattle.hevc_decoder.proofs.Windows.{EndsBehind}
+use Rattle.hevc_decoder.specs.Windows.{IsLastStart, lead_length}
+use Rattle.hevc_decoder.proofs.Windows.{EndsBehind, lead_without, lead_within}
 use Rattle.hevc_joined_units.proofs.Joined.{units_joined}
 use Rattle.hevc_decoder.proofs.Cutting.{units_moved}
 use Rattle.hevc_records.specs.SliceHeader.{PlainSliceSegmentHeader}
@@ -150,6 +152,44 @@ pub window_fed : {B H : Type 0} (o : Options) (given window : List ℕ) (first s
     → (r : Result ℕ Refused) → TakesPiece r o first (units (take n window)) old new → FedTo r o given (drop n window) begin new
 window_fed o given window first seen n begin old new last x =
     fed_on o given (take n window) (drop n window) first begin old new (may_be_cut seen n window last.0) (subst (λ (bytes : List ℕ). Fed o given bytes first begin old) (sym (take-append-drop n window)) x)
+
+-- what is before the first start code is given up
+module _ (o : Options) (window later : List ℕ) (one : NoneStands window 1 (length window)) where
+  abbrev lead : ℕ
+  lead = lead_length window
+
+  abbrev kept_on : List ℕ
+  kept_on = drop lead window ++ later
+
+  units_behind : units (window ++ later) ≡ units_at kept_bytes lead kept_on
+  unfolding units_from
+  units_behind =
+      units_from-skip kept_bytes (window ++ later) 0 lead (omega arith) (none_begins (window ++ later) 0 lead (lead_without window later one))
+      ∙ ap (units_at kept_bytes lead) (drop-append-le lead window later (lead_within window))
+
+  lead_means : (front : List NalUnit) → meant o (front ++ units (window ++ later)) ≡ meant o (front ++ units kept_on)
+  unfolding units_from
+  lead_means front =
+      ap (λ us. meant o (front ++ us)) units_behind
+      ∙ meant_behind o none_kept front (units_at kept_bytes lead kept_on)
+      ∙ ap (λ ms. meant o front ++ ms) (units_moved o lead 0 kept_on (kept_behind_all o none_kept front))
+      ∙ sym (meant_behind o none_kept front (units_at kept_bytes 0 kept_on))
+
+  lead_segments : (front : List NalUnit) → segments_of o (front ++ units (window ++ later)) ≡ segments_of o (front ++ units kept_on)
+  unfolding units_from
+  lead_segments front =
+      ap (λ us. segments_of o (front ++ us)) units_behind
+      ∙ segments_behind o none_kept None front (units_at kept_bytes lead kept_on)
+      ∙ ap (λ ss. segments_of o front ++ ss) (segments_moved o lead 0 kept_on (kept_behind_all o none_kept front) (latest_after o front))
+      ∙ sym (segments_behind o none_kept None front (units_at kept_bytes 0 kept_on))
+
+pub lead_fed : {B H : Type 0} (o : Options) (given window : List ℕ) (k : ℕ) (begin now : Scene B H) → NoneStands window 1 (length window) → Fed o given window k begin now → Fed o given (drop (lead_length window) window) k begin now
+lead_fed o given window k begin now one x = record {
+  front = x.front;
+  reached = x.reached;
+  cut = λ later. x.cut later ∙ lead_means o window later one x.front;
+  cut_segments = λ later. x.cut_segments later ∙ lead_segments o window later one x.front;
+}
 
 -- the last units
 pub fed_whole : {B H : Type 0} (o : Options) (given window : List ℕ) (first : ℕ) (begin old new : Scene B H) (r : Result ℕ Refused) → Fed o given window first begin old → EndsRun r o first (units window) old new

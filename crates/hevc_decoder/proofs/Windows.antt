@@ -1,13 +1,15 @@
 -- Where the last start code of a window is.
 use Rattle.std.proofs.Common.{◌≡◌, ◌≤◌, ◌<◌, ◌+◌, ◌-◌, ℕ, Bool, true, false, List, ◌++◌, take, drop, get_or, length, refl, sym, ap, subst, ◌∙◌, arith}
-use Rattle.std.specs.Prelude.{◌⊎◌, nat_le, ◌==◌}
+use Rattle.std.specs.Prelude.{◌⊎◌, nat_le, ◌==◌, if◌then◌else◌}
 use Rattle.std.proofs.lemmas.Bool.{eqb-true}
 use Rattle.std.proofs.lemmas.Bool.Decides.{nat_tests}
 use Rattle.std.proofs.lemmas.List.{get_or-drop, get_or-take, length-take}
 use Rattle.std.proofs.Math.ListN.{length-drop, get_or-append}
 use Rattle.memchr.specs.Find.{Nowhere, Passes, is_byte}
 use Rattle.hevc_bits.specs.StartCode.{StandsAt, NoneStands}
-use Rattle.hevc_decoder.specs.Windows.{IsLastStart}
+use Rattle.hevc_spec.specs.Units.{begins_with_start_code}
+use Rattle.hevc_bits.proofs.StartCodes.{begins_at, none_joined}
+use Rattle.hevc_decoder.specs.Windows.{IsLastStart, lead_length}
 
 -- the bytes of a window from one place to another
 abbrev part : List ℕ → (from to : ℕ) → List ℕ
@@ -96,9 +98,41 @@ one_left window seen found last before place behind within stands = by_place (na
         before (found + place) (omega (arith, behind)) (omega (arith, low)) there
 
 -- more bytes come after a window
-pub one_seen : (window more : List ℕ) → NoneStands window 1 (length window) → NoneStands (window ++ more) 1 (length window - 2)
-one_seen window more one place behind seen stands =
+pub one_seen : (window more : List ℕ) (from : ℕ) → NoneStands window from (length window) → NoneStands (window ++ more) from (length window - 2)
+one_seen window more from one place behind seen stands =
     one place behind (omega (arith, seen)) (omega (arith, seen), at place (omega (arith, seen)) ∙ stands.1, at (place + 1) (omega (arith, seen)) ∙ stands.2, at (place + 2) (omega (arith, seen)) ∙ stands.3)
   where
     at : (k : ℕ) → k < length window → get_or window k 0 ≡ get_or (window ++ more) k 0
     at k within = sym (get_or-append window more 0 k within)
+
+-- ---- what is before the first start code
+
+-- a start code that isn't at the front is nowhere
+none_there : (window : List ℕ) → begins_with_start_code window ≡ false → NoneStands window 1 (length window) → NoneStands window 0 (length window)
+none_there window other one = none_joined window 0 1 (length window) (λ place _ first stands. grind (arith, begins_at window place stands, other, first)) one
+
+-- none begins in the bytes that are given up, whatever comes after the window
+pub lead_without : (window more : List ℕ) → NoneStands window 1 (length window) → NoneStands (window ++ more) 0 (lead_length window)
+lead_without window more one = by_test (begins_with_start_code window) refl
+  where
+    by_test : (b : Bool) → begins_with_start_code window ≡ b → NoneStands (window ++ more) 0 (if b then 0 else length window - 2)
+    by_test true is = λ place _ below. absurd (omega (arith, below))
+    by_test false is = one_seen window more 0 (none_there window is one)
+
+pub lead_within : (window : List ℕ) → lead_length window ≤ length window
+lead_within window = by_test (begins_with_start_code window)
+  where
+    by_test : (b : Bool) → (if b then 0 else length window - 2) ≤ length window
+    by_test true = omega arith
+    by_test false = omega arith
+
+-- bytes of which some are given up keep their only start code
+pub one_kept : (window : List ℕ) → NoneStands window 1 (length window) → NoneStands (drop (lead_length window) window) 1 (length (drop (lead_length window) window))
+one_kept window one = by_test (begins_with_start_code window) refl
+  where
+    few : NoneStands (drop (length window - 2) window) 1 (length (drop (length window - 2) window))
+    few place behind within stands = let long = length-drop (length window - 2) window in absurd (omega (arith, long, behind, stands.0))
+
+    by_test : (b : Bool) → begins_with_start_code window ≡ b → NoneStands (drop (if b then 0 else length window - 2) window) 1 (length (drop (if b then 0 else length window - 2) window))
+    by_test true is = one
+    by_test false is = few

@@ -14,13 +14,13 @@ ghost use Rattle.hevc_bits.specs.declared.stream_limit.TheConstants.{STREAM_LIMI
 
 use crate::decoded::{Refused, Shown};
 use crate::units::{take_last, take_piece};
-use crate::window::{Window, whole_units};
+use crate::window::{Window, lead_length, whole_units};
 use hevc_io::{InputError, Source};
 use hevc_stateless::{StatelessDecoder, StatelessH265DecoderBackend};
 use std::alloc::Global;
 
 /// Takes the units of the window that are whole, and gives the number of the next one. Of the window `seen` bytes were looked through
-/// before; no more than one unit is left in it.
+/// before; no more than one unit is left in it, and of bytes that belong to none two at most.
 fn take_whole<B: StatelessH265DecoderBackend>(
     decoder: &mut StatelessDecoder<B>,
     window: &mut Window,
@@ -44,6 +44,8 @@ fn take_whole<B: StatelessH265DecoderBackend>(
     let cut = whole_units(window.as_slice(), seen);
     let next = take_piece(decoder, &window.as_slice()[..cut], unit, shown)?;
     window.drop_front(cut);
+    let lead = lead_length(window.as_slice());
+    window.drop_front(lead);
     Ok(next)
 }
 

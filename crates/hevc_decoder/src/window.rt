@@ -2,7 +2,7 @@
 ghost use Rattle.std.specs.Prelude.{◌≡◌, ◌≤◌, ◌<◌, ◌+◌, ◌⊎◌, ◌++◌, [], ℕ, List, length, drop, true, IfOk, OnOk, OnErr, IsErrOf};
 ghost use Rattle.std.specs.Io.KnownBytes.{Consumes, IsAtEnd};
 ghost use Rattle.hevc_faults.specs.Faults.{Rose};
-ghost use Rattle.hevc_decoder.specs.Windows.{IsLastStart};
+ghost use Rattle.hevc_decoder.specs.Windows.{IsLastStart, lead_length};
 
 use hevc_io::{InputError, Source};
 use memchr::memrchr;
@@ -138,4 +138,15 @@ pub(crate) fn whole_units(bytes: &[u8], seen: usize) -> usize
         end = one;
     }
     0
+}
+
+/// How many bytes at the front of a window belong to no unit, whatever comes after: where it doesn't begin with a start code, its only
+/// one, all but the last two.
+pub(crate) fn lead_length(bytes: &[u8]) -> usize
+    ensures { result ≡ lead_length bytes.now }
+{
+    match bytes {
+        [0, 0, 1, ..] => 0,
+        _ => bytes.len().saturating_sub(2),
+    }
 }

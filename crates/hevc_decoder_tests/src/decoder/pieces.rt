@@ -68,6 +68,31 @@ fn a_stream_may_come_in_pieces(rt: HostRuntime) -> Result<(), Fail> {
 }
 
 #[test]
+fn bytes_before_the_first_start_code_are_passed_over(rt: HostRuntime) -> Result<(), Fail> {
+    let alloc = rt.alloc();
+    let mut bytes = Vec::with_capacity(alloc, 60)?;
+    bytes.extend_from_slice(&[7, 0, 1, 0, 0, 0, 0, 0])?;
+    bytes.extend_from_slice(TWO_PICTURES)?;
+    for most in 1..=9 {
+        let rest = bytes.as_slice();
+        let mut source = Drip { rest, most };
+        ends(&rt, alloc, &mut source, 60, Ok(Ok(2)), 9, 2)?;
+    }
+    Ok(())
+}
+
+#[test]
+fn a_stream_may_be_without_a_start_code(rt: HostRuntime) -> Result<(), Fail> {
+    let alloc = rt.alloc();
+    for most in 1..=4 {
+        let rest = &[0, 0, 0, 0, 2, 0, 0];
+        let mut source = Drip { rest, most };
+        ends(&rt, alloc, &mut source, 7, Ok(Ok(0)), 0, 0)?;
+    }
+    Ok(())
+}
+
+#[test]
 fn a_refused_stream_is_read_to_its_end(rt: HostRuntime) -> Result<(), Fail> {
     let alloc = rt.alloc();
     // A unit of one byte, and two pictures after it.

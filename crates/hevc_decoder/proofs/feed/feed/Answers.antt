@@ -92,5 +92,5 @@ returns-in-Err-clause-fed g c =
 pub take_whole-requires-clause-seen : goal.take_whole-requires-clause-seen
 take_whole-requires-clause-seen g c =
     let more = c.in_ok-count.ensures.more in
-    let seen = one_seen c.loop-count.window more.0 c.loop-count.invariant.one in
+    let seen = one_seen c.loop-count.window more.0 1 c.loop-count.invariant.one in
     subst (λ (n : ℕ). NoneStands c.read.new.self 1 (n - 2)) (sym c.len-seen.ensures) (subst (λ (window : List ℕ). NoneStands window 1 (length c.loop-count.window - 2)) (sym more.1) seen)
