@@ -7,7 +7,6 @@ ghost use Rattle.hevc_options.specs.Options.{options_of};
 ghost use Rattle.hevc_driver.specs.Given.{Given};
 ghost use Rattle.hevc_stateless.specs.declared.state.State.TheVariants.{AwaitingFormat, Decoding, Reset};
 ghost use Rattle.hevc_stateless.specs.Flushes.{Flushes};
-ghost use Rattle.hevc_stateless.specs.States.{is_awaited};
 ghost use Rattle.hevc_stateless.specs.Steps.{TakesFirst};
 ghost use Rattle.hevc_stateless.specs.Views.{at_beginning, OutputsFew, PopsFrame};
 ghost use Rattle.hevc_queue.specs.Controls.{filled_picture, filled_slice, latest_picture_controls, latest_slice_control};
@@ -211,13 +210,6 @@ impl PullDecoder {
             (λ filled. latest_slice_control (view_in self.now).backend.given ≡ Some filled) }
     {
         self.decoder.backend().slice_control()
-    }
-
-    /// Whether a format was negotiated that isn't accepted yet.
-    pub fn awaiting_format(&self) -> bool
-        ensures { result ≡ is_awaited (view_in self.now).state }
-    {
-        self.decoder.awaiting_format()
     }
 
     /// Accepts the format that is awaited.
