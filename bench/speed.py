@@ -5,13 +5,17 @@ speed.py ORIGINAL BENCH TRACE FILE [FILE ..]    (ORIGINAL may be empty)
 The original's program takes `--bench N FILE` and `--bench-cut-once N FILE`, reads the file, decodes or cuts it N times, and prints the processor
 time of these N runs as `cpu SECONDS`, without the reading. So decoding and cutting are `hevc_bench`'s time less that of `hevc_bench read`, which
 reads alone; a report is `hevc_trace`'s whole process, its reading and writing among them. Its memory is the most that the process has.
+
+A figure is the median of the turns'. A turn's runs follow one another, so a machine that is slow for a while is so for all of them.
 """
+import math
 import os
 import re
 import subprocess
 import sys
+from statistics import median
 
-from measure import in_turns, least, once, peak
+from measure import in_turns, name, once, peak, table
 
 # How many times the original decodes or cuts a stream in a run.
 RUNS = 2
@@ -20,6 +24,11 @@ HEAD = [
     "stream", "decode", "cut", "report", "ours: decode MB/s", "cut MB/s", "report MB/s", "original: decode MB/s", "cut MB/s", "`wc -l` MB/s",
     "report's memory, MB", "bytes a picture",
 ]
+
+
+def processor(command, path):
+    """The processor time of a run over a file."""
+    return once(command, path).processor
 
 
 def original(program, option, path):
@@ -32,10 +41,6 @@ def original(program, option, path):
     return float(found.group(1)) / RUNS if found else None
 
 
-def least_or_none(times):
-    return None if None in times else min(times)
-
-
 def pictures_of(program, path):
     """How many pictures a report has."""
     with open(path, "rb") as source:
@@ -43,49 +48,43 @@ def pictures_of(program, path):
     return report.count(b"\npic ")
 
 
-def ratio(reference, ours):
-    return f"{reference / ours:.2f}" if reference and ours > 0 else "-"
+def without(times, reading):
+    """Times less those of the reading in the same turns."""
+    return [time - less for time, less in zip(times, reading)]
 
 
-def speed(size, seconds):
-    return f"{size / seconds / 1e6:.0f}" if seconds and seconds > 0 else "-"
+def ratio(theirs, ours):
+    """By how much ours is faster, turn by turn."""
+    if None in theirs:
+        return "-"
+    return f"{median(their / our if our > 0 else math.inf for their, our in zip(theirs, ours)):.2f}"
+
+
+def speed(size, times):
+    return "-" if None in times else f"{size / median(times) / 1e6:.0f}"
 
 
 def row(programs, path):
     """The cells of a stream."""
     theirs, bench, trace = programs
-    *ours, decodes, cuts = in_turns([
-        lambda: once([bench, "read"], path),
-        lambda: once([bench], path),
-        lambda: once([bench, "cut"], path),
-        lambda: once([trace], path),
-        lambda: once(["wc", "-l"], path),
+    read, decode, cut, report, lines, their_decode, their_cut = in_turns([
+        lambda: processor([bench, "read"], path),
+        lambda: processor([bench], path),
+        lambda: processor([bench, "cut"], path),
+        lambda: processor([trace], path),
+        lambda: processor(["wc", "-l"], path),
         lambda: original(theirs, "--bench", path),
         lambda: original(theirs, "--bench-cut-once", path),
     ])
-    read, decode, cut, report, lines = map(least, ours)
-    their_decode, their_cut = least_or_none(decodes), least_or_none(cuts)
+    decoding, cutting = without(decode, read), without(cut, read)
     size = os.path.getsize(path)
     pictures, memory = pictures_of(trace, path), peak([trace], path)
-    decoding, cutting = decode.processor - read.processor, cut.processor - read.processor
     return [
-        os.path.basename(path).removesuffix(".h265"), ratio(their_decode, decoding), ratio(their_cut, cutting),
-        ratio(their_decode, report.processor),
-        speed(size, decoding), speed(size, cutting), speed(size, report.processor),
-        speed(size, their_decode), speed(size, their_cut), speed(size, lines.processor), f"{memory / 1e6:.1f}", f"{memory / max(pictures, 1):.0f}",
+        name(path), ratio(their_decode, decoding), ratio(their_cut, cutting), ratio(their_decode, report),
+        speed(size, decoding), speed(size, cutting), speed(size, report), speed(size, their_decode), speed(size, their_cut), speed(size, lines),
+        f"{memory / 1e6:.1f}", f"{memory / max(pictures, 1):.0f}",
     ]
 
 
-def line(cells):
-    return "| " + " | ".join(cells) + " |"
-
-
-def main():
-    programs, files = sys.argv[1:4], sys.argv[4:]
-    print(line(HEAD))
-    print("|" + "---|" * len(HEAD))
-    for path in files:
-        print(line(row(programs, path)), flush=True)
-
-
-main()
+programs, files = sys.argv[1:4], sys.argv[4:]
+table(HEAD, lambda path: row(programs, path), files)
