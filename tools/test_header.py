@@ -10,8 +10,8 @@ TOP = pathlib.Path(__file__).resolve().parent.parent
 STRUCTS = {
     'fezhalum_decode_call': ('hevc_calls/src/calls.rt', 'DecodeCall'),
     'fezhalum_unit': ('hevc_calls/src/units.rt', 'UnitCall'),
-    'fezhalum_places': ('hevc_queue/src/event.rt', 'Places'),
-    'fezhalum_event': ('hevc_queue/src/event.rt', 'Event'),
+    'fezhalum_places': ('hevc_events/src/event.rt', 'Places'),
+    'fezhalum_event': ('hevc_events/src/event.rt', 'Event'),
     'fezhalum_profile': ('hevc_fields/src/profile.rt', 'ProfileFields'),
     'fezhalum_vui': ('hevc_fields/src/vui.rt', 'VuiFields'),
     'fezhalum_vps': ('hevc_fields/src/vps.rt', 'VpsFields'),
@@ -93,7 +93,7 @@ def code_statuses():
 
 
 def code_kinds():
-    asked = re.findall(r'fn (\w+_event)\((?:(?!^\}).)*?bare_event\(place, (\d+)\)', crate('hevc_queue/src/asked.rt'), re.S | re.M)
+    asked = re.findall(r'fn (\w+_event)\((?:(?!^\}).)*?(?:bare_event|event_of_picture)\(place, (\d+)', crate('hevc_queue/src/asked.rt'), re.S | re.M)
     pulled = re.findall(r'Pulled::(\S+) =>(?:(?!Pulled::).)*?bare_event\(0, (\d+)\)', crate('hevc_calls/src/calls.rt'), re.S)
     return {KINDS.get(name, name): int(number) for name, number in asked + pulled}
 

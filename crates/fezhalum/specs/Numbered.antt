@@ -1,8 +1,8 @@
 -- Structs whose fields are numbered from 1 on.
 use Rattle.std.specs.Prelude.{ℕ, pos, [], ◌∷◌, ◌++◌, replicate}
-use Rattle.hevc_queue.specs.declared.event.Event.{Event}
-use Rattle.hevc_queue.specs.declared.event.Places.{Places}
-use Rattle.hevc_queue.specs.Events.{no_places}
+use Rattle.hevc_events.specs.declared.event.Event.{Event}
+use Rattle.hevc_events.specs.declared.event.Places.{Places}
+use Rattle.hevc_events.specs.Plain.{no_places}
 use Rattle.hevc_calls.specs.declared.calls.DecodeCall.{DecodeCall}
 use Rattle.hevc_calls.specs.declared.reads.UnitRead.{UnitRead}
 use Rattle.hevc_calls.specs.declared.units.UnitCall.{UnitCall}

@@ -19,8 +19,8 @@ ghost use Rattle.fezhalum.specs.Fresh.{IsFresh, IsFreshWith, options_given};
 
 use hevc_calls::{DecodeCall, UnitCall, accept_format, decode, flush, next_event, next_unit};
 use hevc_driver::Options;
+use hevc_events::Event;
 use hevc_pull::PullDecoder;
-use hevc_queue::Event;
 use std::alloc::Global;
 
 /// A decoder, at a pointer.

@@ -3,8 +3,8 @@ ghost use Rattle.std.specs.Prelude.{◌≡◌};
 ghost use Rattle.hevc_calls.specs.Calls.{Accepts, Decodes, FlushesAll, TakesNext, event_of_pulled};
 
 use crate::status::{FORMAT_NOT_AWAITED, TOO_LONG, row_of, status_of, table_of};
+use hevc_events::{Event, bare_event};
 use hevc_pull::{PullDecoder, Pulled};
-use hevc_queue::{Event, bare_event};
 
 /// What a call of `decode` is given, and what it answers.
 #[repr(C)]

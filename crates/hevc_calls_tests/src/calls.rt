@@ -2,9 +2,9 @@
 use crate::checks::check;
 use hevc_calls::{DecodeCall, UnitCall, accept_format, decode, flush, next_event, next_unit};
 use hevc_driver::Options;
+use hevc_events::bare_event;
 use hevc_made::make_stream;
 use hevc_pull::PullDecoder;
-use hevc_queue::bare_event;
 use std::alloc::Global;
 use std::test::Fail;
 

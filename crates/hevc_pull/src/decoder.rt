@@ -16,7 +16,8 @@ ghost use Rattle.hevc_pull.specs.Pulling.{PullsNext, TakesEvent, outputs_are_due
 
 use crate::pulled::Pulled;
 use hevc_driver::{DecodeError, Frame, Options};
-use hevc_queue::{Event, PictureControls, QueueBackend};
+use hevc_events::Event;
+use hevc_queue::{PictureControls, QueueBackend};
 use hevc_stateless::{DecoderEvent, StatelessDecoder};
 use hevc_v4l2::{ControlError, V4l2CtrlHevcSliceParams};
 use std::alloc::{AllocError, Global};

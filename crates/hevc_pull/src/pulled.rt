@@ -1,6 +1,6 @@
 //! What came of units.
 use hevc_driver::Frame;
-use hevc_queue::Event;
+use hevc_events::Event;
 
 /// What came of units.
 #[derive(Drop)]

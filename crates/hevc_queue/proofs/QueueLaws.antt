@@ -1,8 +1,9 @@
 -- The queue after a call, and its first event.
-use Rattle.std.proofs.Common.{◌≡◌, ℕ, zero, suc, ◌+◌, List, [], ◌∷◌, ◌++◌, length, drop, map, get_or, refl, ap, sym, ◌∙◌, arith}
+use Rattle.std.proofs.Common.{◌≡◌, ℕ, zero, suc, ◌+◌, List, [], ◌∷◌, ◌++◌, length, drop, map, get_or, Option, Some, None, IfSome, IfNone, refl, ap, sym, ◌∙◌, arith}
 use Rattle.std.proofs.lemmas.List.{drop-append-le, length_push, length-map, map-append}
 use Rattle.hevc_backend.specs.declared.call.Call.{Call}
-use Rattle.hevc_queue.specs.declared.event.Event.{Event}
+use Rattle.hevc_events.specs.declared.event.Event.{Event}
+use Rattle.hevc_events.specs.Waiting.{Waiting, next_place, with_event}
 use Rattle.hevc_queue.specs.declared.given.Given.{Given}
 use Rattle.hevc_queue.specs.Events.{event_of, events_from, events_of}
 use Rattle.hevc_queue.specs.Given.{call_of}
@@ -21,50 +22,62 @@ events_from-push k (first ∷ calls) call =
     (events_from-push (k + 1) calls call
     ∙ ap (λ n. events_from (k + 1) calls ++ event_of n call ∷ []) same)
 
--- what waits is the end of what the log says
-pub record Waits (log : List (Call ℕ)) (taken called : ℕ) (waiting : List Event) : Type 0 where
-  pub counted : called ≡ length log
-  pub all : taken + length waiting ≡ called
-  pub last : waiting ≡ drop taken (events_of log)
-
--- with one more call, whose event comes after the others
-pub waits_more : (log : List (Call ℕ)) (call : Call ℕ) (taken called place : ℕ)
-    (waiting : List Event) (event : Event)
-    → Waits log taken called waiting → place ≡ length log → event ≡ event_of place call
-    → Waits (log ++ call ∷ []) taken (place + 1) (waiting ++ event ∷ [])
-waits_more log call taken called place waiting event before at is =
-    let within : taken + length waiting ≡ length log = omega (arith, before.counted, before.all) in
+-- what waits is the end of what the log says: with one more call, whose event comes after the others
+pub waits_more : (log : List (Call ℕ)) (call : Call ℕ) (place : ℕ) (queue : Waiting) (event : Event)
+    → next_place queue ≡ length log → queue.events ≡ drop queue.taken (events_of log)
+    → place ≡ length log → event ≡ event_of place call
+    → queue.events ++ event ∷ [] ≡ drop queue.taken (events_of (log ++ call ∷ []))
+waits_more log call place queue event counted last at is =
     let few = length-events_from 0 log in
     let more = events_from-push 0 log call in
     let here : 0 + length log ≡ place = omega arith in
-    record {
-      counted = omega (arith, length_push log call);
-      all = omega (arith, length_push waiting event);
-      last =
-          rw (before.last, is)
-          (sym
-          (ap (drop taken) (more ∙ ap (λ n. events_from 0 log ++ event_of n call ∷ []) here)
-          ∙ drop-append-le taken (events_from 0 log) (event_of place call ∷ []) (omega arith)));
-    }
+    rw (last, is)
+    (sym
+    (ap (drop queue.taken) (more ∙ ap (λ n. events_from 0 log ++ event_of n call ∷ []) here)
+    ∙ drop-append-le queue.taken (events_from 0 log) (event_of place call ∷ []) (omega (arith, counted, few))))
 
 -- the same of a queue and of what was given, which were changed
-pub queue_more : {X : Type 0} (given given' : List Given) (g : Given) (taken called place : ℕ)
-    (waiting waiting' : List Event) (event : Event)
-    → (called ≡ length given) × (taken + length waiting ≡ called)
-    × (waiting ≡ drop taken (events_of (map call_of given))) × X
+pub queue_more : {X : Type 0} (given given' : List Given) (g : Given) (place : ℕ)
+    (queue queue' : Waiting) (event : Event)
+    → (next_place queue ≡ length given)
+    × (queue.events ≡ drop queue.taken (events_of (map call_of given))) × X
     → place ≡ length given → event ≡ event_of place (call_of g)
-    → waiting' ≡ waiting ++ event ∷ [] → given' ≡ given ++ g ∷ []
-    → (place + 1 ≡ length given') × (taken + length waiting' ≡ place + 1)
-    × (waiting' ≡ drop taken (events_of (map call_of given')))
-queue_more given given' g taken called place waiting waiting' event before at is pushed told =
+    → queue' ≡ with_event queue event → given' ≡ given ++ g ∷ []
+    → (next_place queue' ≡ length given')
+    × (queue'.events ≡ drop queue'.taken (events_of (map call_of given')))
+queue_more given given' g place queue queue' event before at is put told =
     let log = map call_of given in
     let few : length log ≡ length given = length-map given call_of in
-    let held : Waits log taken called waiting =
-    record { counted = before.0 ∙ sym few; all = before.1; last = before.2 } in
-    let now = waits_more log (call_of g) taken called place waiting event held (at ∙ sym few) is in
+    let now = waits_more log (call_of g) place queue event (before.0 ∙ sym few) before.1 (at ∙ sym few) is in
     let more : map call_of (given ++ g ∷ []) ≡ log ++ call_of g ∷ [] = map-append call_of given (g ∷ []) in
-    let many : length (given ++ g ∷ []) ≡ place + 1 = omega (arith, length_push given g) in
-    rw (pushed, told, more) (sym many, now.all, now.last)
+    let many : next_place (with_event queue event) ≡ length (given ++ g ∷ []) =
+    omega (arith, before.0, length_push queue.events event, length_push given g) in
+    rw (put, told, more) (many, now)
+
+-- what is after the first of what is left of a list
+after_first : {X : Type 0} (xs : List X) (n : ℕ) (x : X) (rest : List X)
+    → x ∷ rest ≡ drop n xs → rest ≡ drop (suc n) xs
+after_first [] zero x rest is = cc
+after_first [] (suc n) x rest is = cc
+after_first (y ∷ ys) zero x rest is = cc
+after_first (y ∷ ys) (suc n) x rest is = after_first ys n x rest is
+
+-- the queue and what was given, once the first event was taken, where there was one
+pub queue_less : {X : Type 0} (given : List Given) (queue queue' : Waiting) (first : Option Event)
+    → (next_place queue ≡ length given)
+    × (queue.events ≡ drop queue.taken (events_of (map call_of given))) × X
+    → IfSome first (λ event. queue.events ≡ event ∷ queue'.events)
+    → IfSome first (λ _. queue'.taken ≡ queue.taken + 1)
+    → IfNone first (queue' ≡ queue)
+    → (next_place queue' ≡ length given)
+    × (queue'.events ≡ drop queue'.taken (events_of (map call_of given))) × X
+queue_less given queue queue' None before first one_more same = rw same before
+queue_less given queue queue' (Some event) before first one_more same =
+    let events = events_of (map call_of given) in
+    let shorter : length queue.events ≡ suc (length queue'.events) = ap length first in
+    let more : queue'.taken ≡ suc queue.taken = omega (arith, one_more) in
+    let rest = after_first events queue.taken event queue'.events (sym first ∙ before.1) in
+    (omega (arith, before.0, one_more, shorter), rw more rest, before.2)
 
 -- the first of the events from a place on is that of the call there
 pub first_event : (k : ℕ) (calls : List (Call ℕ)) (taken : ℕ) (event : Event) (events : List Event)
@@ -80,3 +93,15 @@ first_event k (call ∷ calls) (suc taken) event events is d =
     let same : k + 1 + taken ≡ k + suc taken = omega arith in
     first_event (k + 1) calls taken event events is d
     ∙ ap (λ n. event_of n (get_or calls taken d)) same
+
+-- the first event of a queue is that of the call at its place
+pub first_taken : (given : List Given) (queue : Waiting) (rest : List Event) (first : Option Event)
+    → queue.events ≡ drop queue.taken (events_of (map call_of given))
+    → IfSome first (λ event. queue.events ≡ event ∷ rest)
+    → IfSome first (λ event. (d : Call ℕ)
+    → event ≡ event_of queue.taken (get_or (map call_of given) queue.taken d))
+first_taken given queue rest None last is = tt
+first_taken given queue rest (Some event) last is = λ d.
+    let same : 0 + queue.taken ≡ queue.taken = omega arith in
+    first_event 0 (map call_of given) queue.taken event rest (sym is ∙ last) d
+    ∙ ap (λ n. event_of n (get_or (map call_of given) queue.taken d)) same

@@ -1,19 +1,16 @@
 -- What events say of the calls of a log.
-use Rattle.std.specs.Prelude.{ℕ, ◌+◌, pos, if◌then◌else◌, List, [], ◌∷◌, length, map, replicate, Option, Some, None}
+use Rattle.std.specs.Prelude.{ℕ, ◌+◌, if◌then◌else◌, List, [], ◌∷◌, length, map, Option, Some, None}
 use Rattle.hevc_bits.specs.NaluType.{nalu_type_number}
 use Rattle.hevc_refs.specs.declared.ref_pic_list.RefPicListEntry.{RefPicListEntry}
 use Rattle.hevc_refs.specs.declared.ref_pic_list.RefPicListEntry.TheVariants as place
 use Rattle.hevc_backend.specs.declared.call.Call.{Call}
 use Rattle.hevc_backend.specs.declared.call.Call.TheVariants.{NewSequence, NewPicture, BeginPicture, DecodeSlice, SubmitPicture}
 use Rattle.hevc_v4l2.specs.Arrays.{padded}
-use Rattle.hevc_queue.specs.declared.event.Places.{Places}
-use Rattle.hevc_queue.specs.declared.event.Event.{Event}
+use Rattle.hevc_events.specs.declared.event.Places.{Places}
+use Rattle.hevc_events.specs.declared.event.Event.{Event}
+use Rattle.hevc_events.specs.Plain.{bare_event, event_of_picture, no_places}
 
 -- ---- lists of pictures
-
--- a list of no place
-abbrev pub no_places : Places
-no_places = record { numbers = replicate 16 0; kinds = replicate 16 0; count = 0 }
 
 -- the number of a member of a reference picture set, and whether there is such a picture (8.3.2)
 abbrev pub member_number : Option ℕ → ℕ
@@ -51,28 +48,6 @@ places_of_entries entries = record {
 
 -- ---- events
 
--- an event of a kind, and nothing else
-abbrev pub bare_event : (place kind : ℕ) → Event
-bare_event place kind = record {
-  place = place;
-  kind = kind;
-  nal_unit_type = 0;
-  number = 0;
-  timestamp = 0;
-  order_count = pos 0;
-  is_output = 0;
-  width = 0;
-  height = 0;
-  general_profile_idc = 0;
-  bit_depth_luma_minus8 = 0;
-  bit_depth_chroma_minus8 = 0;
-  chroma_format_idc = 0;
-  max_num_pics = 0;
-  address = 0;
-  size = 0;
-  lists = replicate 5 no_places;
-}
-
 -- the event of the call that has this place in the log
 abbrev pub event_of : (place : ℕ) → Call ℕ → Event
 event_of place (NewSequence info) = record (bare_event place 1) {
@@ -85,16 +60,14 @@ event_of place (NewSequence info) = record (bare_event place 1) {
   max_num_pics = info.max_num_pics;
 }
 event_of place (NewPicture number nalu_type order_count output timestamp) =
-    record (bare_event place 2) {
+    record (event_of_picture place 2 number) {
       nal_unit_type = nalu_type_number nalu_type;
-      number = number;
       timestamp = timestamp;
       order_count = order_count;
       is_output = if output then 1 else 0;
     }
 event_of place (BeginPicture number st_curr_before st_curr_after st_foll lt_curr lt_foll) =
-    record (bare_event place 3) {
-      number = number;
+    record (event_of_picture place 3 number) {
       lists =
           places_of_members st_curr_before ∷
           places_of_members st_curr_after ∷
@@ -102,16 +75,16 @@ event_of place (BeginPicture number st_curr_before st_curr_after st_foll lt_curr
           places_of_members lt_curr ∷
           places_of_members lt_foll ∷ [];
     }
-event_of place (DecodeSlice number address bytes list0 list1) = record (bare_event place 4) {
-  number = number;
-  address = address;
-  size = length bytes;
-  lists =
-      places_of_entries list0 ∷
-      places_of_entries list1 ∷
-      no_places ∷ no_places ∷ no_places ∷ [];
-}
-event_of place (SubmitPicture number handle) = record (bare_event place 5) { number = number }
+event_of place (DecodeSlice number address bytes list0 list1) =
+    record (event_of_picture place 4 number) {
+      address = address;
+      size = length bytes;
+      lists =
+          places_of_entries list0 ∷
+          places_of_entries list1 ∷
+          no_places ∷ no_places ∷ no_places ∷ [];
+    }
+event_of place (SubmitPicture number handle) = event_of_picture place 5 number
 
 -- the events of calls that have places from this one on
 abbrev pub events_from : (place : ℕ) → List (Call ℕ) → List Event

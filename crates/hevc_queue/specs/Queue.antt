@@ -1,11 +1,11 @@
 -- What a backend that queues its calls tells.
-use Rattle.std.specs.Prelude.{ℕ, ◌==◌, Bool, false, List, [], ◌∷◌, map, Option, Some, None, unwrap_or}
+use Rattle.std.specs.Prelude.{ℕ, Bool, false, List, [], map, Option, Some, None, unwrap_or}
 use Rattle.std.specs.List.{flat_map}
 use Rattle.hevc_backend.specs.declared.call.Call.{Call}
 use Rattle.hevc_backend.specs.Handed.{Handed}
 use Rattle.hevc_backend.specs.Trait.{Counts}
+use Rattle.hevc_events.specs.declared.event.Event.{Event}
 use Rattle.hevc_queue.specs.declared.controls.Controls.{Controls}
-use Rattle.hevc_queue.specs.declared.event.Event.{Event}
 use Rattle.hevc_queue.specs.declared.given.Given.{Given}
 use Rattle.hevc_queue.specs.Controls.{no_controls}
 use Rattle.hevc_queue.specs.Given.{call_of, handed_in}
@@ -43,11 +43,6 @@ new_queue = record {
   room = false;
   controls = None;
 }
-
--- a sequence begins by the first event
-abbrev pub begins_sequence : List Event → Bool
-begins_sequence [] = false
-begins_sequence (event ∷ events) = event.kind == 1
 
 -- structs are wanted from here on
 abbrev pub with_controls : Queue → Queue

@@ -3,40 +3,15 @@ ghost use Rattle.std.specs.Prelude.{◌≡◌};
 ghost use Rattle.hevc_bits.specs.NaluType.{nalu_type_number};
 ghost use Rattle.hevc_backend.specs.declared.call.Call.TheVariants.{NewSequence, SubmitPicture};
 ghost use Rattle.hevc_backend.specs.Calls.{new_picture_call, begin_picture_call, decode_slice_call};
-ghost use Rattle.hevc_queue.specs.Events.{bare_event, event_of};
+ghost use Rattle.hevc_queue.specs.Events.{event_of};
 
-use crate::event::Event;
-use crate::places::{no_places, places_of_entries, places_of_members};
+use crate::places::{places_of_entries, places_of_members};
 use hevc_backend::NegotiationInfo;
 use hevc_bits::NaluType;
 use hevc_dpb::PictureData;
+use hevc_events::{Event, bare_event, event_of_picture, no_places};
 use hevc_refs::{RefPicList, RefPicSet};
 use hevc_types_d::Slice;
-
-/// An event of a kind, and nothing else.
-pub fn bare_event(place: u64, kind: u32) -> Event
-    ensures { result ≡ bare_event place kind }
-{
-    Event {
-        place,
-        kind,
-        nal_unit_type: 0,
-        number: 0,
-        timestamp: 0,
-        order_count: 0,
-        is_output: 0,
-        width: 0,
-        height: 0,
-        general_profile_idc: 0,
-        bit_depth_luma_minus8: 0,
-        bit_depth_chroma_minus8: 0,
-        chroma_format_idc: 0,
-        max_num_pics: 0,
-        address: 0,
-        size: 0,
-        lists: [no_places(); 5],
-    }
-}
 
 /// A sequence begins.
 pub(crate) fn sequence_event(place: u64, info: &NegotiationInfo) -> Event
@@ -57,9 +32,8 @@ pub(crate) fn sequence_event(place: u64, info: &NegotiationInfo) -> Event
 pub(crate) fn picture_event(place: u64, number: u64, picture: &PictureData, timestamp: u64) -> Event
     ensures { result ≡ event_of place (new_picture_call number picture.now timestamp) }
 {
-    let mut event = bare_event(place, 2);
+    let mut event = event_of_picture(place, 2, number);
     event.nal_unit_type = type_number(picture.nalu_type);
-    event.number = number;
     event.timestamp = timestamp;
     event.order_count = picture.pic_order_cnt_val;
     event.is_output = if picture.pic_output_flag { 1 } else { 0 };
@@ -77,8 +51,7 @@ fn type_number(nalu_type: NaluType) -> u32
 pub(crate) fn sets_event(place: u64, number: u64, rps: &RefPicSet) -> Event
     ensures { result ≡ event_of place (begin_picture_call number rps.now) }
 {
-    let mut event = bare_event(place, 3);
-    event.number = number;
+    let mut event = event_of_picture(place, 3, number);
     event.lists = [
         places_of_members(rps.st_curr_before()),
         places_of_members(rps.st_curr_after()),
@@ -100,8 +73,7 @@ pub(crate) fn slice_event(
     ensures { result ≡ event_of place
         (decode_slice_call number slice.now ref_pic_list0.now ref_pic_list1.now) }
 {
-    let mut event = bare_event(place, 4);
-    event.number = number;
+    let mut event = event_of_picture(place, 4, number);
     event.address = slice.header.segment_address;
     event.size = slice.nalu.as_ref().len() as u64;
     event.lists = [
@@ -118,7 +90,5 @@ pub(crate) fn slice_event(
 pub(crate) fn submission_event(place: u64, number: u64) -> Event
     ensures { result ≡ event_of place (SubmitPicture number number) }
 {
-    let mut event = bare_event(place, 5);
-    event.number = number;
-    event
+    event_of_picture(place, 5, number)
 }

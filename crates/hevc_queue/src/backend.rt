@@ -2,23 +2,23 @@
 ghost use Rattle.std.specs.Prelude.{◌≡◌, ◌+◌, ◌<◌, ◌^◌, ◌↔◌, [], ◌∷◌, ℕ, drop, length, slice_index_or, None, Some, IsNone, IfSome, IfNone, IfOk, OnOk, OnErr};
 ghost use Rattle.hevc_backend.specs.Trait.{CountsFaults};
 ghost use Rattle.hevc_backend.specs.declared.call.Call.{Call};
+ghost use Rattle.hevc_events.specs.Waiting.{sequence_is_next};
 ghost use Rattle.hevc_queue.specs.Events.{event_of, events_of};
 ghost use Rattle.hevc_queue.specs.Controls.{filled_picture, filled_slice, latest_picture_controls, latest_slice_control};
-ghost use Rattle.hevc_queue.specs.Queue.{begins_sequence, handed_of, log_of, new_queue, with_controls};
+ghost use Rattle.hevc_queue.specs.Queue.{handed_of, log_of, new_queue, with_controls};
 
 use crate::asked::{picture_event, sequence_event, sets_event, slice_event, submission_event};
 use crate::controls::{Controls, PictureControls, fill_picture, fill_slice, no_controls};
-use crate::event::Event;
 use crate::given::Given;
 use hevc_backend::{BackendError, NegotiationInfo, StatelessH265DecoderBackend, StreamInfo};
 use hevc_dpb::{Dpb, PictureData};
+use hevc_events::{Event, EventQueue};
 use hevc_history::History;
 use hevc_refs::{RefPicList, RefPicSet};
 use hevc_types_c::Sps;
 use hevc_types_d::{Pps, Slice};
 use hevc_v4l2::{ControlError, V4l2CtrlHevcSliceParams};
 use std::alloc::{AllocError, Global};
-use std::collections::VecDeque;
 use std::marker::Model;
 
 /// A backend that puts each call into a queue, as an event, and has as many free frames as it was told of. A call fails only where an
@@ -27,12 +27,8 @@ use std::marker::Model;
 /// It keeps no call: its log is there in proofs alone. Its pictures and handles are the numbers of pictures. The events that were taken,
 /// followed by those that wait, are those of the calls of its log. It isn't `Drop`: `end` alone lets it go, with what waits.
 pub struct QueueBackend {
-    /// The events that wait.
-    events: VecDeque<Event>,
-    /// How many events were taken.
-    taken: u64,
-    /// How many calls there were.
-    called: u64,
+    /// The events of its calls that wait.
+    queue: EventQueue,
     free_frames: usize,
     faults: u64,
     empty_answers: u64,
@@ -44,7 +40,8 @@ pub struct QueueBackend {
 }
 
 impl Model for QueueBackend {
-    ghost use Rattle.std.specs.Prelude.{◌≡◌, ◌+◌, drop, length, map};
+    ghost use Rattle.std.specs.Prelude.{◌≡◌, drop, length, map};
+    ghost use Rattle.hevc_events.specs.Waiting.{next_place};
     ghost use Rattle.hevc_queue.specs.Controls.{AreLatestIn, wanted};
     ghost use Rattle.hevc_queue.specs.Events.{events_of};
     ghost use Rattle.hevc_queue.specs.Given.{call_of};
@@ -57,17 +54,16 @@ impl Model for QueueBackend {
 
     ghost view = { λ b. record {
       given = b.history.items;
-      taken = b.taken;
-      waiting = b.events.items;
+      taken = b.queue.taken;
+      waiting = b.queue.events;
       free_frames = b.free_frames;
       counts = record { faults = b.faults; empty_answers = b.empty_answers };
       room = b.room;
       controls = wanted b.controls;
     } };
 
-    ghost invariant = { λ b. (b.called ≡ length b.history.items)
-        × (b.taken + length b.events.items ≡ b.called)
-        × (b.events.items ≡ drop b.taken (events_of (map call_of b.history.items)))
+    ghost invariant = { λ b. (next_place b.queue ≡ length b.history.items)
+        × (b.queue.events ≡ drop b.queue.taken (events_of (map call_of b.history.items)))
         × AreLatestIn b.history.items (wanted b.controls) };
 }
 
@@ -77,9 +73,7 @@ impl QueueBackend {
         ensures { result ≡ new_queue }
     {
         QueueBackend {
-            events: VecDeque::new(alloc),
-            taken: 0,
-            called: 0,
+            queue: EventQueue::new(alloc),
             free_frames: 0,
             faults: 0,
             empty_answers: 0,
@@ -95,9 +89,7 @@ impl QueueBackend {
             { taken = length self.now.given; waiting = []; controls = None } }
     {
         QueueBackend {
-            events: VecDeque::new(alloc),
-            taken: self.called,
-            called: self.called,
+            queue: self.queue.stand_in(alloc),
             free_frames: self.free_frames,
             faults: self.faults,
             empty_answers: self.empty_answers,
@@ -112,9 +104,7 @@ impl QueueBackend {
         ensures { result ≡ length self.waiting }
     {
         let QueueBackend {
-            events,
-            taken: _,
-            called: _,
+            queue,
             free_frames: _,
             faults: _,
             empty_answers: _,
@@ -122,17 +112,14 @@ impl QueueBackend {
             controls: _,
             history: _,
         } = self;
-        events.len()
+        queue.end()
     }
 
     /// Whether a sequence begins by the first event that waits.
     pub fn is_sequence_next(&self) -> bool
-        ensures { result ≡ begins_sequence self.now.waiting }
+        ensures { result ≡ sequence_is_next self.now.waiting }
     {
-        match self.events.front() {
-            Some(event) => event.kind == 1,
-            None => false,
-        }
+        self.queue.is_sequence_next()
     }
 
     /// So many frames are free.
@@ -148,7 +135,7 @@ impl QueueBackend {
         ensures events { self.now.waiting ≡ drop self.now.taken (events_of (log_of self.now)) }
         ensures all { self.now.taken + length self.now.waiting ≡ length self.now.given }
     {
-        self.events.len()
+        self.queue.num_waiting()
     }
 
     /// Takes the first event that waits: that of the call whose place in the log is the number of events that were taken before.
@@ -161,10 +148,7 @@ impl QueueBackend {
             ≡ record self.old { waiting = self.new.waiting; taken = self.old.taken + 1 }) }
         ensures unchanged { IfNone result (self.new ≡ self.old) }
     {
-        let event = self.events.pop_front()?;
-        prove!(self.taken < self.called);
-        self.taken += 1;
-        Some(event)
+        self.queue.take()
     }
 
     /// From here on, the structs of Linux's stateless decoders are filled with each picture that begins.
@@ -211,11 +195,13 @@ impl QueueBackend {
         ensures cause { CountsFaults self.old.counts self.new.counts result }
         ensures kept { self.new ≡ record self.old { counts = self.new.counts } }
     {
-        if self.called == u64::MAX {
-            self.faults = self.faults.saturating_add(1);
-            return Err(BackendError::Failed);
+        match self.queue.next_place() {
+            Some(place) => Ok(place),
+            None => {
+                self.faults = self.faults.saturating_add(1);
+                Err(BackendError::Failed)
+            }
         }
-        Ok(self.called)
     }
 }
 
@@ -239,9 +225,8 @@ impl StatelessH265DecoderBackend for QueueBackend {
     fn new_sequence(&mut self, sps: &Sps) -> Result<(), BackendError> {
         let place = self.next_place()?;
         let event = sequence_event(place, &NegotiationInfo::from(sps));
-        self.events.push_back(event)?;
+        self.queue.put(event)?;
         self.history = self.history.and(sps);
-        self.called = place + 1;
         Ok(())
     }
 
@@ -253,9 +238,8 @@ impl StatelessH265DecoderBackend for QueueBackend {
     ) -> Result<u64, BackendError> {
         let place = self.next_place()?;
         let event = picture_event(place, number, picture, timestamp);
-        self.events.push_back(event)?;
+        self.queue.put(event)?;
         self.history = self.history.and(&(number, picture, timestamp));
-        self.called = place + 1;
         self.room = false;
         self.free_frames = self.free_frames.saturating_sub(1);
         Ok(number)
@@ -274,11 +258,10 @@ impl StatelessH265DecoderBackend for QueueBackend {
     ) -> Result<(), BackendError> {
         let place = self.next_place()?;
         let event = sets_event(place, number, rps);
-        self.events.push_back(event)?;
+        self.queue.put(event)?;
         self.history = self
             .history
             .and(&(number, picture_data, sps, pps, dpb, rps, slice));
-        self.called = place + 1;
         fill_picture(&mut self.controls, picture_data, sps, pps, dpb, rps, slice);
         Ok(())
     }
@@ -296,7 +279,7 @@ impl StatelessH265DecoderBackend for QueueBackend {
     ) -> Result<(), BackendError> {
         let place = self.next_place()?;
         let event = slice_event(place, number, slice, ref_pic_list0, ref_pic_list1);
-        self.events.push_back(event)?;
+        self.queue.put(event)?;
         self.history = self.history.and(&(
             number,
             slice,
@@ -306,7 +289,6 @@ impl StatelessH265DecoderBackend for QueueBackend {
             ref_pic_list0,
             ref_pic_list1,
         ));
-        self.called = place + 1;
         fill_slice(
             &mut self.controls,
             slice,
@@ -322,9 +304,8 @@ impl StatelessH265DecoderBackend for QueueBackend {
     fn submit_picture(&mut self, number: u64, _picture: u64) -> Result<u64, BackendError> {
         let place = self.next_place()?;
         let event = submission_event(place, number);
-        self.events.push_back(event)?;
+        self.queue.put(event)?;
         self.history = self.history.and(&number);
-        self.called = place + 1;
         Ok(number)
     }
 

@@ -4,12 +4,9 @@
 mod asked;
 mod backend;
 mod controls;
-mod event;
 mod given;
 mod places;
 
-pub use asked::bare_event;
 pub use backend::QueueBackend;
 pub use controls::{BegunControls, Controls, PictureControls};
-pub use event::{Event, Places};
 pub use given::{BegunPicture, Given, GivenSlice};

@@ -1,22 +1,11 @@
 //! Lists of pictures as plain structs.
 ghost use Rattle.std.specs.Prelude.{◌≡◌, ◌≤◌, length};
 ghost use Rattle.hevc_v4l2.specs.Arrays.{padded};
-ghost use Rattle.hevc_queue.specs.Events.{entry_kind, entry_number, member_kind, member_number, no_places, places_of_entries, places_of_members};
+ghost use Rattle.hevc_queue.specs.Events.{entry_kind, entry_number, member_kind, member_number, places_of_entries, places_of_members};
 
-use crate::event::Places;
 use arrayvec::ArrayVec;
+use hevc_events::Places;
 use hevc_refs::RefPicListEntry;
-
-/// A list of no place.
-pub(crate) fn no_places() -> Places
-    ensures { result ≡ no_places }
-{
-    Places {
-        numbers: [0; 16],
-        kinds: [0; 16],
-        count: 0,
-    }
-}
 
 /// A list of a reference picture set.
 pub(crate) fn places_of_members(members: &[Option<u64>]) -> Places

@@ -187,7 +187,10 @@ fn wide_chroma_offset(scale: ChromaScale, delta_weight: i8, delta_offset: i16) -
     ensures not_more { result ≤ℤ pos 8191 }
 {
     let weight = chroma_weight(scale.log2_denominator, delta_weight);
-    let weighted = weighted_half_range(scale, weight);
+    let weighted = shifted(
+        weighted_half_range(scale.half_range, weight),
+        scale.log2_denominator,
+    );
     clipped(
         scale.half_range,
         unclipped_offset(scale, delta_offset, weighted),
@@ -204,16 +207,18 @@ fn chroma_weight(log2_denominator: u8, delta_weight: i8) -> i32
     (1 << log2_denominator) + i32::from(delta_weight)
 }
 
-/// Half the range of offsets by a weight, over the denominator of weights.
+/// Half the range of offsets by a weight.
 #[tactic(auto, using(crate::proofs::Products::weighted_within))]
-fn weighted_half_range(scale: ChromaScale, weight: i32) -> i32
+fn weighted_half_range(half_range: i32, weight: i32) -> i32
+    requires half_at_least { pos 1 ≤ℤ half_range }
+    requires half_at_most { half_range ≤ℤ pos 8192 }
     requires least { negsuc 127 ≤ℤ weight }
     requires most { weight ≤ℤ pos 255 }
-    ensures value { result ≡ int_shr (scale.half_range *ℤ weight) scale.log2_denominator }
+    ensures value { result ≡ half_range *ℤ weight }
     ensures not_less { negsuc 4194303 ≤ℤ result }
     ensures not_more { result ≤ℤ pos 4194303 }
 {
-    shifted(scale.half_range * weight, scale.log2_denominator)
+    half_range * weight
 }
 
 /// A number over a power of 2, rounded down.

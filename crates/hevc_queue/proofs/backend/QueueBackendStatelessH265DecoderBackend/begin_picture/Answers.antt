@@ -17,11 +17,11 @@ invariant_of-self-2 c =
     let at = c.in_ok-place.ensures.place ∙ ap (λ (queue : Queue). length queue.given) (sym c.self.view_is) in
     let more =
     queue_more q.history.items c.and-self-inside.result.items (Begun given)
-    q.taken q.called c.in_ok-place.place q.events.items c.push_back.new.self.items c.sets_event-event.result
+    c.in_ok-place.place q.queue c.put.new.self c.sets_event-event.result
     c.self.invariant at (c.sets_event-event.ensures)
-    c.in_ok-push_back.ensures.items c.and-self-inside.ensures in
+    c.in_ok-put.ensures.put c.and-self-inside.ensures in
     let filled = latest_begins q.history.items given (wanted q.controls) (wanted c.fill_picture.new.controls) c.fill_picture.ensures in
-    (more.0, more.1, more.2, rw c.and-self-inside.ensures filled)
+    (more.0, more.1, rw c.and-self-inside.ensures filled)
 
 -- the call is told of what lives as long as the arguments
 pub and-self-inside-requires : goal.and-self-inside-requires

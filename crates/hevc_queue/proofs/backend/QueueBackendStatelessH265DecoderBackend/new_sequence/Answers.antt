@@ -17,8 +17,8 @@ invariant_of-self-2 c =
     let at = c.in_ok-place.ensures.place ∙ ap (λ (queue : Queue). length queue.given) (sym c.self.view_is) in
     let more =
     queue_more q.history.items c.and-self-inside.result.items g
-    q.taken q.called c.in_ok-place.place q.events.items c.push_back.new.self.items c.sequence_event-event.result
+    c.in_ok-place.place q.queue c.put.new.self c.sequence_event-event.result
     c.self.invariant at (c.sequence_event-event.ensures ∙ ap (λ (info : NegotiationInfo). event_of c.in_ok-place.place (NewSequence info)) c.from.ensures)
-    c.in_ok-push_back.ensures.items c.and-self-inside.ensures in
-    let filled = latest_stay q.history.items g (wanted q.controls) refl refl c.self.invariant.3 in
-    (more.0, more.1, more.2, rw c.and-self-inside.ensures filled)
+    c.in_ok-put.ensures.put c.and-self-inside.ensures in
+    let filled = latest_stay q.history.items g (wanted q.controls) refl refl c.self.invariant.2 in
+    (more.0, more.1, rw c.and-self-inside.ensures filled)

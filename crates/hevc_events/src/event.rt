@@ -1,4 +1,6 @@
 //! What a backend was asked for, as plain structs.
+ghost use Rattle.std.specs.Prelude.{◌≡◌};
+ghost use Rattle.hevc_events.specs.Plain.{bare_event, event_of_picture, no_places};
 
 /// A list of pictures, of at most 16 places (8.3.2, 8.3.4).
 #[repr(C)]
@@ -50,4 +52,49 @@ pub struct Event {
     pub size: u64,
     /// Of kind 3, RefPicSetStCurrBefore, StCurrAfter, StFoll, LtCurr and LtFoll; of kind 4, RefPicList0 and RefPicList1.
     pub lists: [Places; 5],
+}
+
+/// A list of no place.
+pub fn no_places() -> Places
+    ensures { result ≡ no_places }
+{
+    Places {
+        numbers: [0; 16],
+        kinds: [0; 16],
+        count: 0,
+    }
+}
+
+/// An event of a kind, at a place, and nothing else.
+pub fn bare_event(place: u64, kind: u32) -> Event
+    ensures { result ≡ bare_event place kind }
+{
+    Event {
+        place,
+        kind,
+        nal_unit_type: 0,
+        number: 0,
+        timestamp: 0,
+        order_count: 0,
+        is_output: 0,
+        width: 0,
+        height: 0,
+        general_profile_idc: 0,
+        bit_depth_luma_minus8: 0,
+        bit_depth_chroma_minus8: 0,
+        chroma_format_idc: 0,
+        max_num_pics: 0,
+        address: 0,
+        size: 0,
+        lists: [no_places(); 5],
+    }
+}
+
+/// An event of a kind that is about this picture, and nothing else.
+pub fn event_of_picture(place: u64, kind: u32, number: u64) -> Event
+    ensures { result ≡ event_of_picture place kind number }
+{
+    let mut event = bare_event(place, kind);
+    event.number = number;
+    event
 }
