@@ -106,16 +106,21 @@ fn no_unit() -> UnitCall {
     }
 }
 
+/// Looks for a unit. The answer is the status.
+fn status_of(stream: &[u8], from: usize, unit: &mut UnitCall) -> u32 {
+    next_unit(stream, from, unit)
+}
+
 #[test]
 fn units_of_a_stream() -> Result<(), Fail> {
     let stream = [0, 0, 1, 0x40, 1, 12, 0, 0, 1, 0x46, 0x0B, 0x50];
     let mut unit = no_unit();
-    check(next_unit(&stream, 0, &mut unit) == 0, "the first unit")?;
+    check(status_of(&stream, 0, &mut unit) == 0, "the first unit")?;
     check(
         unit.offset == 3 && unit.size == 3 && unit.nal_unit_type == 32,
         "its place and type",
     )?;
-    check(next_unit(&stream, 6, &mut unit) == 0, "the second unit")?;
+    check(status_of(&stream, 6, &mut unit) == 0, "the second unit")?;
     check(
         unit.offset == 9 && unit.size == 3 && unit.nal_unit_type == 35,
         "its place and type",
@@ -124,17 +129,17 @@ fn units_of_a_stream() -> Result<(), Fail> {
         unit.layer_id == 1 && unit.temporal_id == 2,
         "its layer and sub-layer",
     )?;
-    check(next_unit(&stream, 12, &mut unit) == 1, "no third unit")?;
+    check(status_of(&stream, 12, &mut unit) == 1, "no third unit")?;
     check(
-        next_unit(&stream, 13, &mut unit) == 17,
+        status_of(&stream, 13, &mut unit) == 17,
         "a place past the end",
     )?;
     check(
-        next_unit(&[0, 0, 1, 0x42], 0, &mut unit) == 5,
+        status_of(&[0, 0, 1, 0x42], 0, &mut unit) == 5,
         "a header that ends",
     )?;
     check(
-        next_unit(&[0, 0, 1, 0x7C, 1], 0, &mut unit) == 6,
+        status_of(&[0, 0, 1, 0x7C, 1], 0, &mut unit) == 6,
         "an unspecified type",
     )?;
     check(unit.row == 62, "its number")

@@ -10,6 +10,21 @@ use hevc_queue::PictureControls;
 use hevc_v4l2::V4l2CtrlHevcSliceParams;
 use std::test::Fail;
 
+/// Decodes a unit, or accepts a format. The answer is how many bytes were taken.
+fn decode_next(
+    decoder: &mut PullDecoder,
+    bytes: &[u8],
+    call: &mut DecodeCall,
+) -> Result<usize, Fail> {
+    let status = decode(decoder, bytes, call);
+    if status == 2 {
+        let _accepted = accept_format(decoder);
+        return Ok(0);
+    }
+    check(status == 0, "refused")?;
+    Ok(call.taken as usize)
+}
+
 /// Decodes the units of a stream up to the second picture.
 fn decode_some(decoder: &mut PullDecoder, stream: &[u8]) -> Result<(), Fail> {
     let mut call = DecodeCall {
@@ -22,13 +37,7 @@ fn decode_some(decoder: &mut PullDecoder, stream: &[u8]) -> Result<(), Fail> {
     let mut at = 0usize;
     for _ in 0..5 {
         let rest = stream.get(at..).ok_or("past the end")?;
-        match decode(decoder, rest, &mut call) {
-            0 => at = at.saturating_add(call.taken as usize),
-            2 => {
-                let _accepted = accept_format(decoder);
-            }
-            _ => return Err(Fail::from("refused")),
-        }
+        at = at.saturating_add(decode_next(decoder, rest, &mut call)?);
     }
     Ok(())
 }

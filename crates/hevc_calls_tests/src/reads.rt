@@ -29,9 +29,14 @@ fn nothing_read(alloc: Global) -> Result<UnitRead, Fail> {
     })
 }
 
+/// Reads a unit. The answer is its status.
+fn status_of(sets: &mut Parser, bytes: &[u8], told: &mut UnitRead) -> u32 {
+    read_unit(sets, bytes, told)
+}
+
 /// Reads three units of a stream of two pictures: each set, and the second picture's slice segment header.
 fn read_two_pictures(sets: &mut Parser, stream: &[u8], told: &mut UnitRead) -> Result<(), Fail> {
-    check(read_unit(sets, stream, told) == 0, "a sequence set")?;
+    check(status_of(sets, stream, told) == 0, "a sequence set")?;
     check(told.unit.nal_unit_type == 33, "its type")?;
     check(told.unit.offset == 3 && told.unit.size == 27, "its place")?;
     check(
@@ -40,13 +45,13 @@ fn read_two_pictures(sets: &mut Parser, stream: &[u8], told: &mut UnitRead) -> R
     )?;
     check(told.sps.profile.general_level_idc == 60, "its level")?;
     let rest = stream.get(30..).ok_or("short")?;
-    check(read_unit(sets, rest, told) == 0, "a picture set")?;
+    check(status_of(sets, rest, told) == 0, "a picture set")?;
     check(
         told.unit.nal_unit_type == 34 && told.pps.init_qp_minus26 == 0,
         "its fields",
     )?;
     let slices = stream.get(46..).ok_or("short")?;
-    check(read_unit(sets, slices, told) == 0, "a slice segment header")?;
+    check(status_of(sets, slices, told) == 0, "a slice segment header")?;
     check(
         told.unit.nal_unit_type == 1 && told.slice.slice_pic_order_cnt_lsb == 8,
         "its order count",
@@ -73,7 +78,7 @@ fn sets_and_headers_of_a_stream(rt: HostRuntime) -> Result<(), Fail> {
 fn read_refused(sets: &mut Parser, stream: &[u8], told: &mut UnitRead) -> Result<(), Fail> {
     let rest = stream.get(30..).ok_or("short")?;
     check(
-        read_unit(sets, rest, told) == 18,
+        status_of(sets, rest, told) == 18,
         "a picture set without its sequence set",
     )?;
     check(
@@ -82,19 +87,19 @@ fn read_refused(sets: &mut Parser, stream: &[u8], told: &mut UnitRead) -> Result
     )?;
     let slice = stream.get(39..).ok_or("short")?;
     check(
-        read_unit(sets, slice, told) == 9,
+        status_of(sets, slice, told) == 9,
         "a slice segment without its picture set",
     )?;
     check(
-        read_unit(sets, &[0, 0, 1, 0x42, 1, 1], told) == 7,
+        status_of(sets, &[0, 0, 1, 0x42, 1, 1], told) == 7,
         "a sequence set that ends",
     )?;
     check(
-        read_unit(sets, &[0, 0, 1, 0x46, 1, 0x50], told) == 0,
+        status_of(sets, &[0, 0, 1, 0x46, 1, 0x50], told) == 0,
         "a delimiter",
     )?;
     check(told.unit.nal_unit_type == 35, "its type")?;
-    check(read_unit(sets, &[0, 0], told) == 1, "no unit")?;
+    check(status_of(sets, &[0, 0], told) == 1, "no unit")?;
     check(told.unit.size == 0, "no bytes")
 }
 

@@ -79,27 +79,38 @@ fn default_lists_row_by_row(rt: HostRuntime) -> Result<(), Fail> {
     )
 }
 
-/// The struct of a slice segment of this unit, with nothing in the buffer and no lists, and that of its picture.
+/// A slice segment of this unit, of whose header 17 bits and two bytes are told.
+fn slice_of(alloc: Global, nalu: Nalu<'_, NaluHeader>) -> Slice<'_> {
+    let mut slice = Slice::new(SliceHeader::new(alloc), nalu);
+    slice.header.header_bit_size = 17;
+    slice.header.n_emulation_prevention_bytes = 2;
+    slice
+}
+
+/// An IRAP picture of order count -7.
+fn picture() -> PictureData {
+    let mut picture = PictureData::default();
+    picture.is_irap = true;
+    picture.pic_order_cnt_val = -7;
+    picture
+}
+
+/// The struct of this slice segment, with nothing in the buffer and no lists, and that of its picture.
 fn structs_of(
     alloc: Global,
-    nalu: Nalu<'_, NaluHeader>,
+    slice: &Slice<'_>,
 ) -> (
     Result<V4l2CtrlHevcSliceParams, ControlError>,
     Result<V4l2CtrlHevcDecodeParams, ControlError>,
 ) {
-    let mut slice = Slice::new(SliceHeader::new(alloc), nalu);
-    slice.header.header_bit_size = 17;
-    slice.header.n_emulation_prevention_bytes = 2;
-    let mut picture = PictureData::default();
-    picture.is_irap = true;
-    picture.pic_order_cnt_val = -7;
+    let picture = picture();
     let sps = Sps::new(alloc);
     let dpb: Dpb<u64> = Dpb::new(alloc);
     let lists = ReferencePicLists::new();
     let (list0, list1) = (&lists.ref_pic_list0, &lists.ref_pic_list1);
     (
-        slice_control(&picture, &slice, &sps, &dpb, list0, list1),
-        decode_control(&picture, &slice, &sps, &dpb, &RefPicSet::new()),
+        slice_control(&picture, slice, &sps, &dpb, list0, list1),
+        decode_control(&picture, slice, &sps, &dpb, &RefPicSet::new()),
     )
 }
 
@@ -107,7 +118,7 @@ fn structs_of(
 fn a_slice_and_its_picture(rt: HostRuntime) -> Result<(), Fail> {
     let mut position = 0;
     let nalu = Nalu::<NaluHeader>::next(&STREAM, &mut position).or(Err("no unit"))?;
-    let (slice, picture) = structs_of(rt.alloc(), nalu);
+    let (slice, picture) = structs_of(rt.alloc(), &slice_of(rt.alloc(), nalu));
     let control = slice.or(Err("refused"))?;
     check(
         control.bit_size == 32 && control.data_byte_offset == 5,
