@@ -45,7 +45,7 @@ shifted : (bits by k : ℕ) → bit_at (bits / 2 ^ by) k ≡ bit_at bits (by + k
 shifted bits by k = ap (λ x. x % 2) (shr-shr bits by k)
 
 -- two zeros in a row
-abbrev pub pairs_of : (zeros : ℕ) → ℕ
+abbrev pairs_of : (zeros : ℕ) → ℕ
 pairs_of zeros = bit_and zeros (zeros / 2)
 
 -- and a 1 after them
@@ -82,8 +82,8 @@ stands_start block zeros ones k long places places_1 set =
 bit_of_none : (bits k : ℕ) → bits ≡ 0 → bit_at bits k ≢ 1
 bit_of_none bits k none set = omega (arith, sym set ∙ ap (λ n. bit_at n k) none ∙ bit_at-zero k)
 
-pub none_in_pairs : (block : List ℕ) (zeros : ℕ) → length block ≡ 64 → ArePlaces 0 block zeros → pairs_of zeros ≡ 0 → NoneStands block 0 (length block)
-none_in_pairs block zeros long places none k low high stands = bit_of_none (pairs_of zeros) k none (pair_stands block zeros k long places stands)
+pub none_in_ones : (block : List ℕ) (ones : ℕ) → length block ≡ 64 → ArePlaces 1 block ones → ones ≡ 0 → NoneStands block 0 (length block)
+none_in_ones block ones long places none k low high stands = bit_of_none ones (k + 2) none ((places (k + 2)).1 (omega (arith, long, stands.0), stands.3))
 
 pub none_in_starts : (block : List ℕ) (zeros ones : ℕ) → length block ≡ 64 → ArePlaces 0 block zeros → ArePlaces 1 block ones → starts_of zeros ones ≡ 0 → NoneStands block 0 (length block)
 none_in_starts block zeros ones long places places_1 none k low high stands = bit_of_none (starts_of zeros ones) k none (start_stands block zeros ones k long places places_1 stands)

@@ -14,7 +14,7 @@ StandsAt stream k =
 abbrev pub NoneStands : List ℕ → ℕ → ℕ → Type 0
 NoneStands stream from to = (k : ℕ) → from ≤ k → k < to → ¬ StandsAt stream k
 
--- the first place from one on at which it is
+-- the first place from one on at which it is, to which a decoder moves on (H.265 B.3)
 abbrev pub IsFirstStart : List ℕ → ℕ → Option ℕ → Type 0
 IsFirstStart stream from found =
     MatchOption found (NoneStands stream from (length stream))

@@ -18,17 +18,17 @@ fn places_of(byte: u8, block: u8x64) -> u64
     block.simd_eq(u8x64::splat(byte)).to_bitmask()
 }
 
-/// The place of the first start code in a block. Few blocks of a coded slice have two zeros in a row.
+/// The place of the first start code in a block. Most blocks of a coded slice have no 1.
 #[inline(always)]
 fn find_in_block(block: u8x64) -> Option<usize>
     ensures { IsFirstStart block 0 result }
 {
-    let zeros = places_of(0, block);
-    let pairs = zeros & (zeros >> 1);
-    if pairs == 0 {
+    let ones = places_of(1, block);
+    if ones == 0 {
         return None;
     }
-    let starts = pairs & (places_of(1, block) >> 2);
+    let zeros = places_of(0, block);
+    let starts = zeros & (zeros >> 1) & (ones >> 2);
     if starts == 0 {
         return None;
     }
