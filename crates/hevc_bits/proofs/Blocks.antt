@@ -49,7 +49,7 @@ abbrev pairs_of : (zeros : ℕ) → ℕ
 pairs_of zeros = bit_and zeros (zeros / 2)
 
 -- and a 1 after them
-abbrev pub starts_of : (zeros ones : ℕ) → ℕ
+abbrev starts_of : (zeros ones : ℕ) → ℕ
 starts_of zeros ones = bit_and (pairs_of zeros) (ones / 4)
 
 pair_stands : (block : List ℕ) (zeros k : ℕ) → length block ≡ 64 → ArePlaces 0 block zeros → StandsAt block k → bit_at (pairs_of zeros) k ≡ 1
@@ -82,8 +82,13 @@ stands_start block zeros ones k long places places_1 set =
 bit_of_none : (bits k : ℕ) → bits ≡ 0 → bit_at bits k ≢ 1
 bit_of_none bits k none set = omega (arith, sym set ∙ ap (λ n. bit_at n k) none ∙ bit_at-zero k)
 
-pub none_in_ones : (block : List ℕ) (ones : ℕ) → length block ≡ 64 → ArePlaces 1 block ones → ones ≡ 0 → NoneStands block 0 (length block)
-none_in_ones block ones long places none k low high stands = bit_of_none ones (k + 2) none ((places (k + 2)).1 (omega (arith, long, stands.0), stands.3))
+-- a block without two zeros in a row
+pub not_two : (block : List ℕ) (zeros k : ℕ) → ArePlaces 0 block zeros → pairs_of zeros ≡ 0 → k < 63 → get_or block k 0 ≡ 0 → get_or block (k + 1) 0 ≢ 0
+not_two block zeros k places none low first second =
+    let next : 1 + k ≡ k + 1 = omega arith in
+    let here = (places k).1 (omega (arith, low), first) in
+    let behind = shifted zeros 1 k ∙ ap (bit_at zeros) next ∙ (places (k + 1)).1 (omega (arith, low), second) in
+    bit_of_none (pairs_of zeros) k none ((both_bits zeros (zeros / 2) k).1 (here, behind))
 
 pub none_in_starts : (block : List ℕ) (zeros ones : ℕ) → length block ≡ 64 → ArePlaces 0 block zeros → ArePlaces 1 block ones → starts_of zeros ones ≡ 0 → NoneStands block 0 (length block)
 none_in_starts block zeros ones long places places_1 none k low high stands = bit_of_none (starts_of zeros ones) k none (start_stands block zeros ones k long places places_1 stands)

@@ -1,13 +1,14 @@
 -- A start code at a place of a stream, seen by its three bytes and at the front of the bytes from there on.
-use Rattle.std.proofs.Common.{◌≡◌, ◌≢◌, Option, None, Some, ◌≤◌, ◌<◌, ◌+◌, ◌-◌, ℕ, length, get_or, List, [], ◌∷◌, drop, Bool, true, false, refl, ap, sym, ◌∙◌, arith}
+use Rattle.std.proofs.Common.{◌≡◌, ◌≢◌, Option, None, Some, ◌≤◌, ◌+◌, ◌-◌, ℕ, length, get_or, List, [], ◌∷◌, drop, take, Bool, true, false, refl, sym, ◌∙◌, arith, ap, ◌<◌}
 use Rattle.std.proofs.lemmas.Bool.{eqb-true, and_parts}
-use Rattle.std.proofs.lemmas.List.{get_or-drop}
+use Rattle.std.proofs.lemmas.List.{get_or-drop, take_all}
 use Rattle.std.proofs.lemmas.Simd.{length-chunk, get_or-chunk}
 use Rattle.std.proofs.Math.ListN.{length-drop}
 use lib.Lanes.{chunk}
 use Rattle.hevc_spec.specs.Units.{begins_with_start_code}
 use Rattle.hevc_spec.proofs.UnitLaws.{NoStartCode}
-use Rattle.hevc_bits.specs.StartCode.{StandsAt, NoneStands, IsFirstStart}
+use Rattle.memchr.specs.Find.{Nowhere, NoneBefore, Passes, is_byte}
+use Rattle.hevc_bits.specs.StartCode.{EndsFirst, StandsAt, NoneStands, IsFirstStart}
 
 front_stands : (xs : List ℕ) → begins_with_start_code xs ≡ true → StandsAt xs 0
 front_stands [] e = absurd cc
@@ -52,6 +53,24 @@ none_begins stream from to none k low high = by_test (begins_with_start_code (dr
 pub none_joined : (stream : List ℕ) (from between to : ℕ) → NoneStands stream from between → NoneStands stream between to → NoneStands stream from to
 none_joined stream from between to before behind k low high stands = grind (arith, before k low, behind k, high, stands)
 
+pub whole : (stream : List ℕ) (n : ℕ) → take (length stream - n) (drop n stream) ≡ drop n stream
+whole stream n = take_all (length stream - n) (drop n stream) (omega (arith, length-drop n stream))
+
+-- there is none where no third byte is 1
+pub none_ends : (stream : List ℕ) (from count : ℕ) → Nowhere (Passes (is_byte 1) (drop (from + 2) stream)) 0 count → NoneStands stream from (from + count)
+none_ends stream from count none k low high stands =
+    let third : get_or (drop (from + 2) stream) (k - from) 0 ≡ 1 = get_or-drop (from + 2) stream (k - from) 0 ∙ grind (arith, stands.3, low) in
+    none (k - from) (omega arith) (omega (arith, low, high)) (rw third refl)
+
+pub none_follows : (stream : List ℕ) (from : ℕ) → from + 2 ≤ length stream → Nowhere (Passes (is_byte 1) (drop (from + 2) stream)) 0 (length (drop (from + 2) stream)) → NoneStands stream from (length stream)
+none_follows stream from within none k low high stands =
+    none_ends stream from (length (drop (from + 2) stream)) none k low (omega (arith, length-drop (from + 2) stream, stands.0)) stands
+
+pub ends_first : (stream : List ℕ) (from ahead : ℕ) → NoneBefore (Passes (is_byte 1) (drop (from + 2) stream)) 0 (length (drop (from + 2) stream)) ahead → Passes (is_byte 1) (drop (from + 2) stream) ahead → EndsFirst stream from (Some (from + ahead))
+ends_first stream from ahead before here =
+    let third : get_or stream (from + 2 + ahead) 0 ≡ 1 = sym (get_or-drop (from + 2) stream ahead 0) ∙ eqb-true _ 1 here in
+    (omega arith, omega (arith, length-drop (from + 2) stream, before.high), grind (arith, third), none_ends stream from ahead before.before)
+
 -- ---- a block of a stream, from a place on
 
 pub block_long : (stream : List ℕ) (at : ℕ) → at + 64 ≤ length stream → length (chunk at 64 stream) ≡ 64
@@ -87,6 +106,15 @@ pub first_in_block : (stream : List ℕ) (at ahead : ℕ) → at + 64 ≤ length
 first_in_block stream at ahead within h =
     let short : ahead + 2 < 64 = omega (arith, block_long stream at within, h.1.0) in
     (omega arith, of_stream stream at ahead within h.1, none_in_block stream at ahead within (omega arith) h.2)
+
+pub none_begun : (stream : List ℕ) (from at : ℕ) → at + 64 ≤ length stream → NoneStands stream from at → IsFirstStart (chunk at 64 stream) 0 None → NoneStands stream from (at + 62)
+none_begun stream from at within before none =
+    none_joined stream from at (at + 62) before (none_in_block stream at 62 within (omega arith) (λ k low high. none k low (omega (arith, high, block_long stream at within))))
+
+-- there is none at the first 63 places of a block without two zeros in a row
+pub none_apart : (stream : List ℕ) (at : ℕ) → ((k : ℕ) → k < 63 → get_or (chunk at 64 stream) k 0 ≡ 0 → get_or (chunk at 64 stream) (k + 1) 0 ≢ 0) → NoneStands stream at (at + 63)
+none_apart stream at none k low high stands =
+    none (k - at) (omega (arith, low, high)) (block_byte stream at (k - at) k (omega arith) (omega arith) ∙ stands.1) (block_byte stream at (k - at + 1) (k + 1) (omega arith) (omega arith) ∙ stands.2)
 
 -- ---- the places before one
 

@@ -20,6 +20,14 @@ IsFirstStart stream from found =
     MatchOption found (NoneStands stream from (length stream))
     (λ k. (from ≤ k) × StandsAt stream k × NoneStands stream from k)
 
+-- the first place from one on whose third byte is 1; a start code is at none before it
+abbrev pub EndsFirst : List ℕ → ℕ → Option ℕ → Type 0
+EndsFirst stream from found = MatchOption found (NoneStands stream from (length stream))
+    (λ k. (from ≤ k)
+    × (k + 2 < length stream)
+    × (slice_index stream (k + 2) ≡ 1)
+    × NoneStands stream from k)
+
 -- The first unit from a place on (H.265 B.3) has these bytes, of which any are kept,
 -- and the other units come after any part of them.
 abbrev pub IsFirstCut : ℕ → List ℕ → ℕ → List ℕ → Type 0

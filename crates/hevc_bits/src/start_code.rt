@@ -1,10 +1,11 @@
 //! The search for the start code 00 00 01, and what follows a unit.
 
-ghost use Rattle.std.specs.Prelude.{◌≡◌, ◌↔◌, ◌≤◌, ◌<◌, ◌+◌, ℕ, length, slice_index, take};
+ghost use Rattle.std.specs.Prelude.{◌≡◌, ◌≢◌, ◌↔◌, ◌≤◌, ◌<◌, ◌+◌, ℕ, false, length, slice_index, take};
 ghost use Rattle.std.specs.Int.{bit_at};
 ghost use Rattle.hevc_spec.specs.Units.{without_trailing_zeros};
-ghost use Rattle.hevc_bits.specs.StartCode.{IsFirstStart, NoneStands, StandsAt};
+ghost use Rattle.hevc_bits.specs.StartCode.{EndsFirst, IsFirstStart, NoneStands, StandsAt};
 
+use memchr::memchr;
 use std::simd::prelude::*;
 
 /// How many bytes of a stream are looked at at once.
@@ -18,34 +19,57 @@ fn places_of(byte: u8, block: u8x64) -> u64
     block.simd_eq(u8x64::splat(byte)).to_bitmask()
 }
 
-/// The place of the first start code in a block. Most blocks of a coded slice have no 1.
+/// Whether a block has two zeros in a row, as few blocks of a coded slice have.
+#[inline(always)]
+fn has_two_zeros(block: u8x64) -> bool
+    ensures { result ≡ false
+        → (k : ℕ) → k < 63 → slice_index block k ≡ 0 → slice_index block (k + 1) ≢ 0 }
+{
+    let zeros = places_of(0, block);
+    zeros & (zeros >> 1) != 0
+}
+
+/// The place of the first start code in a block.
 #[inline(always)]
 fn find_in_block(block: u8x64) -> Option<usize>
     ensures { IsFirstStart block 0 result }
 {
-    let ones = places_of(1, block);
-    if ones == 0 {
-        return None;
-    }
     let zeros = places_of(0, block);
-    let starts = zeros & (zeros >> 1) & (ones >> 2);
+    let starts = zeros & (zeros >> 1) & (places_of(1, block) >> 2);
     if starts == 0 {
         return None;
     }
     Some(starts.trailing_zeros() as usize)
 }
 
-/// The place of the first start code at `from` or after it. Blocks overlap by two bytes, so each start code is within one.
+/// The first place at `from` or after it whose third byte is 1, as that of a start code is.
+fn find_end(stream: &[u8], from: usize) -> Option<usize>
+    requires { from + 2 ≤ length stream.now }
+    ensures { EndsFirst stream.now from result }
+{
+    match memchr(1, &stream[from + 2..]) {
+        Some(ahead) => Some(from + ahead),
+        None => None,
+    }
+}
+
+/// The place of the first start code at `from` or after it. After a block with two zeros in a row but without a start code, the next 1 is
+/// looked for: there is none among zeros, or where each third byte is 03.
 pub fn find_start_code(stream: &[u8], from: usize) -> Option<usize>
     requires { from ≤ length stream.now }
     ensures { IsFirstStart stream.now from result }
 {
     let mut at = from;
     while stream.len() - at >= BLOCK {
-        if let Some(ahead) = find_in_block(u8x64::from_slice(&stream[at..])) {
+        let block = u8x64::from_slice(&stream[at..]);
+        if !has_two_zeros(block) {
+            at += BLOCK - 1;
+            continue;
+        }
+        if let Some(ahead) = find_in_block(block) {
             return Some(at + ahead);
         }
-        at += BLOCK - 2;
+        at = find_end(stream, at + (BLOCK - 2))?;
     }
     find_in_last(stream, at)
 }

@@ -1,5 +1,5 @@
-use Rattle.std.proofs.Common.{length, ◌≤◌, ◌+◌, arith, Some}
-use Rattle.hevc_bits.proofs.StartCodes.{none_in_block, first_in_block, first_behind, none_joined, block_long}
+use Rattle.std.proofs.Common.{◌+◌, length, arith, Some}
+use Rattle.hevc_bits.proofs.StartCodes.{block_long, first_behind, first_in_block, none_apart, none_begun, none_joined}
 use Rattle.hevc_bits.proofs.start_code.find_start_code.Goals as goal
 
 pub overflow_add-result : goal.overflow_add-result
@@ -10,14 +10,32 @@ returns-in-Some c =
     let stream = c.args.stream.now in
     first_behind stream c.args.from c.loop-at.at (Some (c.loop-at.at + c.in-Some.ahead)) (omega arith) c.loop-at.invariant.2 (first_in_block stream c.loop-at.at c.in-Some.ahead (omega (arith, c.loop-at-test.true)) c.in-Some.ensures)
 
+pub loop-at-preserved-then-not-has_two_zeros : goal.loop-at-preserved-then-not-has_two_zeros
+loop-at-preserved-then-not-has_two_zeros c =
+    let stream = c.args.stream.now in
+    let at = c.loop-at.at in (
+      omega arith,
+      omega (arith, c.loop-at-test.true),
+      none_joined stream c.args.from at (at + 63) c.loop-at.invariant.2 (none_apart stream at (c.has_two_zeros.ensures c.if-not-has_two_zeros.true)),
+    )
+
+pub returns-in_err-at : goal.returns-in_err-at
+returns-in_err-at c =
+    let stream = c.args.stream.now in
+    let from = c.args.from in
+    let at = c.loop-at.at in
+    let begun = none_begun stream from at (omega (arith, c.loop-at-test.true)) c.loop-at.invariant.2 c.in_default.ensures in
+    rw c.from_residual.ensures (none_joined stream from (at + 62) (length stream) begun c.in_err-at.ensures)
+
 pub loop-at-preserved : goal.loop-at-preserved
 loop-at-preserved c =
     let stream = c.args.stream.now in
-    let within : c.loop-at.at + 64 ≤ length stream = omega (arith, c.loop-at-test.true) in (
-      omega arith,
-      omega (arith, c.loop-at-test.true),
-      none_joined stream c.args.from c.loop-at.at (c.loop-at.at + 62) c.loop-at.invariant.2
-          (none_in_block stream c.loop-at.at 62 within (omega arith) (λ k low high. c.in_default.ensures k low (omega (arith, high, block_long stream c.loop-at.at within)))),
+    let from = c.args.from in
+    let at = c.loop-at.at in
+    let begun = none_begun stream from at (omega (arith, c.loop-at-test.true)) c.loop-at.invariant.2 c.in_default.ensures in (
+      omega (arith, c.in_ok-at.ensures.0),
+      omega (arith, c.in_ok-at.ensures.1),
+      none_joined stream from (at + 62) c.in_ok-at.at begun c.in_ok-at.ensures.3,
     )
 
 pub returns : goal.returns
