@@ -2,7 +2,7 @@
 use crate::checks::check;
 use hevc_calls::{DecodeCall, UnitCall, accept_format, decode, flush, next_event, next_unit};
 use hevc_driver::Options;
-use hevc_events::bare_event;
+use hevc_events::{Event, bare_event};
 use hevc_made::make_stream;
 use hevc_pull::PullDecoder;
 use std::alloc::Global;
@@ -15,11 +15,18 @@ struct Came {
     outputs: Vec<u64>,
 }
 
+/// The next event that waits, of kind 7 where none does.
+fn take_one(decoder: &mut PullDecoder) -> Event {
+    let mut event = bare_event(0, 7);
+    let _left = next_event(decoder, &mut event);
+    event
+}
+
 /// Takes all that waits.
 fn take_all(decoder: &mut PullDecoder, came: &mut Came) -> Result<(), Fail> {
     for _ in 0..100 {
-        let mut event = bare_event(0, 0);
-        if next_event(decoder, &mut event) == 0 || event.kind == 7 {
+        let event = take_one(decoder);
+        if event.kind == 7 {
             break;
         }
         came.events = came.events.saturating_add(1);

@@ -10,15 +10,25 @@ use hevc_queue::PictureControls;
 use hevc_v4l2::V4l2CtrlHevcSliceParams;
 use std::test::Fail;
 
+/// Decodes a unit. The answer is its status.
+fn status_of(decoder: &mut PullDecoder, bytes: &[u8], call: &mut DecodeCall) -> u32 {
+    decode(decoder, bytes, call)
+}
+
+/// Accepts a format.
+fn accept(decoder: &mut PullDecoder) -> u32 {
+    accept_format(decoder)
+}
+
 /// Decodes a unit, or accepts a format. The answer is how many bytes were taken.
 fn decode_next(
     decoder: &mut PullDecoder,
     bytes: &[u8],
     call: &mut DecodeCall,
 ) -> Result<usize, Fail> {
-    let status = decode(decoder, bytes, call);
+    let status = status_of(decoder, bytes, call);
     if status == 2 {
-        let _accepted = accept_format(decoder);
+        let _accepted = accept(decoder);
         return Ok(0);
     }
     check(status == 0, "refused")?;
