@@ -8,17 +8,17 @@ import unittest
 
 TOP = pathlib.Path(__file__).resolve().parent.parent
 STRUCTS = {
-    'fezhalum_decode_call': ('hevc_calls/src/calls.rt', 'DecodeCall'),
-    'fezhalum_unit': ('hevc_calls/src/units.rt', 'UnitCall'),
+    'fezhalum_decode_call': ('hevc_pull/src/calls.rt', 'DecodeCall'),
+    'fezhalum_unit': ('hevc_pull/src/units.rt', 'UnitCall'),
     'fezhalum_places': ('hevc_events/src/event.rt', 'Places'),
     'fezhalum_event': ('hevc_events/src/event.rt', 'Event'),
-    'fezhalum_profile': ('hevc_fields/src/profile.rt', 'ProfileFields'),
-    'fezhalum_vui': ('hevc_fields/src/vui.rt', 'VuiFields'),
-    'fezhalum_vps': ('hevc_fields/src/vps.rt', 'VpsFields'),
-    'fezhalum_sps': ('hevc_fields/src/sps.rt', 'SpsFields'),
-    'fezhalum_pps': ('hevc_fields/src/pps.rt', 'PpsFields'),
-    'fezhalum_slice': ('hevc_fields/src/slice.rt', 'SliceFields'),
-    'fezhalum_read': ('hevc_calls/src/reads.rt', 'UnitRead'),
+    'fezhalum_profile': ('hevc_pull/src/fields/profile.rt', 'ProfileFields'),
+    'fezhalum_vui': ('hevc_pull/src/fields/vui.rt', 'VuiFields'),
+    'fezhalum_vps': ('hevc_pull/src/fields/vps.rt', 'VpsFields'),
+    'fezhalum_sps': ('hevc_pull/src/fields/sps.rt', 'SpsFields'),
+    'fezhalum_pps': ('hevc_pull/src/fields/pps.rt', 'PpsFields'),
+    'fezhalum_slice': ('hevc_pull/src/fields/slice.rt', 'SliceFields'),
+    'fezhalum_read': ('hevc_pull/src/reads.rt', 'UnitRead'),
     'fezhalum_picture_structs': ('hevc_queue/src/controls.rt', 'PictureControls'),
 }
 FLAGS = ('profile', 'vui', 'vps', 'sps', 'pps', 'slice')
@@ -37,7 +37,7 @@ ERRORS = {
     'INVALID_NALU_TYPE': 'INVALID_UNIT_TYPE', 'FORMAT_NOT_AWAITED': 'NOT_AWAITED',
 }
 
-# What the header calls the events of hevc_queue and of hevc_calls: the function that makes them, or the case.
+# What the header calls the events of hevc_queue and of hevc_pull: the function that makes them, or the case.
 KINDS = {
     'sequence_event': 'SEQUENCE', 'picture_event': 'PICTURE', 'sets_event': 'SETS', 'slice_event': 'SLICE', 'submission_event': 'SUBMIT',
     'Output(frame)': 'OUTPUT', 'FormatChanged': 'CHANGED',
@@ -82,11 +82,11 @@ def in_capitals(name):
 
 
 def code_statuses():
-    text = crate('hevc_calls/src/status.rt')
+    text = crate('hevc_pull/src/status.rt')
     function = re.search(r'fn status_of\(.*?^\}', text, re.S | re.M)[0]
     found = re.findall(r'DecodeError::(\w+)(?:\([^)]*\)|\s*\{[^}]*\})? => (\d+)', function)
     found += re.findall(r'pub const (\w+): u32 = (\d+);', text)
-    controls = re.search(r'fn status_of_control\(.*?^\}', crate('hevc_calls/src/controls.rt'), re.S | re.M)[0]
+    controls = re.search(r'fn status_of_control\(.*?^\}', crate('hevc_pull/src/controls.rt'), re.S | re.M)[0]
     found += re.findall(r'ControlError::(\w+) => (\d+)', controls)
     names = {in_capitals(name) if not name.isupper() else name: int(number) for name, number in found}
     return {'OK': 0} | {ERRORS.get(name, name): number for name, number in names.items()}
@@ -94,7 +94,7 @@ def code_statuses():
 
 def code_kinds():
     asked = re.findall(r'fn (\w+_event)\((?:(?!^\}).)*?(?:bare_event|event_of_picture)\(place, (\d+)', crate('hevc_queue/src/asked.rt'), re.S | re.M)
-    pulled = re.findall(r'Pulled::(\S+) =>(?:(?!Pulled::).)*?bare_event\(0, (\d+)\)', crate('hevc_calls/src/calls.rt'), re.S)
+    pulled = re.findall(r'Pulled::(\S+) =>(?:(?!Pulled::).)*?bare_event\(0, (\d+)\)', crate('hevc_pull/src/calls.rt'), re.S)
     return {KINDS.get(name, name): int(number) for name, number in asked + pulled}
 
 
@@ -105,7 +105,7 @@ def header_flags(text, name):
 
 
 def code_flags(name):
-    listed = re.search(r'fn ' + name + r'_flags\(.*?flag_bits\(&\[(.*?)\]\)', crate(f'hevc_fields/src/{name}.rt'), re.S)[1]
+    listed = re.search(r'fn ' + name + r'_flags\(.*?flag_bits\(&\[(.*?)\]\)', crate(f'hevc_pull/src/fields/{name}.rt'), re.S)[1]
     return {re.sub('_FLAG$', '', flag.upper()): bit for bit, flag in enumerate(re.findall(r'\.(\w+)', listed))}
 
 

@@ -3,9 +3,9 @@ use Rattle.std.specs.Prelude.{ℕ, pos, [], ◌∷◌, ◌++◌, replicate}
 use Rattle.hevc_events.specs.declared.event.Event.{Event}
 use Rattle.hevc_events.specs.declared.event.Places.{Places}
 use Rattle.hevc_events.specs.Plain.{no_places}
-use Rattle.hevc_calls.specs.declared.calls.DecodeCall.{DecodeCall}
-use Rattle.hevc_calls.specs.declared.reads.UnitRead.{UnitRead}
-use Rattle.hevc_calls.specs.declared.units.UnitCall.{UnitCall}
+use Rattle.hevc_pull.specs.declared.calls.DecodeCall.{DecodeCall}
+use Rattle.hevc_pull.specs.declared.reads.UnitRead.{UnitRead}
+use Rattle.hevc_pull.specs.declared.units.UnitCall.{UnitCall}
 
 -- a list with these in its last place
 abbrev pub numbered_places : (count number kind : ℕ) → Places

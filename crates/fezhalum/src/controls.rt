@@ -3,12 +3,11 @@ ghost use Rattle.std.specs.Prelude.{◌≡◌};
 ghost use Rattle.std.specs.Borrow.{full_share, sem};
 ghost use Rattle.std.specs.Ptr.{lies_at};
 ghost use Rattle.hevc_pull.specs.contracts.decoder.PullDecoder.{the_row};
-ghost use Rattle.hevc_calls.specs.Controls.{FillsPicture, FillsSlice, WantsControls};
+ghost use Rattle.hevc_pull.specs.Controls.{FillsPicture, FillsSlice, WantsControls};
 ghost use Rattle.fezhalum.specs.Handles.{Becomes};
 
 use crate::Fezhalum;
-use hevc_calls::{picture_controls, slice_control, want_controls};
-use hevc_pull::PullDecoder;
+use hevc_pull::{PullDecoder, picture_controls, slice_control, want_controls};
 use hevc_queue::PictureControls;
 use hevc_v4l2::V4l2CtrlHevcSliceParams;
 

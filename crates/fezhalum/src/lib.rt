@@ -1,4 +1,4 @@
-//! The decoder for C: each call of `hevc_calls` over the decoder that lies at a pointer.
+//! The decoder for C: each call of `hevc_pull` over the decoder that lies at a pointer.
 #![tactic(auto)]
 
 mod controls;
@@ -12,15 +12,16 @@ ghost use prog.Memory.{capped, size};
 ghost use denote.Param.{layout};
 ghost use Rattle.hevc_pull.specs.contracts.decoder.PullDecoder.{the_row};
 ghost use Rattle.hevc_pull.specs.Views.{view_in};
-ghost use Rattle.hevc_calls.specs.Calls.{Accepts, Decodes, FlushesAll, TakesNext};
-ghost use Rattle.hevc_calls.specs.Units.{FindsUnit};
+ghost use Rattle.hevc_pull.specs.Calls.{Accepts, Decodes, FlushesAll, TakesNext};
+ghost use Rattle.hevc_pull.specs.Units.{FindsUnit};
 ghost use Rattle.fezhalum.specs.Handles.{Becomes, Leaves};
 ghost use Rattle.fezhalum.specs.Fresh.{IsFresh, IsFreshWith, options_given};
 
-use hevc_calls::{DecodeCall, UnitCall, accept_format, decode, flush, next_event, next_unit};
 use hevc_driver::Options;
 use hevc_events::Event;
-use hevc_pull::PullDecoder;
+use hevc_pull::{
+    DecodeCall, PullDecoder, UnitCall, accept_format, decode, flush, next_event, next_unit,
+};
 use std::alloc::Global;
 
 /// A decoder, at a pointer.

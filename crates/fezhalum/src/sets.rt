@@ -7,10 +7,10 @@ ghost use denote.Param.{layout};
 ghost use Rattle.hevc_stream.specs.Kept.{none_kept};
 ghost use Rattle.hevc_slice.specs.contracts.parser.Parser.{the_row};
 ghost use Rattle.hevc_slice.specs.Kept.{kept_by};
-ghost use Rattle.hevc_calls.specs.Reads.{Reads};
+ghost use Rattle.hevc_pull.specs.Reads.{Reads};
 ghost use Rattle.fezhalum.specs.Handles.{Becomes};
 
-use hevc_calls::{UnitRead, read_unit};
+use hevc_pull::{UnitRead, read_unit};
 use hevc_slice::Parser;
 use std::alloc::Global;
 

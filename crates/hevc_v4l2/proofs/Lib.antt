@@ -2,3 +2,5 @@ pub mod Ranges
 pub mod Products
 pub mod Shifts
 pub mod Sums
+pub mod Costs
+pub mod LongTermCosts

@@ -5,5 +5,6 @@ pub mod SequenceSet
 pub mod Weights
 pub mod Buffer
 pub mod LongTerm
+pub mod Places
 pub mod Slice
 pub mod Decode

@@ -31,14 +31,6 @@ pub(crate) fn are_signed_bytes(numbers: &[i16]) -> bool
         .all(|number| -128 <= *number && *number <= 127)
 }
 
-/// The same number as a signed byte.
-fn signed_byte_of(number: i16) -> i8
-    requires { IsTrue (is_signed_byte number) }
-    ensures { result ≡ number }
-{
-    number as i8
-}
-
 /// The same numbers, each as a signed byte.
 pub(crate) fn signed_bytes_of<const N: usize>(numbers: &[i16; N]) -> [i8; N]
     requires { IsTrue (list_all is_signed_byte numbers.now) }
@@ -46,7 +38,7 @@ pub(crate) fn signed_bytes_of<const N: usize>(numbers: &[i16; N]) -> [i8; N]
 {
     let mut bytes = [0; N];
     for i in 0..N {
-        bytes[i] = signed_byte_of(numbers[i]);
+        bytes[i] = numbers[i] as i8;
     }
     bytes
 }

@@ -1,10 +1,10 @@
 -- `fezhalum_decode` lends what lies at the pointer to `decode_in`, and the call again, and has both back.
 use Rattle.fezhalum.proofs.Steps.{ℕ, List, [], ◌∷◌, ◌++◌, refl, w32, proved, full_share, id⊢, ftrue, flft, flent, fex, named, fact, tables, ‵, raw, ◌⊛◌, some, later, prop, ◌$◌, ◌∵◌, !, qed, done, move, keep, use1, use2, use3, split, join, fsplit, fpack, pick, await, regoal, suffices, group, enter, of_opd, addr, stop, no_more, and_then, returns, alloc_all, pass_all, free_all, look_at, get, through, sets, lands_as, Body, lft_new, lft_end, u8, u32, yes, Is, shows, lends_ref, ref_back, lends_again, comes_back, LentAgain, part_at, mem, uint_Lawful, Ptr, RawPtr, block_ptr, lies_at, in_a_block, rawptr_vals, rawptr_Tells, MutRef, mut_vals, mut_Tells, ShrSlice, shr_slice_vals, shr_slice_Tells, plain, nothing, heard, peeks, calls_at, lasts, triple_of, framed, Stays, walk_of, stay_dropped, Goes-dropped, ends_at, WpFn, MutBor}
-use Rattle.hevc_calls.specs.Calls.{Decodes}
+use Rattle.hevc_pull.specs.Calls.{Decodes}
 use denote.Builtin.{SliceRefOf}
 use denote.Triple.Walked.{stay_ref, Goes-ref}
 use Rattle.hevc_pull.specs.contracts.decoder.PullDecoder.{the_row as R}
-use Rattle.hevc_calls.specs.contracts.calls.DecodeCall.{the_row as Q}
+use Rattle.hevc_pull.specs.contracts.calls.DecodeCall.{the_row as Q}
 use Rattle.fezhalum.specs.contracts.fezhalum_decode as f
 use Rattle.fezhalum.proofs.fezhalum_decode.Statement.{statement}
 use Rattle.fezhalum.proofs.fezhalum_decode.Code as code

@@ -1,0 +1,154 @@
+//! A stream that is decoded by the calls for C.
+use crate::checks::{check, check_all};
+use hevc_driver::Options;
+use hevc_events::{Event, bare_event};
+use hevc_made::make_stream;
+use hevc_pull::{
+    DecodeCall, PullDecoder, UnitCall, accept_format, decode, flush, next_event, next_unit,
+};
+use std::alloc::Global;
+use std::test::Fail;
+
+/// What came of a stream: how many events, and the numbers of the pictures that were output.
+#[derive(Drop)]
+struct Came {
+    events: u32,
+    outputs: Vec<u64>,
+}
+
+/// The next event that waits, of kind 7 where none does.
+fn take_one(decoder: &mut PullDecoder) -> Event {
+    let mut event = bare_event(0, 7);
+    let _left = next_event(decoder, &mut event);
+    event
+}
+
+/// Takes all that waits.
+fn take_all(decoder: &mut PullDecoder, came: &mut Came) -> Result<(), Fail> {
+    for _ in 0..100 {
+        let event = take_one(decoder);
+        if event.kind == 7 {
+            break;
+        }
+        came.events = came.events.saturating_add(1);
+        if event.kind == 6 {
+            came.outputs.push(event.number)?;
+        }
+    }
+    Ok(())
+}
+
+/// Decodes a stream of a few units.
+fn decode_all(alloc: Global, stream: &[u8]) -> Result<Came, Fail> {
+    let mut decoder = PullDecoder::new(alloc, Options::new());
+    let came = decode_with(&mut decoder, alloc, stream);
+    let _waiting = decoder.end();
+    came
+}
+
+/// The same, with a decoder that is left.
+fn decode_with(decoder: &mut PullDecoder, alloc: Global, stream: &[u8]) -> Result<Came, Fail> {
+    let mut came = Came {
+        events: 0,
+        outputs: Vec::new(alloc),
+    };
+    let mut call = DecodeCall {
+        timestamp: 0,
+        free_frames: 16,
+        taken: 0,
+        table: 0,
+        row: 0,
+    };
+    let mut at = 0usize;
+    for _ in 0..100 {
+        let rest = stream.get(at..).ok_or("past the end")?;
+        let status = decode(decoder, rest, &mut call);
+        take_all(decoder, &mut came)?;
+        if status == 2 {
+            let _accepted = accept_format(decoder);
+        } else if status == 0 {
+            at = at.saturating_add(call.taken as usize);
+        } else {
+            break;
+        }
+    }
+    let _flushed = flush(decoder);
+    take_all(decoder, &mut came)?;
+    Ok(came)
+}
+
+#[test]
+fn nine_pictures_are_output_in_order(rt: HostRuntime) -> Result<(), Fail> {
+    let stream = make_stream(rt.alloc(), 9)?;
+    let came = decode_all(rt.alloc(), &stream)?;
+    check_all(&[
+        (
+            came.outputs.as_slice() == [0, 4, 3, 5, 2, 7, 6, 8, 1].as_slice(),
+            "outputs",
+        ),
+        (
+            came.events == 1 + 4 * 9 + 9,
+            "a sequence, four calls for each picture, and the outputs",
+        ),
+    ])
+}
+
+#[test]
+fn a_format_that_is_not_awaited(rt: HostRuntime) -> Result<(), Fail> {
+    let mut decoder = PullDecoder::new(rt.alloc(), Options::new());
+    let status = accept_format(&mut decoder);
+    check(
+        decoder.end() == 0 && status == 16,
+        "refused, and nothing waits",
+    )
+}
+
+/// The unit of a call that told nothing yet.
+fn no_unit() -> UnitCall {
+    UnitCall {
+        offset: 0,
+        size: 0,
+        nal_unit_type: 0,
+        layer_id: 0,
+        temporal_id: 0,
+        table: 0,
+        row: 0,
+    }
+}
+
+/// Looks for a unit. The answer is the status.
+fn status_of(stream: &[u8], from: usize, unit: &mut UnitCall) -> u32 {
+    next_unit(stream, from, unit)
+}
+
+#[test]
+fn units_of_a_stream() -> Result<(), Fail> {
+    let stream = [0, 0, 1, 0x40, 1, 12, 0, 0, 1, 0x46, 0x0B, 0x50];
+    let mut unit = no_unit();
+    check_all(&[
+        (status_of(&stream, 0, &mut unit) == 0, "the first unit"),
+        (unit.offset == 3 && unit.size == 3, "its place"),
+        (unit.nal_unit_type == 32, "its type"),
+        (status_of(&stream, 6, &mut unit) == 0, "the second unit"),
+        (unit.offset == 9 && unit.size == 3, "its place"),
+        (unit.nal_unit_type == 35, "its type"),
+        (
+            unit.layer_id == 1 && unit.temporal_id == 2,
+            "its layer and sub-layer",
+        ),
+        (status_of(&stream, 12, &mut unit) == 1, "no third unit"),
+        (
+            status_of(&stream, 13, &mut unit) == 17,
+            "a place past the end",
+        ),
+        (
+            status_of(&[0, 0, 1, 0x42], 0, &mut unit) == 5,
+            "a header that ends",
+        ),
+        (
+            status_of(&[0, 0, 1, 0x7C, 1], 0, &mut unit) == 6,
+            "an unspecified type",
+        ),
+        (unit.row == 62, "its number"),
+    ])
+}

@@ -1,0 +1,116 @@
+//! The structs of Linux's stateless decoders over a decoder.
+use crate::checks::{check, check_all};
+use hevc_driver::Options;
+use hevc_made::make_stream;
+use hevc_pull::{
+    DecodeCall, PullDecoder, accept_format, decode, picture_controls, slice_control, want_controls,
+};
+use hevc_queue::PictureControls;
+use hevc_v4l2::V4l2CtrlHevcSliceParams;
+use std::test::Fail;
+
+/// Decodes a unit. The answer is its status.
+fn status_of(decoder: &mut PullDecoder, bytes: &[u8], call: &mut DecodeCall) -> u32 {
+    decode(decoder, bytes, call)
+}
+
+/// Accepts a format.
+fn accept(decoder: &mut PullDecoder) -> u32 {
+    accept_format(decoder)
+}
+
+/// Decodes a unit, or accepts a format. The answer is how many bytes were taken.
+fn decode_next(
+    decoder: &mut PullDecoder,
+    bytes: &[u8],
+    call: &mut DecodeCall,
+) -> Result<usize, Fail> {
+    let status = status_of(decoder, bytes, call);
+    if status == 2 {
+        let _accepted = accept(decoder);
+        return Ok(0);
+    }
+    check(status == 0, "refused")?;
+    Ok(call.taken as usize)
+}
+
+/// Decodes the units of a stream up to the second picture.
+fn decode_some(decoder: &mut PullDecoder, stream: &[u8]) -> Result<(), Fail> {
+    let mut call = DecodeCall {
+        timestamp: 0,
+        free_frames: 16,
+        taken: 0,
+        table: 0,
+        row: 0,
+    };
+    let mut at = 0usize;
+    for _ in 0..5 {
+        let rest = stream.get(at..).ok_or("past the end")?;
+        at = at.saturating_add(decode_next(decoder, rest, &mut call)?);
+    }
+    Ok(())
+}
+
+/// The structs of the second picture and its slice segment.
+fn structs_of(
+    decoder: &mut PullDecoder,
+    stream: &[u8],
+) -> Result<(PictureControls, V4l2CtrlHevcSliceParams), Fail> {
+    decode_some(decoder, stream)?;
+    let filled = decoder.picture_controls().ok_or("no structs")?;
+    let picture = filled.or(Err("not held"))?;
+    let filled = decoder.slice_control().ok_or("no struct")?;
+    Ok((picture, filled.or(Err("not held"))?))
+}
+
+/// Compares what the calls fill with what the decoder has.
+fn compare(decoder: &mut PullDecoder, stream: &[u8]) -> Result<(), Fail> {
+    check_all(&[
+        (decoder.picture_controls().is_none(), "no structs"),
+        (decoder.slice_control().is_none(), "no struct"),
+        (want_controls(decoder) == 0, "structs are wanted"),
+        (decoder.picture_controls().is_none(), "none is filled yet"),
+    ])?;
+    let (mut picture, mut slice) = structs_of(decoder, stream)?;
+    picture.decode_params.num_active_dpb_entries = 0;
+    slice.bit_size = 0;
+    check_all(&[
+        (
+            picture_controls(decoder, &mut picture) == 0,
+            "the structs of a picture",
+        ),
+        (picture.sps.pic_width_in_luma_samples == 16, "its width"),
+        (
+            picture.decode_params.pic_order_cnt_val == 8,
+            "its order count",
+        ),
+        (
+            picture.decode_params.num_active_dpb_entries == 1,
+            "its reference picture",
+        ),
+        (
+            picture.decode_params.dpb[0].timestamp == 0,
+            "that picture's number",
+        ),
+        (
+            slice_control(decoder, &mut slice) == 0,
+            "the struct of a slice segment",
+        ),
+        (slice.slice_pic_order_cnt == 8, "its picture"),
+        (slice.ref_idx_l0[0] == 0, "its reference"),
+        (slice.bit_size != 0, "its size"),
+    ])
+}
+
+#[test]
+fn structs_of_the_latest_picture(rt: HostRuntime) -> Result<(), Fail> {
+    let stream = make_stream(rt.alloc(), 2)?;
+    let mut decoder = PullDecoder::new(rt.alloc(), Options::new());
+    let compared = compare(&mut decoder, stream.as_slice());
+    let waiting = decoder.end();
+    compared?;
+    check(
+        waiting == 1 + 2 * 3 + 1,
+        "a sequence, three calls for each picture, that the first is whole",
+    )
+}
