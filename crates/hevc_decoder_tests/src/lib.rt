@@ -1,4 +1,4 @@
-//! Tests of backends and of the decoder, unit by unit and over whole streams, up to the report.
+//! Tests of backends and of the decoder, unit by unit and over whole streams, up to the report, and of the decoder for C.
 #![tactic(auto)]
 
 #[cfg(test)]
@@ -7,6 +7,8 @@ mod backend;
 mod decoder;
 #[cfg(test)]
 mod driver;
+#[cfg(test)]
+mod for_c;
 #[cfg(test)]
 mod report;
 #[cfg(test)]

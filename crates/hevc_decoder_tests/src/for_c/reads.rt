@@ -1,5 +1,5 @@
 //! Sets and headers that are read without a decoder.
-use crate::checks::check_all;
+use super::check_all;
 use hevc_made::make_stream;
 use hevc_pull::{UnitCall, UnitRead, pps_fields, read_unit, slice_fields, sps_fields, vps_fields};
 use hevc_slice::Parser;

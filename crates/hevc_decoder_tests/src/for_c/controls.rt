@@ -1,5 +1,5 @@
 //! The structs of Linux's stateless decoders over a decoder.
-use crate::checks::{check, check_all};
+use super::{check, check_all};
 use hevc_driver::Options;
 use hevc_made::make_stream;
 use hevc_pull::{

@@ -1,5 +1,5 @@
 //! A stream that is decoded by the calls for C.
-use crate::checks::{check, check_all};
+use super::{check, check_all};
 use hevc_driver::Options;
 use hevc_events::{Event, bare_event};
 use hevc_made::make_stream;

@@ -1,5 +1,5 @@
 //! The structs of Linux's stateless decoders: values from outside, and each call once.
-use crate::checks::check_all;
+use super::check_all;
 use hevc_bits::{Nalu, NaluHeader};
 use hevc_dpb::{Dpb, PictureData};
 use hevc_refs::{RefPicSet, ReferencePicLists};
