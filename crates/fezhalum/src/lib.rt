@@ -10,6 +10,7 @@ ghost use Rattle.std.specs.Borrow.{full_share, sem};
 ghost use Rattle.std.specs.Ptr.{lies_at, room_at};
 ghost use prog.Memory.{capped, size};
 ghost use denote.Param.{layout};
+ghost use Rattle.hevc_options.specs.Options.{options_of};
 ghost use Rattle.hevc_pull.specs.contracts.decoder.PullDecoder.{the_row};
 ghost use Rattle.hevc_pull.specs.Views.{view_in};
 ghost use Rattle.hevc_pull.specs.Calls.{Accepts, Decodes, FlushesAll, TakesNext};
@@ -17,11 +18,13 @@ ghost use Rattle.hevc_pull.specs.Units.{FindsUnit};
 ghost use Rattle.fezhalum.specs.Handles.{Becomes, Leaves};
 ghost use Rattle.fezhalum.specs.Fresh.{IsFresh, IsFreshWith, options_given};
 
+use hevc_c_parts::Event;
 use hevc_driver::Options;
-use hevc_events::Event;
 use hevc_pull::{
     DecodeCall, PullDecoder, UnitCall, accept_format, decode, flush, next_event, next_unit,
 };
+use hevc_queue::QueueBackend;
+use hevc_stateless::StatelessDecoder;
 use std::alloc::Global;
 
 /// A decoder, at a pointer.
@@ -46,10 +49,20 @@ pub extern "C" fn fezhalum_api_version() -> u32
     3
 }
 
+/// A decoder over an empty queue.
+fn fresh_by(options: Options, alloc: Global) -> PullDecoder
+    ensures { IsFreshWith (options_of options) result }
+{
+    PullDecoder {
+        alloc,
+        decoder: StatelessDecoder::new_with(alloc, QueueBackend::new(alloc), options),
+    }
+}
+
 fn fresh(alloc: Global) -> PullDecoder
     ensures { IsFresh result }
 {
-    PullDecoder::new(alloc, Options::new())
+    fresh_by(Options::new(), alloc)
 }
 
 /// Makes a decoder at the beginning of a stream.
@@ -72,7 +85,7 @@ fn fresh_with(handle_cra_as_bla: u32, highest_tid: u32, alloc: Global) -> PullDe
             6
         },
     };
-    PullDecoder::new(alloc, options)
+    fresh_by(options, alloc)
 }
 
 /// Makes a decoder at the beginning of a stream, with options: whether CRA pictures are handled as BLA pictures (8.1.3), 0 for no, and

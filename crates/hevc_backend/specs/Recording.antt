@@ -8,7 +8,7 @@ use Rattle.hevc_backend.specs.declared.error.BackendError.TheVariants.{Failed, N
 use Rattle.hevc_backend.specs.declared.stream_info.StreamInfo.{StreamInfo}
 use Rattle.hevc_backend.specs.declared.call.Call.{Call}
 use Rattle.hevc_backend.specs.Negotiation.{stream_info_of_set}
-use Rattle.hevc_backend.specs.Trait.{Counts}
+use Rattle.hevc_backend.specs.Trait.{Counts, counts_of}
 
 pub record Recording : Type 0 where
   pub log : List (Call ℕ)
@@ -29,7 +29,7 @@ planned failing free = record {
   failing = failing;
   made = 0;
   free = free;
-  counts = record { faults = 0; empty_answers = 0 };
+  counts = counts_of 0 0;
   room = false;
   info = None;
 }

@@ -8,6 +8,13 @@ use Rattle.hevc_backend.specs.declared.error.BackendError.TheVariants.{Failed, N
 pub record Counts : Type 0 where
   pub faults : ℕ
   pub empty_answers : ℕ
+  -- after how many calls its owner set something of it, if ever: no call changes this
+  pub set_after : Option ℕ
+
+-- those of a backend of which its owner sets nothing
+abbrev pub counts_of : (faults empty_answers : ℕ) → Counts
+counts_of faults empty_answers =
+    record { faults = faults; empty_answers = empty_answers; set_after = None }
 
 -- the log after some more calls, where it is exposed
 abbrev pub logged : {X : Type 0} → Option (List X) → List X → Option (List X)
@@ -24,20 +31,21 @@ Logs before now (Err error) call = now ≡ before
 abbrev pub Counted : ℕ → ℕ → Type 0
 Counted before now = (before ≤ now) × Rose before now
 
--- both counts are as they were, unless the backend failed: then that of faults rose
+-- the counts are as they were, unless the backend failed: then that of faults rose
 abbrev pub CountsFault : Counts → Counts → BackendError → Type 0
 CountsFault before now Failed =
-    Counted before.faults now.faults × (now.empty_answers ≡ before.empty_answers)
+    Counted before.faults now.faults × (now ≡ record before { faults = now.faults })
 CountsFault before now NoMemory = now ≡ before
 
 abbrev pub CountsFaults : {T : Type 0} → Counts → Counts → Result T BackendError → Type 0
 CountsFaults before now (Ok value) = now ≡ before
 CountsFaults before now (Err error) = CountsFault before now error
 
--- both counts are as they were, unless no frame is free: then that of empty answers rose
+-- the counts are as they were, unless no frame is free: then that of empty answers rose
 abbrev pub CountsEmptyAnswers : Counts → Counts → (frames : ℕ) → Type 0
 CountsEmptyAnswers before now zero =
-    Counted before.empty_answers now.empty_answers × (now.faults ≡ before.faults)
+    Counted before.empty_answers now.empty_answers
+    × (now ≡ record before { empty_answers = now.empty_answers })
 CountsEmptyAnswers before now (suc n) = now ≡ before
 
 abbrev pub IsFault : BackendError → Type 0

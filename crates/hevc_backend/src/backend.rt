@@ -25,7 +25,7 @@ use hevc_types_d::{Pps, Slice};
 /// What decodes the samples of pictures.
 ///
 /// Each of the first five calls that succeeds is in the log, and no other call does. `Failed` has a cause: a fault was
-/// counted, or no more can be; the log stays. `NoMemory` leaves the log and both counts. A backend that is faultless never
+/// counted, or no more can be; the log stays. `NoMemory` leaves the log and the counts. A backend that is faultless never
 /// answers `Failed` and always has a free frame, now and later.
 pub trait StatelessH265DecoderBackend {
     /// The handle of a decoded picture.
@@ -41,7 +41,7 @@ pub trait StatelessH265DecoderBackend {
     ghost handed: { Self → Option (List Handed) };
 
     /// How many calls failed, and how many questions for free frames were answered by 0, so far. Neither count falls, and
-    /// both stay at 2^64 - 1.
+    /// both stay at 2^64 - 1. And after how many calls its owner set something of it, which no call changes.
     ghost counts: { Self → Counts };
 
     /// The last question for free frames found one, and no picture has begun since.

@@ -47,6 +47,7 @@ impl Model for Backend {
     ghost use Rattle.std.specs.List.{range_with_len};
     ghost use Rattle.hevc_backend.specs.Handles.{handles};
     ghost use Rattle.hevc_backend.specs.Recording.{Recording};
+    ghost use Rattle.hevc_backend.specs.Trait.{counts_of};
 
     ghost Value = { Recording };
 
@@ -55,7 +56,7 @@ impl Model for Backend {
       failing = b.failing.items;
       made = b.made;
       free = drop b.asked b.free.items;
-      counts = record { faults = b.faults; empty_answers = b.empty_answers };
+      counts = counts_of b.faults b.empty_answers;
       room = b.room;
       info = b.info;
     } };

@@ -1,6 +1,7 @@
 //! A backend that decodes nothing and keeps nothing.
 ghost use Rattle.std.specs.Prelude.{◌≡◌, false, None};
 ghost use Rattle.hevc_backend.specs.Silent.{has_room};
+ghost use Rattle.hevc_backend.specs.Trait.{counts_of};
 
 use crate::backend::StatelessH265DecoderBackend;
 use crate::error::BackendError;
@@ -34,7 +35,7 @@ impl StatelessH265DecoderBackend for SilentBackend {
 
     ghost handed = { λ _. None };
 
-    ghost counts = { λ _. record { faults = 0; empty_answers = 0 } };
+    ghost counts = { λ _. counts_of 0 0 };
 
     ghost room = { has_room };
 

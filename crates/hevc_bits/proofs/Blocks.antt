@@ -7,7 +7,7 @@ use Rattle.std.proofs.lemmas.Nat.Bits.{bit_at_and, bit_at-trailing_zeros, bit_at
 use Rattle.std.proofs.lemmas.Simd.{bit_mask_l}
 use lib.Bits.{and_le_l}
 use lib.Lanes.{mask_l}
-use Rattle.hevc_bits.specs.StartCode.{StandsAt, NoneStands, IsFirstStart}
+use Rattle.hevc_bits.specs.StartCode.{ArePairs, StandsAt, NoneStands, IsFirstStart}
 
 -- the bits of the places where a block has a byte
 abbrev pub ArePlaces : (byte : ℕ) → (block : List ℕ) → (bits : ℕ) → Type 0
@@ -49,57 +49,55 @@ abbrev pairs_of : (zeros : ℕ) → ℕ
 pairs_of zeros = bit_and zeros (zeros / 2)
 
 -- and a 1 after them
-abbrev starts_of : (zeros ones : ℕ) → ℕ
-starts_of zeros ones = bit_and (pairs_of zeros) (ones / 4)
+abbrev starts_of : (pairs ones : ℕ) → ℕ
+starts_of pairs ones = bit_and pairs (ones / 4)
 
-pair_stands : (block : List ℕ) (zeros k : ℕ) → length block ≡ 64 → ArePlaces 0 block zeros → StandsAt block k → bit_at (pairs_of zeros) k ≡ 1
-pair_stands block zeros k long places h =
-    let next : 1 + k ≡ k + 1 = omega arith in
-    (both_bits zeros (zeros / 2) k).1 (
-      (places k).1 (omega (arith, long, h.0), h.1),
-      shifted zeros 1 k ∙ ap (bit_at zeros) next ∙ (places (k + 1)).1 (omega (arith, long, h.0), h.2),
+pub pairs_tell : (block : List ℕ) (zeros : ℕ) → length block ≡ 64 → ArePlaces 0 block zeros → ArePairs block (pairs_of zeros)
+pairs_tell block zeros long places k =
+    let next : 1 + k ≡ k + 1 = omega arith in (
+      λ set.
+          let pair = (both_bits zeros (zeros / 2) k).0 set in
+          let second = (places (k + 1)).0 (ap (bit_at zeros) (sym next) ∙ sym (shifted zeros 1 k) ∙ pair.1) in
+          (omega (arith, long, second.0), ((places k).0 pair.0).1, second.1),
+      λ two. (both_bits zeros (zeros / 2) k).1 (
+        (places k).1 (omega (arith, long, two.0), two.1),
+        shifted zeros 1 k ∙ ap (bit_at zeros) next ∙ (places (k + 1)).1 (omega (arith, long, two.0), two.2),
+      ),
     )
 
-start_stands : (block : List ℕ) (zeros ones k : ℕ) → length block ≡ 64 → ArePlaces 0 block zeros → ArePlaces 1 block ones → StandsAt block k → bit_at (starts_of zeros ones) k ≡ 1
-start_stands block zeros ones k long places places_1 h =
+start_stands : (block : List ℕ) (pairs ones k : ℕ) → length block ≡ 64 → ArePairs block pairs → ArePlaces 1 block ones → StandsAt block k → bit_at (starts_of pairs ones) k ≡ 1
+start_stands block pairs ones k long are_pairs places_1 h =
     let third : 2 + k ≡ k + 2 = omega arith in
-    (both_bits (pairs_of zeros) (ones / 4) k).1 (
-      pair_stands block zeros k long places h,
+    (both_bits pairs (ones / 4) k).1 (
+      (are_pairs k).1 (omega (arith, h.0), h.1, h.2),
       shifted ones 2 k ∙ ap (bit_at ones) third ∙ (places_1 (k + 2)).1 (omega (arith, long, h.0), h.3),
     )
 
-stands_start : (block : List ℕ) (zeros ones k : ℕ) → length block ≡ 64 → ArePlaces 0 block zeros → ArePlaces 1 block ones → bit_at (starts_of zeros ones) k ≡ 1 → StandsAt block k
-stands_start block zeros ones k long places places_1 set =
-    let next : k + 1 ≡ 1 + k = omega arith in
+stands_start : (block : List ℕ) (pairs ones k : ℕ) → length block ≡ 64 → ArePairs block pairs → ArePlaces 1 block ones → bit_at (starts_of pairs ones) k ≡ 1 → StandsAt block k
+stands_start block pairs ones k long are_pairs places_1 set =
     let third : k + 2 ≡ 2 + k = omega arith in
-    let parts = (both_bits (pairs_of zeros) (ones / 4) k).0 set in
-    let pair = (both_bits zeros (zeros / 2) k).0 parts.0 in
-    let first = (places k).0 pair.0 in
-    let second = (places (k + 1)).0 (ap (bit_at zeros) next ∙ sym (shifted zeros 1 k) ∙ pair.1) in
+    let parts = (both_bits pairs (ones / 4) k).0 set in
+    let two = (are_pairs k).0 parts.0 in
     let last = (places_1 (k + 2)).0 (ap (bit_at ones) third ∙ sym (shifted ones 2 k) ∙ parts.1) in
-    (omega (arith, last.0), first.1, second.1, last.1)
+    (omega (arith, long, last.0), two.1, two.2, last.1)
 
 bit_of_none : (bits k : ℕ) → bits ≡ 0 → bit_at bits k ≢ 1
 bit_of_none bits k none set = omega (arith, sym set ∙ ap (λ n. bit_at n k) none ∙ bit_at-zero k)
 
 -- a block without two zeros in a row
-pub not_two : (block : List ℕ) (zeros k : ℕ) → ArePlaces 0 block zeros → pairs_of zeros ≡ 0 → k < 63 → get_or block k 0 ≡ 0 → get_or block (k + 1) 0 ≢ 0
-not_two block zeros k places none low first second =
-    let next : 1 + k ≡ k + 1 = omega arith in
-    let here = (places k).1 (omega (arith, low), first) in
-    let behind = shifted zeros 1 k ∙ ap (bit_at zeros) next ∙ (places (k + 1)).1 (omega (arith, low), second) in
-    bit_of_none (pairs_of zeros) k none ((both_bits zeros (zeros / 2) k).1 (here, behind))
+pub not_two : (block : List ℕ) (pairs : ℕ) → length block ≡ 64 → ArePairs block pairs → pairs ≡ 0 → (k : ℕ) → k < 63 → get_or block k 0 ≡ 0 → get_or block (k + 1) 0 ≢ 0
+not_two block pairs long are_pairs none k low first second = bit_of_none pairs k none ((are_pairs k).1 (omega (arith, long, low), first, second))
 
-pub none_in_starts : (block : List ℕ) (zeros ones : ℕ) → length block ≡ 64 → ArePlaces 0 block zeros → ArePlaces 1 block ones → starts_of zeros ones ≡ 0 → NoneStands block 0 (length block)
-none_in_starts block zeros ones long places places_1 none k low high stands = bit_of_none (starts_of zeros ones) k none (start_stands block zeros ones k long places places_1 stands)
+pub none_in_starts : (block : List ℕ) (pairs ones : ℕ) → length block ≡ 64 → ArePairs block pairs → ArePlaces 1 block ones → starts_of pairs ones ≡ 0 → NoneStands block 0 (length block)
+none_in_starts block pairs ones long are_pairs places_1 none k low high stands = bit_of_none (starts_of pairs ones) k none (start_stands block pairs ones k long are_pairs places_1 stands)
 
-pub first_of_starts : (block : List ℕ) (zeros ones : ℕ) → length block ≡ 64 → ArePlaces 0 block zeros → ArePlaces 1 block ones → 0 < starts_of zeros ones → starts_of zeros ones < 2 ^ 64 → IsFirstStart block 0 (Some (trailing_zeros w64 (starts_of zeros ones)))
-first_of_starts block zeros ones long places places_1 some fits =
-    let h = bit_at-trailing_zeros w64 (starts_of zeros ones) some fits in (
+pub first_of_starts : (block : List ℕ) (pairs ones : ℕ) → length block ≡ 64 → ArePairs block pairs → ArePlaces 1 block ones → 0 < starts_of pairs ones → starts_of pairs ones < 2 ^ 64 → IsFirstStart block 0 (Some (trailing_zeros w64 (starts_of pairs ones)))
+first_of_starts block pairs ones long are_pairs places_1 some fits =
+    let h = bit_at-trailing_zeros w64 (starts_of pairs ones) some fits in (
       omega arith,
-      stands_start block zeros ones _ long places places_1 h.1,
-      λ k low high stands. absurd (omega (arith, h.2 k high, start_stands block zeros ones k long places places_1 stands)),
+      stands_start block pairs ones _ long are_pairs places_1 h.1,
+      λ k low high stands. absurd (omega (arith, h.2 k high, start_stands block pairs ones k long are_pairs places_1 stands)),
     )
 
-pub small : (zeros ones : ℕ) → starts_of zeros ones ≤ zeros
-small zeros ones = omega (arith, and_le_l (pairs_of zeros) (ones / 4), and_le_l zeros (zeros / 2))
+pub small : (pairs ones : ℕ) → starts_of pairs ones ≤ pairs
+small pairs ones = and_le_l pairs (ones / 4)

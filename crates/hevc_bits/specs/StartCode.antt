@@ -1,5 +1,6 @@
 -- Where start codes are in a stream, place by place.
-use Rattle.std.specs.Prelude.{◌≡◌, ℕ, ◌+◌, ◌<◌, ◌≤◌, List, ◌∷◌, Option, length, slice_index, MatchOption}
+use Rattle.std.specs.Prelude.{◌≡◌, ◌↔◌, ℕ, ◌+◌, ◌<◌, ◌≤◌, List, ◌∷◌, Option, length, slice_index, MatchOption}
+use Rattle.std.specs.Int.{bit_at}
 use Rattle.hevc_spec.specs.Units.{units_from}
 
 -- start_code_prefix_one_3bytes (H.265 B.2.2), 00 00 01, is at a place
@@ -20,13 +21,19 @@ IsFirstStart stream from found =
     MatchOption found (NoneStands stream from (length stream))
     (λ k. (from ≤ k) × StandsAt stream k × NoneStands stream from k)
 
--- the first place from one on whose third byte is 1; a start code is at none before it
+-- the first place from one on whose third byte is 1, as that of a start code is (H.265 B.2.2);
+-- a start code is at none before it
 abbrev pub EndsFirst : List ℕ → ℕ → Option ℕ → Type 0
 EndsFirst stream from found = MatchOption found (NoneStands stream from (length stream))
     (λ k. (from ≤ k)
     × (k + 2 < length stream)
     × (slice_index stream (k + 2) ≡ 1)
     × NoneStands stream from k)
+
+-- the places of a block at which two zero bytes are in a row, a bit for each
+abbrev pub ArePairs : List ℕ → ℕ → Type 0
+ArePairs block pairs = (k : ℕ) → (bit_at pairs k ≡ 1)
+    ↔ ((k + 1 < length block) × (slice_index block k ≡ 0) × (slice_index block (k + 1) ≡ 0))
 
 -- The first unit from a place on (H.265 B.3) has these bytes, of which any are kept,
 -- and the other units come after any part of them.

@@ -1,9 +1,9 @@
 //! The search for the start code 00 00 01, and what follows a unit.
 
-ghost use Rattle.std.specs.Prelude.{◌≡◌, ◌≢◌, ◌↔◌, ◌≤◌, ◌<◌, ◌+◌, ℕ, false, length, slice_index, take};
+ghost use Rattle.std.specs.Prelude.{◌≡◌, ◌↔◌, ◌≤◌, ◌<◌, ◌+◌, ℕ, length, slice_index, take};
 ghost use Rattle.std.specs.Int.{bit_at};
 ghost use Rattle.hevc_spec.specs.Units.{without_trailing_zeros};
-ghost use Rattle.hevc_bits.specs.StartCode.{EndsFirst, IsFirstStart, NoneStands, StandsAt};
+ghost use Rattle.hevc_bits.specs.StartCode.{ArePairs, EndsFirst, IsFirstStart, NoneStands, StandsAt};
 
 use memchr::memchr;
 use std::simd::prelude::*;
@@ -19,23 +19,22 @@ fn places_of(byte: u8, block: u8x64) -> u64
     block.simd_eq(u8x64::splat(byte)).to_bitmask()
 }
 
-/// Whether a block has two zeros in a row, as few blocks of a coded slice have.
+/// Where a block has two zeros in a row, as few blocks of a coded slice have: a bit for each such place, from the lowest on.
 #[inline(always)]
-fn has_two_zeros(block: u8x64) -> bool
-    ensures { result ≡ false
-        → (k : ℕ) → k < 63 → slice_index block k ≡ 0 → slice_index block (k + 1) ≢ 0 }
+fn pairs_of_zeros(block: u8x64) -> u64
+    ensures { ArePairs block result }
 {
     let zeros = places_of(0, block);
-    zeros & (zeros >> 1) != 0
+    zeros & (zeros >> 1)
 }
 
-/// The place of the first start code in a block.
+/// The place of the first start code in a block: of the first pair of zeros that a 1 follows.
 #[inline(always)]
-fn find_in_block(block: u8x64) -> Option<usize>
+fn find_in_block(block: u8x64, pairs: u64) -> Option<usize>
+    requires { ArePairs block pairs }
     ensures { IsFirstStart block 0 result }
 {
-    let zeros = places_of(0, block);
-    let starts = zeros & (zeros >> 1) & (places_of(1, block) >> 2);
+    let starts = pairs & (places_of(1, block) >> 2);
     if starts == 0 {
         return None;
     }
@@ -62,11 +61,12 @@ pub fn find_start_code(stream: &[u8], from: usize) -> Option<usize>
     let mut at = from;
     while stream.len() - at >= BLOCK {
         let block = u8x64::from_slice(&stream[at..]);
-        if !has_two_zeros(block) {
+        let pairs = pairs_of_zeros(block);
+        if pairs == 0 {
             at += BLOCK - 1;
             continue;
         }
-        if let Some(ahead) = find_in_block(block) {
+        if let Some(ahead) = find_in_block(block, pairs) {
             return Some(at + ahead);
         }
         at = find_end(stream, at + (BLOCK - 2))?;

@@ -5,7 +5,20 @@ mod controls;
 mod reads;
 mod v4l2;
 
+use hevc_driver::Options;
+use hevc_pull::PullDecoder;
+use hevc_queue::QueueBackend;
+use hevc_stateless::StatelessDecoder;
+use std::alloc::Global;
 use std::test::Fail;
+
+/// A decoder at the beginning of a stream.
+fn pull_decoder(alloc: Global) -> PullDecoder {
+    PullDecoder {
+        alloc,
+        decoder: StatelessDecoder::new_with(alloc, QueueBackend::new(alloc), Options::new()),
+    }
+}
 
 /// Fails, by its name, where something isn't so.
 fn check(is_so: bool, name: &'static str) -> Result<(), Fail> {

@@ -1,6 +1,7 @@
 //! A backend that decodes nothing, and keeps all that comes with its calls.
 ghost use Rattle.std.specs.Prelude.{◌≡◌, [], false, None, Some, IfOk};
 ghost use Rattle.hevc_backend.specs.Handed.{segment_of};
+ghost use Rattle.hevc_backend.specs.Trait.{counts_of};
 ghost use Rattle.hevc_decoder_tests.specs.Telling.{all_handed, kept_segment};
 
 use hevc_backend::{BackendError, StatelessH265DecoderBackend, StreamInfo};
@@ -82,7 +83,7 @@ impl StatelessH265DecoderBackend for TellingBackend {
 
     ghost handed = { λ b. Some (all_handed b.came.items) };
 
-    ghost counts = { λ _. record { faults = 0; empty_answers = 0 } };
+    ghost counts = { λ _. counts_of 0 0 };
 
     ghost room = { λ b. b.room };
 

@@ -4,13 +4,14 @@ use Rattle.hevc_backend.specs.Trait.{Counts, Counted}
 use Rattle.hevc_driver.specs.declared.decode_error.DecodeError.{DecodeError}
 use Rattle.hevc_driver.specs.declared.decode_error.DecodeError.TheVariants.{Backend, NoMemory, CheckEvents, NotEnoughOutputBuffers}
 
--- both counts are as they were, unless the backend failed or had no frame:
+-- the counts are as they were, unless the backend failed or had no frame:
 -- then that of faults or of empty answers rose
 abbrev pub CountsError : Counts → Counts → DecodeError → Type 0
 CountsError before now Backend =
-    Counted before.faults now.faults × (now.empty_answers ≡ before.empty_answers)
+    Counted before.faults now.faults × (now ≡ record before { faults = now.faults })
 CountsError before now (NotEnoughOutputBuffers frames) =
-    Counted before.empty_answers now.empty_answers × (now.faults ≡ before.faults)
+    Counted before.empty_answers now.empty_answers
+    × (now ≡ record before { empty_answers = now.empty_answers })
 CountsError before now error = now ≡ before
 
 abbrev pub CountsErrors : {T : Type 0} → Counts → Counts → Result T DecodeError → Type 0

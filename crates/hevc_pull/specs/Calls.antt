@@ -6,13 +6,13 @@ use Rattle.hevc_driver.specs.Given.{Given}
 use Rattle.hevc_stateless.specs.declared.state.State.TheVariants.{AwaitingFormat, Decoding}
 use Rattle.hevc_stateless.specs.Flushes.{Flushes}
 use Rattle.hevc_stateless.specs.Steps.{TakesFirst}
-use Rattle.hevc_events.specs.declared.event.Event.{Event}
-use Rattle.hevc_events.specs.Plain.{bare_event}
+use Rattle.hevc_c_parts.specs.declared.event.Event.{Event}
+use Rattle.hevc_c_parts.specs.Plain.{bare_event}
 use Rattle.hevc_pull.specs.declared.decoder.PullDecoder.{PullDecoder}
 use Rattle.hevc_pull.specs.declared.pulled.Pulled.{Pulled}
 use Rattle.hevc_pull.specs.declared.pulled.Pulled.TheVariants.{Asked, Output, FormatChanged}
 use Rattle.hevc_pull.specs.Pulling.{PullsNext}
-use Rattle.hevc_pull.specs.Views.{kept_of, options_for, seen_of, traces_in, view_in, with_free_frames}
+use Rattle.hevc_pull.specs.Views.{kept_of, options_for, seen_of, traces_in, view_in, wanted_after, with_free_frames}
 use Rattle.hevc_pull.specs.declared.calls.DecodeCall.{DecodeCall}
 use Rattle.hevc_pull.specs.Status.{row_of, status_in, table_of}
 
@@ -33,6 +33,7 @@ pub record DecodesUnit (bytes : List ℕ) (before now : PullDecoder) (given told
   pub few : length bytes < 2 ^ 60
   pub takes : TakesFirst (units bytes) answer given.timestamp (options_for before)
       (with_free_frames given.free_frames (seen_of before)) (seen_of now)
+  pub wanted : wanted_after now ≡ wanted_after before
   pub options : options_for now ≡ options_for before
   pub status_is : status ≡ status_in answer
   pub told_is : told ≡ answered answer given
@@ -69,6 +70,7 @@ pub record FlushesAll (before now : PullDecoder) (status : ℕ) : Type 0 where
   pub flushes : (given : Given) → Flushes answer given (traces_in before) (traces_in now)
       (view_in before).state (view_in before).standing (view_in now).standing
   pub status_is : status ≡ status_in answer
+  pub wanted : wanted_after now ≡ wanted_after before
   pub kept : kept_of now ≡ kept_of before
   pub options : options_for now ≡ options_for before
 

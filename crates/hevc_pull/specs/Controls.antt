@@ -4,8 +4,8 @@ use Rattle.hevc_v4l2.specs.declared.error.ControlError.{ControlError}
 use Rattle.hevc_v4l2.specs.declared.error.ControlError.TheVariants.{TileColumns, TileRows, UnitSize, ShortTermSize, ChromaDenominator, LumaOffset, ChromaOffset, CurrentPicture}
 use Rattle.hevc_v4l2.specs.declared.slice.V4l2CtrlHevcSliceParams.{V4l2CtrlHevcSliceParams}
 use Rattle.hevc_queue.specs.declared.controls.PictureControls.{PictureControls}
-use Rattle.hevc_queue.specs.Controls.{filled_picture, filled_slice, latest_picture_controls, latest_slice_control}
-use Rattle.hevc_queue.specs.Queue.{with_controls}
+use Rattle.hevc_queue.specs.Controls.{latest_picture_controls, latest_slice_control}
+use Rattle.hevc_queue.specs.Queue.{given_wanted, with_controls}
 use Rattle.hevc_pull.specs.declared.decoder.PullDecoder.{PullDecoder}
 use Rattle.hevc_pull.specs.Views.{kept_of, options_for, view_in}
 
@@ -20,31 +20,28 @@ status_of_control LumaOffset = 25
 status_of_control ChromaOffset = 26
 status_of_control CurrentPicture = 27
 
--- What was filled is that of the latest call, and is told; what can't be held is told by its status,
--- and status 19 that nothing was filled: then the struct stays.
-abbrev pub Fills : {X : Type 0} → (filled latest : Option (Result X ControlError)) → (old new : X)
+-- What was filled is told; what can't be held is told by its status, and status 19 that nothing was
+-- filled: then the struct stays.
+abbrev pub Fills : {X : Type 0} → (filled : Option (Result X ControlError)) → (old new : X)
     → (status : ℕ) → Type 0
-Fills None latest old new status = (status ≡ 19) × (new ≡ old)
-Fills (Some (Ok struct)) latest old new status =
-    (latest ≡ Some (Ok struct)) × (status ≡ 0) × (new ≡ struct)
-Fills (Some (Err error)) latest old new status =
-    (latest ≡ Some (Err error)) × (status ≡ status_of_control error) × (new ≡ old)
+Fills None old new status = (status ≡ 19) × (new ≡ old)
+Fills (Some (Ok struct)) old new status = (status ≡ 0) × (new ≡ struct)
+Fills (Some (Err error)) old new status = (status ≡ status_of_control error) × (new ≡ old)
 
--- the structs of the latest picture that began, by what the call on the backend was given
+-- the structs of the latest picture that began since any are wanted,
+-- by what the call on the backend was given
 abbrev pub FillsPicture : (before now : PullDecoder) → (old new : PictureControls) → (status : ℕ)
     → Type 0
 FillsPicture before now old new status =
     (now ≡ before)
-    × Fills (filled_picture (view_in before).backend.controls)
-    (latest_picture_controls (view_in before).backend.given) old new status
+    × Fills (latest_picture_controls (given_wanted (view_in before).backend)) old new status
 
 -- that of its latest slice segment
 abbrev pub FillsSlice : (before now : PullDecoder) → (old new : V4l2CtrlHevcSliceParams)
     → (status : ℕ) → Type 0
 FillsSlice before now old new status =
     (now ≡ before)
-    × Fills (filled_slice (view_in before).backend.controls)
-    (latest_slice_control (view_in before).backend.given) old new status
+    × Fills (latest_slice_control (given_wanted (view_in before).backend)) old new status
 
 -- structs are wanted from here on, or an allocation failed
 pub record WantsControls (before now : PullDecoder) (status : ℕ) : Type 0 where

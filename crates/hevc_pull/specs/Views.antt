@@ -30,6 +30,10 @@ kept_of p = kept_in p.decoder
 abbrev pub options_for : PullDecoder → Options
 options_for p = set_for p.decoder
 
+-- after how many calls on the backend structs were wanted
+abbrev pub wanted_after : PullDecoder → Option ℕ
+wanted_after p = (view_in p).backend.counts.set_after
+
 -- all of it
 abbrev pub seen_of : PullDecoder → Seen Queue ℕ
 seen_of p = seen_by told_log told_handed p.decoder

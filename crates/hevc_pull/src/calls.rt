@@ -5,7 +5,7 @@ ghost use Rattle.hevc_pull.specs.Calls.{Accepts, Decodes, FlushesAll, TakesNext,
 use crate::decoder::PullDecoder;
 use crate::pulled::Pulled;
 use crate::status::{FORMAT_NOT_AWAITED, TOO_LONG, row_of, status_of, table_of};
-use hevc_events::{Event, bare_event};
+use hevc_c_parts::{Event, event_of_picture};
 
 /// What a call of `decode` is given, and what it answers.
 #[repr(C)]
@@ -66,12 +66,11 @@ fn event_of_pulled(pulled: Pulled) -> Event
     match pulled {
         Pulled::Asked(event) => event,
         Pulled::Output(frame) => {
-            let mut event = bare_event(0, 6);
-            event.number = frame.number;
+            let mut event = event_of_picture(0, 6, frame.number);
             event.order_count = frame.order_count;
             event
         }
-        Pulled::FormatChanged => bare_event(0, 7),
+        Pulled::FormatChanged => event_of_picture(0, 7, 0),
     }
 }
 

@@ -1,6 +1,7 @@
 //! The structs of Linux's stateless decoders.
 ghost use Rattle.std.specs.Prelude.{◌≡◌};
-ghost use Rattle.hevc_queue.specs.Controls.{filled_picture, filled_slice, latest_picture_controls, latest_slice_control};
+ghost use Rattle.hevc_queue.specs.Controls.{latest_picture_controls, latest_slice_control};
+ghost use Rattle.hevc_queue.specs.Queue.{given_wanted};
 ghost use Rattle.hevc_pull.specs.Views.{view_in};
 ghost use Rattle.hevc_pull.specs.Controls.{Fills, WantsControls, status_of_control};
 
@@ -21,8 +22,7 @@ pub fn want_controls(decoder: &mut PullDecoder) -> u32
 
 /// The structs of the latest picture that began. The answer is a status; the structs stay where it isn't 0.
 pub fn picture_controls(decoder: &PullDecoder, structs: &mut PictureControls) -> u32
-    ensures { Fills (filled_picture (view_in decoder.now).backend.controls)
-        (latest_picture_controls (view_in decoder.now).backend.given)
+    ensures { Fills (latest_picture_controls (given_wanted (view_in decoder.now).backend))
         structs.old structs.new result }
 {
     match decoder.picture_controls() {
@@ -37,8 +37,7 @@ pub fn picture_controls(decoder: &PullDecoder, structs: &mut PictureControls) ->
 
 /// The struct of its latest slice segment. The answer is a status; the struct stays where it isn't 0.
 pub fn slice_control(decoder: &PullDecoder, control: &mut V4l2CtrlHevcSliceParams) -> u32
-    ensures { Fills (filled_slice (view_in decoder.now).backend.controls)
-        (latest_slice_control (view_in decoder.now).backend.given)
+    ensures { Fills (latest_slice_control (given_wanted (view_in decoder.now).backend))
         control.old control.new result }
 {
     match decoder.slice_control() {

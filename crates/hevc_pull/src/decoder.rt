@@ -2,21 +2,19 @@
 ghost use Rattle.std.specs.Prelude.{◌≡◌, ◌<◌, ◌≤◌, ◌↔◌, [], true, length, Some, IfOk, IfNone, IfSome, IsOk, OnErr, OnOk, MatchOption};
 ghost use Rattle.hevc_bits.specs.declared.stream_limit.TheConstants.{STREAM_LIMIT};
 ghost use Rattle.hevc_spec.specs.Units.{units};
-ghost use Rattle.hevc_stream.specs.Kept.{none_kept};
-ghost use Rattle.hevc_options.specs.Options.{options_of};
 ghost use Rattle.hevc_driver.specs.Given.{Given};
 ghost use Rattle.hevc_stateless.specs.declared.state.State.TheVariants.{AwaitingFormat, Decoding, Reset};
 ghost use Rattle.hevc_stateless.specs.Flushes.{Flushes};
 ghost use Rattle.hevc_stateless.specs.Steps.{TakesFirst};
-ghost use Rattle.hevc_stateless.specs.Views.{at_beginning, OutputsFew, PopsFrame};
-ghost use Rattle.hevc_queue.specs.Controls.{filled_picture, filled_slice, latest_picture_controls, latest_slice_control};
-ghost use Rattle.hevc_queue.specs.Queue.{new_queue, with_controls};
-ghost use Rattle.hevc_pull.specs.Views.{kept_of, options_for, seen_of, traces_in, view_in, with_free_frames};
+ghost use Rattle.hevc_stateless.specs.Views.{OutputsFew, PopsFrame};
+ghost use Rattle.hevc_queue.specs.Controls.{latest_picture_controls, latest_slice_control};
+ghost use Rattle.hevc_queue.specs.Queue.{given_wanted, with_controls};
+ghost use Rattle.hevc_pull.specs.Views.{kept_of, options_for, seen_of, traces_in, view_in, wanted_after, with_free_frames};
 ghost use Rattle.hevc_pull.specs.Pulling.{PullsNext, TakesEvent, outputs_are_due};
 
 use crate::pulled::Pulled;
-use hevc_driver::{DecodeError, Frame, Options};
-use hevc_events::Event;
+use hevc_c_parts::Event;
+use hevc_driver::{DecodeError, Frame};
 use hevc_queue::{PictureControls, QueueBackend};
 use hevc_stateless::{DecoderEvent, StatelessDecoder};
 use hevc_v4l2::{ControlError, V4l2CtrlHevcSliceParams};
@@ -31,25 +29,16 @@ pub struct NotAwaited;
 /// The decoder of a stream, which is given unit by unit and calls nobody: what it asks a backend for, and the pictures that are output,
 /// wait until they are taken.
 ///
-/// Pictures and handles are numbers, from 0 in order of decoding. It isn't `Drop`: `end` alone lets it go, with what waits.
+/// It is made of its two parts. Pictures and handles are numbers, from 0 in order of decoding. It isn't `Drop`: `end` alone lets it go,
+/// with what waits.
 pub struct PullDecoder {
-    alloc: Global,
-    decoder: StatelessDecoder<QueueBackend>,
+    /// The memory of the queues that stand in for its own.
+    pub alloc: Global,
+    /// The decoder, over a queue of its calls.
+    pub decoder: StatelessDecoder<QueueBackend>,
 }
 
 impl PullDecoder {
-    /// A decoder at the beginning of a stream, with what is set for decoding by external means (8.1.2, 8.1.3).
-    pub fn new(alloc: Global, options: Options) -> PullDecoder
-        ensures view { view_in result ≡ at_beginning new_queue }
-        ensures kept { kept_of result ≡ none_kept }
-        ensures options { options_for result ≡ options_of options }
-    {
-        PullDecoder {
-            alloc,
-            decoder: StatelessDecoder::new_with(alloc, QueueBackend::new(alloc), options),
-        }
-    }
-
     /// Ends the decoder, with all that waits. The answer is how many calls weren't taken.
     pub fn end(self) -> usize
         ensures { result ≡ length (view_in self).backend.waiting }
@@ -73,6 +62,7 @@ impl PullDecoder {
             (with_free_frames free_frames (seen_of self.old)) (seen_of self.new) }
         ensures few { OutputsFew (view_in self.old) (view_in self.new) }
         ensures inside { IfOk result (λ place. (3 ≤ place) × (place ≤ length bitstream.now)) }
+        ensures wanted { wanted_after self.new ≡ wanted_after self.old }
         ensures options { options_for self.new ≡ options_for self.old }
     {
         self.set_free_frames(free_frames);
@@ -90,6 +80,7 @@ impl PullDecoder {
         ensures latest { (view_in self.new).latest ≡ (view_in self.old).latest }
         ensures state { OnOk result ((view_in self.new).state ≡ Reset) }
         ensures stays { OnErr result ((view_in self.new).state ≡ (view_in self.old).state) }
+        ensures wanted { wanted_after self.new ≡ wanted_after self.old }
         ensures kept { kept_of self.new ≡ kept_of self.old }
         ensures options { options_for self.new ≡ options_for self.old }
     {
@@ -197,18 +188,14 @@ impl PullDecoder {
 
     /// The structs of the latest picture that began, or what they can't hold; None where structs aren't wanted, or none has begun since.
     pub fn picture_controls(&self) -> Option<Result<PictureControls, ControlError>>
-        ensures value { result ≡ filled_picture (view_in self.now).backend.controls }
-        ensures latest { IfSome result
-            (λ filled. latest_picture_controls (view_in self.now).backend.given ≡ Some filled) }
+        ensures { result ≡ latest_picture_controls (given_wanted (view_in self.now).backend) }
     {
         self.decoder.backend().picture_controls()
     }
 
     /// The struct of its latest slice segment, or what it can't hold; None where there is none.
     pub fn slice_control(&self) -> Option<Result<V4l2CtrlHevcSliceParams, ControlError>>
-        ensures value { result ≡ filled_slice (view_in self.now).backend.controls }
-        ensures latest { IfSome result
-            (λ filled. latest_slice_control (view_in self.now).backend.given ≡ Some filled) }
+        ensures { result ≡ latest_slice_control (given_wanted (view_in self.now).backend) }
     {
         self.decoder.backend().slice_control()
     }

@@ -1,5 +1,5 @@
 -- The structs of Linux's stateless decoders, of the latest calls.
-use Rattle.std.specs.Prelude.{◌≡◌, List, Option, Some, None, Result, Ok, Err, IfSome}
+use Rattle.std.specs.Prelude.{◌≡◌, ◌≤◌, List, length, drop, Option, Some, None, Result, Ok, Err}
 use Rattle.std.specs.Option.{option_map, option_or}
 use Rattle.std.specs.Box.{box_value}
 use Rattle.std.specs.Global.{Box}
@@ -93,23 +93,15 @@ with_slice s controls = record controls {
   slice = option_map (λ (b : BegunControls). slice_control b.picture s) controls.begun;
 }
 
--- what is filled is of the latest calls
-pub record AreLatest (given : List Given) (controls : Controls) : Type 0 where
-  pub begun : IfSome controls.begun (λ filled.
-      option_map begun_controls (latest_begun given) ≡ Some filled)
-  pub slice : IfSome controls.slice (λ filled. latest_slice_control given ≡ Some filled)
+-- those of the latest picture that began, and of its latest slice segment
+abbrev pub controls_of : List Given → Controls
+controls_of given = record {
+  begun = option_map begun_controls (latest_begun given);
+  slice = latest_slice_control given;
+}
 
--- where structs are wanted
-abbrev pub AreLatestIn : List Given → Option Controls → Type 0
-AreLatestIn given None = Unit {0}
-AreLatestIn given (Some controls) = AreLatest given controls
-
--- those of the latest picture, and of its latest slice segment, where they are wanted
-abbrev pub filled_picture : Option Controls → Option (Result PictureControls ControlError)
-filled_picture None = None
-filled_picture (Some controls) =
-    option_map (λ (b : BegunControls). b.filled) controls.begun
-
-abbrev pub filled_slice : Option Controls → Option (Result V4l2CtrlHevcSliceParams ControlError)
-filled_slice None = None
-filled_slice (Some controls) = controls.slice
+-- where structs are wanted, they are those of the calls since
+abbrev pub AreOfCalls : Option Controls → (before given : List Given) → Type 0
+AreOfCalls None before given = Unit {0}
+AreOfCalls (Some controls) before given =
+    (length before ≤ length given) × (controls ≡ controls_of (drop (length before) given))

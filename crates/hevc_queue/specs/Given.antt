@@ -65,8 +65,9 @@ begun_after latest other = latest
 abbrev pub latest_begun : List Given → Option BegunPicture
 latest_begun given = fold begun_after None given
 
--- the same of slice segments
+-- the same of its slice segments: none where a picture has just begun
 abbrev pub slice_after : Option GivenSlice → Given → Option GivenSlice
+slice_after latest (Begun b) = None
 slice_after latest (Slice s) = Some s
 slice_after latest other = latest
 

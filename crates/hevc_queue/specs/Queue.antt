@@ -1,13 +1,11 @@
 -- What a backend that queues its calls tells.
-use Rattle.std.specs.Prelude.{ℕ, Bool, false, List, [], map, Option, Some, None, unwrap_or}
+use Rattle.std.specs.Prelude.{ℕ, Bool, false, List, [], length, drop, map, Option, Some, None, unwrap_or}
 use Rattle.std.specs.List.{flat_map}
 use Rattle.hevc_backend.specs.declared.call.Call.{Call}
 use Rattle.hevc_backend.specs.Handed.{Handed}
-use Rattle.hevc_backend.specs.Trait.{Counts}
-use Rattle.hevc_events.specs.declared.event.Event.{Event}
-use Rattle.hevc_queue.specs.declared.controls.Controls.{Controls}
+use Rattle.hevc_backend.specs.Trait.{Counts, counts_of}
+use Rattle.hevc_c_parts.specs.declared.event.Event.{Event}
 use Rattle.hevc_queue.specs.declared.given.Given.{Given}
-use Rattle.hevc_queue.specs.Controls.{no_controls}
 use Rattle.hevc_queue.specs.Given.{call_of, handed_in}
 
 pub record Queue : Type 0 where
@@ -19,11 +17,10 @@ pub record Queue : Type 0 where
   pub waiting : List Event
   -- how many frames are free: as it was told, less the pictures that began since
   pub free_frames : ℕ
+  -- with after how many calls the structs of Linux's stateless decoders were wanted
   pub counts : Counts
   -- the last question for free frames found one, and no picture has begun since
   pub room : Bool
-  -- the structs of Linux's stateless decoders, where they are wanted
-  pub controls : Option Controls
 
 -- its calls, and what was handed over with them
 abbrev pub log_of : Queue → List (Call ℕ)
@@ -39,11 +36,23 @@ new_queue = record {
   taken = 0;
   waiting = [];
   free_frames = 0;
-  counts = record { faults = 0; empty_answers = 0 };
+  counts = counts_of 0 0;
   room = false;
-  controls = None;
 }
 
--- structs are wanted from here on
+-- structs are wanted after so many calls, or weren't yet
+abbrev pub with_controls_after : Option ℕ → Queue → Queue
+with_controls_after calls q = record q { counts = record q.counts { set_after = calls } }
+
+-- from here on, if they weren't before
 abbrev pub with_controls : Queue → Queue
-with_controls q = record q { controls = Some (unwrap_or q.controls no_controls) }
+with_controls q = with_controls_after (Some (unwrap_or q.counts.set_after (length q.given))) q
+
+-- what the calls were given after the first so many
+abbrev pub given_after : Option ℕ → List Given → List Given
+given_after None given = []
+given_after (Some calls) given = drop calls given
+
+-- what the calls were given since structs are wanted
+abbrev pub given_wanted : Queue → List Given
+given_wanted q = given_after q.counts.set_after q.given

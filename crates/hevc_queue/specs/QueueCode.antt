@@ -1,17 +1,15 @@
 -- By what a proof tells queues apart.
 use Rattle.std.specs.Prelude.{ℕ, Bool, List, Option, refl}
 use Rattle.std.specs.Coded.{Coded, code_by, coded×, coded_ℕ, coded_bool, coded_list, coded_option}
-use Rattle.hevc_events.specs.declared.event.Event.{Event}
-use Rattle.hevc_queue.specs.declared.controls.Controls.{Controls}
+use Rattle.hevc_c_parts.specs.declared.event.Event.{Event}
 use Rattle.hevc_queue.specs.declared.given.Given.{Given}
-use Rattle.hevc_events.specs.contracts.event.Event as event_type
-use Rattle.hevc_queue.specs.contracts.controls.Controls as controls_type
+use Rattle.hevc_c_parts.specs.contracts.event.Event as event_type
 use Rattle.hevc_queue.specs.contracts.given.Given as given_type
 use Rattle.hevc_queue.specs.Queue.{Queue}
 
 -- its fields, one after another
 abbrev pub Fields : Type 0
-Fields = List Given × (ℕ × (List Event × (ℕ × ((ℕ × ℕ) × (Bool × Option Controls)))))
+Fields = List Given × (ℕ × (List Event × (ℕ × ((ℕ × ℕ) × (Option ℕ × Bool)))))
 
 fields_code : Coded Fields
 fields_code =
@@ -20,7 +18,7 @@ fields_code =
     (coded× (coded_list event_type.the_row.coded)
     (coded× coded_ℕ
     (coded× (coded× coded_ℕ coded_ℕ)
-    (coded× coded_bool (coded_option controls_type.the_row.coded))))))
+    (coded× (coded_option coded_ℕ) coded_bool)))))
 
 fields_of : Queue → Fields
 fields_of q = (
@@ -31,7 +29,7 @@ fields_of q = (
       q.waiting,
       (
         q.free_frames,
-        ((q.counts.faults, q.counts.empty_answers), (q.room, q.controls)),
+        ((q.counts.faults, q.counts.empty_answers), (q.counts.set_after, q.room)),
       ),
     ),
   ),
@@ -43,9 +41,12 @@ of_fields f = record {
   taken = f.1.0;
   waiting = f.1.1.0;
   free_frames = f.1.1.1.0;
-  counts = record { faults = f.1.1.1.1.0.0; empty_answers = f.1.1.1.1.0.1 };
-  room = f.1.1.1.1.1.0;
-  controls = f.1.1.1.1.1.1;
+  counts = record {
+    faults = f.1.1.1.1.0.0;
+    empty_answers = f.1.1.1.1.0.1;
+    set_after = f.1.1.1.1.1.0;
+  };
+  room = f.1.1.1.1.1.1;
 }
 
 pub queue_code : Coded Queue

@@ -8,8 +8,8 @@ ghost use Rattle.hevc_queue.specs.Events.{event_of};
 use crate::places::{places_of_entries, places_of_members};
 use hevc_backend::NegotiationInfo;
 use hevc_bits::NaluType;
+use hevc_c_parts::{Event, event_of_picture, no_places};
 use hevc_dpb::PictureData;
-use hevc_events::{Event, bare_event, event_of_picture, no_places};
 use hevc_refs::{RefPicList, RefPicSet};
 use hevc_types_d::Slice;
 
@@ -17,7 +17,7 @@ use hevc_types_d::Slice;
 pub(crate) fn sequence_event(place: u64, info: &NegotiationInfo) -> Event
     ensures { result ≡ event_of place (NewSequence info.now) }
 {
-    let mut event = bare_event(place, 1);
+    let mut event = event_of_picture(place, 1, 0);
     event.width = info.coded_resolution.width;
     event.height = info.coded_resolution.height;
     event.general_profile_idc = u32::from(info.general_profile_idc);

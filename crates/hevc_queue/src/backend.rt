@@ -2,17 +2,17 @@
 ghost use Rattle.std.specs.Prelude.{◌≡◌, ◌+◌, ◌<◌, ◌^◌, ◌↔◌, [], ◌∷◌, ℕ, drop, length, slice_index_or, None, Some, IsNone, IfSome, IfNone, IfOk, OnOk, OnErr};
 ghost use Rattle.hevc_backend.specs.Trait.{CountsFaults};
 ghost use Rattle.hevc_backend.specs.declared.call.Call.{Call};
-ghost use Rattle.hevc_events.specs.Waiting.{sequence_is_next};
+ghost use Rattle.hevc_c_parts.specs.Waiting.{sequence_is_next};
 ghost use Rattle.hevc_queue.specs.Events.{event_of, events_of};
-ghost use Rattle.hevc_queue.specs.Controls.{filled_picture, filled_slice, latest_picture_controls, latest_slice_control};
-ghost use Rattle.hevc_queue.specs.Queue.{handed_of, log_of, new_queue, with_controls};
+ghost use Rattle.hevc_queue.specs.Controls.{latest_picture_controls, latest_slice_control};
+ghost use Rattle.hevc_queue.specs.Queue.{given_wanted, handed_of, log_of, new_queue, with_controls_after, with_controls};
 
 use crate::asked::{picture_event, sequence_event, sets_event, slice_event, submission_event};
 use crate::controls::{Controls, PictureControls, fill_picture, fill_slice, no_controls};
 use crate::given::Given;
 use hevc_backend::{BackendError, NegotiationInfo, StatelessH265DecoderBackend, StreamInfo};
+use hevc_c_parts::{Event, EventQueue};
 use hevc_dpb::{Dpb, PictureData};
-use hevc_events::{Event, EventQueue};
 use hevc_history::History;
 use hevc_refs::{RefPicList, RefPicSet};
 use hevc_types_c::Sps;
@@ -37,12 +37,15 @@ pub struct QueueBackend {
     controls: Option<Box<Controls>>,
     /// What the calls were given, for proofs alone.
     history: History<Given>,
+    /// What those before structs were wanted were given.
+    before: History<Given>,
 }
 
 impl Model for QueueBackend {
     ghost use Rattle.std.specs.Prelude.{◌≡◌, drop, length, map};
-    ghost use Rattle.hevc_events.specs.Waiting.{next_place};
-    ghost use Rattle.hevc_queue.specs.Controls.{AreLatestIn, wanted};
+    ghost use Rattle.std.specs.Option.{option_map};
+    ghost use Rattle.hevc_c_parts.specs.Waiting.{next_place};
+    ghost use Rattle.hevc_queue.specs.Controls.{AreOfCalls, wanted};
     ghost use Rattle.hevc_queue.specs.Events.{events_of};
     ghost use Rattle.hevc_queue.specs.Given.{call_of};
     ghost use Rattle.hevc_queue.specs.Queue.{Queue};
@@ -57,14 +60,17 @@ impl Model for QueueBackend {
       taken = b.queue.taken;
       waiting = b.queue.events;
       free_frames = b.free_frames;
-      counts = record { faults = b.faults; empty_answers = b.empty_answers };
+      counts = record {
+        faults = b.faults;
+        empty_answers = b.empty_answers;
+        set_after = option_map (λ _. length b.before.items) (wanted b.controls);
+      };
       room = b.room;
-      controls = wanted b.controls;
     } };
 
     ghost invariant = { λ b. (next_place b.queue ≡ length b.history.items)
         × (b.queue.events ≡ drop b.queue.taken (events_of (map call_of b.history.items)))
-        × AreLatestIn b.history.items (wanted b.controls) };
+        × AreOfCalls (wanted b.controls) b.before.items b.history.items };
 }
 
 impl QueueBackend {
@@ -80,13 +86,14 @@ impl QueueBackend {
             room: false,
             controls: None,
             history: History::new(),
+            before: History::new(),
         }
     }
 
     /// A backend that took the same calls, and of which no event waits: one that stands in for this one while its events are taken.
     pub fn stand_in(&self, alloc: Global) -> QueueBackend
-        ensures { result ≡ record self.now
-            { taken = length self.now.given; waiting = []; controls = None } }
+        ensures { result ≡ with_controls_after None
+            (record self.now { taken = length self.now.given; waiting = [] }) }
     {
         QueueBackend {
             queue: self.queue.stand_in(alloc),
@@ -96,6 +103,7 @@ impl QueueBackend {
             room: self.room,
             controls: None,
             history: self.history.again(),
+            before: History::new(),
         }
     }
 
@@ -111,8 +119,9 @@ impl QueueBackend {
             room: _,
             controls: _,
             history: _,
+            before: _,
         } = self;
-        queue.end()
+        queue.num_waiting()
     }
 
     /// Whether a sequence begins by the first event that waits.
@@ -160,15 +169,14 @@ impl QueueBackend {
     {
         if self.controls.is_none() {
             self.controls = Some(Box::new(alloc, no_controls())?);
+            self.before = self.history.again();
         }
         Ok(())
     }
 
     /// The structs of the latest picture that began, or what they can't hold; None where structs aren't wanted, or none has begun since.
     pub fn picture_controls(&self) -> Option<Result<PictureControls, ControlError>>
-        ensures value { result ≡ filled_picture self.now.controls }
-        ensures latest { IfSome result
-            (λ filled. latest_picture_controls self.now.given ≡ Some filled) }
+        ensures { result ≡ latest_picture_controls (given_wanted self.now) }
     {
         let controls = self.controls.as_ref()?;
         let begun = controls.begun.as_ref()?;
@@ -177,9 +185,7 @@ impl QueueBackend {
 
     /// The struct of its latest slice segment, or what it can't hold; None where there is none.
     pub fn slice_control(&self) -> Option<Result<V4l2CtrlHevcSliceParams, ControlError>>
-        ensures value { result ≡ filled_slice self.now.controls }
-        ensures latest { IfSome result
-            (λ filled. latest_slice_control self.now.given ≡ Some filled) }
+        ensures { result ≡ latest_slice_control (given_wanted self.now) }
     {
         let controls = self.controls.as_ref()?;
         controls.slice

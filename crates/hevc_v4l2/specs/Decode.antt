@@ -16,7 +16,7 @@ use Rattle.hevc_v4l2.specs.declared.error.ControlError.TheVariants.{ShortTermSiz
 use Rattle.hevc_v4l2.specs.declared.decode.V4l2CtrlHevcDecodeParams.{V4l2CtrlHevcDecodeParams}
 use Rattle.hevc_v4l2.specs.Arrays.{padded}
 use Rattle.hevc_v4l2.specs.Buffer.{control_of_entry, member_index, no_entry}
-use Rattle.hevc_control_parts.specs.Flags.{flags_of}
+use Rattle.hevc_c_parts.specs.Flags.{flags_of}
 use Rattle.hevc_v4l2.specs.LongTerm.{long_term_size}
 
 -- what the struct can't hold

@@ -14,7 +14,7 @@ use Rattle.hevc_v4l2.specs.declared.weights.V4l2HevcPredWeightTable.{V4l2HevcPre
 use Rattle.hevc_v4l2.specs.declared.slice.V4l2CtrlHevcSliceParams.{V4l2CtrlHevcSliceParams}
 use Rattle.hevc_v4l2.specs.Arrays.{padded}
 use Rattle.hevc_v4l2.specs.Buffer.{is_current, place_index}
-use Rattle.hevc_control_parts.specs.Flags.{flags_of}
+use Rattle.hevc_c_parts.specs.Flags.{flags_of}
 use Rattle.hevc_v4l2.specs.LongTerm.{long_term_size}
 use Rattle.hevc_v4l2.specs.Weights.{control_of_weights, weights_error}
 

@@ -12,7 +12,7 @@ ghost use Rattle.hevc_v4l2.specs.Decode.{control_of_decoding, decode_flags, indi
 use crate::buffer::{V4l2HevcDpbEntry, entry_places, member_indices, reference_controls};
 use crate::error::ControlError;
 use crate::long_term::long_term_size;
-use hevc_control_parts::flag_bits;
+use hevc_c_parts::flag_bits;
 use hevc_dpb::Dpb;
 use hevc_pictures::PictureData;
 use hevc_refs::RefPicSet;

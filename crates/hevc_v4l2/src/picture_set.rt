@@ -8,7 +8,7 @@ ghost use Rattle.hevc_v4l2.specs.PictureSet.{control_of_pps, pps_error};
 
 use crate::arrays::{are_bytes, bytes_of};
 use crate::error::ControlError;
-use hevc_control_parts::flag_bits;
+use hevc_c_parts::flag_bits;
 use hevc_types_d::Pps;
 
 /// `struct v4l2_ctrl_hevc_pps`: the elements of a picture parameter set (7.3.2.3.1), by their names in H.265.

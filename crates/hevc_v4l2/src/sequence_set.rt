@@ -3,7 +3,7 @@ ghost use Rattle.std.specs.Prelude.{◌≡◌};
 ghost use Rattle.hevc_types_c.specs.Sps.{plain_sps};
 ghost use Rattle.hevc_v4l2.specs.SequenceSet.{control_of_sps};
 
-use hevc_control_parts::flag_bits;
+use hevc_c_parts::flag_bits;
 use hevc_types_c::Sps;
 
 /// `struct v4l2_ctrl_hevc_sps`: the elements of a sequence parameter set (7.3.2.2.1), by their names in H.265.

@@ -16,7 +16,7 @@ use crate::buffer::{has_current, place_indices};
 use crate::error::ControlError;
 use crate::long_term::long_term_size;
 use crate::weights::{V4l2HevcPredWeightTable, weights_control};
-use hevc_control_parts::flag_bits;
+use hevc_c_parts::flag_bits;
 use hevc_dpb::Dpb;
 use hevc_pictures::PictureData;
 use hevc_refs::RefPicList;

@@ -1,6 +1,6 @@
 //! A backend over a device, of which nothing is known but its answers.
 ghost use Rattle.std.specs.Prelude.{◌≡◌, None};
-ghost use Rattle.hevc_backend.specs.Trait.{CountsFaults};
+ghost use Rattle.hevc_backend.specs.Trait.{CountsFaults, counts_of};
 
 use hevc_backend::{BackendError, Resolution, StatelessH265DecoderBackend, StreamInfo};
 use hevc_dpb::{Dpb, PictureData};
@@ -37,9 +37,8 @@ impl<D: Device> OverDevice<D> {
     /// What the device didn't do is a fault.
     fn count(&mut self, done: bool) -> Result<(), BackendError>
         ensures cause { CountsFaults
-            (record { faults = self.old.faults; empty_answers = self.old.empty_answers })
-            (record { faults = self.new.faults; empty_answers = self.new.empty_answers })
-            result }
+            (counts_of self.old.faults self.old.empty_answers)
+            (counts_of self.new.faults self.new.empty_answers) result }
         ensures room { self.new.room ≡ self.old.room }
         ensures info { self.new.info ≡ self.old.info }
     {
@@ -60,7 +59,7 @@ impl<D: Device> StatelessH265DecoderBackend for OverDevice<D> {
 
     ghost handed = { λ _. None };
 
-    ghost counts = { λ b. record { faults = b.faults; empty_answers = b.empty_answers } };
+    ghost counts = { λ b. counts_of b.faults b.empty_answers };
 
     ghost room = { λ b. b.room };
 

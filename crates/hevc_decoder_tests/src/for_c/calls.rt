@@ -1,7 +1,6 @@
 //! A stream that is decoded by the calls for C.
-use super::{check, check_all};
-use hevc_driver::Options;
-use hevc_events::{Event, bare_event};
+use super::{check, check_all, pull_decoder};
+use hevc_c_parts::{Event, event_of_picture};
 use hevc_made::make_stream;
 use hevc_pull::{
     DecodeCall, PullDecoder, UnitCall, accept_format, decode, flush, next_event, next_unit,
@@ -18,7 +17,7 @@ struct Came {
 
 /// The next event that waits, of kind 7 where none does.
 fn take_one(decoder: &mut PullDecoder) -> Event {
-    let mut event = bare_event(0, 7);
+    let mut event = event_of_picture(0, 7, 0);
     let _left = next_event(decoder, &mut event);
     event
 }
@@ -40,7 +39,7 @@ fn take_all(decoder: &mut PullDecoder, came: &mut Came) -> Result<(), Fail> {
 
 /// Decodes a stream of a few units.
 fn decode_all(alloc: Global, stream: &[u8]) -> Result<Came, Fail> {
-    let mut decoder = PullDecoder::new(alloc, Options::new());
+    let mut decoder = pull_decoder(alloc);
     let came = decode_with(&mut decoder, alloc, stream);
     let _waiting = decoder.end();
     came
@@ -95,7 +94,7 @@ fn nine_pictures_are_output_in_order(rt: HostRuntime) -> Result<(), Fail> {
 
 #[test]
 fn a_format_that_is_not_awaited(rt: HostRuntime) -> Result<(), Fail> {
-    let mut decoder = PullDecoder::new(rt.alloc(), Options::new());
+    let mut decoder = pull_decoder(rt.alloc());
     let status = accept_format(&mut decoder);
     check(
         decoder.end() == 0 && status == 16,

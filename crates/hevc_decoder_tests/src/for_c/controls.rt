@@ -1,6 +1,5 @@
 //! The structs of Linux's stateless decoders over a decoder.
-use super::{check, check_all};
-use hevc_driver::Options;
+use super::{check, check_all, pull_decoder};
 use hevc_made::make_stream;
 use hevc_pull::{
     DecodeCall, PullDecoder, accept_format, decode, picture_controls, slice_control, want_controls,
@@ -105,7 +104,7 @@ fn compare(decoder: &mut PullDecoder, stream: &[u8]) -> Result<(), Fail> {
 #[test]
 fn structs_of_the_latest_picture(rt: HostRuntime) -> Result<(), Fail> {
     let stream = make_stream(rt.alloc(), 2)?;
-    let mut decoder = PullDecoder::new(rt.alloc(), Options::new());
+    let mut decoder = pull_decoder(rt.alloc());
     let compared = compare(&mut decoder, stream.as_slice());
     let waiting = decoder.end();
     compared?;

@@ -3,7 +3,7 @@ ghost use Rattle.std.specs.Prelude.{◌≡◌};
 ghost use Rattle.hevc_types_d.specs.Pps.{plain_pps};
 ghost use Rattle.hevc_pull.specs.Fields.Pps.{fields_of_pps, pps_flags};
 
-use hevc_control_parts::flag_bits;
+use hevc_c_parts::flag_bits;
 use hevc_types_d::Pps;
 
 /// The elements of a picture parameter set (7.3.2.3.1), by their names in H.265.

@@ -3,7 +3,7 @@ ghost use Rattle.std.specs.Prelude.{◌≡◌};
 ghost use Rattle.hevc_types_a.specs.ProfileTierLevel.{plain_profile_tier_level};
 ghost use Rattle.hevc_pull.specs.Fields.Profile.{fields_of_profile, profile_flags};
 
-use hevc_control_parts::flag_bits;
+use hevc_c_parts::flag_bits;
 use hevc_types_a::ProfileTierLevel;
 
 /// Profile, tier and level of the highest sub-layer (7.3.3), by their names in H.265.

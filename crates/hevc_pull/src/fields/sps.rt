@@ -5,7 +5,7 @@ ghost use Rattle.hevc_pull.specs.Fields.Sps.{fields_of_sps, sps_flags};
 
 use crate::fields::profile::{ProfileFields, profile_fields};
 use crate::fields::vui::{VuiFields, vui_fields};
-use hevc_control_parts::flag_bits;
+use hevc_c_parts::flag_bits;
 use hevc_types_c::Sps;
 
 /// The elements of a sequence parameter set (7.3.2.2.1), by their names in H.265.

@@ -4,7 +4,7 @@ ghost use Rattle.hevc_types_b.specs.Vps.{plain_vps};
 ghost use Rattle.hevc_pull.specs.Fields.Vps.{fields_of_vps, vps_flags};
 
 use crate::fields::profile::{ProfileFields, profile_fields};
-use hevc_control_parts::flag_bits;
+use hevc_c_parts::flag_bits;
 use hevc_types_b::Vps;
 
 /// The elements of a video parameter set (7.3.2.1), by their names in H.265.

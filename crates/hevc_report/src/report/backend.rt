@@ -2,6 +2,7 @@
 ghost use Rattle.std.specs.Prelude.{◌≡◌, ◌++◌, [], ℕ, List, length, false, None, Some, OnOk, OnErr};
 ghost use Rattle.std.specs.List.{flat_map};
 ghost use Rattle.hevc_backend.specs.Handles.{AreCounted};
+ghost use Rattle.hevc_backend.specs.Trait.{counts_of};
 ghost use Rattle.hevc_report.specs.Lines.{log_line};
 ghost use Rattle.hevc_report.specs.Reported.{Reported};
 
@@ -98,7 +99,7 @@ impl StatelessH265DecoderBackend for ReportBackend {
 
     ghost handed = { λ _. None };
 
-    ghost counts = { λ _. record { faults = 0; empty_answers = 0 } };
+    ghost counts = { λ _. counts_of 0 0 };
 
     ghost room = { λ b. b.room };
 

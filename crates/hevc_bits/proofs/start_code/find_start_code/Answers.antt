@@ -1,4 +1,5 @@
 use Rattle.std.proofs.Common.{◌+◌, length, arith, Some}
+use Rattle.hevc_bits.proofs.Blocks.{not_two}
 use Rattle.hevc_bits.proofs.StartCodes.{block_long, first_behind, first_in_block, none_apart, none_begun, none_joined}
 use Rattle.hevc_bits.proofs.start_code.find_start_code.Goals as goal
 
@@ -10,13 +11,13 @@ returns-in-Some c =
     let stream = c.args.stream.now in
     first_behind stream c.args.from c.loop-at.at (Some (c.loop-at.at + c.in-Some.ahead)) (omega arith) c.loop-at.invariant.2 (first_in_block stream c.loop-at.at c.in-Some.ahead (omega (arith, c.loop-at-test.true)) c.in-Some.ensures)
 
-pub loop-at-preserved-then-not-has_two_zeros : goal.loop-at-preserved-then-not-has_two_zeros
-loop-at-preserved-then-not-has_two_zeros c =
+pub loop-at-preserved-then-pairs-eq0 : goal.loop-at-preserved-then-pairs-eq0
+loop-at-preserved-then-pairs-eq0 c =
     let stream = c.args.stream.now in
     let at = c.loop-at.at in (
       omega arith,
       omega (arith, c.loop-at-test.true),
-      none_joined stream c.args.from at (at + 63) c.loop-at.invariant.2 (none_apart stream at (c.has_two_zeros.ensures c.if-not-has_two_zeros.true)),
+      none_joined stream c.args.from at (at + 63) c.loop-at.invariant.2 (none_apart stream at (not_two _ c.pairs_of_zeros-pairs.result (block_long stream at (omega (arith, c.loop-at-test.true))) c.pairs_of_zeros-pairs.ensures c.if-pairs-eq0.true)),
     )
 
 pub returns-in_err-at : goal.returns-in_err-at

@@ -1,4 +1,3 @@
-use Rattle.std.proofs.Common.{IfSome, get_or, ap, arith}
 use Rattle.hevc_queue.proofs.QueueLaws.{first_taken, queue_less}
 use Rattle.hevc_queue.proofs.backend.QueueBackend.take_event.Goals as goal
 

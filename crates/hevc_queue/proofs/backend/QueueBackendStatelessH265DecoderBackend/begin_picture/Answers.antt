@@ -20,7 +20,7 @@ invariant_of-self-2 c =
     c.in_ok-place.place q.queue c.put.new.self c.sets_event-event.result
     c.self.invariant at (c.sets_event-event.ensures)
     c.in_ok-put.ensures.put c.and-self-inside.ensures in
-    let filled = latest_begins q.history.items given (wanted q.controls) (wanted c.fill_picture.new.controls) c.fill_picture.ensures in
+    let filled = latest_begins q.before.items q.history.items given (wanted q.controls) (wanted c.fill_picture.new.controls) c.fill_picture.ensures c.self.invariant.2 in
     (more.0, more.1, rw c.and-self-inside.ensures filled)
 
 -- the call is told of what lives as long as the arguments

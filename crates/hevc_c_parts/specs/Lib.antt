@@ -1,0 +1,4 @@
+pub mod Flags
+pub mod Plain
+pub mod Scan
+pub mod Waiting
