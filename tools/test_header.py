@@ -93,8 +93,8 @@ def code_statuses():
 
 
 def code_kinds():
-    asked = re.findall(r'fn (\w+_event)\((?:(?!^\}).)*?(?:bare_event|event_of_picture)\(place, (\d+)', crate('hevc_queue/src/asked.rt'), re.S | re.M)
-    pulled = re.findall(r'Pulled::(\S+) =>(?:(?!Pulled::).)*?bare_event\(0, (\d+)\)', crate('hevc_pull/src/calls.rt'), re.S)
+    asked = re.findall(r'fn (\w+_event)\((?:(?!^\}).)*?event_of_picture\(place, (\d+)', crate('hevc_queue/src/asked.rt'), re.S | re.M)
+    pulled = re.findall(r'Pulled::(\S+) =>(?:(?!Pulled::).)*?event_of_picture\(0, (\d+)', crate('hevc_pull/src/calls.rt'), re.S)
     return {KINDS.get(name, name): int(number) for name, number in asked + pulled}
 
 
