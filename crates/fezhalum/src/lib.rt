@@ -10,7 +10,6 @@ ghost use Rattle.std.specs.Borrow.{full_share, sem};
 ghost use Rattle.std.specs.Ptr.{lies_at, room_at};
 ghost use prog.Memory.{capped, size};
 ghost use denote.Param.{layout};
-ghost use Rattle.hevc_options.specs.Options.{options_of};
 ghost use Rattle.hevc_pull.specs.contracts.decoder.PullDecoder.{the_row};
 ghost use Rattle.hevc_pull.specs.Views.{view_in};
 ghost use Rattle.hevc_pull.specs.Calls.{Accepts, Decodes, FlushesAll, TakesNext};
@@ -49,20 +48,11 @@ pub extern "C" fn fezhalum_api_version() -> u32
     3
 }
 
-/// A decoder over an empty queue.
-fn fresh_by(options: Options, alloc: Global) -> PullDecoder
-    ensures { IsFreshWith (options_of options) result }
-{
-    PullDecoder {
-        alloc,
-        decoder: StatelessDecoder::new_with(alloc, QueueBackend::new(alloc), options),
-    }
-}
-
+/// A decoder over an empty queue, with the options that are the default.
 fn fresh(alloc: Global) -> PullDecoder
     ensures { IsFresh result }
 {
-    fresh_by(Options::new(), alloc)
+    fresh_with(0, 6, alloc)
 }
 
 /// Makes a decoder at the beginning of a stream.
@@ -74,6 +64,7 @@ pub unsafe extern "C" fn fezhalum_init(d: *mut Fezhalum, alloc: Global)
     std::ptr::write(d as *mut PullDecoder, fresh(alloc));
 }
 
+/// A decoder over an empty queue, with options.
 fn fresh_with(handle_cra_as_bla: u32, highest_tid: u32, alloc: Global) -> PullDecoder
     ensures { IsFreshWith (options_given handle_cra_as_bla highest_tid) result }
 {
@@ -85,7 +76,10 @@ fn fresh_with(handle_cra_as_bla: u32, highest_tid: u32, alloc: Global) -> PullDe
             6
         },
     };
-    fresh_by(options, alloc)
+    PullDecoder {
+        alloc,
+        decoder: StatelessDecoder::new_with(alloc, QueueBackend::new(alloc), options),
+    }
 }
 
 /// Makes a decoder at the beginning of a stream, with options: whether CRA pictures are handled as BLA pictures (8.1.3), 0 for no, and

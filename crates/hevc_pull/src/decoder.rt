@@ -29,8 +29,8 @@ pub struct NotAwaited;
 /// The decoder of a stream, which is given unit by unit and calls nobody: what it asks a backend for, and the pictures that are output,
 /// wait until they are taken.
 ///
-/// It is made of its two parts. Pictures and handles are numbers, from 0 in order of decoding. It isn't `Drop`: `end` alone lets it go,
-/// with what waits.
+/// It is made of its two parts. Pictures and handles are numbers, from 0 in order of decoding.
+#[derive(Drop)]
 pub struct PullDecoder {
     /// The memory of the queues that stand in for its own.
     pub alloc: Global,
@@ -39,12 +39,11 @@ pub struct PullDecoder {
 }
 
 impl PullDecoder {
-    /// Ends the decoder, with all that waits. The answer is how many calls weren't taken.
+    /// Drops the decoder, with all that waits. The answer is how many calls weren't taken.
     pub fn end(self) -> usize
         ensures { result ≡ length (view_in self).backend.waiting }
     {
-        let PullDecoder { alloc: _, decoder } = self;
-        decoder.into_backend().end()
+        self.decoder.backend().num_waiting()
     }
 
     /// Takes the first unit of the input, of less than 2^60 bytes, with the time at which its picture is to be output, in the caller's
@@ -149,7 +148,7 @@ impl PullDecoder {
         let stand_in = self.decoder.backend().stand_in(self.alloc);
         let mut backend = self.decoder.replace_backend(stand_in);
         let event = backend.take_event();
-        let _none_wait = self.decoder.replace_backend(backend).end();
+        let _stand_in = self.decoder.replace_backend(backend);
         event
     }
 
@@ -165,7 +164,7 @@ impl PullDecoder {
         let stand_in = self.decoder.backend().stand_in(self.alloc);
         let mut backend = self.decoder.replace_backend(stand_in);
         backend.set_free_frames(free_frames);
-        let _none_wait = self.decoder.replace_backend(backend).end();
+        let _stand_in = self.decoder.replace_backend(backend);
     }
 
     /// From here on, the structs of Linux's stateless decoders are filled with each picture that begins, and each slice segment of it.
@@ -182,7 +181,7 @@ impl PullDecoder {
         let stand_in = self.decoder.backend().stand_in(self.alloc);
         let mut backend = self.decoder.replace_backend(stand_in);
         let done = backend.want_controls(self.alloc);
-        let _none_wait = self.decoder.replace_backend(backend).end();
+        let _stand_in = self.decoder.replace_backend(backend);
         done
     }
 

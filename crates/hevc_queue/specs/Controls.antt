@@ -77,10 +77,6 @@ latest_slice_control given = slice_of_picture (latest_begun given) (latest_slice
 abbrev pub wanted : Option (Box Controls) → Option Controls
 wanted controls = option_map (λ (b : Box Controls). box_value b) controls
 
--- none yet
-abbrev pub no_controls : Controls
-no_controls = record { begun = None; slice = None }
-
 abbrev pub begun_controls : BegunPicture → BegunControls
 begun_controls b = record { picture = b.picture; filled = picture_controls b }
 

@@ -25,7 +25,8 @@ use std::marker::Model;
 /// allocation does, or 2^64 - 1 calls were made.
 ///
 /// It keeps no call: its log is there in proofs alone. Its pictures and handles are the numbers of pictures. The events that were taken,
-/// followed by those that wait, are those of the calls of its log. It isn't `Drop`: `end` alone lets it go, with what waits.
+/// followed by those that wait, are those of the calls of its log.
+#[derive(Drop)]
 pub struct QueueBackend {
     /// The events of its calls that wait.
     queue: EventQueue,
@@ -105,23 +106,6 @@ impl QueueBackend {
             history: self.history.again(),
             before: History::new(),
         }
-    }
-
-    /// Ends it: the events that wait are dropped. The answer is how many these were.
-    pub fn end(self) -> usize
-        ensures { result ≡ length self.waiting }
-    {
-        let QueueBackend {
-            queue,
-            free_frames: _,
-            faults: _,
-            empty_answers: _,
-            room: _,
-            controls: _,
-            history: _,
-            before: _,
-        } = self;
-        queue.num_waiting()
     }
 
     /// Whether a sequence begins by the first event that waits.

@@ -1,8 +1,8 @@
 //! The structs of Linux's stateless decoders, of the latest calls, where they are wanted.
-ghost use Rattle.std.specs.Prelude.{◌≡◌};
+ghost use Rattle.std.specs.Prelude.{◌≡◌, []};
 ghost use Rattle.std.specs.Option.{option_map};
 ghost use Rattle.hevc_queue.specs.Given.{begun_with, slice_with};
-ghost use Rattle.hevc_queue.specs.Controls.{no_controls, picture_controls, wanted, with_begun, with_slice};
+ghost use Rattle.hevc_queue.specs.Controls.{controls_of, picture_controls, wanted, with_begun, with_slice};
 
 use hevc_dpb::{Dpb, PictureData};
 use hevc_refs::{RefPicList, RefPicSet};
@@ -38,9 +38,9 @@ pub struct Controls {
     pub slice: Option<Result<V4l2CtrlHevcSliceParams, ControlError>>,
 }
 
-/// None yet.
+/// Those of no call.
 pub(crate) fn no_controls() -> Controls
-    ensures { result ≡ no_controls }
+    ensures { result ≡ controls_of [] }
 {
     Controls {
         begun: None,
