@@ -11,6 +11,12 @@ use hevc_pull::{PullDecoder, picture_controls, slice_control, want_controls};
 use hevc_queue::PictureControls;
 use hevc_v4l2::V4l2CtrlHevcSliceParams;
 
+fn want_controls_in(decoder: &mut PullDecoder) -> u32
+    ensures { WantsControls decoder.old decoder.new result }
+{
+    want_controls(decoder)
+}
+
 /// From here on, the structs of Linux's stateless decoders are filled with each picture that begins. Answers the status.
 #[unsafe(no_mangle)]
 pub unsafe extern "C" fn fezhalum_want_controls(d: *mut Fezhalum) -> u32
@@ -18,7 +24,7 @@ pub unsafe extern "C" fn fezhalum_want_controls(d: *mut Fezhalum) -> u32
     requires* { sem 𝓛 (lies_at the_row full_share d x) }
     ensures* { sem 𝓛 (Becomes the_row d (λ now. WantsControls x now result)) }
 {
-    want_controls(&mut *(d as *mut PullDecoder))
+    want_controls_in(&mut *(d as *mut PullDecoder))
 }
 
 fn picture_controls_in(decoder: &mut PullDecoder, structs: &mut PictureControls) -> u32

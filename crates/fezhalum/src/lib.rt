@@ -137,6 +137,12 @@ pub unsafe extern "C" fn fezhalum_decode(
     decode_in(&mut *(d as *mut PullDecoder), bytes, call)
 }
 
+fn next_in(decoder: &mut PullDecoder, event: &mut Event) -> u32
+    ensures { TakesNext decoder.old decoder.new event.old event.new result }
+{
+    next_event(decoder, event)
+}
+
 /// The next of what came of the units. Answers 1 where there was one, else 0.
 #[unsafe(no_mangle)]
 pub unsafe extern "C" fn fezhalum_next(d: *mut Fezhalum, event: &mut Event) -> u32
@@ -144,7 +150,13 @@ pub unsafe extern "C" fn fezhalum_next(d: *mut Fezhalum, event: &mut Event) -> u
     requires* { sem 𝓛 (lies_at the_row full_share d x) }
     ensures* { sem 𝓛 (Becomes the_row d (λ now. TakesNext x now event.old event.new result)) }
 {
-    next_event(&mut *(d as *mut PullDecoder), event)
+    next_in(&mut *(d as *mut PullDecoder), event)
+}
+
+fn flush_in(decoder: &mut PullDecoder) -> u32
+    ensures { FlushesAll decoder.old decoder.new result }
+{
+    flush(decoder)
 }
 
 /// The stream ends, or is left: all that waits is output. Answers the status.
@@ -154,7 +166,13 @@ pub unsafe extern "C" fn fezhalum_flush(d: *mut Fezhalum) -> u32
     requires* { sem 𝓛 (lies_at the_row full_share d x) }
     ensures* { sem 𝓛 (Becomes the_row d (λ now. FlushesAll x now result)) }
 {
-    flush(&mut *(d as *mut PullDecoder))
+    flush_in(&mut *(d as *mut PullDecoder))
+}
+
+fn accept_in(decoder: &mut PullDecoder) -> u32
+    ensures { Accepts decoder.old decoder.new result }
+{
+    accept_format(decoder)
 }
 
 /// Accepts the format that is awaited. Answers the status.
@@ -164,7 +182,7 @@ pub unsafe extern "C" fn fezhalum_accept_format(d: *mut Fezhalum) -> u32
     requires* { sem 𝓛 (lies_at the_row full_share d x) }
     ensures* { sem 𝓛 (Becomes the_row d (λ now. Accepts x now result)) }
 {
-    accept_format(&mut *(d as *mut PullDecoder))
+    accept_in(&mut *(d as *mut PullDecoder))
 }
 
 /// The first unit whose start code is at a place of the bytes or after it. Answers the status, 0 where there is one.

@@ -1,4 +1,4 @@
--- `fezhalum_next` lends what lies at the pointer to `next_event`, and the struct again, and has both back.
+-- `fezhalum_next` lends what lies at the pointer to `next_in`, and the struct again, and has both back.
 use Rattle.fezhalum.proofs.Steps.{ℕ, List, [], ◌∷◌, ◌++◌, refl, w32, proved, full_share, id⊢, ftrue, flft, flent, fex, named, fact, tables, ‵, raw, ◌⊛◌, some, later, prop, ◌$◌, ◌∵◌, !, qed, done, move, keep, use1, use2, use3, split, join, fsplit, fpack, pick, await, regoal, suffices, group, enter, of_opd, addr, stop, no_more, and_then, returns, alloc_all, pass_all, free_all, look_at, get, through, sets, lands_as, Body, lft_new, lft_end, u32, yes, Is, shows, lends_ref, ref_back, lends_again, comes_back, LentAgain, part_at, mem, uint_Lawful, Ptr, RawPtr, block_ptr, lies_at, in_a_block, rawptr_vals, rawptr_Tells, MutRef, mut_vals, mut_Tells, plain, nothing, heard, peeks, calls_at, lasts, triple_of, framed, Stays, walk_of, stay_dropped, Goes-dropped, ends_at, WpFn, MutBor}
 use denote.Triple.Walked.{stay_ref, Goes-ref}
 use Rattle.hevc_pull.specs.Calls.{TakesNext}
@@ -7,8 +7,8 @@ use Rattle.hevc_pull.specs.contracts.decoder.PullDecoder.{the_row as R}
 use Rattle.fezhalum.specs.contracts.fezhalum_next as f
 use Rattle.fezhalum.proofs.fezhalum_next.Statement.{statement}
 use Rattle.fezhalum.proofs.fezhalum_next.Code as code
-use Rattle.hevc_pull.specs.contracts.next_event as g
-use Rattle.hevc_pull.proofs.next_event.Met.{met}
+use Rattle.fezhalum.specs.contracts.next_in as g
+use Rattle.fezhalum.proofs.next_in.Met.{met}
 
 abbrev stayed : Stays f.ended.signature.params f.ended.kept
 stayed = (stay_dropped _ yes, (stay_ref (0 ∷ []) tt (plain (λ _. Q)), tt))
@@ -43,7 +43,7 @@ fezhalum_next_spec 𝓤 𝓛 𝓜 𝓡 wired =
     nothing ! $ move ! (1 ∷ 0 ∷ []) $ join ! $ move ! (3 ∷ 0 ∷ []) $ join ! $
     nothing ! $ move ! (3 ∷ 0 ∷ []) $ join ! $ move ! (4 ∷ 0 ∷ []) $ join ! $ join ! $
     nothing ! $ move ! (1 ∷ 0 ∷ []) $ join ! $ use1 𝓛 (raw (G.pre z)) (id⊢ 𝓤 _) $
-    calls_at ! (framed 𝓤 𝓛.H 𝓜 𝓣) G (met 𝓤 𝓛 𝓜 𝓡 (code.calls-hevc_pull::next_event 𝓡.env wired)) z
+    calls_at ! (framed 𝓤 𝓛.H 𝓜 𝓣) G (met 𝓤 𝓛 𝓜 𝓡 (code.calls-fezhalum::next_in 𝓡.env wired)) z
     (and_then ! (get ! refl) (and_then ! (get ! refl) (no_more !))) (λ v.
     use1 𝓛 (later (some (λ (r : ℕ). ((‵ (flft κ full_share) ⊛ ‵ (flft κ' full_share) ⊛ ‵ ftrue) ⊛ ‵ (u32.own_val r (v ∷ []))) ⊛
     some (λ (ws : R.Denot × (Q.Denot × Unit {0})). ‵ (lasts g.ended z.0.0 z.0.3 ws) ⊛ raw (fact 𝓤 (TakesNext x ws.0 call.now ws.1.0 r)))))) (id⊢ 𝓤 _) $

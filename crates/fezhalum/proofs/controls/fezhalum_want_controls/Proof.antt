@@ -1,12 +1,12 @@
--- `fezhalum_want_controls` lends what lies at the pointer to `want_controls`, and has it back.
+-- `fezhalum_want_controls` lends what lies at the pointer to `want_controls_in`, and has it back.
 use Rattle.fezhalum.proofs.Steps.{ℕ, List, [], ◌∷◌, refl, w32, proved, full_share, id⊢, ftrue, flft, flent, fex, named, fact, tables, ‵, raw, ◌⊛◌, some, later, prop, ◌$◌, ◌∵◌, !, qed, done, move, keep, drop, use1, use3, split, join, fsplit, fpack, pick, await, regoal, suffices, group, enter, of_opd, addr, stop, no_more, and_then, returns, alloc_all, pass_all, free_all, look_at, get, through, sets, lands_as, Body, lft_new, lft_end, u32, yes, Is, shows, lends_ref, ref_back, part_at, mem, uint_Lawful, Ptr, RawPtr, block_ptr, lies_at, in_a_block, rawptr_vals, rawptr_Tells, MutRef, plain, nothing, heard, peeks, calls_at, lasts, on_entry, triple_of, framed, Stays, walk_of, stay_dropped, Goes-dropped, ends_at, WpFn}
 use Rattle.hevc_pull.specs.contracts.decoder.PullDecoder.{the_row as R}
 use Rattle.hevc_pull.specs.Controls.{WantsControls}
 use Rattle.fezhalum.specs.contracts.controls.fezhalum_want_controls as f
 use Rattle.fezhalum.proofs.controls.fezhalum_want_controls.Statement.{statement}
 use Rattle.fezhalum.proofs.controls.fezhalum_want_controls.Code as code
-use Rattle.hevc_pull.specs.contracts.want_controls as g
-use Rattle.hevc_pull.proofs.want_controls.Met.{met}
+use Rattle.fezhalum.specs.contracts.controls.want_controls_in as g
+use Rattle.fezhalum.proofs.controls.want_controls_in.Met.{met}
 
 abbrev stayed : Stays f.ended.signature.params f.ended.kept
 stayed = (stay_dropped _ yes, tt)
@@ -31,7 +31,7 @@ fezhalum_want_controls_spec 𝓤 𝓛 𝓜 𝓡 wired =
     let G = triple_of 𝓛 g.signature (g.spec 𝓛 𝓜.mem 𝓡.returns) in
     let z : G.Ghost = (((κ, tt), (full_share, tt), tt, (record { ref_ptr = (b, o); ghost_name = γ; now = x }, tt), (rawptr_vals (block_ptr b o), tt)), tt) in
     nothing ! $ move ! (1 ∷ 0 ∷ []) $ join ! $ nothing ! $ move ! (3 ∷ 0 ∷ []) $ join ! $ join ! $ nothing ! $ move ! (1 ∷ 0 ∷ []) $ join ! $ use1 𝓛 (raw (G.pre z)) (id⊢ 𝓤 _) $
-    calls_at ! (framed 𝓤 𝓛.H 𝓜 𝓣) G (met 𝓤 𝓛 𝓜 𝓡 (code.calls-hevc_pull::want_controls 𝓡.env wired)) z (and_then ! (get ! refl) (no_more !)) (λ v.
+    calls_at ! (framed 𝓤 𝓛.H 𝓜 𝓣) G (met 𝓤 𝓛 𝓜 𝓡 (code.calls-fezhalum::controls::want_controls_in 𝓡.env wired)) z (and_then ! (get ! refl) (no_more !)) (λ v.
     use1 𝓛 (later (some (λ (r : ℕ). ((‵ (flft κ full_share) ⊛ ‵ ftrue) ⊛ ‵ (u32.own_val r (v ∷ []))) ⊛
     some (λ (ws : R.Denot × Unit {0}). ‵ (lasts g.ended z.0.0 z.0.3 ws) ⊛ raw (fact 𝓤 (WantsControls x ws.0 r)))))) (id⊢ 𝓤 _) $
     await ! tt $ pick ! (λ r. split ! $ split ! $ split ! $ lft_end ! tt $
