@@ -1,4 +1,5 @@
 //! Each form of element, and a unit, once.
+use crate::expect::expect_eq;
 use hevc_bit_writer::{BitWriter, append_unit};
 use std::process::Abort;
 use std::test::Fail;
@@ -58,12 +59,12 @@ fn no_start_code_is_written(rt: HostRuntime) -> Result<(), Fail> {
     let expected: &[u8] = &[
         0, 0, 1, 0x02, 0x01, 0, 0, 3, 1, 0, 0, 3, 0, 0, 3, 0, 3, 0, 0, 4,
     ];
-    assert_eq!(rt; stream.as_slice(), expected);
+    expect_eq(&rt, &stream.as_slice(), &expected);
     Ok(())
 }
 
 fn assert_whole(rt: &impl Abort, writer: &BitWriter, expected: &[u8]) -> Result<(), Fail> {
     assert!(rt; writer.is_whole());
-    assert_eq!(rt; writer.as_bytes(), expected);
+    expect_eq(rt, &writer.as_bytes(), &expected);
     Ok(())
 }

@@ -1,11 +1,11 @@
 //! Sources and sinks, each once.
+use crate::expect::{expect, expect_eq};
 use hevc_io::{
     Failed, InputError, LONGEST_WORD, MemorySink, MemorySource, MemoryWords, Sink, SinkError,
     Source, StdSink, StdSource, StdWords, Word, WordsError, command_line, read_all, write_all,
 };
 use std::alloc::Global;
 use std::env::{Env, FillError};
-use std::process::Abort;
 use std::test::Fail;
 
 fn planned(alloc: Global, number: u64) -> Result<Vec<u64>, Fail> {
@@ -17,12 +17,12 @@ fn a_source_fails_at_the_planned_call(rt: HostRuntime) -> Result<(), Fail> {
     let alloc = rt.alloc();
     let mut source = MemorySource::new(vec![in alloc; 7u8, 8, 9]?, planned(alloc, 2)?);
     let mut buf = [0u8; 2];
-    assert_eq!(rt; source.read(&mut buf), Ok(2));
-    assert_eq!(rt; buf, [7, 8]);
-    assert_eq!(rt; source.read(&mut buf), Err(Failed));
-    assert_eq!(rt; source.read(&mut buf), Ok(1));
-    assert_eq!(rt; buf[0], 9);
-    assert_eq!(rt; source.read(&mut buf), Ok(0));
+    expect_eq(&rt, &source.read(&mut buf), &Ok(2));
+    expect_eq(&rt, &buf, &[7, 8]);
+    expect_eq(&rt, &source.read(&mut buf), &Err(Failed));
+    expect_eq(&rt, &source.read(&mut buf), &Ok(1));
+    expect_eq(&rt, &buf[0], &9);
+    expect_eq(&rt, &source.read(&mut buf), &Ok(0));
     Ok(())
 }
 
@@ -30,9 +30,9 @@ fn a_source_fails_at_the_planned_call(rt: HostRuntime) -> Result<(), Fail> {
 fn a_sink_fails_at_the_planned_call(rt: HostRuntime) -> Result<(), Fail> {
     let alloc = rt.alloc();
     let mut sink = MemorySink::new(alloc, planned(alloc, 1)?);
-    assert_eq!(rt; sink.write(&[1, 2]), Err(SinkError::Failed));
-    assert_eq!(rt; sink.write(&[3]), Ok(1));
-    assert_eq!(rt; sink.written(), [3].as_slice());
+    expect_eq(&rt, &sink.write(&[1, 2]), &Err(SinkError::Failed));
+    expect_eq(&rt, &sink.write(&[3]), &Ok(1));
+    expect_eq(&rt, &sink.written(), &[3].as_slice());
     Ok(())
 }
 
@@ -41,17 +41,17 @@ fn readers_and_writers_are_passed_on(rt: HostRuntime) -> Result<(), Fail> {
     let alloc = rt.alloc();
     let mut source = StdSource::new([5u8, 6].as_slice());
     let mut buf = [0u8; 4];
-    assert_eq!(rt; source.read(&mut buf), Ok(2));
-    assert_eq!(rt; source.read(&mut buf), Ok(0));
+    expect_eq(&rt, &source.read(&mut buf), &Ok(2));
+    expect_eq(&rt, &source.read(&mut buf), &Ok(0));
     let mut sink = StdSink::new(Vec::<u8>::new(alloc));
-    assert_eq!(rt; sink.write(&buf[..2]), Ok(2));
+    expect_eq(&rt, &sink.write(&buf[..2]), &Ok(2));
     Ok(())
 }
 
 #[test]
 fn a_word_has_its_bytes(rt: HostRuntime) -> Result<(), Fail> {
     let word = Word::new(vec![in rt.alloc(); 0x78]?);
-    assert_eq!(rt; word.as_bytes(), [0x78].as_slice());
+    expect_eq(&rt, &word.as_bytes(), &[0x78].as_slice());
     Ok(())
 }
 
@@ -71,9 +71,9 @@ fn a_source_is_read_to_its_end(rt: HostRuntime) -> Result<(), Fail> {
     for size in [0usize, 1, 65_536, 200_000] {
         let mut source = counting(alloc, size, 9)?;
         let input = read_all(alloc, &mut source, 200_000)?;
-        assert_eq!(rt; input.len(), size);
+        expect_eq(&rt, &input.len(), &size);
         for (number, byte) in input.iter().enumerate() {
-            assert_eq!(rt; *byte, (number % 256) as u8);
+            expect_eq(&rt, byte, &((number % 256) as u8));
         }
     }
     Ok(())
@@ -83,17 +83,19 @@ fn a_source_is_read_to_its_end(rt: HostRuntime) -> Result<(), Fail> {
 fn an_input_is_within_its_limit(rt: HostRuntime) -> Result<(), Fail> {
     let alloc = rt.alloc();
     let mut source = counting(alloc, 70_000, 9)?;
-    assert_eq!(rt;
-        read_all(alloc, &mut source, 69_999).err(),
-        Some(InputError::TooLong)
+    expect_eq(
+        &rt,
+        &read_all(alloc, &mut source, 69_999).err(),
+        &Some(InputError::TooLong),
     );
     let mut source = counting(alloc, 1, 9)?;
-    assert_eq!(rt;
-        read_all(alloc, &mut source, 0).err(),
-        Some(InputError::TooLong)
+    expect_eq(
+        &rt,
+        &read_all(alloc, &mut source, 0).err(),
+        &Some(InputError::TooLong),
     );
     let mut source = counting(alloc, 0, 9)?;
-    assert!(rt; read_all(alloc, &mut source, 0).is_ok());
+    expect(&rt, read_all(alloc, &mut source, 0).is_ok());
     Ok(())
 }
 
@@ -102,13 +104,14 @@ fn a_failed_read_is_no_end(rt: HostRuntime) -> Result<(), Fail> {
     let alloc = rt.alloc();
     for call in 1..4u64 {
         let mut source = counting(alloc, 70_000, call)?;
-        assert_eq!(rt;
-            read_all(alloc, &mut source, 70_000).err(),
-            Some(InputError::Failed)
+        expect_eq(
+            &rt,
+            &read_all(alloc, &mut source, 70_000).err(),
+            &Some(InputError::Failed),
         );
     }
     let mut source = counting(alloc, 70_000, 4)?;
-    assert!(rt; read_all(alloc, &mut source, 70_000).is_ok());
+    expect(&rt, read_all(alloc, &mut source, 70_000).is_ok());
     Ok(())
 }
 
@@ -116,9 +119,9 @@ fn a_failed_read_is_no_end(rt: HostRuntime) -> Result<(), Fail> {
 fn a_text_is_written_whole(rt: HostRuntime) -> Result<(), Fail> {
     let alloc = rt.alloc();
     let mut sink = MemorySink::new(alloc, planned(alloc, 2)?);
-    assert_eq!(rt; write_all(&mut sink, &[4, 5]), Ok(()));
-    assert_eq!(rt; write_all(&mut sink, &[6]), Err(SinkError::Failed));
-    assert_eq!(rt; sink.written(), [4, 5].as_slice());
+    expect_eq(&rt, &write_all(&mut sink, &[4, 5]), &Ok(()));
+    expect_eq(&rt, &write_all(&mut sink, &[6]), &Err(SinkError::Failed));
+    expect_eq(&rt, &sink.written(), &[4, 5].as_slice());
     Ok(())
 }
 
@@ -164,10 +167,10 @@ fn a_command_line_has_its_words(rt: HostRuntime) -> Result<(), Fail> {
         alloc,
     )?;
     assert_eq!(rt; words.len(), 2);
-    assert_eq!(rt; words[0].as_bytes(), [5, 6].as_slice());
+    expect_eq(&rt, &words[0].as_bytes(), &[5, 6].as_slice());
     let long = words[1].as_bytes();
     assert_eq!(rt; long.len(), 100);
-    assert_eq!(rt; (long[0], long[99]), (7, 8));
+    expect_eq(&rt, &(long[0], long[99]), &(7, 8));
     let refused = command_line(
         &StdWords {
             system: &TwoWords { is_short: false },
@@ -175,7 +178,7 @@ fn a_command_line_has_its_words(rt: HostRuntime) -> Result<(), Fail> {
         alloc,
     )
     .err();
-    assert_eq!(rt; refused, Some(WordsError::Refused));
+    expect_eq(&rt, &refused, &Some(WordsError::Refused));
     Ok(())
 }
 
@@ -187,11 +190,15 @@ fn known_words_are_taken_in_order(rt: HostRuntime) -> Result<(), Fail> {
     known.push(Word::new(Vec::new(alloc)))?;
     known.push(Word::new(vec![in alloc; 9u8; 1]?))?;
     let words = command_line(&MemoryWords::new(known), alloc)?;
-    assert_eq!(rt; words.len(), 3);
-    assert_eq!(rt; words[0].as_bytes(), [7; 65].as_slice());
-    assert_eq!(rt; words[1].as_bytes(), [].as_slice());
-    assert_eq!(rt; words[2].as_bytes(), [9].as_slice());
+    expect_eq(&rt, &words.len(), &3);
+    expect_eq(&rt, &words[0].as_bytes(), &[7; 65].as_slice());
+    expect_eq(&rt, &words[1].as_bytes(), &[].as_slice());
+    expect_eq(&rt, &words[2].as_bytes(), &[9].as_slice());
     let long = MemoryWords::new(vec![in alloc; Word::new(vec![in alloc; 0u8; LONGEST_WORD + 1]?)]?);
-    assert_eq!(rt; command_line(&long, alloc).err(), Some(WordsError::Refused));
+    expect_eq(
+        &rt,
+        &command_line(&long, alloc).err(),
+        &Some(WordsError::Refused),
+    );
     Ok(())
 }

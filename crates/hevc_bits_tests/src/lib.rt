@@ -8,6 +8,8 @@ mod bits;
 #[cfg(test)]
 mod elements;
 #[cfg(test)]
+mod expect;
+#[cfg(test)]
 mod io;
 #[cfg(test)]
 mod made;

@@ -1,11 +1,12 @@
 //! Small streams, byte by byte.
+use crate::expect::{expect, expect_eq};
 use hevc_made::make_stream;
 use std::test::Fail;
 
 #[test]
 fn one_picture_is_an_idr_picture(rt: HostRuntime) -> Result<(), Fail> {
     let stream = make_stream(rt.alloc(), 1)?;
-    assert_eq!(rt; stream.len(), 46);
+    expect_eq(&rt, &stream.len(), &46);
     Ok(())
 }
 
@@ -18,7 +19,7 @@ fn groups_are_coded_from_their_end(rt: HostRuntime) -> Result<(), Fail> {
         0xd0, 0x21, 0x22, 0x49, 0x70, 0x80, 0x00, 0x00, 0x01, 0x02, 0x01, 0xd0, 0x11, 0x35, 0x52,
         0x1c, 0x80,
     ];
-    assert_eq!(rt; stream.len(), 46 + pictures.len());
-    assert!(rt; stream.ends_with(pictures));
+    expect_eq(&rt, &stream.len(), &(46 + pictures.len()));
+    expect(&rt, stream.ends_with(pictures));
     Ok(())
 }

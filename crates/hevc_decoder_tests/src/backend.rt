@@ -2,6 +2,7 @@
 mod caller;
 mod over_device;
 
+use crate::expect::{expect, expect_eq};
 use caller::{First, decode_picture};
 use hevc_backend::{
     Backend, BackendError, Call, Resolution, SilentBackend, StatelessH265DecoderBackend,
@@ -123,11 +124,17 @@ fn each_call_is_recorded_once(rt: HostRuntime) -> Result<(), Fail> {
     let mut backend = Backend::new(alloc);
     let sps = Sps::new(alloc);
     let first = first(alloc, UNIT).ok_or("no unit")?;
-    assert!(rt; decode_picture(alloc, &mut backend, &sps, &first) == Ok(Some(0)));
+    expect(
+        &rt,
+        decode_picture(alloc, &mut backend, &sps, &first) == Ok(Some(0)),
+    );
     let calls = backend.calls();
-    assert_eq!(rt; calls.len(), 5);
-    assert!(rt; begins_sequence(calls) && begins_picture(calls) && names_no_references(calls));
-    assert!(rt; has_slice(calls) && submits(calls));
+    expect_eq(&rt, &calls.len(), &5);
+    expect(
+        &rt,
+        begins_sequence(calls) && begins_picture(calls) && names_no_references(calls),
+    );
+    expect(&rt, has_slice(calls) && submits(calls));
     Ok(())
 }
 
@@ -137,13 +144,16 @@ fn a_planned_call_fails_and_is_not_recorded(rt: HostRuntime) -> Result<(), Fail>
     let mut backend = Backend::with_plan(alloc, vec![in alloc; 3]?, vec![in alloc; 16, 0]?);
     let sps = Sps::new(alloc);
     let picture = PictureData::default();
-    assert!(rt; backend.new_sequence(&sps) == Ok(()));
-    assert!(rt; backend.new_picture(0, &picture, 0) == Ok(0));
-    assert!(rt; backend.submit_picture(0, 0) == Err(BackendError::Failed));
-    assert_eq!(rt; backend.calls().len(), 2);
-    assert!(rt; backend.submit_picture(0, 0) == Ok(0));
-    assert!(rt; backend.submit_picture(1, 1) == Ok(1));
-    assert_eq!(rt; backend.calls().len(), 4);
+    expect(&rt, backend.new_sequence(&sps) == Ok(()));
+    expect(&rt, backend.new_picture(0, &picture, 0) == Ok(0));
+    expect(
+        &rt,
+        backend.submit_picture(0, 0) == Err(BackendError::Failed),
+    );
+    expect_eq(&rt, &backend.calls().len(), &2);
+    expect(&rt, backend.submit_picture(0, 0) == Ok(0));
+    expect(&rt, backend.submit_picture(1, 1) == Ok(1));
+    expect_eq(&rt, &backend.calls().len(), &4);
     Ok(())
 }
 
@@ -151,11 +161,11 @@ fn a_planned_call_fails_and_is_not_recorded(rt: HostRuntime) -> Result<(), Fail>
 fn frames_are_those_of_the_plan(rt: HostRuntime) -> Result<(), Fail> {
     let alloc = rt.alloc();
     let mut backend = Backend::with_plan(alloc, Vec::new(alloc), vec![in alloc; 16, 0]?);
-    assert_eq!(rt; backend.num_free_frames(), 16);
-    assert_eq!(rt; backend.num_free_frames(), 0);
-    assert_eq!(rt; backend.num_free_frames(), 16);
-    assert_eq!(rt; backend.num_free_frames(), 16);
-    assert!(rt; backend.calls().is_empty());
+    expect_eq(&rt, &backend.num_free_frames(), &16);
+    expect_eq(&rt, &backend.num_free_frames(), &0);
+    expect_eq(&rt, &backend.num_free_frames(), &16);
+    expect_eq(&rt, &backend.num_free_frames(), &16);
+    expect(&rt, backend.calls().is_empty());
     Ok(())
 }
 
@@ -164,17 +174,20 @@ fn info_is_that_of_the_sequence(rt: HostRuntime) -> Result<(), Fail> {
     let alloc = rt.alloc();
     let mut backend = Backend::with_plan(alloc, vec![in alloc; 1]?, Vec::new(alloc));
     let sps = Sps::new(alloc);
-    assert!(rt; backend.stream_info().is_none());
-    assert!(rt; backend.new_sequence(&sps) == Err(BackendError::Failed));
-    assert!(rt; backend.stream_info().is_none());
-    assert!(rt; backend.new_sequence(&sps) == Ok(()));
+    expect(&rt, backend.stream_info().is_none());
+    expect(&rt, backend.new_sequence(&sps) == Err(BackendError::Failed));
+    expect(&rt, backend.stream_info().is_none());
+    expect(&rt, backend.new_sequence(&sps) == Ok(()));
     let one = Resolution {
         width: 1,
         height: 1,
     };
     let info = backend.stream_info().ok_or("no info")?;
-    assert!(rt; info.coded_resolution == one && info.display_resolution == one);
-    assert_eq!(rt; info.min_num_frames, sps.max_dpb_size() + 1);
+    expect(
+        &rt,
+        info.coded_resolution == one && info.display_resolution == one,
+    );
+    expect_eq(&rt, &info.min_num_frames, &(sps.max_dpb_size() + 1));
     Ok(())
 }
 
@@ -184,8 +197,14 @@ fn a_silent_backend_takes_all(rt: HostRuntime) -> Result<(), Fail> {
     let mut backend = SilentBackend::new();
     let sps = Sps::new(alloc);
     let first = first(alloc, UNIT).ok_or("no unit")?;
-    assert!(rt; decode_picture(alloc, &mut backend, &sps, &first) == Ok(Some(())));
-    assert!(rt; backend.num_free_frames() != 0 && backend.stream_info().is_none());
+    expect(
+        &rt,
+        decode_picture(alloc, &mut backend, &sps, &first) == Ok(Some(())),
+    );
+    expect(
+        &rt,
+        backend.num_free_frames() != 0 && backend.stream_info().is_none(),
+    );
     Ok(())
 }
 
@@ -226,9 +245,15 @@ fn a_device_runs_out_of_frames(rt: HostRuntime) -> Result<(), Fail> {
     };
     let sps = Sps::new(alloc);
     let first = first(alloc, UNIT).ok_or("no unit")?;
-    assert!(rt; decode_picture(alloc, &mut backend, &sps, &first) == Ok(Some(0)));
-    assert!(rt; backend.stream_info().is_some());
-    assert!(rt; decode_picture(alloc, &mut backend, &sps, &first) == Ok(None));
-    assert!(rt; backend.faults == 0 && backend.empty_answers == 1);
+    expect(
+        &rt,
+        decode_picture(alloc, &mut backend, &sps, &first) == Ok(Some(0)),
+    );
+    expect(&rt, backend.stream_info().is_some());
+    expect(
+        &rt,
+        decode_picture(alloc, &mut backend, &sps, &first) == Ok(None),
+    );
+    expect(&rt, backend.faults == 0 && backend.empty_answers == 1);
     Ok(())
 }

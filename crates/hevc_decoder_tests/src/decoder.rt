@@ -6,6 +6,7 @@ mod plans;
 mod states;
 mod told;
 
+use crate::expect::{expect, expect_eq};
 use calling::{numbers_by_events, numbers_of_source, numbers_of_stream};
 use hevc_backend::Backend;
 use hevc_decoder::{DecodeError, Refused, Shown, decode_stream};
@@ -27,8 +28,8 @@ const TWO_PICTURES: &[u8] = &[
 fn an_empty_stream_has_no_pictures(rt: HostRuntime) -> Result<(), Fail> {
     let mut shown = Vec::new(rt.alloc());
     let decoded = decode_stream(rt.alloc(), Backend::new(rt.alloc()), &[], &mut shown);
-    assert!(rt; decoded.result == Ok(0));
-    assert!(rt; shown.is_empty());
+    expect(&rt, decoded.result == Ok(0));
+    expect(&rt, shown.is_empty());
     Ok(())
 }
 
@@ -37,8 +38,8 @@ fn two_pictures_come_out(rt: HostRuntime) -> Result<(), Fail> {
     let alloc = rt.alloc();
     let mut shown = Vec::new(alloc);
     let decoded = decode_stream(alloc, Backend::new(alloc), TWO_PICTURES, &mut shown);
-    assert!(rt; decoded.result == Ok(2));
-    assert_eq!(rt; decoded.backend.calls().len(), 9);
+    expect(&rt, decoded.result == Ok(2));
+    expect_eq(&rt, &decoded.backend.calls().len(), &9);
     let first = Shown {
         number: 0,
         handle: 0,
@@ -51,7 +52,7 @@ fn two_pictures_come_out(rt: HostRuntime) -> Result<(), Fail> {
         order_count: 0,
         unit: 4,
     };
-    assert!(rt; shown.as_slice() == [first, second].as_slice());
+    expect(&rt, shown.as_slice() == [first, second].as_slice());
     Ok(())
 }
 
@@ -66,9 +67,9 @@ fn refused(
 ) -> Result<(), Fail> {
     let mut shown = Vec::new(alloc);
     let decoded = decode_stream(alloc, backend, TWO_PICTURES, &mut shown);
-    assert!(rt; decoded.result == Err(refused));
-    assert_eq!(rt; decoded.backend.calls().len(), calls);
-    assert_eq!(rt; shown.len(), pictures);
+    expect(rt, decoded.result == Err(refused));
+    expect_eq(rt, &decoded.backend.calls().len(), &calls);
+    expect_eq(rt, &shown.len(), &pictures);
     Ok(())
 }
 
@@ -126,14 +127,18 @@ fn a_frame_that_is_missing_is_told_at_the_picture_that_wants_it(
 fn events_streams_and_sources_give_the_same_pictures(rt: HostRuntime) -> Result<(), Fail> {
     let alloc = rt.alloc();
     let numbers = numbers_by_events(alloc, TWO_PICTURES).or(Err("refused"))?;
-    assert_eq!(rt; numbers.as_slice(), [0u64, 1].as_slice());
+    expect_eq(&rt, &numbers.as_slice(), &[0u64, 1].as_slice());
     let numbers = numbers_of_stream(alloc, TWO_PICTURES)?.or(Err("refused"))?;
-    assert_eq!(rt; numbers.as_slice(), [0u64, 1].as_slice());
+    expect_eq(&rt, &numbers.as_slice(), &[0u64, 1].as_slice());
     let mut bytes = Vec::with_capacity(alloc, 52)?;
     bytes.extend_from_slice(TWO_PICTURES)?;
     let mut source = MemorySource::new(bytes, Vec::new(alloc));
     let read = numbers_of_source(alloc, &mut source).or(Err("failed"))?;
-    assert_eq!(rt; read.or(Err("refused"))?.as_slice(), [0u64, 1].as_slice());
+    expect_eq(
+        &rt,
+        &read.or(Err("refused"))?.as_slice(),
+        &[0u64, 1].as_slice(),
+    );
     Ok(())
 }
 
@@ -141,16 +146,17 @@ fn events_streams_and_sources_give_the_same_pictures(rt: HostRuntime) -> Result<
 fn refused_units_are_told_with_their_numbers(rt: HostRuntime) -> Result<(), Fail> {
     let alloc = rt.alloc();
     let truncated = numbers_of_stream(alloc, &[0, 0, 1, 0x26])?;
-    assert!(rt;
+    expect(
+        &rt,
         matches!(
             truncated,
             Err(Refused {
                 unit: 0,
                 error: DecodeError::TruncatedNalu
             })
-        )
+        ),
     );
     let refused = numbers_by_events(alloc, &[0, 0, 1, 0x26]);
-    assert!(rt; matches!(refused, Err(DecodeError::TruncatedNalu)));
+    expect(&rt, matches!(refused, Err(DecodeError::TruncatedNalu)));
     Ok(())
 }

@@ -1,6 +1,7 @@
 //! A driver over a backend that fails at a planned call, or has no frame.
 mod streams;
 
+use crate::expect::{expect, expect_eq};
 use hevc_backend::{Backend, Call};
 use hevc_driver::{DecodeError, Driver};
 use hevc_types_c::Sps;
@@ -18,14 +19,15 @@ fn a_picture_is_begun_decoded_submitted_and_output(rt: HostRuntime) -> Result<()
     let alloc = rt.alloc();
     let mut driver = Driver::new(alloc, Backend::new(alloc));
     let sps = Sps::new(alloc);
-    assert!(rt; start(&mut driver, &sps) == Ok(()));
+    expect(&rt, start(&mut driver, &sps) == Ok(()));
     let mut idr = slice(alloc, IDR).ok_or("no unit")?;
-    assert!(rt; give(&mut driver, 90000, &mut idr, &sps) == Ok(()));
-    assert_eq!(rt; driver.backend.calls().len(), 4);
-    assert!(rt; outputs(&driver) == (0, None));
-    assert!(rt; close(&mut driver) == Ok(()));
+    expect(&rt, give(&mut driver, 90000, &mut idr, &sps) == Ok(()));
+    expect_eq(&rt, &driver.backend.calls().len(), &4);
+    expect(&rt, outputs(&driver) == (0, None));
+    expect(&rt, close(&mut driver) == Ok(()));
     let calls = driver.backend.calls();
-    assert!(rt;
+    expect(
+        &rt,
         matches!(
             calls.get(1),
             Some(Call::NewPicture {
@@ -33,20 +35,27 @@ fn a_picture_is_begun_decoded_submitted_and_output(rt: HostRuntime) -> Result<()
                 timestamp: 90000,
                 ..
             })
-        )
+        ),
     );
-    assert!(rt; matches!(calls.get(2), Some(Call::BeginPicture { number: 0, .. })));
-    assert!(rt; matches!(calls.get(3), Some(Call::DecodeSlice { number: 0, .. })));
-    assert!(rt;
+    expect(
+        &rt,
+        matches!(calls.get(2), Some(Call::BeginPicture { number: 0, .. })),
+    );
+    expect(
+        &rt,
+        matches!(calls.get(3), Some(Call::DecodeSlice { number: 0, .. })),
+    );
+    expect(
+        &rt,
         matches!(
             calls.get(4),
             Some(Call::SubmitPicture {
                 number: 0,
                 handle: 0
             })
-        )
+        ),
     );
-    assert!(rt; outputs(&driver) == (1, Some(0)));
+    expect(&rt, outputs(&driver) == (1, Some(0)));
     Ok(())
 }
 
@@ -57,12 +66,12 @@ fn a_backend_without_a_frame_is_asked_again(rt: HostRuntime) -> Result<(), Fail>
     let mut driver = Driver::new(alloc, backend);
     let sps = Sps::new(alloc);
     let mut idr = slice(alloc, IDR).ok_or("no unit")?;
-    assert!(rt; start(&mut driver, &sps) == Ok(()));
+    expect(&rt, start(&mut driver, &sps) == Ok(()));
     let full = Err(DecodeError::NotEnoughOutputBuffers(1));
-    assert!(rt; give(&mut driver, 0, &mut idr, &sps) == full);
-    assert_eq!(rt; driver.backend.calls().len(), 1);
-    assert!(rt; give(&mut driver, 0, &mut idr, &sps) == Ok(()));
-    assert_eq!(rt; driver.standing.next.number, 1);
+    expect(&rt, give(&mut driver, 0, &mut idr, &sps) == full);
+    expect_eq(&rt, &driver.backend.calls().len(), &1);
+    expect(&rt, give(&mut driver, 0, &mut idr, &sps) == Ok(()));
+    expect_eq(&rt, &driver.standing.next.number, &1);
     Ok(())
 }
 
@@ -73,12 +82,15 @@ fn a_failed_call_gives_the_picture_up_and_takes_its_number(rt: HostRuntime) -> R
     let mut driver = Driver::new(alloc, backend);
     let sps = Sps::new(alloc);
     let mut idr = slice(alloc, IDR).ok_or("no unit")?;
-    assert!(rt; start(&mut driver, &sps) == Ok(()));
-    assert!(rt; give(&mut driver, 0, &mut idr, &sps) == Err(DecodeError::Backend));
-    assert_eq!(rt; driver.standing.next.number, 1);
-    assert!(rt; close(&mut driver) == Ok(()));
-    assert!(rt; outputs(&driver) == (0, None));
-    assert_eq!(rt; driver.backend.calls().len(), 2);
+    expect(&rt, start(&mut driver, &sps) == Ok(()));
+    expect(
+        &rt,
+        give(&mut driver, 0, &mut idr, &sps) == Err(DecodeError::Backend),
+    );
+    expect_eq(&rt, &driver.standing.next.number, &1);
+    expect(&rt, close(&mut driver) == Ok(()));
+    expect(&rt, outputs(&driver) == (0, None));
+    expect_eq(&rt, &driver.backend.calls().len(), &2);
     Ok(())
 }
 
@@ -91,11 +103,11 @@ fn a_dependent_slice_needs_an_independent_one(rt: HostRuntime) -> Result<(), Fai
     let mut dependent = slice(alloc, IDR).ok_or("no unit")?;
     dependent.header.first_slice_segment_in_pic_flag = false;
     dependent.header.dependent_slice_segment_flag = true;
-    assert!(rt; start(&mut driver, &sps) == Ok(()));
+    expect(&rt, start(&mut driver, &sps) == Ok(()));
     let alone = Err(DecodeError::NoIndependentSlice);
-    assert!(rt; give(&mut driver, 0, &mut dependent, &sps) == alone);
-    assert!(rt; give(&mut driver, 0, &mut idr, &sps) == Ok(()));
-    assert!(rt; give(&mut driver, 0, &mut dependent, &sps) == Ok(()));
-    assert_eq!(rt; driver.backend.calls().len(), 5);
+    expect(&rt, give(&mut driver, 0, &mut dependent, &sps) == alone);
+    expect(&rt, give(&mut driver, 0, &mut idr, &sps) == Ok(()));
+    expect(&rt, give(&mut driver, 0, &mut dependent, &sps) == Ok(()));
+    expect_eq(&rt, &driver.backend.calls().len(), &5);
     Ok(())
 }

@@ -8,6 +8,8 @@ mod decoder;
 #[cfg(test)]
 mod driver;
 #[cfg(test)]
+mod expect;
+#[cfg(test)]
 mod for_c;
 #[cfg(test)]
 mod report;

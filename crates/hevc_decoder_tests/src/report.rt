@@ -1,4 +1,5 @@
 //! Streams of the worked units, from the words of the command line and the bytes to the report.
+use crate::expect::{expect, expect_eq};
 use hevc_io::{MemorySink, MemorySource, Word};
 use hevc_made::make_stream;
 use hevc_report::run;
@@ -187,7 +188,7 @@ fn written_by(
     let words = words_of(alloc, texts)?;
     let mut source = MemorySource::new(bytes, Vec::new(alloc));
     let mut sink = MemorySink::new(alloc, Vec::new(alloc));
-    assert_eq!(rt; run(alloc, &words, &mut source, &mut sink), status);
+    expect_eq(rt, &run(alloc, &words, &mut source, &mut sink), &status);
     Ok(sink)
 }
 
@@ -204,7 +205,7 @@ fn reports_on(
         expected.push_str(piece)?;
     }
     let sink = written_by(rt, alloc, &[], bytes, status)?;
-    assert_eq!(rt; sink.written(), expected.as_bytes());
+    expect_eq(rt, &sink.written(), &expected.as_bytes());
     Ok(())
 }
 
@@ -230,7 +231,7 @@ fn ends_on(
     end: &str,
 ) -> Result<(), Fail> {
     let sink = written_by(rt, alloc, texts, bytes, status)?;
-    assert!(rt; sink.written().ends_with(end.as_bytes()));
+    expect(rt, sink.written().ends_with(end.as_bytes()));
     Ok(())
 }
 
@@ -709,7 +710,7 @@ fn upper_sub_layers_are_left_out(rt: HostRuntime) -> Result<(), Fail> {
     let shown =
         "show 0 poc 0 unit 4\nshow 2 poc 2 unit 5\nshow 1 poc 4 unit 5\nend pictures 3 shown 3\n";
     let whole = format!(in alloc; "{SEQ}{PICTURE_0}{P4_1}{UPPER_P2_2}{shown}")?;
-    assert_eq!(rt; sink.written(), whole.as_bytes());
+    expect_eq(&rt, &sink.written(), &whole.as_bytes());
     Ok(())
 }
 
@@ -739,7 +740,7 @@ fn other_words_are_no_command(rt: HostRuntime) -> Result<(), Fail> {
     ] {
         let bytes = stream(alloc, &[SPS, PPS, IDR])?;
         let sink = written_by(&rt, alloc, words, bytes, 2)?;
-        assert!(rt; sink.written().is_empty());
+        expect(&rt, sink.written().is_empty());
     }
     Ok(())
 }
@@ -749,8 +750,8 @@ fn makes(rt: &impl Abort, alloc: Global, number: &str, line: &str) -> Result<(),
     let words = words_of(alloc, &["make", number])?;
     let mut source = MemorySource::new(stream(alloc, &[SPS])?, vec![in alloc; 1]?);
     let mut sink = MemorySink::new(alloc, Vec::new(alloc));
-    assert_eq!(rt; run(alloc, &words, &mut source, &mut sink), 0);
-    assert_eq!(rt; sink.written(), line.as_bytes());
+    expect_eq(rt, &run(alloc, &words, &mut source, &mut sink), &0);
+    expect_eq(rt, &sink.written(), &line.as_bytes());
     Ok(())
 }
 
@@ -787,8 +788,8 @@ fn a_made_line_that_is_not_written_is_a_fault(rt: HostRuntime) -> Result<(), Fai
     let words = words_of(alloc, &["make", "9"])?;
     let mut source = MemorySource::new(Vec::new(alloc), Vec::new(alloc));
     let mut sink = MemorySink::new(alloc, vec![in alloc; 1]?);
-    assert_eq!(rt; run(alloc, &words, &mut source, &mut sink), 4);
-    assert!(rt; sink.written().is_empty());
+    expect_eq(&rt, &run(alloc, &words, &mut source, &mut sink), &4);
+    expect(&rt, sink.written().is_empty());
     Ok(())
 }
 
@@ -804,10 +805,14 @@ fn fails(
     let bytes = stream(alloc, &[SPS, PPS, IDR, P4, P2])?;
     let mut source = MemorySource::new(bytes, Vec::from_slice(alloc, reads)?);
     let mut sink = MemorySink::new(alloc, Vec::from_slice(alloc, writes)?);
-    assert_eq!(rt; run(alloc, &[], &mut source, &mut sink), status);
+    expect_eq(rt, &run(alloc, &[], &mut source, &mut sink), &status);
     let end = "end pictures 3 shown 3\n";
-    assert_eq!(rt; sink.written().ends_with(end.as_bytes()), status == 0);
-    assert!(rt; status != 3 || sink.written().is_empty());
+    expect_eq(
+        rt,
+        &sink.written().ends_with(end.as_bytes()),
+        &(status == 0),
+    );
+    expect(rt, status != 3 || sink.written().is_empty());
     Ok(())
 }
 

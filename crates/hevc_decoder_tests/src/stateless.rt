@@ -1,4 +1,5 @@
 //! A decoder, unit by unit, with its events.
+use crate::expect::{expect, expect_eq};
 use hevc_backend::{Backend, Call};
 use hevc_stateless::{DecodeError, DecoderEvent, Options, StatelessDecoder};
 use std::process::Abort;
@@ -61,14 +62,14 @@ fn begin(decoder: &mut StatelessDecoder<Backend>) -> Result<usize, DecodeError> 
 fn takes(rt: &impl Abort, decoder: &mut StatelessDecoder<Backend>, units: &[&[u8]]) {
     for unit in units {
         assert!(rt; unit.len() < 1000);
-        assert!(rt; decoder.decode(0, unit) == Ok(unit.len()));
+        expect(rt, decoder.decode(0, unit) == Ok(unit.len()));
     }
 }
 
 /// The next pictures that are output have these numbers.
 fn come_out(rt: &impl Abort, decoder: &mut StatelessDecoder<Backend>, numbers: &[u64]) {
     for number in numbers {
-        assert!(rt; next_number(decoder) == Some(*number));
+        expect(rt, next_number(decoder) == Some(*number));
     }
 }
 
@@ -86,11 +87,11 @@ fn named(call: &Call<u64>) -> (&'static str, u64) {
 /// The backend got these calls, of these pictures, and no others.
 fn got(rt: &impl Abort, decoder: &StatelessDecoder<Backend>, calls: &[(&str, u64)]) {
     let log = decoder.backend().calls();
-    assert_eq!(rt; log.len(), calls.len());
+    expect_eq(rt, &log.len(), &calls.len());
     for (call, (name, number)) in log.iter().zip(calls) {
         let (name_now, number_now) = named(call);
-        assert!(rt; name_now == *name);
-        assert_eq!(rt; number_now, *number);
+        expect(rt, name_now == *name);
+        expect_eq(rt, &number_now, number);
     }
 }
 
@@ -99,13 +100,22 @@ fn the_first_sequence_set_is_negotiated_and_given_again(rt: HostRuntime) -> Resu
     let alloc = rt.alloc();
     let mut decoder = StatelessDecoder::new(alloc, Backend::new(alloc));
     takes(&rt, &mut decoder, &[IDR]);
-    assert!(rt; decoder.decode(0, SEQUENCE_SET) == Err(DecodeError::CheckEvents));
-    assert!(rt; decoder.decode(0, SEQUENCE_SET) == Err(DecodeError::CheckEvents));
-    assert!(rt; matches!(decoder.next_event(), Some(DecoderEvent::FormatChanged)));
-    assert!(rt; accept(&mut decoder));
-    assert!(rt; !decoder.awaiting_format());
+    expect(
+        &rt,
+        decoder.decode(0, SEQUENCE_SET) == Err(DecodeError::CheckEvents),
+    );
+    expect(
+        &rt,
+        decoder.decode(0, SEQUENCE_SET) == Err(DecodeError::CheckEvents),
+    );
+    expect(
+        &rt,
+        matches!(decoder.next_event(), Some(DecoderEvent::FormatChanged)),
+    );
+    expect(&rt, accept(&mut decoder));
+    expect(&rt, !decoder.awaiting_format());
     takes(&rt, &mut decoder, &[SEQUENCE_SET]);
-    assert_eq!(rt; decoder.backend().calls().len(), 1);
+    expect_eq(&rt, &decoder.backend().calls().len(), &1);
     Ok(())
 }
 
@@ -114,14 +124,20 @@ fn a_picture_set_waits_for_its_sequence_set(rt: HostRuntime) -> Result<(), Fail>
     let alloc = rt.alloc();
     let mut decoder = StatelessDecoder::new(alloc, Backend::new(alloc));
     takes(&rt, &mut decoder, &[PICTURE_SET]);
-    assert!(rt; decoder.decode(0, SEQUENCE_SET) == Err(DecodeError::CheckEvents));
-    assert!(rt; accept(&mut decoder));
-    assert!(rt; decoder.decode(0, IDR) == Err(DecodeError::MissingPps(0)));
+    expect(
+        &rt,
+        decoder.decode(0, SEQUENCE_SET) == Err(DecodeError::CheckEvents),
+    );
+    expect(&rt, accept(&mut decoder));
+    expect(
+        &rt,
+        decoder.decode(0, IDR) == Err(DecodeError::MissingPps(0)),
+    );
     takes(&rt, &mut decoder, &[SEQUENCE_SET]);
-    assert!(rt; decoder.decode(5, IDR) == Ok(7));
-    assert!(rt; decoder.flush() == Ok(()));
+    expect(&rt, decoder.decode(5, IDR) == Ok(7));
+    expect(&rt, decoder.flush() == Ok(()));
     come_out(&rt, &mut decoder, &[0]);
-    assert!(rt; next_number(&mut decoder).is_none());
+    expect(&rt, next_number(&mut decoder).is_none());
     Ok(())
 }
 
@@ -129,14 +145,14 @@ fn a_picture_set_waits_for_its_sequence_set(rt: HostRuntime) -> Result<(), Fail>
 fn behind_a_flush_an_idr_picture_is_waited_for(rt: HostRuntime) -> Result<(), Fail> {
     let alloc = rt.alloc();
     let mut decoder = StatelessDecoder::new(alloc, Backend::new(alloc));
-    assert!(rt; begin(&mut decoder) == Ok(9));
+    expect(&rt, begin(&mut decoder) == Ok(9));
     takes(&rt, &mut decoder, &[IDR, LATER, END]);
-    assert!(rt; decoder.flush() == Ok(()));
+    expect(&rt, decoder.flush() == Ok(()));
     let calls = decoder.backend().calls().len();
     takes(&rt, &mut decoder, &[LATER]);
-    assert_eq!(rt; decoder.backend().calls().len(), calls);
+    expect_eq(&rt, &decoder.backend().calls().len(), &calls);
     takes(&rt, &mut decoder, &[IDR, LATER]);
-    assert!(rt; decoder.flush() == Ok(()));
+    expect(&rt, decoder.flush() == Ok(()));
     come_out(&rt, &mut decoder, &[0, 1, 2, 3]);
     Ok(())
 }
@@ -145,12 +161,15 @@ fn behind_a_flush_an_idr_picture_is_waited_for(rt: HostRuntime) -> Result<(), Fa
 fn a_flush_forgets_a_format_that_is_awaited(rt: HostRuntime) -> Result<(), Fail> {
     let alloc = rt.alloc();
     let mut decoder = StatelessDecoder::new(alloc, Backend::new(alloc));
-    assert!(rt; decoder.decode(0, SEQUENCE_SET) == Err(DecodeError::CheckEvents));
-    assert!(rt; decoder.flush() == Ok(()));
-    assert!(rt; !decoder.awaiting_format());
+    expect(
+        &rt,
+        decoder.decode(0, SEQUENCE_SET) == Err(DecodeError::CheckEvents),
+    );
+    expect(&rt, decoder.flush() == Ok(()));
+    expect(&rt, !decoder.awaiting_format());
     takes(&rt, &mut decoder, &[PICTURE_SET, SEQUENCE_SET]);
-    assert!(rt; decoder.decode(0, IDR) == Err(DecodeError::CheckEvents));
-    assert!(rt; accept(&mut decoder));
+    expect(&rt, decoder.decode(0, IDR) == Err(DecodeError::CheckEvents));
+    expect(&rt, accept(&mut decoder));
     takes(&rt, &mut decoder, &[IDR]);
     Ok(())
 }
@@ -161,11 +180,11 @@ fn sub_layers_above_the_wanted_ones_are_passed_over(rt: HostRuntime) -> Result<(
     let mut options = Options::new();
     options.highest_tid = 0;
     let mut decoder = StatelessDecoder::new_with(alloc, Backend::new(alloc), options);
-    assert!(rt; begin(&mut decoder) == Ok(9));
+    expect(&rt, begin(&mut decoder) == Ok(9));
     takes(&rt, &mut decoder, &[IDR]);
     let calls = decoder.backend().calls().len();
     takes(&rt, &mut decoder, &[UPPER]);
-    assert_eq!(rt; decoder.backend().calls().len(), calls);
+    expect_eq(&rt, &decoder.backend().calls().len(), &calls);
     Ok(())
 }
 
@@ -174,17 +193,23 @@ fn a_refusal_leaves_the_decoder_where_it_stood(rt: HostRuntime) -> Result<(), Fa
     let alloc = rt.alloc();
     let backend = Backend::with_plan(alloc, vec![in alloc; 1]?, vec![in alloc; 16, 0]?);
     let mut decoder = StatelessDecoder::new(alloc, backend);
-    assert!(rt; decoder.decode(0, &[]) == Err(DecodeError::NoNal));
-    assert!(rt; decoder.decode(0, &[0, 0, 1, 0x26]) == Err(DecodeError::TruncatedNalu));
+    expect(&rt, decoder.decode(0, &[]) == Err(DecodeError::NoNal));
+    expect(
+        &rt,
+        decoder.decode(0, &[0, 0, 1, 0x26]) == Err(DecodeError::TruncatedNalu),
+    );
     let unspecified = Err(DecodeError::InvalidNaluType(48));
-    assert!(rt; decoder.decode(0, &[0, 0, 1, 0x60, 1]) == unspecified);
-    assert!(rt; decoder.decode(0, SEQUENCE_SET) == Err(DecodeError::Backend));
-    assert!(rt; begin(&mut decoder) == Ok(9));
+    expect(&rt, decoder.decode(0, &[0, 0, 1, 0x60, 1]) == unspecified);
+    expect(
+        &rt,
+        decoder.decode(0, SEQUENCE_SET) == Err(DecodeError::Backend),
+    );
+    expect(&rt, begin(&mut decoder) == Ok(9));
     takes(&rt, &mut decoder, &[IDR]);
     let full = Err(DecodeError::NotEnoughOutputBuffers(1));
-    assert!(rt; decoder.decode(0, LATER) == full);
+    expect(&rt, decoder.decode(0, LATER) == full);
     takes(&rt, &mut decoder, &[LATER]);
-    assert!(rt; decoder.flush() == Ok(()));
+    expect(&rt, decoder.flush() == Ok(()));
     come_out(&rt, &mut decoder, &[0, 1]);
     Ok(())
 }
@@ -193,16 +218,19 @@ fn a_refusal_leaves_the_decoder_where_it_stood(rt: HostRuntime) -> Result<(), Fa
 fn another_format_is_negotiated_behind_what_waits(rt: HostRuntime) -> Result<(), Fail> {
     let alloc = rt.alloc();
     let mut decoder = StatelessDecoder::new(alloc, Backend::new(alloc));
-    assert!(rt; begin(&mut decoder) == Ok(9));
+    expect(&rt, begin(&mut decoder) == Ok(9));
     takes(&rt, &mut decoder, &[IDR, WIDE_SET]);
-    assert!(rt; next_number(&mut decoder).is_none());
-    assert!(rt; decoder.decode(0, IDR) == Err(DecodeError::CheckEvents));
+    expect(&rt, next_number(&mut decoder).is_none());
+    expect(&rt, decoder.decode(0, IDR) == Err(DecodeError::CheckEvents));
     come_out(&rt, &mut decoder, &[0]);
-    assert!(rt; matches!(decoder.next_event(), Some(DecoderEvent::FormatChanged)));
-    assert!(rt; accept(&mut decoder));
+    expect(
+        &rt,
+        matches!(decoder.next_event(), Some(DecoderEvent::FormatChanged)),
+    );
+    expect(&rt, accept(&mut decoder));
     let calls = decoder.backend().calls().len();
     takes(&rt, &mut decoder, &[IDR]);
-    assert_eq!(rt; decoder.backend().calls().len(), calls + 3);
+    expect_eq(&rt, &decoder.backend().calls().len(), &(calls + 3));
     Ok(())
 }
 
@@ -211,8 +239,8 @@ fn a_picture_whose_call_failed_is_given_again_as_another(rt: HostRuntime) -> Res
     let alloc = rt.alloc();
     let backend = Backend::with_plan(alloc, vec![in alloc; 3]?, Vec::new(alloc));
     let mut decoder = StatelessDecoder::new(alloc, backend);
-    assert!(rt; begin(&mut decoder) == Ok(9));
-    assert!(rt; decoder.decode(0, IDR) == Err(DecodeError::Backend));
+    expect(&rt, begin(&mut decoder) == Ok(9));
+    expect(&rt, decoder.decode(0, IDR) == Err(DecodeError::Backend));
     got(&rt, &decoder, &[("NewSequence", 0), ("NewPicture", 0)]);
     takes(&rt, &mut decoder, &[IDR]);
     let calls = [
@@ -223,9 +251,9 @@ fn a_picture_whose_call_failed_is_given_again_as_another(rt: HostRuntime) -> Res
         ("DecodeSlice", 1),
     ];
     got(&rt, &decoder, &calls);
-    assert!(rt; decoder.flush() == Ok(()));
+    expect(&rt, decoder.flush() == Ok(()));
     come_out(&rt, &mut decoder, &[1]);
-    assert!(rt; next_number(&mut decoder).is_none());
+    expect(&rt, next_number(&mut decoder).is_none());
     Ok(())
 }
 
@@ -234,10 +262,10 @@ fn a_picture_without_a_frame_is_given_again_as_itself(rt: HostRuntime) -> Result
     let alloc = rt.alloc();
     let backend = Backend::with_plan(alloc, Vec::new(alloc), vec![in alloc; 16, 0]?);
     let mut decoder = StatelessDecoder::new(alloc, backend);
-    assert!(rt; begin(&mut decoder) == Ok(9));
+    expect(&rt, begin(&mut decoder) == Ok(9));
     takes(&rt, &mut decoder, &[IDR]);
     let full = Err(DecodeError::NotEnoughOutputBuffers(1));
-    assert!(rt; decoder.decode(0, LATER) == full);
+    expect(&rt, decoder.decode(0, LATER) == full);
     let calls = [
         ("NewSequence", 0),
         ("NewPicture", 0),
@@ -247,15 +275,15 @@ fn a_picture_without_a_frame_is_given_again_as_itself(rt: HostRuntime) -> Result
     ];
     got(&rt, &decoder, &calls);
     takes(&rt, &mut decoder, &[LATER]);
-    assert!(rt; decoder.flush() == Ok(()));
+    expect(&rt, decoder.flush() == Ok(()));
     come_out(&rt, &mut decoder, &[0, 1]);
-    assert!(rt; next_number(&mut decoder).is_none());
+    expect(&rt, next_number(&mut decoder).is_none());
     let calls = decoder.backend().calls().len();
     takes(&rt, &mut decoder, &[LATER]);
-    assert_eq!(rt; decoder.backend().calls().len(), calls);
+    expect_eq(&rt, &decoder.backend().calls().len(), &calls);
     takes(&rt, &mut decoder, &[IDR]);
-    assert_eq!(rt; decoder.backend().calls().len(), calls + 3);
-    assert!(rt; decoder.flush() == Ok(()));
+    expect_eq(&rt, &decoder.backend().calls().len(), &(calls + 3));
+    expect(&rt, decoder.flush() == Ok(()));
     come_out(&rt, &mut decoder, &[2]);
     Ok(())
 }

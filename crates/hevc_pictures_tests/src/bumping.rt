@@ -1,4 +1,5 @@
 //! Pictures that are due, and all that are needed for output.
+use crate::expect::{expect, expect_eq};
 use hevc_bumping::{Frame, bump_additionally, bump_for_room, output_all};
 use hevc_dpb::{Dpb, Limits, PictureData};
 use std::collections::VecDeque;
@@ -28,19 +29,24 @@ fn what_is_due_is_output_in_order(rt: HostRuntime) -> Result<(), Fail> {
     let mut queue = VecDeque::new(alloc);
     queue.reserve(16)?;
     bump_additionally(&mut dpb, &limits, &mut queue);
-    assert_eq!(rt; queue.len(), 2);
+    expect_eq(&rt, &queue.len(), &2);
     let first: Frame<u64> = queue.pop_front().ok_or("none")?;
-    assert_eq!(rt; (first.number, first.handle, first.order_count), (8, 80, 0));
-    let second = queue.pop_front().ok_or("none")?;
-    assert_eq!(rt;
-        (second.number, second.handle, second.order_count),
-        (9, 90, 2)
+    expect_eq(
+        &rt,
+        &(first.number, first.handle, first.order_count),
+        &(8, 80, 0),
     );
-    assert_eq!(rt; dpb.len(), 3);
+    let second = queue.pop_front().ok_or("none")?;
+    expect_eq(
+        &rt,
+        &(second.number, second.handle, second.order_count),
+        &(9, 90, 2),
+    );
+    expect_eq(&rt, &dpb.len(), &3);
     queue.reserve(16)?;
     bump_for_room(&mut dpb, &limits, &mut queue);
-    assert_eq!(rt; queue.len(), 1);
-    assert_eq!(rt; queue.pop_front().ok_or("none")?.number, 7);
+    expect_eq(&rt, &queue.len(), &1);
+    expect_eq(&rt, &queue.pop_front().ok_or("none")?.number, &7);
     Ok(())
 }
 
@@ -55,9 +61,9 @@ fn all_that_waits_is_output_and_the_buffer_is_emptied(rt: HostRuntime) -> Result
     let mut queue = VecDeque::new(alloc);
     queue.reserve(16)?;
     output_all(&mut dpb, &mut queue);
-    assert!(rt; dpb.is_empty());
-    assert_eq!(rt; queue.len(), 2);
-    assert_eq!(rt; queue.pop_front().ok_or("none")?.number, 1);
-    assert_eq!(rt; queue.pop_front().ok_or("none")?.number, 0);
+    expect(&rt, dpb.is_empty());
+    expect_eq(&rt, &queue.len(), &2);
+    expect_eq(&rt, &queue.pop_front().ok_or("none")?.number, &1);
+    expect_eq(&rt, &queue.pop_front().ok_or("none")?.number, &0);
     Ok(())
 }

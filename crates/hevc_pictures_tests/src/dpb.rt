@@ -1,4 +1,5 @@
 //! Small buffers, each call once.
+use crate::expect::{expect, expect_eq};
 use hevc_dpb::{Dpb, Limits, PictureData, Reference};
 use std::test::Fail;
 
@@ -13,25 +14,31 @@ fn picture(count: i32, output: bool) -> PictureData {
 fn waiting_pictures_are_in_order(rt: HostRuntime) -> Result<(), Fail> {
     let alloc = rt.alloc();
     let mut dpb: Dpb<u64> = Dpb::new(alloc);
-    assert!(rt; dpb.bump(true).is_none());
-    assert!(rt; dpb.store_picture(7, picture(4, true), 70).is_err());
-    assert!(rt; dpb.is_empty());
+    expect(&rt, dpb.bump(true).is_none());
+    expect(&rt, dpb.store_picture(7, picture(4, true), 70).is_err());
+    expect(&rt, dpb.is_empty());
     dpb.reserve()?;
     dpb.set_max_num_pics(3);
-    assert!(rt; dpb.store_picture(7, picture(4, true), 70).is_ok());
-    assert!(rt; dpb.store_picture(8, picture(0, true), 80).is_ok());
-    assert!(rt; dpb.store_picture(9, picture(2, true), 90).is_ok());
-    assert!(rt; dpb.waiting_positions().ok_or("stale")? == [1, 2, 0].as_slice());
-    assert_eq!(rt; dpb.len(), dpb.max_num_pics());
+    expect(&rt, dpb.store_picture(7, picture(4, true), 70).is_ok());
+    expect(&rt, dpb.store_picture(8, picture(0, true), 80).is_ok());
+    expect(&rt, dpb.store_picture(9, picture(2, true), 90).is_ok());
+    expect(
+        &rt,
+        dpb.waiting_positions().ok_or("stale")? == [1, 2, 0].as_slice(),
+    );
+    expect_eq(&rt, &dpb.len(), &dpb.max_num_pics());
     dpb.picture_mut(0).pic_order_cnt_val = 1;
-    assert!(rt; dpb.waiting_positions().is_none());
-    assert_eq!(rt; dpb.bump(false).ok_or("none")?.number, 8);
-    assert!(rt; dpb.waiting_positions().ok_or("stale")? == [0, 2].as_slice());
-    assert_eq!(rt; dpb.bump(false).ok_or("none")?.handle, 70);
-    assert_eq!(rt; dpb.bump(false).ok_or("none")?.number, 9);
-    assert!(rt; dpb.bump(false).is_none());
-    assert!(rt; dpb.waiting_positions().ok_or("stale")?.is_empty());
-    assert_eq!(rt; dpb.len(), 3);
+    expect(&rt, dpb.waiting_positions().is_none());
+    expect_eq(&rt, &dpb.bump(false).ok_or("none")?.number, &8);
+    expect(
+        &rt,
+        dpb.waiting_positions().ok_or("stale")? == [0, 2].as_slice(),
+    );
+    expect_eq(&rt, &dpb.bump(false).ok_or("none")?.handle, &70);
+    expect_eq(&rt, &dpb.bump(false).ok_or("none")?.number, &9);
+    expect(&rt, dpb.bump(false).is_none());
+    expect(&rt, dpb.waiting_positions().ok_or("stale")?.is_empty());
+    expect_eq(&rt, &dpb.len(), &3);
     Ok(())
 }
 

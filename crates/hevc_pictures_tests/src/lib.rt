@@ -6,6 +6,8 @@ mod bumping;
 #[cfg(test)]
 mod dpb;
 #[cfg(test)]
+mod expect;
+#[cfg(test)]
 mod pictures;
 #[cfg(test)]
 mod refs;

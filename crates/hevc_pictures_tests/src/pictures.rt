@@ -1,4 +1,5 @@
 //! Pictures by their first slice.
+use crate::expect::{expect, expect_eq};
 use hevc_bits::{Nalu, NaluHeader};
 use hevc_pictures::{Limits, PictureData, PocOutOfRange, Reference};
 use hevc_types_c::Sps;
@@ -30,13 +31,22 @@ fn counts_are_the_nearest(rt: HostRuntime) -> Result<(), Fail> {
     let trailing = [0, 0, 1, 2, 1];
     for (earlier, lsb, count) in [(14, 2, 18), (18, 14, 14), (0, 8, 8)] {
         let picture = behind(rt.alloc(), &trailing, earlier, lsb, false)?.or(Err("out of range"))?;
-        assert_eq!(rt; picture.pic_order_cnt_val, count);
-        assert_eq!(rt; picture.pic_order_cnt_msb, count - lsb as i32);
-        assert_eq!(rt; picture.short_term_ref_pic_set_size_bits, 7);
-        assert!(rt; picture.valid_for_prev_tid0_pic && picture.pic_output_flag);
-        assert!(rt; !picture.is_ref() && *picture.reference() == Reference::None);
+        expect_eq(&rt, &picture.pic_order_cnt_val, &count);
+        expect_eq(&rt, &picture.pic_order_cnt_msb, &(count - lsb as i32));
+        expect_eq(&rt, &picture.short_term_ref_pic_set_size_bits, &7);
+        expect(
+            &rt,
+            picture.valid_for_prev_tid0_pic && picture.pic_output_flag,
+        );
+        expect(
+            &rt,
+            !picture.is_ref() && *picture.reference() == Reference::None,
+        );
     }
-    assert!(rt; behind(rt.alloc(), &trailing, 2147483646, 2, false)?.is_err());
+    expect(
+        &rt,
+        behind(rt.alloc(), &trailing, 2147483646, 2, false)?.is_err(),
+    );
     Ok(())
 }
 
@@ -44,13 +54,16 @@ fn counts_are_the_nearest(rt: HostRuntime) -> Result<(), Fail> {
 fn a_cra_picture_may_be_handled_as_bla(rt: HostRuntime) -> Result<(), Fail> {
     let cra = [0, 0, 1, 42, 1];
     let picture = behind(rt.alloc(), &cra, 14, 2, false)?.or(Err("out of range"))?;
-    assert!(rt; picture.is_irap && !picture.no_rasl_output_flag);
-    assert_eq!(rt; picture.pic_order_cnt_val, 18);
+    expect(&rt, picture.is_irap && !picture.no_rasl_output_flag);
+    expect_eq(&rt, &picture.pic_order_cnt_val, &18);
     let mut picture = behind(rt.alloc(), &cra, 14, 2, true)?.or(Err("out of range"))?;
-    assert!(rt; picture.no_rasl_output_flag && picture.no_output_of_prior_pics_flag);
-    assert_eq!(rt; picture.pic_order_cnt_val, 2);
+    expect(
+        &rt,
+        picture.no_rasl_output_flag && picture.no_output_of_prior_pics_flag,
+    );
+    expect_eq(&rt, &picture.pic_order_cnt_val, &2);
     picture.set_reference(Reference::LongTerm);
-    assert!(rt; picture.is_ref());
+    expect(&rt, picture.is_ref());
     Ok(())
 }
 
@@ -58,6 +71,9 @@ fn a_cra_picture_may_be_handled_as_bla(rt: HostRuntime) -> Result<(), Fail> {
 fn limits_are_those_of_a_sub_layer(rt: HostRuntime) -> Result<(), Fail> {
     let sps = Sps::new(rt.alloc());
     let limits = Limits::of(&sps, 6);
-    assert!(rt; limits.reorder == 0 && limits.latency_plus1 == 0 && limits.buffering == 0);
+    expect(
+        &rt,
+        limits.reorder == 0 && limits.latency_plus1 == 0 && limits.buffering == 0,
+    );
     Ok(())
 }

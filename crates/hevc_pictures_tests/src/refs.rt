@@ -1,6 +1,7 @@
 //! Sets and lists over a buffer of three pictures.
 ghost use Rattle.std.specs.Prelude.{pos, ◌<ℤ◌};
 
+use crate::expect::expect;
 use hevc_bits::NaluType;
 use hevc_dpb::{Dpb, PictureData, Reference};
 use hevc_refs::{RefPicListEntry, RefPicSet, build_ref_pic_lists, derive_and_mark};
@@ -64,12 +65,12 @@ fn long_term_members_are_found_first(rt: HostRuntime) -> Result<(), Fail> {
     header.delta_poc_msb_present_flag[2] = true;
     header.delta_poc_msb_cycle_lt[2] = 18446744073709551615;
     let set = derive_and_mark(&mut dpb, &picture(24), &header, &one_before(-20), 16);
-    assert!(rt; set.lt_curr() == [Some(1)].as_slice());
-    assert!(rt; set.lt_foll() == [Some(1), None].as_slice());
-    assert!(rt; set.st_curr_before() == [None].as_slice());
+    expect(&rt, set.lt_curr() == [Some(1)].as_slice());
+    expect(&rt, set.lt_foll() == [Some(1), None].as_slice());
+    expect(&rt, set.st_curr_before() == [None].as_slice());
     let second = dpb.entries().get(1).ok_or("none")?;
-    assert!(rt; *second.picture.reference() == Reference::LongTerm);
-    assert!(rt; dpb.get_all_references().as_slice() == [1].as_slice());
+    expect(&rt, *second.picture.reference() == Reference::LongTerm);
+    expect(&rt, dpb.get_all_references().as_slice() == [1].as_slice());
     Ok(())
 }
 
@@ -87,8 +88,8 @@ fn sixteen_members_may_name_one_picture(rt: HostRuntime) -> Result<(), Fail> {
         &ShortTermRefPicSet::new(),
         16,
     );
-    assert!(rt; set.lt_curr() == [Some(1); 16].as_slice());
-    assert!(rt; dpb.get_all_references().as_slice() == [1].as_slice());
+    expect(&rt, set.lt_curr() == [Some(1); 16].as_slice());
+    expect(&rt, dpb.get_all_references().as_slice() == [1].as_slice());
     Ok(())
 }
 
@@ -99,8 +100,11 @@ fn an_idr_picture_refers_to_nothing(rt: HostRuntime) -> Result<(), Fail> {
     idr.nalu_type = NaluType::IdrNLp;
     let header = SliceHeader::new(rt.alloc());
     let set = derive_and_mark(&mut dpb, &idr, &header, &one_before(-4), 16);
-    assert!(rt; set.st_curr_before().is_empty() && set.st_foll().is_empty());
-    assert!(rt; dpb.get_all_references().is_empty());
+    expect(
+        &rt,
+        set.st_curr_before().is_empty() && set.st_foll().is_empty(),
+    );
+    expect(&rt, dpb.get_all_references().is_empty());
     Ok(())
 }
 
@@ -111,19 +115,25 @@ fn lists_go_round_their_base(rt: HostRuntime) -> Result<(), Fail> {
     header.num_ref_idx_l0_active_minus1 = 2;
     header.num_pic_total_curr = 4;
     let set = derive_and_mark(&mut dpb, &picture(24), &header, &one_before(-4), 16);
-    assert!(rt; set.st_curr_before() == [Some(2)].as_slice());
+    expect(&rt, set.st_curr_before() == [Some(2)].as_slice());
     let lists = build_ref_pic_lists(&header, &set, false);
     let stored = Some(RefPicListEntry::DpbEntry(2));
-    assert!(rt; lists.ref_pic_list0.as_slice() == [stored, stored, stored].as_slice());
-    assert!(rt; lists.ref_pic_list1.as_slice().is_empty());
+    expect(
+        &rt,
+        lists.ref_pic_list0.as_slice() == [stored, stored, stored].as_slice(),
+    );
+    expect(&rt, lists.ref_pic_list1.as_slice().is_empty());
     let current = Some(RefPicListEntry::CurrentPicture);
     let lists = build_ref_pic_lists(&header, &set, true);
-    assert!(rt; lists.ref_pic_list0.as_slice() == [stored, current, current].as_slice());
+    expect(
+        &rt,
+        lists.ref_pic_list0.as_slice() == [stored, current, current].as_slice(),
+    );
     header.type_ = SliceType::B;
     let lists = build_ref_pic_lists(&header, &RefPicSet::new(), false);
-    assert!(rt; lists.ref_pic_list1.as_slice() == [None].as_slice());
+    expect(&rt, lists.ref_pic_list1.as_slice() == [None].as_slice());
     header.type_ = SliceType::I;
     let lists = build_ref_pic_lists(&header, &set, true);
-    assert!(rt; lists.ref_pic_list0.as_slice().is_empty());
+    expect(&rt, lists.ref_pic_list0.as_slice().is_empty());
     Ok(())
 }

@@ -2,6 +2,8 @@
 #![tactic(auto)]
 
 #[cfg(test)]
+mod expect;
+#[cfg(test)]
 mod types_a;
 #[cfg(test)]
 mod types_b;

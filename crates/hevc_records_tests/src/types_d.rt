@@ -1,8 +1,9 @@
 //! Values from outside, and each call once.
+use crate::expect::{expect, expect_eq};
 use hevc_bits::{Nalu, NaluHeader, NaluType};
 use hevc_types_a::{
-    PpsRangeExtension, PpsSccExtension, RefPicListModification, ScalingLists, ShortTermRefPicSet,
-    SliceType,
+    Items, PpsRangeExtension, PpsSccExtension, RefPicListModification, ScalingLists,
+    ShortTermRefPicSet, SliceType,
 };
 use hevc_types_b::PredWeightTable;
 use hevc_types_d::{NotDependent, Pps, Slice, SliceHeader, comparisons};
@@ -14,17 +15,20 @@ const STREAM: [u8; 7] = [0, 0, 1, 2, 1, 0xD2, 0x14];
 #[test]
 fn a_new_picture_set(rt: HostRuntime) {
     let set = Pps::new();
-    assert!(rt; set.uniform_spacing_flag() && set.loop_filter_across_tiles_enabled_flag());
-    assert!(rt; !set.loop_filter_across_slices_enabled_flag());
-    assert_eq!(rt; set.pic_parameter_set_id(), 0);
-    assert_eq!(rt; set.init_qp_minus26(), 0);
-    assert_eq!(rt; set.qp_bd_offset_y(), 0);
-    assert!(rt; set.column_width_minus1() == [0; 20]);
-    assert!(rt; set.row_height_minus1() == [0; 22]);
-    assert!(rt; *set.scaling_list() == ScalingLists::new());
-    assert!(rt; *set.range_extension() == PpsRangeExtension::new());
-    assert!(rt; *set.scc_extension() == PpsSccExtension::new());
-    assert!(rt; comparisons::pps_eq(&set, &Pps::new()));
+    expect(
+        &rt,
+        set.uniform_spacing_flag() && set.loop_filter_across_tiles_enabled_flag(),
+    );
+    expect(&rt, !set.loop_filter_across_slices_enabled_flag());
+    expect_eq(&rt, &set.pic_parameter_set_id(), &0);
+    expect_eq(&rt, &set.init_qp_minus26(), &0);
+    expect_eq(&rt, &set.qp_bd_offset_y(), &0);
+    expect(&rt, set.column_width_minus1() == [0; 20]);
+    expect(&rt, set.row_height_minus1() == [0; 22]);
+    expect(&rt, *set.scaling_list() == ScalingLists::new());
+    expect(&rt, *set.range_extension() == PpsRangeExtension::new());
+    expect(&rt, *set.scc_extension() == PpsSccExtension::new());
+    expect(&rt, comparisons::pps_eq(&set, &Pps::new()));
 }
 
 #[test]
@@ -36,37 +40,50 @@ fn a_picture_set_of_60_tiles(rt: HostRuntime) {
     set.num_tile_rows_minus1 = 2;
     set.column_width_minus1[19] = 4;
     let copy = set;
-    assert!(rt; copy == set && copy != Pps::new());
-    assert_eq!(rt; copy.init_qp_minus26(), -62);
-    assert_eq!(rt; copy.num_tile_columns_minus1(), 19);
-    assert_eq!(rt; copy.num_tile_rows_minus1(), 2);
-    assert_eq!(rt; copy.column_width_minus1()[19], 4);
+    expect(&rt, copy == set && copy != Pps::new());
+    expect_eq(&rt, &copy.init_qp_minus26(), &-62);
+    expect_eq(&rt, &copy.num_tile_columns_minus1(), &19);
+    expect_eq(&rt, &copy.num_tile_rows_minus1(), &2);
+    expect_eq(&rt, &copy.column_width_minus1()[19], &4);
 }
 
 #[test]
 fn a_new_header(rt: HostRuntime) {
     let header = SliceHeader::new(rt.alloc());
-    assert!(rt; header.type_() == SliceType::P);
-    assert!(rt; header.pic_output_flag() && header.collocated_from_l0_flag());
-    assert!(rt; !header.dependent_slice_segment_flag());
-    assert_eq!(rt; header.segment_address(), 0);
-    assert!(rt; *header.short_term_ref_pic_set() == ShortTermRefPicSet::new());
-    assert!(rt; *header.short_term_ref_pic_sets() == ShortTermRefPicSet::new());
-    assert!(rt; header.lt_idx_sps() == [0; 16]);
-    assert!(rt; header.poc_lsb_lt() == [0; 16]);
-    assert!(rt; header.used_by_curr_pic_lt() == [false; 16]);
-    assert!(rt; header.delta_poc_msb_present_flag() == [false; 16]);
-    assert!(rt; header.delta_poc_msb_cycle_lt() == [0; 16]);
-    assert!(rt; *header.ref_pic_list_modification() == RefPicListModification::new());
-    assert!(rt; *header.pred_weight_table() == PredWeightTable::new());
-    assert_eq!(rt; header.qp_delta(), 0);
-    assert!(rt; header.entry_point_offset_minus1().is_empty());
-    assert_eq!(rt; header.num_pic_total_curr(), 0);
-    assert_eq!(rt; header.st_rps_bits(), 0);
+    expect(&rt, header.type_() == SliceType::P);
+    expect(
+        &rt,
+        header.pic_output_flag() && header.collocated_from_l0_flag(),
+    );
+    expect(&rt, !header.dependent_slice_segment_flag());
+    expect_eq(&rt, &header.segment_address(), &0);
+    expect(
+        &rt,
+        *header.short_term_ref_pic_set() == ShortTermRefPicSet::new(),
+    );
+    expect(
+        &rt,
+        *header.short_term_ref_pic_sets() == ShortTermRefPicSet::new(),
+    );
+    expect(&rt, header.lt_idx_sps() == [0; 16]);
+    expect(&rt, header.poc_lsb_lt() == [0; 16]);
+    expect(&rt, header.used_by_curr_pic_lt() == [false; 16]);
+    expect(&rt, header.delta_poc_msb_present_flag() == [false; 16]);
+    expect(&rt, header.delta_poc_msb_cycle_lt() == [0; 16]);
+    expect(
+        &rt,
+        *header.ref_pic_list_modification() == RefPicListModification::new(),
+    );
+    expect(&rt, *header.pred_weight_table() == PredWeightTable::new());
+    expect_eq(&rt, &header.qp_delta(), &0);
+    expect(&rt, header.entry_point_offset_minus1().is_empty());
+    expect_eq(&rt, &header.num_pic_total_curr(), &0);
+    expect_eq(&rt, &header.st_rps_bits(), &0);
 }
 
 #[test]
 fn a_changed_header_and_its_clone(rt: HostRuntime) -> Result<(), Fail> {
+    let entry_points = Items::from_slice(rt.alloc(), &[700, 9])?;
     let mut header = SliceHeader::new(rt.alloc());
     header.type_ = SliceType::B;
     header.num_long_term_sps = 15;
@@ -78,18 +95,18 @@ fn a_changed_header_and_its_clone(rt: HostRuntime) -> Result<(), Fail> {
     header
         .ref_pic_list_modification
         .ref_pic_list_modification_flag_l0 = true;
-    header.entry_point_offset_minus1.push(700)?;
-    header.entry_point_offset_minus1.push(9)?;
+    header.entry_point_offset_minus1 = entry_points;
     let copy = header.try_clone()?;
-    assert!(rt; copy == header);
-    assert!(rt; comparisons::slice_header_eq(&copy, &header));
-    assert_eq!(rt; copy.entry_point_offset_minus1(), [700, 9].as_slice());
-    assert_eq!(rt;
-        copy.ref_pic_list_modification().list_entry_l0(),
-        [1, 0].as_slice()
+    expect(&rt, copy == header);
+    expect(&rt, comparisons::slice_header_eq(&copy, &header));
+    expect_eq(&rt, &copy.entry_point_offset_minus1(), &[700, 9].as_slice());
+    expect_eq(
+        &rt,
+        &copy.ref_pic_list_modification().list_entry_l0(),
+        &[1, 0].as_slice(),
     );
     header.entry_point_offset_minus1.push(8)?;
-    assert!(rt; copy != header);
+    expect(&rt, copy != header);
     Ok(())
 }
 
@@ -110,9 +127,9 @@ fn what_the_sets_infer(rt: HostRuntime) -> Result<(), Fail> {
     expected.curr_rps_idx = 64;
     expected.use_integer_mv_flag = true;
     header.set_defaults(&set, 64, 2);
-    assert!(rt; header == expected);
+    expect(&rt, header == expected);
     header.set_defaults(&set, 64, 0);
-    assert!(rt; !header.use_integer_mv_flag());
+    expect(&rt, !header.use_integer_mv_flag());
     Ok(())
 }
 
@@ -124,15 +141,19 @@ fn an_independent_slice_keeps_its_header(rt: HostRuntime) -> Result<(), Fail> {
     own.segment_address = 7;
     let expected = own.try_clone()?;
     let mut slice = Slice::new(own, nalu);
-    assert!(rt; slice.replace_header(SliceHeader::new(rt.alloc())) == Err(NotDependent));
-    assert!(rt; *slice.header() == expected);
-    assert!(rt; slice.nalu().header().nalu_type() == NaluType::TrailR);
-    assert_eq!(rt; slice.nalu().as_ref(), [2, 1, 0xD2, 0x14].as_slice());
+    expect(
+        &rt,
+        slice.replace_header(SliceHeader::new(rt.alloc())) == Err(NotDependent),
+    );
+    expect(&rt, *slice.header() == expected);
+    expect(&rt, slice.nalu().header().nalu_type() == NaluType::TrailR);
+    expect_eq(&rt, &slice.nalu().as_ref(), &[2, 1, 0xD2, 0x14].as_slice());
     Ok(())
 }
 
 /// The header of a dependent segment, whose own elements are set.
 fn dependent_header(rt: &HostRuntime) -> Result<SliceHeader, Fail> {
+    let entry_points = Items::from_slice(rt.alloc(), &[700])?;
     let mut header = SliceHeader::new(rt.alloc());
     header.first_slice_segment_in_pic_flag = true;
     header.no_output_of_prior_pics_flag = true;
@@ -141,7 +162,7 @@ fn dependent_header(rt: &HostRuntime) -> Result<SliceHeader, Fail> {
     header.segment_address = 7;
     header.num_entry_point_offsets = 1;
     header.offset_len_minus1 = 9;
-    header.entry_point_offset_minus1.push(700)?;
+    header.entry_point_offset_minus1 = entry_points;
     header.header_bit_size = 40;
     header.n_emulation_prevention_bytes = 2;
     Ok(header)
@@ -151,10 +172,11 @@ fn dependent_header(rt: &HostRuntime) -> Result<SliceHeader, Fail> {
 fn a_dependent_slice_takes_a_header(rt: HostRuntime) -> Result<(), Fail> {
     let mut position = 0;
     let nalu: Nalu<NaluHeader> = Nalu::next(STREAM.as_slice(), &mut position)?;
+    let entry_points = Items::from_slice(rt.alloc(), &[1])?;
     let mut independent = SliceHeader::new(rt.alloc());
     independent.type_ = SliceType::B;
     independent.segment_address = 2;
-    independent.entry_point_offset_minus1.push(1)?;
+    independent.entry_point_offset_minus1 = entry_points;
     independent.curr_rps_idx = 5;
     independent.num_pic_total_curr = 3;
     independent.st_rps_bits = 11;
@@ -165,8 +187,8 @@ fn a_dependent_slice_takes_a_header(rt: HostRuntime) -> Result<(), Fail> {
     expected.num_pic_total_curr = 3;
     expected.st_rps_bits = 11;
     let mut slice = Slice::new(dependent_header(&rt)?, nalu);
-    assert!(rt; slice.replace_header(independent) == Ok(()));
-    assert!(rt; *slice.header() == expected);
-    assert_eq!(rt; slice.nalu().as_ref(), [2, 1, 0xD2, 0x14].as_slice());
+    expect(&rt, slice.replace_header(independent) == Ok(()));
+    expect(&rt, *slice.header() == expected);
+    expect_eq(&rt, &slice.nalu().as_ref(), &[2, 1, 0xD2, 0x14].as_slice());
     Ok(())
 }

@@ -8,6 +8,7 @@ mod sequence_set;
 mod slice;
 mod video_set;
 
+use crate::expect::{expect, expect_eq};
 use hevc_bit_writer::{BitWriter, append_unit};
 use hevc_bits::{Nalu, NaluHeader};
 use hevc_sets::{ParseError, read_pps, read_sps, read_vps};
@@ -128,7 +129,7 @@ fn unit_of(
     writer: &mut BitWriter,
 ) -> Result<Vec<u8>, Fail> {
     writer.write_trailing_bits()?;
-    assert!(rt; writer.is_whole());
+    expect(rt, writer.is_whole());
     let mut stream = Vec::new(alloc);
     append_unit(alloc, &mut stream, header, writer.as_bytes())?;
     Ok(stream)
@@ -257,7 +258,7 @@ fn try_unit(rt: &impl Abort, alloc: Global, kept: &Kept, unit: &Unit) -> Result<
     }
     let stream = whole(rt, alloc, unit)?;
     assert!(rt; stream.len() < 10000);
-    assert_eq!(rt; refusal(alloc, kept, &stream), None);
+    expect_eq(rt, &refusal(alloc, kept, &stream), &None);
     Ok(())
 }
 

@@ -1,4 +1,5 @@
 //! Sets in any order.
+use crate::expect::{expect, expect_eq};
 use crate::streams::{PICTURE_SET, SEQUENCE_SET, VIDEO_SET};
 use hevc_bits::{Nalu, NaluHeader, NaluType};
 use hevc_kept_sets::{KeptSets, Options};
@@ -71,8 +72,8 @@ fn picture_set_kept(sets: &KeptSets) -> Option<bool> {
 
 /// So many picture sets wait, and that of id 0 has dependent slice segments or hasn't, if it is kept.
 fn stand(rt: &impl Abort, sets: &KeptSets, waiting: usize, kept: Option<bool>) {
-    assert_eq!(rt; sets.num_waiting(), waiting);
-    assert_eq!(rt; picture_set_kept(sets), kept);
+    expect_eq(rt, &sets.num_waiting(), &waiting);
+    expect_eq(rt, &picture_set_kept(sets), &kept);
 }
 
 /// How many bits above 8 the luma samples have by the sequence set of id 0, if it is kept.
@@ -85,9 +86,9 @@ fn depth_kept(sets: &KeptSets) -> Option<u8> {
 fn a_repeated_sequence_set_is_the_one_that_was_read(rt: HostRuntime) -> Result<(), Fail> {
     let mut sets = KeptSets::new(rt.alloc(), Options::new());
     take(&mut sets, &[SEQUENCE_SET, DEEP_SET, DEEP_SET])?;
-    assert_eq!(rt; depth_kept(&sets), Some(2));
+    expect_eq(&rt, &depth_kept(&sets), &Some(2));
     take(&mut sets, &[SEQUENCE_SET, OTHER_DEEP_SET, SEQUENCE_SET])?;
-    assert_eq!(rt; depth_kept(&sets), Some(0));
+    expect_eq(&rt, &depth_kept(&sets), &Some(0));
     Ok(())
 }
 
@@ -98,7 +99,7 @@ fn a_picture_set_waits_for_its_sequence_set(rt: HostRuntime) -> Result<(), Fail>
     stand(&rt, &sets, 1, None);
     take(&mut sets, &[SEQUENCE_SET])?;
     stand(&rt, &sets, 0, Some(false));
-    assert!(rt; sets.parser().get_vps(0).is_some());
+    expect(&rt, sets.parser().get_vps(0).is_some());
     Ok(())
 }
 
@@ -106,7 +107,7 @@ fn a_picture_set_waits_for_its_sequence_set(rt: HostRuntime) -> Result<(), Fail>
 fn the_later_waiting_set_of_an_id_stands(rt: HostRuntime) -> Result<(), Fail> {
     let mut sets = KeptSets::new(rt.alloc(), Options::new());
     take(&mut sets, &[PICTURE_SET, LATER_SET])?;
-    assert_eq!(rt; sets.num_waiting(), 2);
+    expect_eq(&rt, &sets.num_waiting(), &2);
     take(&mut sets, &[SEQUENCE_SET])?;
     stand(&rt, &sets, 0, Some(true));
     take(&mut sets, &[PICTURE_SET])?;
@@ -140,9 +141,9 @@ fn a_set_waits_on_where_another_sequence_set_changes(rt: HostRuntime) -> Result<
     take(&mut sets, &[DEEP_PICTURE_SET, OTHER_DEEP_SET])?;
     stand(&rt, &sets, 1, None);
     take(&mut sets, &[SEQUENCE_SET])?;
-    assert_eq!(rt; sets.num_waiting(), 1);
+    expect_eq(&rt, &sets.num_waiting(), &1);
     take(&mut sets, &[OTHER_DEEP_SET])?;
-    assert_eq!(rt; sets.num_waiting(), 1);
+    expect_eq(&rt, &sets.num_waiting(), &1);
     take(&mut sets, &[DEEP_SET])?;
     stand(&rt, &sets, 0, Some(false));
     Ok(())
@@ -178,7 +179,7 @@ fn a_set_that_names_none_waits_on(rt: HostRuntime) -> Result<(), Fail> {
             OTHER_DEEP_SET,
         ],
     )?;
-    assert_eq!(rt; sets.num_waiting(), 1);
+    expect_eq(&rt, &sets.num_waiting(), &1);
     Ok(())
 }
 

@@ -4,6 +4,8 @@
 #[cfg(test)]
 mod bounds;
 #[cfg(test)]
+mod expect;
+#[cfg(test)]
 mod kept_sets;
 #[cfg(test)]
 mod sets;

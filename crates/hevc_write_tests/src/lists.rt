@@ -1,4 +1,5 @@
 //! Scaling lists (7.3.4) and short-term reference picture sets (7.3.7), written.
+use crate::expect::{expect, expect_eq};
 use crate::written::assert_written;
 use hevc_bit_writer::BitWriter;
 use hevc_bits::NaluReader;
@@ -6,7 +7,6 @@ use hevc_sets::{default_scaling_lists, read_scaling_list_data, read_short_term_s
 use hevc_types_a::ShortTermRefPicSet;
 use hevc_write_scaling::write_scaling_list_data;
 use hevc_write_short_term::write_short_term_ref_pic_set;
-use std::process::Abort;
 use std::test::Fail;
 
 #[test]
@@ -19,11 +19,11 @@ fn predicted_lists_get_entries_of_their_own(rt: HostRuntime) -> Result<(), Fail>
     let bytes = w.as_bytes();
     assert!(rt; !bytes.is_empty());
     assert!(rt; bytes.len() < 10_000);
-    assert_eq!(rt; bytes[0], 0x84);
+    expect_eq(&rt, &bytes[0], &0x84);
     let mut r = NaluReader::new(bytes);
     match read_scaling_list_data(&mut r) {
-        Ok(read) => assert!(rt; read == lists),
-        Err(_) => assert!(rt; false),
+        Ok(read) => expect(&rt, read == lists),
+        Err(_) => expect(&rt, false),
     }
     Ok(())
 }
@@ -63,7 +63,7 @@ fn a_shift_onto_the_picture_is_no_member(rt: HostRuntime) -> Result<(), Fail> {
     let mut w = BitWriter::new(rt.alloc());
     match read_short_term_set(&mut r, &[neighbours()], 2, 16, 1) {
         Ok(set) => write_short_term_ref_pic_set(&mut w, &[neighbours()], 2, 1, &set)?,
-        Err(_) => assert!(rt; false),
+        Err(_) => expect(&rt, false),
     }
     // 1 | 0 | 1 | 00 1 1, and 1
     assert_written(&rt, rt.alloc(), &mut w, &[0xa7])

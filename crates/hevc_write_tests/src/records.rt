@@ -4,6 +4,7 @@
 //! 4:2:0 chroma and a substream for each row of blocks. Those of the cropped one have 184 rows of
 //! samples, of which 180 are shown, and those of the full one have 240. What a builder here doesn't
 //! set is as in a new record.
+use crate::expect::{expect, expect_eq};
 use hevc_bits::{Nalu, NaluHeader, NaluType};
 use hevc_sets::{default_scaling_lists, read_pps, read_sps, read_vps};
 use hevc_slice_header::read_slice_header;
@@ -319,25 +320,25 @@ fn assert_header(
     nalu_type: NaluType,
 ) -> Result<(), Fail> {
     let read = header_again(rt, alloc, slice, nalu_type)?;
-    assert!(rt; read == *slice.header);
+    expect(rt, read == *slice.header);
     Ok(())
 }
 
 #[test]
 fn video_sets_are_read_as_they_were_built(rt: HostRuntime) -> Result<(), Fail> {
     let vps = cropped_video_set(rt.alloc())?;
-    assert!(rt; video_set_again(&rt, rt.alloc(), &vps)? == vps);
+    expect(&rt, video_set_again(&rt, rt.alloc(), &vps)? == vps);
     let vps = full_video_set(rt.alloc())?;
-    assert!(rt; video_set_again(&rt, rt.alloc(), &vps)? == vps);
+    expect(&rt, video_set_again(&rt, rt.alloc(), &vps)? == vps);
     Ok(())
 }
 
 #[test]
 fn sequence_sets_are_read_as_they_were_built(rt: HostRuntime) -> Result<(), Fail> {
     let sps = cropped_sequence_set(rt.alloc());
-    assert!(rt; sequence_set_again(&rt, rt.alloc(), &sps)? == sps);
+    expect(&rt, sequence_set_again(&rt, rt.alloc(), &sps)? == sps);
     let sps = full_sequence_set(rt.alloc());
-    assert!(rt; sequence_set_again(&rt, rt.alloc(), &sps)? == sps);
+    expect(&rt, sequence_set_again(&rt, rt.alloc(), &sps)? == sps);
     Ok(())
 }
 
@@ -345,10 +346,10 @@ fn sequence_sets_are_read_as_they_were_built(rt: HostRuntime) -> Result<(), Fail
 fn picture_sets_are_read_as_they_were_built(rt: HostRuntime) -> Result<(), Fail> {
     let sps = cropped_sequence_set(rt.alloc());
     let pps = cropped_picture_set();
-    assert!(rt; picture_set_again(&rt, rt.alloc(), &sps, &pps)? == pps);
+    expect(&rt, picture_set_again(&rt, rt.alloc(), &sps, &pps)? == pps);
     let sps = full_sequence_set(rt.alloc());
     let pps = full_picture_set();
-    assert!(rt; picture_set_again(&rt, rt.alloc(), &sps, &pps)? == pps);
+    expect(&rt, picture_set_again(&rt, rt.alloc(), &sps, &pps)? == pps);
     Ok(())
 }
 
@@ -391,10 +392,10 @@ fn a_video_set_has_another_id_up_to_15(rt: HostRuntime) -> Result<(), Fail> {
     let alloc = rt.alloc();
     let mut vps = video_set_again(&rt, alloc, &full_video_set(alloc)?)?;
     vps.video_parameter_set_id = 3;
-    assert!(rt; video_set_again(&rt, alloc, &vps)? == vps);
+    expect(&rt, video_set_again(&rt, alloc, &vps)? == vps);
     vps.video_parameter_set_id = 16;
     let refused = written(alloc, &vps, NaluType::VpsNut).err();
-    assert_eq!(rt; refused, Some(WriteError::NotFormed));
+    expect_eq(&rt, &refused, &Some(WriteError::NotFormed));
     Ok(())
 }
 
@@ -403,10 +404,10 @@ fn a_sequence_set_has_another_id_up_to_15(rt: HostRuntime) -> Result<(), Fail> {
     let alloc = rt.alloc();
     let mut sps = sequence_set_again(&rt, alloc, &full_sequence_set(alloc))?;
     sps.seq_parameter_set_id = 7;
-    assert!(rt; sequence_set_again(&rt, alloc, &sps)? == sps);
+    expect(&rt, sequence_set_again(&rt, alloc, &sps)? == sps);
     sps.seq_parameter_set_id = 16;
     let refused = written(alloc, &sps, NaluType::SpsNut).err();
-    assert_eq!(rt; refused, Some(WriteError::NotFormed));
+    expect_eq(&rt, &refused, &Some(WriteError::NotFormed));
     Ok(())
 }
 
@@ -416,14 +417,14 @@ fn a_picture_set_has_another_id_up_to_63(rt: HostRuntime) -> Result<(), Fail> {
     let sps = full_sequence_set(alloc);
     let mut pps = picture_set_again(&rt, alloc, &sps, &full_picture_set())?;
     pps.pic_parameter_set_id = 63;
-    assert!(rt; picture_set_again(&rt, alloc, &sps, &pps)? == pps);
+    expect(&rt, picture_set_again(&rt, alloc, &sps, &pps)? == pps);
     pps.pic_parameter_set_id = 64;
     let unit = PictureUnit {
         pps: &pps,
         sps: &sps,
     };
     let refused = written(alloc, &unit, NaluType::PpsNut).err();
-    assert_eq!(rt; refused, Some(WriteError::NotFormed));
+    expect_eq(&rt, &refused, &Some(WriteError::NotFormed));
     Ok(())
 }
 
@@ -448,6 +449,6 @@ fn a_slice_has_another_quantiser_within_its_range(rt: HostRuntime) -> Result<(),
     above.qp_delta = 26;
     slice.header = &above;
     let refused = written(alloc, &slice, NaluType::TrailR).err();
-    assert_eq!(rt; refused, Some(WriteError::NotFormed));
+    expect_eq(&rt, &refused, &Some(WriteError::NotFormed));
     Ok(())
 }

@@ -1,4 +1,5 @@
 //! Streams whose parameter sets are written anew.
+use crate::expect::{expect, expect_eq};
 use crate::sets::{COMMON_VIDEO_SET, PICTURE_SET, SEQUENCE_SET, TIMED_VIDEO_SET, VIDEO_SET};
 use hevc_bits::{Nalu, NaluHeader, UnitError};
 use hevc_write::rewrite;
@@ -16,11 +17,11 @@ fn assert_rewritten(
     assert!(rt; stream.len() < 1000);
     let mut out = Vec::new(alloc);
     rewrite(alloc, stream, &mut out)?;
-    assert!(rt; out.as_slice() == want);
+    expect(rt, out.as_slice() == want);
     assert!(rt; out.len() < 1000);
     let mut again = Vec::new(alloc);
     rewrite(alloc, out.as_slice(), &mut again)?;
-    assert!(rt; again.as_slice() == want);
+    expect(rt, again.as_slice() == want);
     Ok(())
 }
 
@@ -51,7 +52,7 @@ fn what_no_record_keeps_is_chosen_once(rt: HostRuntime) -> Result<(), Fail> {
     assert!(rt; TIMED_VIDEO_SET.len() < 1000);
     let mut out = Vec::new(alloc);
     rewrite(alloc, TIMED_VIDEO_SET, &mut out)?;
-    assert!(rt; out.as_slice() != TIMED_VIDEO_SET);
+    expect(&rt, out.as_slice() != TIMED_VIDEO_SET);
     assert_rewritten(&rt, alloc, TIMED_VIDEO_SET, out.as_slice())
 }
 
@@ -63,11 +64,12 @@ fn the_zero_of_an_end_unit_stays(rt: HostRuntime) -> Result<(), Fail> {
     let mut position = 0;
     let refused = Nalu::<NaluHeader>::next(&stream, &mut position).err();
     position = 0;
-    assert_eq!(rt;
-        refused,
-        Nalu::<NaluHeader>::next(&want, &mut position).err()
+    expect_eq(
+        &rt,
+        &refused,
+        &Nalu::<NaluHeader>::next(&want, &mut position).err(),
     );
-    assert_eq!(rt; refused, Some(UnitError::TemporalIdZero));
+    expect_eq(&rt, &refused, &Some(UnitError::TemporalIdZero));
     Ok(())
 }
 

@@ -1,6 +1,7 @@
 //! Worked parameter sets (7.3.2), read, and written again.
 ghost use Rattle.std.specs.Prelude.{◌<◌, length};
 
+use crate::expect::{expect, expect_eq};
 use crate::written::assert_unit;
 use hevc_bit_writer::{BitWriter, append_unit};
 use hevc_bits::{Nalu, NaluHeader};
@@ -170,11 +171,11 @@ fn layers_that_no_record_keeps_are_zeros(rt: HostRuntime) -> Result<(), Fail> {
     w.write_trailing_bits()?;
     let mut unit = Vec::new(rt.alloc());
     append_unit(rt.alloc(), &mut unit, [0x40, 0x01], w.as_bytes())?;
-    assert_eq!(rt; unit.len(), TIMED_VIDEO_SET.len());
+    expect_eq(&rt, &unit.len(), &TIMED_VIDEO_SET.len());
     assert!(rt; unit.len() < 1000);
     position = 0;
     let nalu = Nalu::<NaluHeader>::next(unit.as_slice(), &mut position)?;
-    assert!(rt; read_vps(rt.alloc(), &nalu)? == vps);
+    expect(&rt, read_vps(rt.alloc(), &nalu)? == vps);
     Ok(())
 }
 

@@ -1,11 +1,11 @@
 //! Worked parts of slice segment headers (7.3.6.2, 7.3.6.3), written.
+use crate::expect::expect;
 use crate::written::assert_written;
 use hevc_bit_writer::BitWriter;
 use hevc_bits::NaluReader;
 use hevc_slice_parts::read_ref_pic_list_modification;
 use hevc_types_b::PredWeightTable;
 use hevc_write_slices::{write_pred_weight_table, write_ref_pic_list_modification};
-use std::process::Abort;
 use std::test::Fail;
 
 /// Of five pictures: 1 | 100 000 | 1 | 011, and 1 0 .. 0.
@@ -17,7 +17,7 @@ fn lists_are_written_as_they_were(rt: HostRuntime) -> Result<(), Fail> {
     let mut w = BitWriter::new(rt.alloc());
     match read_ref_pic_list_modification(&mut r, true, 5, 1, 0) {
         Ok(lists) => write_ref_pic_list_modification(&mut w, true, 5, &lists)?,
-        Err(_) => assert!(rt; false),
+        Err(_) => expect(&rt, false),
     }
     assert_written(&rt, rt.alloc(), &mut w, BOTH_LISTS)
 }

@@ -1,4 +1,5 @@
 //! Slices, and their refusals, as units (7.3.1.1).
+use crate::expect::{expect, expect_eq};
 use hevc_bits::{Nalu, NaluHeader};
 use hevc_slice_header::read_slice_header;
 use hevc_types_c::Sps;
@@ -134,7 +135,7 @@ fn assert_slice(
     };
     let mut out = Vec::new(alloc);
     write_unit(alloc, &slice, &unit, &mut out)?;
-    assert!(rt; out.as_slice() == stream);
+    expect(rt, out.as_slice() == stream);
     Ok(())
 }
 
@@ -176,10 +177,13 @@ fn the_body_comes_after_the_header(rt: HostRuntime) -> Result<(), Fail> {
     };
     let mut out = Vec::new(alloc);
     write_unit(alloc, &slice, &unit, &mut out)?;
-    assert!(rt; out.as_slice() == [0, 0, 1, 0x26, 0x01, 0xaf, 0, 0, 3, 1].as_slice());
+    expect(
+        &rt,
+        out.as_slice() == [0, 0, 1, 0x26, 0x01, 0xaf, 0, 0, 3, 1].as_slice(),
+    );
     let mut payload = Vec::from_slice(alloc, &[7])?;
     slice.write_payload(&unit, &mut payload)?;
-    assert!(rt; payload.as_slice() == [7, 0xaf, 0, 0, 1].as_slice());
+    expect(&rt, payload.as_slice() == [7, 0xaf, 0, 0, 1].as_slice());
     Ok(())
 }
 
@@ -196,15 +200,17 @@ fn a_body_ends_in_no_zero(rt: HostRuntime) -> Result<(), Fail> {
         body: &[0x80, 0],
     };
     let mut out = Vec::from_slice(alloc, &[7])?;
-    assert_eq!(rt;
-        write_unit(alloc, &slice, &unit, &mut out),
-        Err(WriteError::ZeroEnd)
+    expect_eq(
+        &rt,
+        &write_unit(alloc, &slice, &unit, &mut out),
+        &Err(WriteError::ZeroEnd),
     );
-    assert_eq!(rt;
-        slice.write_payload(&unit, &mut out),
-        Err(WriteError::ZeroEnd)
+    expect_eq(
+        &rt,
+        &slice.write_payload(&unit, &mut out),
+        &Err(WriteError::ZeroEnd),
     );
-    assert!(rt; out.as_slice() == [7].as_slice());
+    expect(&rt, out.as_slice() == [7].as_slice());
     Ok(())
 }
 
@@ -223,7 +229,10 @@ fn no_extension_is_written(rt: HostRuntime) -> Result<(), Fail> {
     };
     let mut out = Vec::new(alloc);
     write_unit(alloc, &slice, &unit, &mut out)?;
-    assert!(rt; out.as_slice() == [0, 0, 1, 0x26, 0x01, 0xaf, 0x80].as_slice());
+    expect(
+        &rt,
+        out.as_slice() == [0, 0, 1, 0x26, 0x01, 0xaf, 0x80].as_slice(),
+    );
     Ok(())
 }
 
@@ -242,19 +251,21 @@ fn what_no_unit_has_is_not_formed(rt: HostRuntime) -> Result<(), Fail> {
         body: &[0x80, 0],
     };
     let mut out = Vec::new(alloc);
-    assert_eq!(rt;
-        write_unit(alloc, &slice, &unit, &mut out),
-        Err(WriteError::NotFormed)
+    expect_eq(
+        &rt,
+        &write_unit(alloc, &slice, &unit, &mut out),
+        &Err(WriteError::NotFormed),
     );
     other.pic_parameter_set_id = 64;
     let set = PictureUnit {
         pps: &other,
         sps: &sps,
     };
-    assert_eq!(rt;
-        write_unit(alloc, &set, &unit, &mut out),
-        Err(WriteError::NotFormed)
+    expect_eq(
+        &rt,
+        &write_unit(alloc, &set, &unit, &mut out),
+        &Err(WriteError::NotFormed),
     );
-    assert!(rt; out.is_empty());
+    expect(&rt, out.is_empty());
     Ok(())
 }

@@ -1,4 +1,5 @@
 //! What a writer holds, compared.
+use crate::expect::expect;
 use hevc_bit_writer::{BitWriter, append_unit};
 use std::alloc::Global;
 use std::process::Abort;
@@ -12,12 +13,12 @@ pub fn assert_written(
     want: &[u8],
 ) -> Result<(), Fail> {
     w.write_trailing_bits()?;
-    assert!(rt; w.is_whole());
+    expect(rt, w.is_whole());
     let mut unit = Vec::new(alloc);
     append_unit(alloc, &mut unit, [0x42, 0x01], w.as_bytes())?;
     let mut expected = Vec::from_slice(alloc, &[0, 0, 1, 0x42, 0x01])?;
     expected.extend_from_slice(want)?;
-    assert!(rt; unit == expected);
+    expect(rt, unit == expected);
     Ok(())
 }
 
@@ -30,9 +31,9 @@ pub fn assert_unit(
 ) -> Result<(), Fail> {
     assert!(rt; stream.len() > 4);
     w.write_trailing_bits()?;
-    assert!(rt; w.is_whole());
+    expect(rt, w.is_whole());
     let mut unit = Vec::new(alloc);
     append_unit(alloc, &mut unit, [stream[3], stream[4]], w.as_bytes())?;
-    assert!(rt; unit.as_slice() == stream);
+    expect(rt, unit.as_slice() == stream);
     Ok(())
 }

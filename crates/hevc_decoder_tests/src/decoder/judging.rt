@@ -3,6 +3,7 @@ ghost use Rattle.std.specs.Prelude.{◌<◌, length};
 ghost use Rattle.hevc_bits.specs.declared.stream_limit.TheConstants.{STREAM_LIMIT};
 
 use super::TWO_PICTURES;
+use crate::expect::{expect, expect_eq};
 use hevc_backend::{Backend, SilentBackend};
 use hevc_decoder::{
     DecodeError, Options, Refused, begin_stream, decode_next_unit, end_stream, judge_stream,
@@ -35,8 +36,8 @@ fn count_by_steps(alloc: Global, stream: &[u8]) -> Result<(u64, u64), Refused>
 fn a_judged_stream_has_the_calls_and_the_verdict(rt: HostRuntime) -> Result<(), Fail> {
     let alloc = rt.alloc();
     let decoded = judge_stream(alloc, Backend::new(alloc), Options::new(), TWO_PICTURES);
-    assert!(rt; decoded.result == Ok(2));
-    assert_eq!(rt; decoded.backend.calls().len(), 9);
+    expect(&rt, decoded.result == Ok(2));
+    expect_eq(&rt, &decoded.backend.calls().len(), &9);
     Ok(())
 }
 
@@ -49,14 +50,14 @@ fn a_judged_stream_is_refused_at_its_unit(rt: HostRuntime) -> Result<(), Fail> {
     };
     let stream = &[0x00, 0x00, 0x01, 0x48, 0x00, 0x05];
     let decoded = judge_stream(alloc, SilentBackend::new(), Options::new(), stream);
-    assert!(rt; decoded.result == Err(refused));
+    expect(&rt, decoded.result == Err(refused));
     Ok(())
 }
 
 #[test]
 fn units_are_given_one_by_one(rt: HostRuntime) -> Result<(), Fail> {
     let alloc = rt.alloc();
-    assert!(rt; count_by_steps(alloc, TWO_PICTURES) == Ok((4, 2)));
-    assert!(rt; count_by_steps(alloc, &[]) == Ok((0, 0)));
+    expect(&rt, count_by_steps(alloc, TWO_PICTURES) == Ok((4, 2)));
+    expect(&rt, count_by_steps(alloc, &[]) == Ok((0, 0)));
     Ok(())
 }

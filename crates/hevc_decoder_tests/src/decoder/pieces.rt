@@ -2,6 +2,7 @@
 ghost use Rattle.std.specs.Prelude.{◌≤◌};
 
 use super::TWO_PICTURES;
+use crate::expect::{expect, expect_eq};
 use hevc_backend::Backend;
 use hevc_decoder::{DecodeError, Options, Refused, Shown, decode_source_with};
 use hevc_io::{Failed, InputError, MemorySource, Source};
@@ -47,12 +48,12 @@ fn ends<S: Source>(
     let backend = Backend::new(alloc);
     match decode_source_with(alloc, backend, Options::new(), source, limit, &mut shown) {
         Ok(decoded) => {
-            assert!(rt; answer == Ok(decoded.result));
-            assert_eq!(rt; decoded.backend.calls().len(), calls);
+            expect(rt, answer == Ok(decoded.result));
+            expect_eq(rt, &decoded.backend.calls().len(), &calls);
         }
-        Err(error) => assert!(rt; answer == Err(error)),
+        Err(error) => expect(rt, answer == Err(error)),
     }
-    assert_eq!(rt; shown.len(), pictures);
+    expect_eq(rt, &shown.len(), &pictures);
     Ok(())
 }
 
@@ -102,7 +103,7 @@ fn a_refused_stream_is_read_to_its_end(rt: HostRuntime) -> Result<(), Fail> {
     let error = DecodeError::TruncatedNalu;
     let refused = Err(Refused { unit, error });
     ends(&rt, alloc, &mut source, 1000, Ok(refused), 0, 0)?;
-    assert!(rt; source.rest.is_empty());
+    expect(&rt, source.rest.is_empty());
     Ok(())
 }
 

@@ -1,4 +1,5 @@
 //! A stream of three pictures over backends of which one call fails, each in turn.
+use crate::expect::{expect, expect_eq};
 use hevc_backend::Backend;
 use hevc_decoder::{DecodeError, Refused, Shown, decode_stream};
 use std::alloc::Global;
@@ -50,8 +51,8 @@ fn ends(
         let backend = Backend::with_plan(alloc, vec![in alloc; call]?, Vec::new(alloc));
         let mut shown = Vec::new(alloc);
         let decoded = decode_stream(alloc, backend, THREE_PICTURES, &mut shown);
-        assert!(rt; decoded.result == answer);
-        assert!(rt; shown.as_slice() == outputs);
+        expect(rt, decoded.result == answer);
+        expect(rt, shown.as_slice() == outputs);
     }
     Ok(())
 }
@@ -88,11 +89,11 @@ fn a_broken_order_is_not_mended(rt: HostRuntime) -> Result<(), Fail> {
     let alloc = rt.alloc();
     let mut shown = Vec::new(alloc);
     let decoded = decode_stream(alloc, Backend::new(alloc), REORDERED_TOO_FAR, &mut shown);
-    assert!(rt; decoded.result == Ok(4));
+    expect(&rt, decoded.result == Ok(4));
     let mut counts = Vec::new(alloc);
     for output in &shown {
         counts.push(output.order_count)?;
     }
-    assert_eq!(rt; counts.as_slice(), [0i32, 2, 1, 4].as_slice());
+    expect_eq(&rt, &counts.as_slice(), &[0i32, 2, 1, 4].as_slice());
     Ok(())
 }

@@ -1,4 +1,5 @@
 //! A decoder that is driven by hand, over a backend that fails and has no frame by a plan.
+use crate::expect::{expect, expect_eq};
 use hevc_backend::Backend;
 use hevc_decoder::{DecodeError, DecoderEvent, StatelessDecoder};
 use std::process::Abort;
@@ -38,46 +39,61 @@ fn accepts(decoder: &mut StatelessDecoder<Backend>) -> bool {
 
 /// The first sequence set is waited for.
 fn waits_for_a_sequence_set(rt: &impl Abort, decoder: &mut StatelessDecoder<Backend>) {
-    assert!(rt; decoder.decode(0, IDR) == Ok(7));
-    assert!(rt; decoder.stream_info().is_none());
-    assert!(rt; decoder.decode(0, SEQUENCE_SET) == Err(DecodeError::CheckEvents));
+    expect(rt, decoder.decode(0, IDR) == Ok(7));
+    expect(rt, decoder.stream_info().is_none());
+    expect(
+        rt,
+        decoder.decode(0, SEQUENCE_SET) == Err(DecodeError::CheckEvents),
+    );
 }
 
 /// That its format is accepted, or forgotten by a flush.
 fn waits_for_a_format(rt: &impl Abort, decoder: &mut StatelessDecoder<Backend>) {
-    assert!(rt; decoder.decode(0, SEQUENCE_SET) == Err(DecodeError::CheckEvents));
-    assert!(rt; decoder.decode(0, PICTURE_SET) == Err(DecodeError::CheckEvents));
-    assert!(rt; matches!(decoder.next_event(), Some(DecoderEvent::FormatChanged)));
-    assert!(rt; decoder.stream_info().is_some());
-    assert!(rt; decoder.flush() == Ok(()));
-    assert!(rt; !decoder.awaiting_format());
+    expect(
+        rt,
+        decoder.decode(0, SEQUENCE_SET) == Err(DecodeError::CheckEvents),
+    );
+    expect(
+        rt,
+        decoder.decode(0, PICTURE_SET) == Err(DecodeError::CheckEvents),
+    );
+    expect(
+        rt,
+        matches!(decoder.next_event(), Some(DecoderEvent::FormatChanged)),
+    );
+    expect(rt, decoder.stream_info().is_some());
+    expect(rt, decoder.flush() == Ok(()));
+    expect(rt, !decoder.awaiting_format());
 }
 
 /// After a flush, an IDR picture or a sequence set.
 fn waits_behind_a_flush(rt: &impl Abort, decoder: &mut StatelessDecoder<Backend>) {
-    assert!(rt; decoder.flush() == Ok(()));
-    assert!(rt; decoder.decode(0, LATER) == Ok(9));
-    assert!(rt; decoder.decode(0, SEQUENCE_SET) == Ok(29));
-    assert!(rt; decoder.decode(0, PICTURE_SET) == Ok(9));
-    assert_eq!(rt; decoder.num_pictures(), 0);
+    expect(rt, decoder.flush() == Ok(()));
+    expect(rt, decoder.decode(0, LATER) == Ok(9));
+    expect(rt, decoder.decode(0, SEQUENCE_SET) == Ok(29));
+    expect(rt, decoder.decode(0, PICTURE_SET) == Ok(9));
+    expect_eq(rt, &decoder.num_pictures(), &0);
 }
 
 /// Nothing: the format is negotiated anew, by the second call of that kind, with a frame.
 fn negotiates_anew(rt: &impl Abort, decoder: &mut StatelessDecoder<Backend>) {
-    assert!(rt; decoder.decode(7, IDR) == Err(DecodeError::Backend));
-    assert!(rt; decoder.decode(7, IDR) == Err(DecodeError::NotEnoughOutputBuffers(1)));
-    assert!(rt; decoder.decode(7, IDR) == Err(DecodeError::CheckEvents));
-    assert!(rt; accepts(decoder));
-    assert!(rt; decoder.decode(7, IDR) == Ok(7));
-    assert_eq!(rt; decoder.num_pictures(), 1);
+    expect(rt, decoder.decode(7, IDR) == Err(DecodeError::Backend));
+    expect(
+        rt,
+        decoder.decode(7, IDR) == Err(DecodeError::NotEnoughOutputBuffers(1)),
+    );
+    expect(rt, decoder.decode(7, IDR) == Err(DecodeError::CheckEvents));
+    expect(rt, accepts(decoder));
+    expect(rt, decoder.decode(7, IDR) == Ok(7));
+    expect_eq(rt, &decoder.num_pictures(), &1);
 }
 
 /// The next pictures that are output have these numbers, and no more do.
 fn come_out(rt: &impl Abort, decoder: &mut StatelessDecoder<Backend>, numbers: &[u64]) {
     for number in numbers {
-        assert!(rt; next_number(decoder) == Some(*number));
+        expect(rt, next_number(decoder) == Some(*number));
     }
-    assert!(rt; next_number(decoder).is_none());
+    expect(rt, next_number(decoder).is_none());
 }
 
 #[test]
@@ -90,13 +106,13 @@ fn four_states_by_hand(rt: HostRuntime) -> Result<(), Fail> {
     waits_behind_a_flush(&rt, &mut decoder);
     negotiates_anew(&rt, &mut decoder);
     come_out(&rt, &mut decoder, &[]);
-    assert!(rt; decoder.flush() == Ok(()));
+    expect(&rt, decoder.flush() == Ok(()));
     come_out(&rt, &mut decoder, &[0]);
 
     // And once more after a flush.
-    assert!(rt; decoder.decode(8, IDR) == Ok(7));
-    assert!(rt; decoder.decode(9, LATER) == Ok(9));
-    assert!(rt; decoder.flush() == Ok(()));
+    expect(&rt, decoder.decode(8, IDR) == Ok(7));
+    expect(&rt, decoder.decode(9, LATER) == Ok(9));
+    expect(&rt, decoder.flush() == Ok(()));
     come_out(&rt, &mut decoder, &[1, 2]);
     Ok(())
 }

@@ -1,4 +1,5 @@
 //! What a backend is handed with the calls of a stream.
+use crate::expect::{expect, expect_eq};
 use crate::telling::{Came, KeptSegment, TellingBackend};
 use hevc_decoder::decode_stream;
 use std::test::Fail;
@@ -30,9 +31,9 @@ fn a_dependent_segment_comes_with_the_whole_header(rt: HostRuntime) -> Result<()
         DEPENDENT_SEGMENT,
         &mut shown,
     );
-    assert!(rt; decoded.result == Ok(1));
+    expect(&rt, decoded.result == Ok(1));
     let came = decoded.backend.came.as_slice();
-    assert_eq!(rt; came.len(), 4);
+    expect_eq(&rt, &came.len(), &4);
     match (came.get(0), came.get(1)) {
         (
             Some(
@@ -49,8 +50,11 @@ fn a_dependent_segment_comes_with_the_whole_header(rt: HostRuntime) -> Result<()
                 },
             ),
         ) => {
-            assert!(rt; *picture == *announced && picture.pic_order_cnt_val == 0);
-            assert!(rt; is_of_stream(segment, false));
+            expect(
+                &rt,
+                *picture == *announced && picture.pic_order_cnt_val == 0,
+            );
+            expect(&rt, is_of_stream(segment, false));
         }
         _ => return Err("no picture begins".into()),
     }
@@ -69,7 +73,10 @@ fn a_dependent_segment_comes_with_the_whole_header(rt: HostRuntime) -> Result<()
                 },
             ),
         ) => {
-            assert!(rt; is_of_stream(first, false) && is_of_stream(second, true));
+            expect(
+                &rt,
+                is_of_stream(first, false) && is_of_stream(second, true),
+            );
         }
         _ => return Err("no two segments".into()),
     }

@@ -4,6 +4,7 @@ use super::picture_set::PICTURE_SET;
 use super::sequence_set::SEQUENCE_SET;
 use super::slice::SLICE;
 use super::{Kept, Line, Unit, both_sets, no_sets, whole};
+use crate::expect::{expect, expect_eq};
 use hevc_bits::{Nalu, NaluHeader};
 use hevc_sets::{read_pps, read_sps};
 use hevc_slice_header::read_slice_header;
@@ -164,29 +165,47 @@ fn header_of(
 #[test]
 fn a_sequence_set_has_its_last_fields(rt: HostRuntime) -> Result<(), Fail> {
     let sps = sequence_set_of(&rt, rt.alloc(), &SEQUENCE_SET)?;
-    assert_eq!(rt; (sps.chroma_array_type, sps.ctb_log2_size_y), (3, 5));
-    assert!(rt; sps.range_extension_flag && sps.scc_extension_flag);
+    expect_eq(&rt, &(sps.chroma_array_type, sps.ctb_log2_size_y), &(3, 5));
+    expect(&rt, sps.range_extension_flag && sps.scc_extension_flag);
     let scc = &sps.scc_extension;
-    assert!(rt; scc.curr_pic_ref_enabled_flag && scc.palette_mode_enabled_flag);
-    assert_eq!(rt;
-        (scc.palette_max_size, scc.delta_palette_max_predictor_size),
-        (4, 2)
+    expect(
+        &rt,
+        scc.curr_pic_ref_enabled_flag && scc.palette_mode_enabled_flag,
+    );
+    expect_eq(
+        &rt,
+        &(scc.palette_max_size, scc.delta_palette_max_predictor_size),
+        &(4, 2),
     );
     let colours = scc.palette_predictor_initializer;
-    assert_eq!(rt; (colours[0][0], colours[1][0], colours[2][0]), (5, 6, 7));
-    assert_eq!(rt; scc.motion_vector_resolution_control_idc, 2);
+    expect_eq(
+        &rt,
+        &(colours[0][0], colours[1][0], colours[2][0]),
+        &(5, 6, 7),
+    );
+    expect_eq(&rt, &scc.motion_vector_resolution_control_idc, &2);
     Ok(())
 }
 
 #[test]
 fn planes_may_be_coded_apart(rt: HostRuntime) -> Result<(), Fail> {
     let sps = sequence_set_of(&rt, rt.alloc(), &APART)?;
-    assert_eq!(rt; (sps.chroma_format_idc, sps.chroma_array_type), (3, 0));
-    assert_eq!(rt; (sps.ctb_log2_size_y, sps.min_cb_log2_size_y), (4, 4));
-    assert!(rt; sps.sample_adaptive_offset_enabled_flag && !sps.pcm_enabled_flag);
-    assert!(rt; sps.range_extension_flag && !sps.scc_extension_flag);
-    assert!(rt; sps.range_extension.high_precision_offsets_enabled_flag);
-    assert!(rt; !sps.range_extension.persistent_rice_adaptation_enabled_flag);
+    expect_eq(
+        &rt,
+        &(sps.chroma_format_idc, sps.chroma_array_type),
+        &(3, 0),
+    );
+    expect_eq(&rt, &(sps.ctb_log2_size_y, sps.min_cb_log2_size_y), &(4, 4));
+    expect(
+        &rt,
+        sps.sample_adaptive_offset_enabled_flag && !sps.pcm_enabled_flag,
+    );
+    expect(&rt, sps.range_extension_flag && !sps.scc_extension_flag);
+    expect(&rt, sps.range_extension.high_precision_offsets_enabled_flag);
+    expect(
+        &rt,
+        !sps.range_extension.persistent_rice_adaptation_enabled_flag,
+    );
     Ok(())
 }
 
@@ -195,21 +214,27 @@ fn a_picture_set_has_its_offsets(rt: HostRuntime) -> Result<(), Fail> {
     let alloc = rt.alloc();
     let kept = both_sets(&rt, alloc)?;
     let pps = picture_set_of(&rt, alloc, &kept, &PICTURE_SET)?;
-    assert_eq!(rt; (pps.cb_qp_offset, pps.cr_qp_offset), (2, -2));
-    assert_eq!(rt; (pps.beta_offset_div2, pps.tc_offset_div2), (3, -4));
-    assert!(rt;
-        pps.deblocking_filter_override_enabled_flag && !pps.deblocking_filter_disabled_flag
+    expect_eq(&rt, &(pps.cb_qp_offset, pps.cr_qp_offset), &(2, -2));
+    expect_eq(&rt, &(pps.beta_offset_div2, pps.tc_offset_div2), &(3, -4));
+    expect(
+        &rt,
+        pps.deblocking_filter_override_enabled_flag && !pps.deblocking_filter_disabled_flag,
     );
-    assert!(rt; pps.range_extension.chroma_qp_offset_list_enabled_flag);
+    expect(&rt, pps.range_extension.chroma_qp_offset_list_enabled_flag);
     let scc = &pps.scc_extension;
-    assert!(rt; scc.slice_act_qp_offsets_present_flag);
-    assert_eq!(rt;
-        (scc.act_y_qp_offset_plus5, scc.act_cb_qp_offset_plus5),
-        (5, 4)
+    expect(&rt, scc.slice_act_qp_offsets_present_flag);
+    expect_eq(
+        &rt,
+        &(scc.act_y_qp_offset_plus5, scc.act_cb_qp_offset_plus5),
+        &(5, 4),
     );
-    assert_eq!(rt; scc.act_cr_qp_offset_plus3, 3);
+    expect_eq(&rt, &scc.act_cr_qp_offset_plus3, &3);
     let colours = scc.palette_predictor_initializer;
-    assert_eq!(rt; (colours[0][0], colours[1][0], colours[2][0]), (5, 6, 7));
+    expect_eq(
+        &rt,
+        &(colours[0][0], colours[1][0], colours[2][0]),
+        &(5, 6, 7),
+    );
     Ok(())
 }
 
@@ -218,24 +243,36 @@ fn a_picture_set_may_have_one_extension(rt: HostRuntime) -> Result<(), Fail> {
     let alloc = rt.alloc();
     let kept = both_sets(&rt, alloc)?;
     let ranged = picture_set_of(&rt, alloc, &kept, &RANGED)?;
-    assert!(rt; ranged.deblocking_filter_control_present_flag);
-    assert!(rt; ranged.deblocking_filter_disabled_flag && ranged.range_extension_flag);
-    assert_eq!(rt; (ranged.beta_offset_div2, ranged.tc_offset_div2), (0, 0));
-    assert!(rt; !ranged.scc_extension_flag);
-    assert!(rt;
+    expect(&rt, ranged.deblocking_filter_control_present_flag);
+    expect(
+        &rt,
+        ranged.deblocking_filter_disabled_flag && ranged.range_extension_flag,
+    );
+    expect_eq(
+        &rt,
+        &(ranged.beta_offset_div2, ranged.tc_offset_div2),
+        &(0, 0),
+    );
+    expect(&rt, !ranged.scc_extension_flag);
+    expect(
+        &rt,
         ranged
             .range_extension
-            .cross_component_prediction_enabled_flag
+            .cross_component_prediction_enabled_flag,
     );
-    assert!(rt; !ranged.scc_extension.curr_pic_ref_enabled_flag);
+    expect(&rt, !ranged.scc_extension.curr_pic_ref_enabled_flag);
     let screened = picture_set_of(&rt, alloc, &kept, &SCREENED)?;
-    assert!(rt; !screened.range_extension_flag && screened.scc_extension_flag);
-    assert!(rt;
+    expect(
+        &rt,
+        !screened.range_extension_flag && screened.scc_extension_flag,
+    );
+    expect(
+        &rt,
         !screened
             .range_extension
-            .cross_component_prediction_enabled_flag
+            .cross_component_prediction_enabled_flag,
     );
-    assert!(rt; screened.scc_extension.curr_pic_ref_enabled_flag);
+    expect(&rt, screened.scc_extension.curr_pic_ref_enabled_flag);
     Ok(())
 }
 
@@ -243,17 +280,24 @@ fn a_picture_set_may_have_one_extension(rt: HostRuntime) -> Result<(), Fail> {
 fn a_slice_has_its_offsets(rt: HostRuntime) -> Result<(), Fail> {
     let alloc = rt.alloc();
     let h = header_of(&rt, alloc, &both_sets(&rt, alloc)?, &SLICE)?;
-    assert!(rt; h.sao_luma_flag && !h.sao_chroma_flag);
-    assert_eq!(rt; (h.cb_qp_offset, h.cr_qp_offset), (4, -5));
+    expect(&rt, h.sao_luma_flag && !h.sao_chroma_flag);
+    expect_eq(&rt, &(h.cb_qp_offset, h.cr_qp_offset), &(4, -5));
     let act = (h.slice_act_y_qp_offset, h.slice_act_cb_qp_offset);
-    assert_eq!(rt; act, (1, 2));
-    assert_eq!(rt; h.slice_act_cr_qp_offset, 3);
-    assert!(rt; h.cu_chroma_qp_offset_enabled_flag && h.deblocking_filter_override_flag);
-    assert!(rt; !h.deblocking_filter_disabled_flag);
-    assert_eq!(rt; (h.beta_offset_div2, h.tc_offset_div2), (2, -1));
-    assert!(rt; h.loop_filter_across_slices_enabled_flag);
-    assert_eq!(rt; h.entry_point_offset_minus1.as_slice(), [18].as_slice());
-    assert_eq!(rt; h.num_pic_total_curr, 3);
+    expect_eq(&rt, &act, &(1, 2));
+    expect_eq(&rt, &h.slice_act_cr_qp_offset, &3);
+    expect(
+        &rt,
+        h.cu_chroma_qp_offset_enabled_flag && h.deblocking_filter_override_flag,
+    );
+    expect(&rt, !h.deblocking_filter_disabled_flag);
+    expect_eq(&rt, &(h.beta_offset_div2, h.tc_offset_div2), &(2, -1));
+    expect(&rt, h.loop_filter_across_slices_enabled_flag);
+    expect_eq(
+        &rt,
+        &h.entry_point_offset_minus1.as_slice(),
+        &[18].as_slice(),
+    );
+    expect_eq(&rt, &h.num_pic_total_curr, &3);
     Ok(())
 }
 
@@ -277,11 +321,15 @@ fn filters_are_those_of_the_slice_or_of_its_picture_set(rt: HostRuntime) -> Resu
         (&INHERITED, (false, false, 3, -4), false, false),
     ] {
         let h = header_of(&rt, alloc, &kept, unit)?;
-        assert!(rt; filters_of(&h) == filters);
-        assert_eq!(rt; h.deblocking_filter_override_flag, override_flag);
-        assert_eq!(rt; (h.sao_luma_flag, h.sao_chroma_flag), (false, chroma));
-        assert_eq!(rt; h.short_term_ref_pic_set_idx, 2);
-        assert_eq!(rt; h.entry_point_offset_minus1.as_slice(), [18].as_slice());
+        expect(&rt, filters_of(&h) == filters);
+        expect_eq(&rt, &h.deblocking_filter_override_flag, &override_flag);
+        expect_eq(&rt, &(h.sao_luma_flag, h.sao_chroma_flag), &(false, chroma));
+        expect_eq(&rt, &h.short_term_ref_pic_set_idx, &2);
+        expect_eq(
+            &rt,
+            &h.entry_point_offset_minus1.as_slice(),
+            &[18].as_slice(),
+        );
     }
     Ok(())
 }
@@ -294,9 +342,9 @@ fn a_slice_of_one_plane_has_no_chroma(rt: HostRuntime) -> Result<(), Fail> {
     let pps = picture_set_of(&rt, alloc, &kept, &RANGED)?;
     kept.ppses.insert(0, pps)?;
     let h = header_of(&rt, alloc, &kept, &PLANE)?;
-    assert_eq!(rt; h.colour_plane_id, 2);
-    assert!(rt; h.sao_luma_flag && !h.sao_chroma_flag);
-    assert!(rt; filters_of(&h) == (false, true, 0, 0));
-    assert_eq!(rt; h.header_bit_size, 32);
+    expect_eq(&rt, &h.colour_plane_id, &2);
+    expect(&rt, h.sao_luma_flag && !h.sao_chroma_flag);
+    expect(&rt, filters_of(&h) == (false, true, 0, 0));
+    expect_eq(&rt, &h.header_bit_size, &32);
     Ok(())
 }

@@ -1,6 +1,7 @@
 //! Worked sets, each in a stream of its own.
 ghost use Rattle.std.specs.Prelude.{◌<◌, length};
 
+use crate::expect::{expect, expect_eq};
 use crate::streams::{PICTURE_SET, SEQUENCE_SET};
 use hevc_bits::{Nalu, NaluHeader};
 use hevc_sets::{ParseError, default_scaling_lists, read_pps};
@@ -134,12 +135,12 @@ fn refusal(rt: &impl Abort, alloc: Global, stream: &[u8]) -> Option<ParseError> 
 #[test]
 fn a_usual_set(rt: HostRuntime) -> Result<(), Fail> {
     let pps = read(rt.alloc(), Sps::new(rt.alloc()), PICTURE_SET)?;
-    assert!(rt; !pps.tiles_enabled_flag && pps.uniform_spacing_flag);
-    assert_eq!(rt; pps.column_width_minus1, [0; 20]);
-    assert_eq!(rt; pps.temporal_id, 0);
-    assert!(rt; pps.scaling_list == default_scaling_lists());
+    expect(&rt, !pps.tiles_enabled_flag && pps.uniform_spacing_flag);
+    expect_eq(&rt, &pps.column_width_minus1, &[0; 20]);
+    expect_eq(&rt, &pps.temporal_id, &0);
+    expect(&rt, pps.scaling_list == default_scaling_lists());
     let dc_coefs = pps.scaling_list.scaling_list_dc_coef_minus8_16x16;
-    assert_eq!(rt; dc_coefs[0], 8);
+    expect_eq(&rt, &dc_coefs[0], &8);
     Ok(())
 }
 
@@ -147,15 +148,15 @@ fn a_usual_set(rt: HostRuntime) -> Result<(), Fail> {
 fn columns_spread_evenly(rt: HostRuntime) -> Result<(), Fail> {
     let pps = read(rt.alloc(), ten_blocks(rt.alloc()), EVEN)?;
     let widths = pps.column_width_minus1;
-    assert_eq!(rt; widths[0], 2);
-    assert_eq!(rt; widths[1], 2);
-    assert_eq!(rt; widths[2], 3);
-    assert_eq!(rt; widths[3], 0);
-    assert!(rt; pps.loop_filter_across_tiles_enabled_flag);
+    expect_eq(&rt, &widths[0], &2);
+    expect_eq(&rt, &widths[1], &2);
+    expect_eq(&rt, &widths[2], &3);
+    expect_eq(&rt, &widths[3], &0);
+    expect(&rt, pps.loop_filter_across_tiles_enabled_flag);
     let pps = read(rt.alloc(), twenty_blocks(rt.alloc()), NARROW)?;
-    assert_eq!(rt; pps.num_tile_columns_minus1, 19);
-    assert_eq!(rt; pps.column_width_minus1, [0; 20]);
-    assert!(rt; !pps.loop_filter_across_tiles_enabled_flag);
+    expect_eq(&rt, &pps.num_tile_columns_minus1, &19);
+    expect_eq(&rt, &pps.column_width_minus1, &[0; 20]);
+    expect(&rt, !pps.loop_filter_across_tiles_enabled_flag);
     Ok(())
 }
 
@@ -163,21 +164,21 @@ fn columns_spread_evenly(rt: HostRuntime) -> Result<(), Fail> {
 fn columns_with_their_sizes(rt: HostRuntime) -> Result<(), Fail> {
     let pps = read(rt.alloc(), ten_blocks(rt.alloc()), TOLD)?;
     let widths = pps.column_width_minus1;
-    assert_eq!(rt; widths[0], 0);
-    assert_eq!(rt; widths[1], 3);
-    assert_eq!(rt; widths[2], 4);
-    assert_eq!(rt; pps.row_height_minus1, [0; 22]);
+    expect_eq(&rt, &widths[0], &0);
+    expect_eq(&rt, &widths[1], &3);
+    expect_eq(&rt, &widths[2], &4);
+    expect_eq(&rt, &pps.row_height_minus1, &[0; 22]);
     Ok(())
 }
 
 #[test]
 fn offsets_of_filters(rt: HostRuntime) -> Result<(), Fail> {
     let pps = read(rt.alloc(), ten_blocks(rt.alloc()), FILTERED)?;
-    assert_eq!(rt; pps.beta_offset_div2, -6);
-    assert_eq!(rt; pps.tc_offset_div2, 6);
-    assert!(rt; pps.lists_modification_present_flag);
-    assert_eq!(rt; pps.log2_parallel_merge_level_minus2, 1);
-    assert_eq!(rt; pps.qp_bd_offset_y, 24);
+    expect_eq(&rt, &pps.beta_offset_div2, &-6);
+    expect_eq(&rt, &pps.tc_offset_div2, &6);
+    expect(&rt, pps.lists_modification_present_flag);
+    expect_eq(&rt, &pps.log2_parallel_merge_level_minus2, &1);
+    expect_eq(&rt, &pps.qp_bd_offset_y, &24);
     Ok(())
 }
 
@@ -191,22 +192,22 @@ fn both_extensions(rt: HostRuntime) -> Result<(), Fail> {
 
 /// The range extension of `EXTENDED`.
 fn has_chroma_offsets(rt: &impl Abort, x: &PpsRangeExtension) {
-    assert!(rt; x.cross_component_prediction_enabled_flag);
-    assert_eq!(rt; x.chroma_qp_offset_list_len_minus1, 1);
-    assert_eq!(rt; x.cb_qp_offset_list, [-3, 12, 0, 0, 0, 0]);
-    assert_eq!(rt; x.cr_qp_offset_list, [4, -12, 0, 0, 0, 0]);
-    assert_eq!(rt; x.log2_sao_offset_scale_luma, 2);
+    expect(rt, x.cross_component_prediction_enabled_flag);
+    expect_eq(rt, &x.chroma_qp_offset_list_len_minus1, &1);
+    expect_eq(rt, &x.cb_qp_offset_list, &[-3, 12, 0, 0, 0, 0]);
+    expect_eq(rt, &x.cr_qp_offset_list, &[4, -12, 0, 0, 0, 0]);
+    expect_eq(rt, &x.log2_sao_offset_scale_luma, &2);
 }
 
 /// Its extension for screen content.
 fn has_palettes(rt: &impl Abort, x: &PpsSccExtension) {
-    assert_eq!(rt; x.act_y_qp_offset_plus5, -7);
-    assert_eq!(rt; x.act_cr_qp_offset_plus3, 15);
-    assert_eq!(rt; x.num_palette_predictor_initializers, 2);
+    expect_eq(rt, &x.act_y_qp_offset_plus5, &-7);
+    expect_eq(rt, &x.act_cr_qp_offset_plus3, &15);
+    expect_eq(rt, &x.num_palette_predictor_initializers, &2);
     let predictors = x.palette_predictor_initializer;
-    assert_eq!(rt; predictors[0][0], 4095);
-    assert_eq!(rt; predictors[1][0], 255);
-    assert_eq!(rt; predictors[2][1], 9);
+    expect_eq(rt, &predictors[0][0], &4095);
+    expect_eq(rt, &predictors[1][0], &255);
+    expect_eq(rt, &predictors[2][1], &9);
 }
 
 #[test]
@@ -227,13 +228,15 @@ fn refusals_name_their_rows(rt: HostRuntime) -> Result<(), Fail> {
         let at_row = Some(ParseError::OutOfRange { table, row });
         assert_eq!(rt; refused, at_row, "row {row} of table {table}");
     }
-    assert_eq!(rt;
-        refusal(&rt, alloc, &PICTURE_SET[..6]),
-        Some(ParseError::OutOfBits)
+    expect_eq(
+        &rt,
+        &refusal(&rt, alloc, &PICTURE_SET[..6]),
+        &Some(ParseError::OutOfBits),
     );
-    assert_eq!(rt;
-        refusal(&rt, alloc, SEQUENCE_SET),
-        Some(ParseError::WrongNaluType)
+    expect_eq(
+        &rt,
+        &refusal(&rt, alloc, SEQUENCE_SET),
+        &Some(ParseError::WrongNaluType),
     );
     Ok(())
 }
@@ -241,10 +244,11 @@ fn refusals_name_their_rows(rt: HostRuntime) -> Result<(), Fail> {
 #[test]
 fn quantisers_by_the_depth_of_luma(rt: HostRuntime) -> Result<(), Fail> {
     let pps = read(rt.alloc(), ten_blocks(rt.alloc()), LOW_QUANTISER)?;
-    assert_eq!(rt; pps.init_qp_minus26, -27);
-    assert_eq!(rt;
-        read(rt.alloc(), twenty_blocks(rt.alloc()), LOW_QUANTISER).err(),
-        Some(ParseError::OutOfRange { table: 11, row: 8 })
+    expect_eq(&rt, &pps.init_qp_minus26, &-27);
+    expect_eq(
+        &rt,
+        &read(rt.alloc(), twenty_blocks(rt.alloc()), LOW_QUANTISER).err(),
+        &Some(ParseError::OutOfRange { table: 11, row: 8 }),
     );
     Ok(())
 }
@@ -252,8 +256,9 @@ fn quantisers_by_the_depth_of_luma(rt: HostRuntime) -> Result<(), Fail> {
 #[test]
 fn a_sequence_set_that_is_not_kept(rt: HostRuntime) {
     let spses = BTreeMap::new(rt.alloc());
-    assert_eq!(rt;
-        read_with(rt.alloc(), &spses, PICTURE_SET).err(),
-        Some(ParseError::MissingSps(0))
+    expect_eq(
+        &rt,
+        &read_with(rt.alloc(), &spses, PICTURE_SET).err(),
+        &Some(ParseError::MissingSps(0)),
     );
 }

@@ -1,4 +1,5 @@
 //! Worked structures, and the values that 7.3.3 gives for their bits.
+use crate::expect::{expect, expect_eq};
 use hevc_bits::NaluReader;
 use hevc_sets::{ParseError, read_profile_tier_level};
 use hevc_types_a::{Level, ProfileTierLevel};
@@ -51,8 +52,8 @@ fn range_extensions_with_a_sub_layer(rt: HostRuntime) {
     want.sub_layer_inbld_flag[0] = true;
     want.sub_layer_level_idc[0] = Level::L3_1;
     let mut r = NaluReader::new(RANGE_EXTENSIONS);
-    assert!(rt; read_profile_tier_level(&mut r, 1) == Ok(want));
-    assert_eq!(rt; r.num_bits_left(), 8);
+    expect(&rt, read_profile_tier_level(&mut r, 1) == Ok(want));
+    expect_eq(&rt, &r.num_bits_left(), &8);
 }
 
 #[test]
@@ -74,8 +75,8 @@ fn a_level_or_a_profile_alone(rt: HostRuntime) {
     want.sub_layer_max_14bit_constraint_flag[1] = true;
     want.sub_layer_inbld_flag[1] = true;
     let mut r = NaluReader::new(LEVEL_OR_PROFILE);
-    assert!(rt; read_profile_tier_level(&mut r, 2) == Ok(want));
-    assert_eq!(rt; r.num_bits_left(), 0);
+    expect(&rt, read_profile_tier_level(&mut r, 2) == Ok(want));
+    expect_eq(&rt, &r.num_bits_left(), &0);
 }
 
 #[test]
@@ -85,9 +86,15 @@ fn a_refusal_stands_before_its_element(rt: HostRuntime) {
         0x01, 0x40, 0x00, 0x00, 0x03, 0x00, 0x90, 0x00, 0x00, 0x03, 0x00, 0x00, 0x03, 0x00, 0x00,
     ]);
     let read = read_profile_tier_level(&mut r, 0);
-    assert!(rt; read == Err(ParseError::OutOfRange { table: 2, row: 27 }));
-    assert_eq!(rt; r.num_bits_left(), 8);
+    expect(
+        &rt,
+        read == Err(ParseError::OutOfRange { table: 2, row: 27 }),
+    );
+    expect_eq(&rt, &r.num_bits_left(), &8);
     let mut r = NaluReader::new(&[0xc6]);
-    assert!(rt; read_profile_tier_level(&mut r, 0) == Err(ParseError::OutOfBits));
-    assert_eq!(rt; r.num_bits_left(), 0);
+    expect(
+        &rt,
+        read_profile_tier_level(&mut r, 0) == Err(ParseError::OutOfBits),
+    );
+    expect_eq(&rt, &r.num_bits_left(), &0);
 }

@@ -1,4 +1,5 @@
 //! Worked scaling lists, and the values that 7.3.4 and 7.4.5 give for their bits.
+use crate::expect::{expect, expect_eq};
 use hevc_bits::NaluReader;
 use hevc_sets::{ParseError, default_scaling_lists, read_scaling_list_data};
 use hevc_types_a::ScalingLists;
@@ -55,8 +56,8 @@ fn each_kind_of_matrix(rt: HostRuntime) {
     want.scaling_list_32x32[3] = of_32x32;
     let mut r = NaluReader::new(EACH_KIND);
     let read = read_scaling_list_data(&mut r);
-    assert!(rt; read == Ok(want));
-    assert_eq!(rt; r.num_bits_left(), 4);
+    expect(&rt, read == Ok(want));
+    expect_eq(&rt, &r.num_bits_left(), &4);
 }
 
 #[test]
@@ -64,8 +65,8 @@ fn default_lists_are_read_and_given(rt: HostRuntime) {
     // 20 times 0 1
     let mut r = NaluReader::new(&[0x55, 0x55, 0x55, 0x55, 0x55]);
     let read = read_scaling_list_data(&mut r);
-    assert!(rt; read == Ok(default_scaling_lists()));
-    assert_eq!(rt; r.num_bits_left(), 0);
+    expect(&rt, read == Ok(default_scaling_lists()));
+    expect_eq(&rt, &r.num_bits_left(), &0);
 }
 
 #[test]
@@ -73,13 +74,19 @@ fn a_difference_above_its_matrix(rt: HostRuntime) {
     // 0 | 010: matrix 0 as the one before it
     let mut r = NaluReader::new(&[0x20]);
     let read = read_scaling_list_data(&mut r);
-    assert!(rt; read == Err(ParseError::OutOfRange { table: 6, row: 2 }));
-    assert_eq!(rt; r.num_bits_left(), 7);
+    expect(
+        &rt,
+        read == Err(ParseError::OutOfRange { table: 6, row: 2 }),
+    );
+    expect_eq(&rt, &r.num_bits_left(), &7);
     // 19 times 0 1, then 0 | 011: at 32x32 matrix 3 as the second one before it
     let mut r = NaluReader::new(&[0x55, 0x55, 0x55, 0x55, 0x54, 0xc0]);
     let read = read_scaling_list_data(&mut r);
-    assert!(rt; read == Err(ParseError::OutOfRange { table: 6, row: 2 }));
-    assert_eq!(rt; r.num_bits_left(), 9);
+    expect(
+        &rt,
+        read == Err(ParseError::OutOfRange { table: 6, row: 2 }),
+    );
+    expect_eq(&rt, &r.num_bits_left(), &9);
 }
 
 #[test]
@@ -87,15 +94,21 @@ fn refusals_stand_before_their_element(rt: HostRuntime) {
     // 12 times 0 1, then 1 | 000010001: -8
     let mut r = NaluReader::new(&[0x55, 0x55, 0x55, 0x84, 0x40]);
     let read = read_scaling_list_data(&mut r);
-    assert!(rt; read == Err(ParseError::OutOfRange { table: 6, row: 3 }));
-    assert_eq!(rt; r.num_bits_left(), 15);
+    expect(
+        &rt,
+        read == Err(ParseError::OutOfRange { table: 6, row: 3 }),
+    );
+    expect_eq(&rt, &r.num_bits_left(), &15);
     // 1 | 00000000100000000: 128
     let mut r = NaluReader::new(&[0x80, 0x40, 0x00]);
     let read = read_scaling_list_data(&mut r);
-    assert!(rt; read == Err(ParseError::OutOfRange { table: 6, row: 4 }));
-    assert_eq!(rt; r.num_bits_left(), 23);
+    expect(
+        &rt,
+        read == Err(ParseError::OutOfRange { table: 6, row: 4 }),
+    );
+    expect_eq(&rt, &r.num_bits_left(), &23);
     let mut r = NaluReader::new(&[]);
     let read = read_scaling_list_data(&mut r);
-    assert!(rt; read == Err(ParseError::OutOfBits));
-    assert_eq!(rt; r.num_bits_left(), 0);
+    expect(&rt, read == Err(ParseError::OutOfBits));
+    expect_eq(&rt, &r.num_bits_left(), &0);
 }

@@ -1,4 +1,5 @@
 //! Worked sets, and the values that 7.3.7 and 7.4.8 give for their bits.
+use crate::expect::{expect, expect_eq};
 use hevc_bits::NaluReader;
 use hevc_sets::{ParseError, read_short_term_set};
 use hevc_types_a::ShortTermRefPicSet;
@@ -44,8 +45,8 @@ fn members_that_are_written_out(rt: HostRuntime) {
     want.used_by_curr_pic_s0[0] = true;
     want.used_by_curr_pic_s1[0] = true;
     let read = read_short_term_set(&mut r, &[], 0, 3, 0);
-    assert!(rt; read == Ok(want));
-    assert_eq!(rt; r.num_bits_left(), 6);
+    expect(&rt, read == Ok(want));
+    expect_eq(&rt, &r.num_bits_left(), &6);
 }
 
 #[test]
@@ -65,8 +66,8 @@ fn a_shift_backwards(rt: HostRuntime) {
     want.used_by_curr_pic_s0[1] = true;
     want.used_by_curr_pic_s1[0] = true;
     let read = read_short_term_set(&mut r, &[two_before_three_after()], 2, 16, 1);
-    assert!(rt; read == Ok(want));
-    assert_eq!(rt; r.num_bits_left(), 2);
+    expect(&rt, read == Ok(want));
+    expect_eq(&rt, &r.num_bits_left(), &2);
 }
 
 #[test]
@@ -82,8 +83,8 @@ fn a_shift_forwards_onto_the_picture(rt: HostRuntime) {
     want.used_by_curr_pic_s1[0] = true;
     want.used_by_curr_pic_s1[1] = true;
     let read = read_short_term_set(&mut r, &[neighbours()], 2, 16, 1);
-    assert!(rt; read == Ok(want));
-    assert_eq!(rt; r.num_bits_left(), 2);
+    expect(&rt, read == Ok(want));
+    expect_eq(&rt, &r.num_bits_left(), &2);
 }
 
 #[test]
@@ -100,8 +101,11 @@ fn a_slice_header_names_the_first_of_two_sets(rt: HostRuntime) {
     want.delta_poc_s1[0] = 1;
     want.used_by_curr_pic_s1[0] = true;
     let sets = [two_before_three_after(), neighbours()];
-    assert!(rt; read_short_term_set(&mut r, &sets, 2, 16, 2) == Ok(want));
-    assert_eq!(rt; r.num_bits_left(), 5);
+    expect(
+        &rt,
+        read_short_term_set(&mut r, &sets, 2, 16, 2) == Ok(want),
+    );
+    expect_eq(&rt, &r.num_bits_left(), &5);
 }
 
 #[test]
@@ -112,12 +116,15 @@ fn a_predicted_set_of_seventeen(rt: HostRuntime) {
         other = set;
     }
     let differences = other.delta_poc_s0();
-    assert!(rt; differences[15] == -16);
+    expect(&rt, differences[15] == -16);
     // 1 | 1 | 1 | seventeen times 1
     let mut r = NaluReader::new(&[0xff, 0xff, 0xf0]);
     let read = read_short_term_set(&mut r, &[other], 2, 16, 1);
-    assert!(rt; read == Err(ParseError::OutOfRange { table: 7, row: 6 }));
-    assert_eq!(rt; r.num_bits_left(), 4);
+    expect(
+        &rt,
+        read == Err(ParseError::OutOfRange { table: 7, row: 6 }),
+    );
+    expect_eq(&rt, &r.num_bits_left(), &4);
 }
 
 #[test]
@@ -129,8 +136,11 @@ fn a_difference_of_more_than_32_bits(rt: HostRuntime) {
     // 1 | 0 | 1 | 1 1
     let mut r = NaluReader::new(&[0xb8]);
     let read = read_short_term_set(&mut r, &[other], 2, 16, 1);
-    assert!(rt; read == Err(ParseError::OutOfRange { table: 7, row: 6 }));
-    assert_eq!(rt; r.num_bits_left(), 3);
+    expect(
+        &rt,
+        read == Err(ParseError::OutOfRange { table: 7, row: 6 }),
+    );
+    expect_eq(&rt, &r.num_bits_left(), &3);
 }
 
 #[test]
@@ -138,13 +148,22 @@ fn a_refusal_stands_before_its_element(rt: HostRuntime) {
     // 000010010: 17 members before the picture
     let mut r = NaluReader::new(&[0x09, 0x40]);
     let read = read_short_term_set(&mut r, &[], 0, 16, 0);
-    assert!(rt; read == Err(ParseError::OutOfRange { table: 7, row: 7 }));
-    assert_eq!(rt; r.num_bits_left(), 16);
+    expect(
+        &rt,
+        read == Err(ParseError::OutOfRange { table: 7, row: 7 }),
+    );
+    expect_eq(&rt, &r.num_bits_left(), &16);
     let mut r = NaluReader::new(&[]);
-    assert!(rt; read_short_term_set(&mut r, &[], 0, 16, 0) == Err(ParseError::OutOfBits));
+    expect(
+        &rt,
+        read_short_term_set(&mut r, &[], 0, 16, 0) == Err(ParseError::OutOfBits),
+    );
     // three bits before the set, 010 | 1 | 1, and no row 10
     let mut r = NaluReader::new(&[0x0b]);
     let _ = r.skip_bits(3);
-    assert!(rt; read_short_term_set(&mut r, &[], 0, 16, 0) == Err(ParseError::OutOfBits));
-    assert_eq!(rt; r.num_bits_left(), 0);
+    expect(
+        &rt,
+        read_short_term_set(&mut r, &[], 0, 16, 0) == Err(ParseError::OutOfBits),
+    );
+    expect_eq(&rt, &r.num_bits_left(), &0);
 }

@@ -1,4 +1,5 @@
 //! Worked structures, and the values that E.2.2 and E.2.3 give for their bits.
+use crate::expect::{expect, expect_eq};
 use hevc_bits::NaluReader;
 use hevc_sets::{ParseError, read_hrd_parameters};
 use hevc_types_b::HrdParams;
@@ -78,8 +79,8 @@ fn both_kinds_with_decoding_units(rt: HostRuntime) {
     put_second_sub_layer(&mut want);
     let mut r = NaluReader::new(BOTH_KINDS);
     let read = read_hrd_parameters(&mut r, true, 1, &HrdParams::new());
-    assert!(rt; read == Ok(want));
-    assert_eq!(rt; r.num_bits_left(), 7);
+    expect(&rt, read == Ok(want));
+    expect_eq(&rt, &r.num_bits_left(), &7);
 }
 
 #[test]
@@ -98,8 +99,8 @@ fn a_structure_without_common_elements(rt: HostRuntime) {
     want.vcl_hrd[0].cpb_size_value_minus1[0] = 4;
     want.vcl_hrd[0].cbr_flag[0] = true;
     let read = read_hrd_parameters(&mut r, false, 0, &before);
-    assert!(rt; read == Ok(want));
-    assert_eq!(rt; r.num_bits_left(), 1);
+    expect(&rt, read == Ok(want));
+    expect_eq(&rt, &r.num_bits_left(), &1);
 }
 
 #[test]
@@ -108,11 +109,14 @@ fn refusals_stand_before_their_element(rt: HostRuntime) {
     let mut r = NaluReader::new(&[0x30, 0x42]);
     let before = HrdParams::new();
     let read = read_hrd_parameters(&mut r, true, 0, &before);
-    assert!(rt; read == Err(ParseError::OutOfRange { table: 3, row: 14 }));
-    assert_eq!(rt; r.num_bits_left(), 12);
+    expect(
+        &rt,
+        read == Err(ParseError::OutOfRange { table: 3, row: 14 }),
+    );
+    expect_eq(&rt, &r.num_bits_left(), &12);
     // 1 0 | 0 | 0000, and one bit of the second row 7
     let mut r = NaluReader::new(&[0x80]);
     let read = read_hrd_parameters(&mut r, true, 0, &before);
-    assert!(rt; read == Err(ParseError::OutOfBits));
-    assert_eq!(rt; r.num_bits_left(), 1);
+    expect(&rt, read == Err(ParseError::OutOfBits));
+    expect_eq(&rt, &r.num_bits_left(), &1);
 }

@@ -1,4 +1,5 @@
 //! Worked structures, and the values that E.2.1 gives for their bits.
+use crate::expect::{expect, expect_eq};
 use hevc_bits::NaluReader;
 use hevc_sets::{ParseError, read_vui_parameters};
 use hevc_types_b::{HrdParams, VuiParams};
@@ -102,15 +103,15 @@ fn every_group_with_both_kinds_of_schedules(rt: HostRuntime) {
     put_timing(&mut want);
     put_hrd(&mut want.hrd);
     let mut r = NaluReader::new(EVERY_GROUP);
-    assert!(rt; read_vui_parameters(&mut r, 0) == Ok(want));
-    assert_eq!(rt; r.num_bits_left(), 5);
+    expect(&rt, read_vui_parameters(&mut r, 0) == Ok(want));
+    expect_eq(&rt, &r.num_bits_left(), &5);
 }
 
 #[test]
 fn no_flag_is_set(rt: HostRuntime) {
     let mut r = NaluReader::new(&[0x00, 0x20]);
-    assert!(rt; read_vui_parameters(&mut r, 6) == Ok(VuiParams::new()));
-    assert_eq!(rt; r.num_bits_left(), 6);
+    expect(&rt, read_vui_parameters(&mut r, 6) == Ok(VuiParams::new()));
+    expect_eq(&rt, &r.num_bits_left(), &6);
 }
 
 #[test]
@@ -118,9 +119,15 @@ fn a_refusal_stands_before_its_element(rt: HostRuntime) {
     // 0 | 0 | 0 | 1 00111: a place of chroma samples of 6
     let mut r = NaluReader::new(&[0x13, 0x80]);
     let read = read_vui_parameters(&mut r, 0);
-    assert!(rt; read == Err(ParseError::OutOfRange { table: 8, row: 11 }));
-    assert_eq!(rt; r.num_bits_left(), 12);
+    expect(
+        &rt,
+        read == Err(ParseError::OutOfRange { table: 8, row: 11 }),
+    );
+    expect_eq(&rt, &r.num_bits_left(), &12);
     let mut r = NaluReader::new(&[0xff]);
-    assert!(rt; read_vui_parameters(&mut r, 0) == Err(ParseError::OutOfBits));
-    assert_eq!(rt; r.num_bits_left(), 7);
+    expect(
+        &rt,
+        read_vui_parameters(&mut r, 0) == Err(ParseError::OutOfBits),
+    );
+    expect_eq(&rt, &r.num_bits_left(), &7);
 }

@@ -1,0 +1,4 @@
+//! Tests of the checker of declared bounds.
+mod checks;
+mod orders;
+mod program;

@@ -1,0 +1,4 @@
+//! Tests of the extractor of sub-layers and layers.
+mod decoded;
+mod extraction;
+mod program;

@@ -1,0 +1,16 @@
+//! Tests of the tools above the decoder, over streams in memory: the extractor up to the decoder's report, the splicer up to what is
+//! decoded, and the checker of declared bounds.
+#![tactic(auto)]
+
+#[cfg(test)]
+mod check;
+#[cfg(test)]
+mod expect;
+#[cfg(test)]
+mod extract;
+#[cfg(test)]
+mod index;
+#[cfg(test)]
+mod streams;
+#[cfg(test)]
+mod words;
