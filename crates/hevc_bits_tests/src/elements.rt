@@ -13,71 +13,74 @@ const ROW: Row = Row(5, 8);
 
 /// Reads 1 | 1 | 0 | 10110 | 101 | 10.
 fn reads_flags_and_bits(rt: &impl Abort, r: &mut NaluReader<'_>) {
-    expect_eq(rt, &flag(r, ROW), &Ok(true));
-    expect_eq(rt, &flag_if(r, true, ROW), &Ok(true));
-    expect_eq(rt, &flag_if(r, false, ROW), &Ok(false));
-    expect_eq(rt, &flag_or(r, true, true, ROW), &Ok(false));
-    expect_eq(rt, &flag_or(r, false, true, ROW), &Ok(true));
-    expect_eq(rt, &bits_u32(r, ROW, 5, 0, 31), &Ok(22));
-    expect_eq(rt, &bits_u8(r, ROW, 3, 0, 7), &Ok(5));
-    expect_eq(rt, &bits_u8_if(r, true, ROW, 2, 0, 3), &Ok(2));
-    expect_eq(rt, &bits_u8_if(r, false, ROW, 2, 0, 3), &Ok(0));
+    expect_eq(rt, flag(r, ROW), Ok(true));
+    expect_eq(rt, flag_if(r, true, ROW), Ok(true));
+    expect_eq(rt, flag_if(r, false, ROW), Ok(false));
+    expect_eq(rt, flag_or(r, true, true, ROW), Ok(false));
+    expect_eq(rt, flag_or(r, false, true, ROW), Ok(true));
+    expect_eq(rt, bits_u32(r, ROW, 5, 0, 31), Ok(22));
+    expect_eq(rt, bits_u8(r, ROW, 3, 0, 7), Ok(5));
+    expect_eq(rt, bits_u8_if(r, true, ROW, 2, 0, 3), Ok(2));
+    expect_eq(rt, bits_u8_if(r, false, ROW, 2, 0, 3), Ok(0));
 }
 
 /// Reads 00101 | 011 | 0001000 | 010 | 00101 | 00110.
 fn reads_numbers(rt: &impl Abort, r: &mut NaluReader<'_>) {
-    expect_eq(rt, &ue(r, ROW, 0, 4), &Ok(4));
-    expect_eq(rt, &ue_u8(r, ROW, 0, 2), &Ok(2));
-    expect_eq(rt, &ue_u16(r, ROW, 1, 16_888), &Ok(7));
-    expect_eq(rt, &ue_u8_if(r, true, ROW, 0, 3), &Ok(1));
-    expect_eq(rt, &ue_u8_if(r, false, ROW, 0, 3), &Ok(0));
-    expect_eq(rt, &se(r, ROW, -2, 2), &Ok(-2));
-    expect_eq(rt, &se_i8(r, ROW, -6, 6), &Ok(3));
+    expect_eq(rt, ue(r, ROW, 0, 4), Ok(4));
+    expect_eq(rt, ue_u8(r, ROW, 0, 2), Ok(2));
+    expect_eq(rt, ue_u16(r, ROW, 1, 16_888), Ok(7));
+    expect_eq(rt, ue_u8_if(r, true, ROW, 0, 3), Ok(1));
+    expect_eq(rt, ue_u8_if(r, false, ROW, 0, 3), Ok(0));
+    expect_eq(rt, se(r, ROW, -2, 2), Ok(-2));
+    expect_eq(rt, se_i8(r, ROW, -6, 6), Ok(3));
 }
 
 /// Reads 0 | 0 | 111 | 1.
 fn reads_what_has_no_value(rt: &impl Abort, r: &mut NaluReader<'_>) {
-    expect_eq(rt, &zero(r, ROW), &Ok(()));
-    expect_eq(rt, &zero_if(r, true, ROW), &Ok(()));
-    expect_eq(rt, &zero_if(r, false, ROW), &Ok(()));
-    expect_eq(rt, &skip(r, ROW, 3), &Ok(()));
-    expect_eq(rt, &check(r, ROW, true), &Ok(()));
-    expect_eq(rt, &flag(r, ROW), &Ok(true));
+    expect_eq(rt, zero(r, ROW), Ok(()));
+    expect_eq(rt, zero_if(r, true, ROW), Ok(()));
+    expect_eq(rt, zero_if(r, false, ROW), Ok(()));
+    expect_eq(rt, skip(r, ROW, 3), Ok(()));
+    expect_eq(rt, check(r, ROW, true), Ok(()));
+    expect_eq(rt, flag(r, ROW), Ok(true));
 }
 
 #[test]
 fn elements_are_read_where_they_stand(rt: HostRuntime) {
+    let rt = &rt;
     let mut r = NaluReader::new(&[0xd6, 0xb1, 0x58, 0x84, 0x53, 0x1e]);
-    reads_flags_and_bits(&rt, &mut r);
-    reads_numbers(&rt, &mut r);
-    reads_what_has_no_value(&rt, &mut r);
+    reads_flags_and_bits(rt, &mut r);
+    reads_numbers(rt, &mut r);
+    reads_what_has_no_value(rt, &mut r);
 }
 
 #[test]
 fn refusals_name_the_row(rt: HostRuntime) {
+    let rt = &rt;
     let refused = Err(ParseError::OutOfRange { table: 5, row: 8 });
     let mut r = NaluReader::new(&[0x28]);
-    expect_eq(&rt, &ue(&mut r, ROW, 0, 3), &refused);
-    expect_eq(&rt, &bits_u32(&mut r, ROW, 3, 0, 0), &refused);
+    expect_eq(rt, ue(&mut r, ROW, 0, 3), refused);
+    expect_eq(rt, bits_u32(&mut r, ROW, 3, 0, 0), refused);
     expect_eq(
-        &rt,
-        &bits_u32(&mut r, ROW, 9, 0, 511),
-        &Err(ParseError::OutOfBits),
+        rt,
+        bits_u32(&mut r, ROW, 9, 0, 511),
+        Err(ParseError::OutOfBits),
     );
-    expect_eq(&rt, &out_of_range(ROW), &refusal(BitError::OutOfRange, ROW));
+    expect_eq(rt, out_of_range(ROW), refusal(BitError::OutOfRange, ROW));
 }
 
 #[test]
 fn long_numbers_and_absent_ones(rt: HostRuntime) {
+    let rt = &rt;
     // 10000000000000000000000000000001 | 101 | 00110
     let mut r = NaluReader::new(&[0x80, 0x00, 0x00, 0x01, 0xa6]);
     let r = &mut r;
-    expect_eq(&rt, &bits_32(r, ROW), &Ok(2_147_483_649));
-    expect_eq(&rt, &bits_u32_if(r, true, ROW, 3, 0, 7), &Ok(5));
-    expect_eq(&rt, &bits_u32_if(r, false, ROW, 3, 0, 7), &Ok(0));
-    expect_eq(&rt, &ue_if(r, true, ROW, 0, 9), &Ok(5));
-    expect_eq(&rt, &ue_if(r, false, ROW, 0, 9), &Ok(0));
+    expect_eq(rt, bits_32(r, ROW), Ok(2_147_483_649));
+    expect_eq(rt, bits_u32_if(r, true, ROW, 3, 0, 7), Ok(5));
+    expect_eq(rt, bits_u32_if(r, false, ROW, 3, 0, 7), Ok(0));
+    expect_eq(rt, ue_if(r, true, ROW, 0, 9), Ok(5));
+    expect_eq(rt, ue_if(r, false, ROW, 0, 9), Ok(0));
     let mut r = NaluReader::new(&[0x12, 0x34, 0x56]);
-    expect_eq(&rt, &bits_32(&mut r, ROW), &Err(ParseError::OutOfBits));
-    expect_eq(&rt, &r.num_bits_left(), &24);
+    expect_eq(rt, bits_32(&mut r, ROW), Err(ParseError::OutOfBits));
+    expect_eq(rt, r.num_bits_left(), 24);
 }

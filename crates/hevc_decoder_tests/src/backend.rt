@@ -2,7 +2,7 @@
 mod caller;
 mod over_device;
 
-use crate::expect::{expect, expect_eq};
+use crate::expect::{expect, expect_eq, ok};
 use caller::{First, decode_picture};
 use hevc_backend::{
     Backend, BackendError, Call, Resolution, SilentBackend, StatelessH265DecoderBackend,
@@ -13,7 +13,6 @@ use hevc_types_c::Sps;
 use hevc_types_d::{Pps, Slice, SliceHeader};
 use over_device::{Device, OverDevice};
 use std::alloc::Global;
-use std::test::Fail;
 
 /// A unit of an IDR picture after its start code.
 const UNIT: &[u8] = &[0, 0, 1, 38, 1, 175, 128];
@@ -119,93 +118,97 @@ fn submits(calls: &[Call<u64>]) -> bool {
 }
 
 #[test]
-fn each_call_is_recorded_once(rt: HostRuntime) -> Result<(), Fail> {
+fn each_call_is_recorded_once(rt: HostRuntime) {
+    let rt = &rt;
     let alloc = rt.alloc();
     let mut backend = Backend::new(alloc);
     let sps = Sps::new(alloc);
-    let first = first(alloc, UNIT).ok_or("no unit")?;
+    let first = ok(rt, first(alloc, UNIT).ok_or("no unit"));
     expect(
-        &rt,
+        rt,
         decode_picture(alloc, &mut backend, &sps, &first) == Ok(Some(0)),
     );
     let calls = backend.calls();
-    expect_eq(&rt, &calls.len(), &5);
+    expect_eq(rt, calls.len(), 5);
     expect(
-        &rt,
+        rt,
         begins_sequence(calls) && begins_picture(calls) && names_no_references(calls),
     );
-    expect(&rt, has_slice(calls) && submits(calls));
-    Ok(())
+    expect(rt, has_slice(calls) && submits(calls));
 }
 
 #[test]
-fn a_planned_call_fails_and_is_not_recorded(rt: HostRuntime) -> Result<(), Fail> {
+fn a_planned_call_fails_and_is_not_recorded(rt: HostRuntime) {
+    let rt = &rt;
     let alloc = rt.alloc();
-    let mut backend = Backend::with_plan(alloc, vec![in alloc; 3]?, vec![in alloc; 16, 0]?);
+    let mut backend = Backend::with_plan(
+        alloc,
+        ok(rt, vec![in alloc; 3]),
+        ok(rt, vec![in alloc; 16, 0]),
+    );
     let sps = Sps::new(alloc);
     let picture = PictureData::default();
-    expect(&rt, backend.new_sequence(&sps) == Ok(()));
-    expect(&rt, backend.new_picture(0, &picture, 0) == Ok(0));
+    expect(rt, backend.new_sequence(&sps) == Ok(()));
+    expect(rt, backend.new_picture(0, &picture, 0) == Ok(0));
     expect(
-        &rt,
+        rt,
         backend.submit_picture(0, 0) == Err(BackendError::Failed),
     );
-    expect_eq(&rt, &backend.calls().len(), &2);
-    expect(&rt, backend.submit_picture(0, 0) == Ok(0));
-    expect(&rt, backend.submit_picture(1, 1) == Ok(1));
-    expect_eq(&rt, &backend.calls().len(), &4);
-    Ok(())
+    expect_eq(rt, backend.calls().len(), 2);
+    expect(rt, backend.submit_picture(0, 0) == Ok(0));
+    expect(rt, backend.submit_picture(1, 1) == Ok(1));
+    expect_eq(rt, backend.calls().len(), 4);
 }
 
 #[test]
-fn frames_are_those_of_the_plan(rt: HostRuntime) -> Result<(), Fail> {
+fn frames_are_those_of_the_plan(rt: HostRuntime) {
+    let rt = &rt;
     let alloc = rt.alloc();
-    let mut backend = Backend::with_plan(alloc, Vec::new(alloc), vec![in alloc; 16, 0]?);
-    expect_eq(&rt, &backend.num_free_frames(), &16);
-    expect_eq(&rt, &backend.num_free_frames(), &0);
-    expect_eq(&rt, &backend.num_free_frames(), &16);
-    expect_eq(&rt, &backend.num_free_frames(), &16);
-    expect(&rt, backend.calls().is_empty());
-    Ok(())
+    let mut backend = Backend::with_plan(alloc, Vec::new(alloc), ok(rt, vec![in alloc; 16, 0]));
+    expect_eq(rt, backend.num_free_frames(), 16);
+    expect_eq(rt, backend.num_free_frames(), 0);
+    expect_eq(rt, backend.num_free_frames(), 16);
+    expect_eq(rt, backend.num_free_frames(), 16);
+    expect(rt, backend.calls().is_empty());
 }
 
 #[test]
-fn info_is_that_of_the_sequence(rt: HostRuntime) -> Result<(), Fail> {
+fn info_is_that_of_the_sequence(rt: HostRuntime) {
+    let rt = &rt;
     let alloc = rt.alloc();
-    let mut backend = Backend::with_plan(alloc, vec![in alloc; 1]?, Vec::new(alloc));
+    let mut backend = Backend::with_plan(alloc, ok(rt, vec![in alloc; 1]), Vec::new(alloc));
     let sps = Sps::new(alloc);
-    expect(&rt, backend.stream_info().is_none());
-    expect(&rt, backend.new_sequence(&sps) == Err(BackendError::Failed));
-    expect(&rt, backend.stream_info().is_none());
-    expect(&rt, backend.new_sequence(&sps) == Ok(()));
+    expect(rt, backend.stream_info().is_none());
+    expect(rt, backend.new_sequence(&sps) == Err(BackendError::Failed));
+    expect(rt, backend.stream_info().is_none());
+    expect(rt, backend.new_sequence(&sps) == Ok(()));
     let one = Resolution {
         width: 1,
         height: 1,
     };
-    let info = backend.stream_info().ok_or("no info")?;
+    let info = ok(rt, backend.stream_info().ok_or("no info"));
     expect(
-        &rt,
+        rt,
         info.coded_resolution == one && info.display_resolution == one,
     );
-    expect_eq(&rt, &info.min_num_frames, &(sps.max_dpb_size() + 1));
-    Ok(())
+    expect_eq(rt, info.min_num_frames, sps.max_dpb_size() + 1);
 }
 
 #[test]
-fn a_silent_backend_takes_all(rt: HostRuntime) -> Result<(), Fail> {
+fn a_silent_backend_takes_all(rt: HostRuntime) {
+    let rt = &rt;
     let alloc = rt.alloc();
     let mut backend = SilentBackend::new();
     let sps = Sps::new(alloc);
-    let first = first(alloc, UNIT).ok_or("no unit")?;
+    let first = ok(rt, first(alloc, UNIT).ok_or("no unit"));
     expect(
-        &rt,
+        rt,
         decode_picture(alloc, &mut backend, &sps, &first) == Ok(Some(())),
     );
     expect(
-        &rt,
+        rt,
         backend.num_free_frames() != 0 && backend.stream_info().is_none(),
     );
-    Ok(())
 }
 
 /// A device that makes frames, and hands out so many.
@@ -234,7 +237,8 @@ impl Device for Frames {
 }
 
 #[test]
-fn a_device_runs_out_of_frames(rt: HostRuntime) -> Result<(), Fail> {
+fn a_device_runs_out_of_frames(rt: HostRuntime) {
+    let rt = &rt;
     let alloc = rt.alloc();
     let mut backend = OverDevice {
         device: Frames { left: 1 },
@@ -244,16 +248,15 @@ fn a_device_runs_out_of_frames(rt: HostRuntime) -> Result<(), Fail> {
         info: None,
     };
     let sps = Sps::new(alloc);
-    let first = first(alloc, UNIT).ok_or("no unit")?;
+    let first = ok(rt, first(alloc, UNIT).ok_or("no unit"));
     expect(
-        &rt,
+        rt,
         decode_picture(alloc, &mut backend, &sps, &first) == Ok(Some(0)),
     );
-    expect(&rt, backend.stream_info().is_some());
+    expect(rt, backend.stream_info().is_some());
     expect(
-        &rt,
+        rt,
         decode_picture(alloc, &mut backend, &sps, &first) == Ok(None),
     );
-    expect(&rt, backend.faults == 0 && backend.empty_answers == 1);
-    Ok(())
+    expect(rt, backend.faults == 0 && backend.empty_answers == 1);
 }

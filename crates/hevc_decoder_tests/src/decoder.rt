@@ -6,14 +6,13 @@ mod plans;
 mod states;
 mod told;
 
-use crate::expect::{expect, expect_eq};
+use crate::expect::{expect, expect_eq, ok};
 use calling::{numbers_by_events, numbers_of_source, numbers_of_stream};
 use hevc_backend::Backend;
 use hevc_decoder::{DecodeError, Refused, Shown, decode_stream};
 use hevc_io::MemorySource;
 use std::alloc::Global;
 use std::process::Abort;
-use std::test::Fail;
 
 /// A sequence set of 16 by 16 luma samples of which one picture may be needed for output, a picture set, and two
 /// slices of an IDR picture each, every unit after a start code.
@@ -25,21 +24,22 @@ const TWO_PICTURES: &[u8] = &[
 ];
 
 #[test]
-fn an_empty_stream_has_no_pictures(rt: HostRuntime) -> Result<(), Fail> {
+fn an_empty_stream_has_no_pictures(rt: HostRuntime) {
+    let rt = &rt;
     let mut shown = Vec::new(rt.alloc());
     let decoded = decode_stream(rt.alloc(), Backend::new(rt.alloc()), &[], &mut shown);
-    expect(&rt, decoded.result == Ok(0));
-    expect(&rt, shown.is_empty());
-    Ok(())
+    expect(rt, decoded.result == Ok(0));
+    expect(rt, shown.is_empty());
 }
 
 #[test]
-fn two_pictures_come_out(rt: HostRuntime) -> Result<(), Fail> {
+fn two_pictures_come_out(rt: HostRuntime) {
+    let rt = &rt;
     let alloc = rt.alloc();
     let mut shown = Vec::new(alloc);
     let decoded = decode_stream(alloc, Backend::new(alloc), TWO_PICTURES, &mut shown);
-    expect(&rt, decoded.result == Ok(2));
-    expect_eq(&rt, &decoded.backend.calls().len(), &9);
+    expect(rt, decoded.result == Ok(2));
+    expect_eq(rt, decoded.backend.calls().len(), 9);
     let first = Shown {
         number: 0,
         handle: 0,
@@ -52,8 +52,7 @@ fn two_pictures_come_out(rt: HostRuntime) -> Result<(), Fail> {
         order_count: 0,
         unit: 4,
     };
-    expect(&rt, shown.as_slice() == [first, second].as_slice());
-    Ok(())
+    expect(rt, shown.as_slice() == [first, second].as_slice());
 }
 
 /// The stream is refused at this unit over a backend, which took so many calls; so many pictures were output.
@@ -64,24 +63,17 @@ fn refused(
     refused: Refused,
     calls: usize,
     pictures: usize,
-) -> Result<(), Fail> {
+) {
     let mut shown = Vec::new(alloc);
     let decoded = decode_stream(alloc, backend, TWO_PICTURES, &mut shown);
     expect(rt, decoded.result == Err(refused));
-    expect_eq(rt, &decoded.backend.calls().len(), &calls);
-    expect_eq(rt, &shown.len(), &pictures);
-    Ok(())
+    expect_eq(rt, decoded.backend.calls().len(), calls);
+    expect_eq(rt, shown.len(), pictures);
 }
 
 /// Of the nine calls one fails, the first being 1.
-fn fails(
-    rt: &impl Abort,
-    alloc: Global,
-    call: u64,
-    unit: u64,
-    pictures: usize,
-) -> Result<(), Fail> {
-    let backend = Backend::with_plan(alloc, vec![in alloc; call]?, Vec::new(alloc));
+fn fails(rt: &impl Abort, alloc: Global, call: u64, unit: u64, pictures: usize) {
+    let backend = Backend::with_plan(alloc, ok(rt, vec![in alloc; call]), Vec::new(alloc));
     let error = DecodeError::Backend;
     refused(
         rt,
@@ -90,11 +82,11 @@ fn fails(
         Refused { unit, error },
         (call as usize).saturating_sub(1),
         pictures,
-    )
+    );
 }
 
 #[test]
-fn a_call_that_fails_is_told_at_its_unit(rt: HostRuntime) -> Result<(), Fail> {
+fn a_call_that_fails_is_told_at_its_unit(rt: HostRuntime) {
     for (call, unit, pictures) in [
         (1, 0, 0),
         (2, 2, 0),
@@ -106,48 +98,43 @@ fn a_call_that_fails_is_told_at_its_unit(rt: HostRuntime) -> Result<(), Fail> {
         (8, 3, 1),
         (9, 4, 1),
     ] {
-        fails(&rt, rt.alloc(), call, unit, pictures)?;
+        fails(&rt, rt.alloc(), call, unit, pictures);
     }
-    Ok(())
 }
 
 #[test]
-fn a_frame_that_is_missing_is_told_at_the_picture_that_wants_it(
-    rt: HostRuntime,
-) -> Result<(), Fail> {
+fn a_frame_that_is_missing_is_told_at_the_picture_that_wants_it(rt: HostRuntime) {
+    let rt = &rt;
     let alloc = rt.alloc();
     let error = DecodeError::NotEnoughOutputBuffers(1);
-    let first = Backend::with_plan(alloc, Vec::new(alloc), vec![in alloc; 0]?);
-    refused(&rt, alloc, first, Refused { unit: 2, error }, 1, 0)?;
-    let second = Backend::with_plan(alloc, Vec::new(alloc), vec![in alloc; 1, 0]?);
-    refused(&rt, alloc, second, Refused { unit: 3, error }, 5, 0)
+    let first = Backend::with_plan(alloc, Vec::new(alloc), ok(rt, vec![in alloc; 0]));
+    refused(rt, alloc, first, Refused { unit: 2, error }, 1, 0);
+    let second = Backend::with_plan(alloc, Vec::new(alloc), ok(rt, vec![in alloc; 1, 0]));
+    refused(rt, alloc, second, Refused { unit: 3, error }, 5, 0);
 }
 
 #[test]
-fn events_streams_and_sources_give_the_same_pictures(rt: HostRuntime) -> Result<(), Fail> {
+fn events_streams_and_sources_give_the_same_pictures(rt: HostRuntime) {
+    let rt = &rt;
     let alloc = rt.alloc();
-    let numbers = numbers_by_events(alloc, TWO_PICTURES).or(Err("refused"))?;
-    expect_eq(&rt, &numbers.as_slice(), &[0u64, 1].as_slice());
-    let numbers = numbers_of_stream(alloc, TWO_PICTURES)?.or(Err("refused"))?;
-    expect_eq(&rt, &numbers.as_slice(), &[0u64, 1].as_slice());
-    let mut bytes = Vec::with_capacity(alloc, 52)?;
-    bytes.extend_from_slice(TWO_PICTURES)?;
+    let numbers = ok(rt, numbers_by_events(alloc, TWO_PICTURES));
+    expect_eq(rt, numbers.as_slice(), [0u64, 1].as_slice());
+    let numbers = ok(rt, ok(rt, numbers_of_stream(alloc, TWO_PICTURES)));
+    expect_eq(rt, numbers.as_slice(), [0u64, 1].as_slice());
+    let mut bytes = ok(rt, Vec::with_capacity(alloc, 52));
+    ok(rt, bytes.extend_from_slice(TWO_PICTURES));
     let mut source = MemorySource::new(bytes, Vec::new(alloc));
-    let read = numbers_of_source(alloc, &mut source).or(Err("failed"))?;
-    expect_eq(
-        &rt,
-        &read.or(Err("refused"))?.as_slice(),
-        &[0u64, 1].as_slice(),
-    );
-    Ok(())
+    let read = ok(rt, numbers_of_source(alloc, &mut source));
+    expect_eq(rt, ok(rt, read).as_slice(), [0u64, 1].as_slice());
 }
 
 #[test]
-fn refused_units_are_told_with_their_numbers(rt: HostRuntime) -> Result<(), Fail> {
+fn refused_units_are_told_with_their_numbers(rt: HostRuntime) {
+    let rt = &rt;
     let alloc = rt.alloc();
-    let truncated = numbers_of_stream(alloc, &[0, 0, 1, 0x26])?;
+    let truncated = ok(rt, numbers_of_stream(alloc, &[0, 0, 1, 0x26]));
     expect(
-        &rt,
+        rt,
         matches!(
             truncated,
             Err(Refused {
@@ -157,6 +144,5 @@ fn refused_units_are_told_with_their_numbers(rt: HostRuntime) -> Result<(), Fail
         ),
     );
     let refused = numbers_by_events(alloc, &[0, 0, 1, 0x26]);
-    expect(&rt, matches!(refused, Err(DecodeError::TruncatedNalu)));
-    Ok(())
+    expect(rt, matches!(refused, Err(DecodeError::TruncatedNalu)));
 }

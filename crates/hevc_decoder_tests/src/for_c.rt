@@ -10,7 +10,7 @@ use hevc_pull::PullDecoder;
 use hevc_queue::QueueBackend;
 use hevc_stateless::StatelessDecoder;
 use std::alloc::Global;
-use std::test::Fail;
+use std::process::Abort;
 
 /// A decoder at the beginning of a stream.
 fn pull_decoder(alloc: Global) -> PullDecoder {
@@ -21,14 +21,13 @@ fn pull_decoder(alloc: Global) -> PullDecoder {
 }
 
 /// Fails, by its name, where something isn't so.
-fn check(is_so: bool, name: &'static str) -> Result<(), Fail> {
-    if is_so { Ok(()) } else { Err(Fail::from(name)) }
+fn check(rt: &impl Abort, is_so: bool, name: &str) {
+    assert!(rt; is_so, "{name}");
 }
 
 /// Fails, by its name, with the first of these that isn't so.
-fn check_all(facts: &[(bool, &'static str)]) -> Result<(), Fail> {
-    match facts.iter().find(|fact| !fact.0) {
-        Some(fact) => check(false, fact.1),
-        None => Ok(()),
+fn check_all(rt: &impl Abort, facts: &[(bool, &str)]) {
+    for (is_so, name) in facts {
+        check(rt, *is_so, name);
     }
 }

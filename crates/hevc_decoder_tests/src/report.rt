@@ -1,11 +1,10 @@
 //! Streams of the worked units, from the words of the command line and the bytes to the report.
-use crate::expect::{expect, expect_eq};
+use crate::expect::{expect, expect_eq, ok};
 use hevc_io::{MemorySink, MemorySource, Word};
 use hevc_made::make_stream;
 use hevc_report::run;
-use std::alloc::{AllocError, Global};
+use std::alloc::Global;
 use std::process::Abort;
-use std::test::Fail;
 
 /// 16 by 16 luma samples, one picture may be needed for output.
 const SPS: &[u8] = &[
@@ -154,27 +153,28 @@ const B2_2: &str =
     "pic 2 type 1 poc 2 output 1\nslice 2 at 0 size 7 list0 0 list1 1\nsubmit 2 handle 2\n";
 
 /// The units, each after this start code.
-fn joined(alloc: Global, start: &[u8], units: &[&[u8]]) -> Result<Vec<u8>, AllocError> {
+fn joined(rt: &impl Abort, alloc: Global, start: &[u8], units: &[&[u8]]) -> Vec<u8> {
     let mut bytes = Vec::new(alloc);
     for unit in units {
-        bytes.extend_from_slice(start)?;
-        bytes.extend_from_slice(unit)?;
+        ok(rt, bytes.extend_from_slice(start));
+        ok(rt, bytes.extend_from_slice(unit));
     }
-    Ok(bytes)
+    bytes
 }
 
 /// The units, each after 00 00 01.
-fn stream(alloc: Global, units: &[&[u8]]) -> Result<Vec<u8>, AllocError> {
-    joined(alloc, START, units)
+fn stream(rt: &impl Abort, alloc: Global, units: &[&[u8]]) -> Vec<u8> {
+    joined(rt, alloc, START, units)
 }
 
 /// The words of a command line.
-fn words_of(alloc: Global, texts: &[&str]) -> Result<Vec<Word>, Fail> {
+fn words_of(rt: &impl Abort, alloc: Global, texts: &[&str]) -> Vec<Word> {
     let mut words = Vec::new(alloc);
     for text in texts {
-        words.push(Word::new(Vec::from_slice(alloc, text.as_bytes())?))?;
+        let word = Word::new(ok(rt, Vec::from_slice(alloc, text.as_bytes())));
+        ok(rt, words.push(word));
     }
-    Ok(words)
+    words
 }
 
 /// A run by these words over these bytes ends with this status. Gives what it wrote.
@@ -184,187 +184,163 @@ fn written_by(
     texts: &[&str],
     bytes: Vec<u8>,
     status: u8,
-) -> Result<MemorySink, Fail> {
-    let words = words_of(alloc, texts)?;
+) -> MemorySink {
+    let words = words_of(rt, alloc, texts);
     let mut source = MemorySource::new(bytes, Vec::new(alloc));
     let mut sink = MemorySink::new(alloc, Vec::new(alloc));
-    expect_eq(rt, &run(alloc, &words, &mut source, &mut sink), &status);
-    Ok(sink)
+    expect_eq(rt, run(alloc, &words, &mut source, &mut sink), status);
+    sink
 }
 
 /// A run by no words over these bytes ends with this status, and writes these pieces of text.
-fn reports_on(
-    rt: &impl Abort,
-    alloc: Global,
-    bytes: Vec<u8>,
-    status: u8,
-    text: &[&str],
-) -> Result<(), Fail> {
+fn reports_on(rt: &impl Abort, alloc: Global, bytes: Vec<u8>, status: u8, text: &[&str]) {
     let mut expected = String::new(alloc);
     for piece in text {
-        expected.push_str(piece)?;
+        ok(rt, expected.push_str(piece));
     }
-    let sink = written_by(rt, alloc, &[], bytes, status)?;
-    expect_eq(rt, &sink.written(), &expected.as_bytes());
-    Ok(())
+    let sink = written_by(rt, alloc, &[], bytes, status);
+    expect_eq(rt, sink.written(), expected.as_bytes());
 }
 
 /// The same over these units.
-fn reports(
-    rt: &impl Abort,
-    alloc: Global,
-    units: &[&[u8]],
-    status: u8,
-    text: &[&str],
-) -> Result<(), Fail> {
-    let bytes = stream(alloc, units)?;
-    reports_on(rt, alloc, bytes, status, text)
+fn reports(rt: &impl Abort, alloc: Global, units: &[&[u8]], status: u8, text: &[&str]) {
+    let bytes = stream(rt, alloc, units);
+    reports_on(rt, alloc, bytes, status, text);
 }
 
 /// A run by these words over these bytes ends with this status, and what it writes ends so.
-fn ends_on(
-    rt: &impl Abort,
-    alloc: Global,
-    texts: &[&str],
-    bytes: Vec<u8>,
-    status: u8,
-    end: &str,
-) -> Result<(), Fail> {
-    let sink = written_by(rt, alloc, texts, bytes, status)?;
+fn ends_on(rt: &impl Abort, alloc: Global, texts: &[&str], bytes: Vec<u8>, status: u8, end: &str) {
+    let sink = written_by(rt, alloc, texts, bytes, status);
     expect(rt, sink.written().ends_with(end.as_bytes()));
-    Ok(())
 }
 
 /// The same over these units.
-fn ends(
-    rt: &impl Abort,
-    alloc: Global,
-    texts: &[&str],
-    units: &[&[u8]],
-    status: u8,
-    end: &str,
-) -> Result<(), Fail> {
-    let bytes = stream(alloc, units)?;
-    ends_on(rt, alloc, texts, bytes, status, end)
+fn ends(rt: &impl Abort, alloc: Global, texts: &[&str], units: &[&[u8]], status: u8, end: &str) {
+    let bytes = stream(rt, alloc, units);
+    ends_on(rt, alloc, texts, bytes, status, end);
 }
 
 #[test]
-fn pictures_come_out_in_output_order(rt: HostRuntime) -> Result<(), Fail> {
+fn pictures_come_out_in_output_order(rt: HostRuntime) {
+    let rt = &rt;
     let alloc = rt.alloc();
     let end =
         "show 0 poc 0 unit 4\nshow 2 poc 2 unit 5\nshow 1 poc 4 unit 5\nend pictures 3 shown 3\n";
     reports(
-        &rt,
+        rt,
         alloc,
         &[SPS, PPS, IDR, P4, P2],
         0,
         &[SEQ, PICTURE_0, P4_1, P2_2, end],
-    )?;
+    );
     let end = "show 0 poc 0 unit 4\nshow 1 poc 0 unit 4\nend pictures 2 shown 2\n";
-    ends(&rt, alloc, &[], &[SPS, PPS, IDR, T0], 0, end)?;
+    ends(rt, alloc, &[], &[SPS, PPS, IDR, T0], 0, end);
     let end = "show 0 poc 0 unit 3\nend pictures 1 shown 1\n";
-    reports(&rt, alloc, &[SPS, PPS, IDR], 0, &[SEQ, PICTURE_0, end])?;
-    reports(&rt, alloc, &[PPS, SPS, IDR], 0, &[SEQ, PICTURE_0, end])?;
+    reports(rt, alloc, &[SPS, PPS, IDR], 0, &[SEQ, PICTURE_0, end]);
+    reports(rt, alloc, &[PPS, SPS, IDR], 0, &[SEQ, PICTURE_0, end]);
     let end = "show 0 poc 0 unit 4\nend pictures 1 shown 1\n";
-    reports(&rt, alloc, &[VPS, SPS, PPS, IDR], 0, &[SEQ, PICTURE_0, end])
+    reports(rt, alloc, &[VPS, SPS, PPS, IDR], 0, &[SEQ, PICTURE_0, end]);
 }
 
 #[test]
-fn what_waits_at_a_refused_unit_is_not_shown(rt: HostRuntime) -> Result<(), Fail> {
+fn what_waits_at_a_refused_unit_is_not_shown(rt: HostRuntime) {
+    let rt = &rt;
     let refused = "refused unit 4 OutOfBits\n";
     for length in 59..=62 {
-        let mut bytes = stream(rt.alloc(), &[SPS, PPS, IDR, P4, P2])?;
+        let mut bytes = stream(rt, rt.alloc(), &[SPS, PPS, IDR, P4, P2]);
         bytes.truncate(length);
         let text = [SEQ, PICTURE_0, BEGUN_P4, refused];
-        reports_on(&rt, rt.alloc(), bytes, 1, &text)?;
+        reports_on(rt, rt.alloc(), bytes, 1, &text);
     }
     let refused = "refused unit 4 MissingPps 1\n";
     let other_set: &[u8] = &[0x26, 0x01, 0x97, 0x80];
     reports(
-        &rt,
+        rt,
         rt.alloc(),
         &[SPS, PPS, IDR, P4, other_set],
         1,
         &[SEQ, PICTURE_0, BEGUN_P4, refused],
-    )
+    );
 }
 
 #[test]
-fn a_stream_of_an_encoder_is_decoded(rt: HostRuntime) -> Result<(), Fail> {
+fn a_stream_of_an_encoder_is_decoded(rt: HostRuntime) {
     let alloc = rt.alloc();
     let message: &[u8] = &[
         0x4e, 0x01, 0x05, 0x10, 0xa5, 0xa5, 0xa5, 0xa5, 0xa5, 0xa5, 0xa5, 0xa5, 0xa5, 0xa5, 0xa5,
         0xa5, 0xa5, 0xa5, 0xa5, 0xa5, 0x80,
     ];
     let units = [VPS, SPS, PPS, message, IDR, P4, B2];
-    let bytes = joined(alloc, &[0x00, 0x00, 0x00, 0x01], &units)?;
+    let bytes = joined(&rt, alloc, &[0x00, 0x00, 0x00, 0x01], &units);
     let end =
         "show 0 poc 0 unit 6\nshow 2 poc 2 unit 7\nshow 1 poc 4 unit 7\nend pictures 3 shown 3\n";
-    reports_on(&rt, alloc, bytes, 0, &[SEQ, PICTURE_0, P4_1, B2_2, end])
+    reports_on(&rt, alloc, bytes, 0, &[SEQ, PICTURE_0, P4_1, B2_2, end]);
 }
 
 #[test]
-fn reference_lists_are_printed(rt: HostRuntime) -> Result<(), Fail> {
+fn reference_lists_are_printed(rt: HostRuntime) {
+    let rt = &rt;
     let alloc = rt.alloc();
     let missing: &[u8] = &[0x02, 0x01, 0xd2, 0x37, 0x80];
     let picture =
         "pic 1 type 1 poc 4 output 1\nslice 1 at 0 size 5 list0 x list1 -\nsubmit 1 handle 1\n";
     let end = "show 0 poc 0 unit 4\nshow 1 poc 4 unit 4\nend pictures 2 shown 2\n";
     reports(
-        &rt,
+        rt,
         alloc,
         &[SPS, PPS, IDR, missing],
         0,
         &[SEQ, PICTURE_0, picture, end],
-    )?;
+    );
     let picture =
         "pic 2 type 1 poc 8 output 1\nslice 2 at 0 size 8 list0 1,0 list1 -\nsubmit 2 handle 2\n";
     let end =
         "show 0 poc 0 unit 4\nshow 1 poc 4 unit 5\nshow 2 poc 8 unit 5\nend pictures 3 shown 3\n";
     reports(
-        &rt,
+        rt,
         alloc,
         &[SPS, PPS, IDR, P4, P8],
         0,
         &[SEQ, PICTURE_0, P4_1, picture, end],
-    )?;
+    );
     let picture =
         "pic 0 type 19 poc 0 output 1\nslice 0 at 0 size 5 list0 x list1 x\nsubmit 0 handle 0\n";
     let end = "show 0 poc 0 unit 3\nend pictures 1 shown 1\n";
-    reports(&rt, alloc, &[SPS, PPS, B_SLICE], 0, &[SEQ, picture, end])?;
+    reports(rt, alloc, &[SPS, PPS, B_SLICE], 0, &[SEQ, picture, end]);
     let picture =
         "pic 0 type 19 poc 0 output 1\nslice 0 at 0 size 5 list0 c list1 -\nsubmit 0 handle 0\n";
     reports(
-        &rt,
+        rt,
         alloc,
         &[SPS, CURRENT_PICTURE_PPS, P_SLICE],
         0,
         &[SEQ, picture, end],
-    )
+    );
 }
 
 #[test]
-fn pictures_are_shown_or_discarded(rt: HostRuntime) -> Result<(), Fail> {
+fn pictures_are_shown_or_discarded(rt: HostRuntime) {
+    let rt = &rt;
     let alloc = rt.alloc();
     let end = "show 1 poc 0 unit 4\nend pictures 2 shown 1\n";
     reports(
-        &rt,
+        rt,
         alloc,
         &[SPS, PPS, IDR, DISCARDING_IDR],
         0,
         &[SEQ, PICTURE_0, PICTURE_1, end],
-    )?;
+    );
     let end = "show 1 poc 0 unit 4\nshow 2 poc 0 unit 5\nend pictures 3 shown 2\n";
     reports(
-        &rt,
+        rt,
         alloc,
         &[SPS, PPS, IDR, DISCARDING_IDR, IDR],
         0,
         &[SEQ, PICTURE_0, PICTURE_1, PICTURE_2, end],
-    )?;
+    );
     let shown = "show 0 poc 0 unit 3\nshow 2 poc 0 unit 5\nshow 4 poc 0 unit 7\n";
     reports(
-        &rt,
+        rt,
         alloc,
         &[SPS, PPS, IDR, IDR, DISCARDING_IDR, IDR, DISCARDING_IDR],
         0,
@@ -378,11 +354,11 @@ fn pictures_are_shown_or_discarded(rt: HostRuntime) -> Result<(), Fail> {
             shown,
             "end pictures 5 shown 3\n",
         ],
-    )
+    );
 }
 
 #[test]
-fn hidden_pictures_are_not_shown(rt: HostRuntime) -> Result<(), Fail> {
+fn hidden_pictures_are_not_shown(rt: HostRuntime) {
     let alloc = rt.alloc();
     let picture =
         "pic 0 type 19 poc 0 output 0\nslice 0 at 0 size 4 list0 - list1 -\nsubmit 0 handle 0\n";
@@ -393,11 +369,11 @@ fn hidden_pictures_are_not_shown(rt: HostRuntime) -> Result<(), Fail> {
         &[SPS, OUTPUT_FLAG_PPS, HIDDEN_IDR],
         0,
         &[SEQ, picture, end],
-    )
+    );
 }
 
 #[test]
-fn leading_pictures_are_skipped(rt: HostRuntime) -> Result<(), Fail> {
+fn leading_pictures_are_skipped(rt: HostRuntime) {
     let alloc = rt.alloc();
     let skipped: &[u8] = &[0x12, 0x01, 0xdb, 0x3c, 0x80];
     let later: &[u8] = &[0x12, 0x01, 0x5b, 0x3c, 0x80];
@@ -411,60 +387,62 @@ fn leading_pictures_are_skipped(rt: HostRuntime) -> Result<(), Fail> {
         &[SPS, PPS, CRA, skipped, later, second],
         0,
         &[SEQ, picture, end],
-    )
+    );
 }
 
 #[test]
-fn sequences_and_bitstreams_end(rt: HostRuntime) -> Result<(), Fail> {
+fn sequences_and_bitstreams_end(rt: HostRuntime) {
+    let rt = &rt;
     let alloc = rt.alloc();
     let end = "show 0 poc 0 unit 5\nshow 2 poc 8 unit 6\nend pictures 3 shown 2\n";
     ends(
-        &rt,
+        rt,
         alloc,
         &[],
         &[SPS, PPS, IDR, P4, END_OF_SEQUENCE, CRA],
         0,
         end,
-    )?;
+    );
     let end =
         "show 0 poc 0 unit 5\nshow 1 poc 4 unit 5\nshow 2 poc 8 unit 6\nend pictures 3 shown 3\n";
     ends(
-        &rt,
+        rt,
         alloc,
         &[],
         &[SPS, PPS, IDR, P4, END_OF_BITSTREAM, CRA],
         0,
         end,
-    )
+    );
 }
 
 #[test]
-fn a_changed_format_is_negotiated(rt: HostRuntime) -> Result<(), Fail> {
+fn a_changed_format_is_negotiated(rt: HostRuntime) {
+    let rt = &rt;
     let alloc = rt.alloc();
     let sequence = "seq 32x16 profile 1 depth 8 8 chroma 1 buffer 16\n";
     let end = "show 0 poc 0 unit 5\nshow 1 poc 0 unit 6\nend pictures 2 shown 2\n";
     reports(
-        &rt,
+        rt,
         alloc,
         &[SPS, PPS, IDR, WIDE_SPS, PPS, IDR],
         0,
         &[SEQ, PICTURE_0, sequence, PICTURE_1, end],
-    )?;
+    );
     // What is needed for output is output as the format changes, before a picture could discard it.
     let units = [SPS, PPS, IDR, P4, TEN_BIT_LUMA, PPS, DISCARDING_IDR];
     let sequence = "seq 16x16 profile 1 depth 10 8 chroma 1 buffer 16\n";
     let end =
         "show 0 poc 0 unit 6\nshow 1 poc 4 unit 6\nshow 2 poc 0 unit 7\nend pictures 3 shown 3\n";
     reports(
-        &rt,
+        rt,
         alloc,
         &units,
         0,
         &[SEQ, PICTURE_0, P4_1, sequence, PICTURE_2, end],
-    )?;
+    );
     let end = "refused unit 5 ChangedMidPicture\n";
     reports(
-        &rt,
+        rt,
         alloc,
         &[
             SPS,
@@ -476,40 +454,41 @@ fn a_changed_format_is_negotiated(rt: HostRuntime) -> Result<(), Fail> {
         ],
         1,
         &[SEQ, BEGUN_0, end],
-    )
+    );
 }
 
 #[test]
-fn a_picture_has_several_slices(rt: HostRuntime) -> Result<(), Fail> {
+fn a_picture_has_several_slices(rt: HostRuntime) {
+    let rt = &rt;
     let alloc = rt.alloc();
     let begun = "slice 0 at 0 size 4 list0 - list1 -\nsubmit 0 handle 0\n";
     let end = "show 0 poc 0 unit 4\nend pictures 1 shown 1\n";
     reports(
-        &rt,
+        rt,
         alloc,
         &[SPS, PPS, IDR, LATER_SLICE],
         0,
         &[SEQ, BEGUN_0, begun, end],
-    )?;
+    );
     reports(
-        &rt,
+        rt,
         alloc,
         &[SPS, DEPENDENT_SLICES_PPS, IDR, DEPENDENT_SLICE],
         0,
         &[SEQ, BEGUN_0, begun, end],
-    )?;
+    );
     let end = "refused unit 2 NoIndependentSlice\n";
     reports(
-        &rt,
+        rt,
         alloc,
         &[SPS, DEPENDENT_SLICES_PPS, DEPENDENT_SLICE],
         1,
         &[SEQ, end],
-    )
+    );
 }
 
 #[test]
-fn a_full_buffer_is_refused(rt: HostRuntime) -> Result<(), Fail> {
+fn a_full_buffer_is_refused(rt: HostRuntime) {
     let alloc = rt.alloc();
     let end = "submit 6 handle 6\nrefused unit 9 DpbFull\n";
     ends(
@@ -519,11 +498,11 @@ fn a_full_buffer_is_refused(rt: HostRuntime) -> Result<(), Fail> {
         &[LARGE_SPS, PPS, IDR, T0, T0, T0, T0, T0, T0],
         1,
         end,
-    )
+    );
 }
 
 #[test]
-fn broken_units_are_refused(rt: HostRuntime) -> Result<(), Fail> {
+fn broken_units_are_refused(rt: HostRuntime) {
     let alloc = rt.alloc();
     for (unit, end) in [
         ([0x42].as_slice(), "refused unit 0 TruncatedNalu\n"),
@@ -540,80 +519,71 @@ fn broken_units_are_refused(rt: HostRuntime) -> Result<(), Fail> {
             "refused unit 0 OutOfRange 0 1\n",
         ),
     ] {
-        reports(&rt, alloc, &[unit], 1, &[end])?;
+        reports(&rt, alloc, &[unit], 1, &[end]);
     }
-    Ok(())
 }
 
 #[test]
-fn sequence_sets_out_of_range_are_refused(rt: HostRuntime) -> Result<(), Fail> {
+fn sequence_sets_out_of_range_are_refused(rt: HostRuntime) {
     let alloc = rt.alloc();
     for (unit, end) in [
         (EIGHT_SUB_LAYERS, "refused unit 0 OutOfRange 5 2\n"),
         (LEVEL_61, "refused unit 0 OutOfRange 2 27\n"),
         (LATENCY_256, "refused unit 0 OutOfRange 5 19\n"),
     ] {
-        reports(&rt, alloc, &[unit], 1, &[end])?;
+        reports(&rt, alloc, &[unit], 1, &[end]);
     }
-    Ok(())
 }
 
 #[test]
-fn broken_slices_are_refused(rt: HostRuntime) -> Result<(), Fail> {
+fn broken_slices_are_refused(rt: HostRuntime) {
+    let rt = &rt;
     let alloc = rt.alloc();
     let end = "refused unit 3 OutOfBits\n";
     reports(
-        &rt,
+        rt,
         alloc,
         &[SPS, PPS, IDR, &[0x02, 0x01, 0xd2]],
         1,
         &[SEQ, BEGUN_0, end],
-    )?;
+    );
     reports(
-        &rt,
+        rt,
         alloc,
         &[SPS, PPS, &[0x26, 0x01, 0x8d, 0x80]],
         1,
         &[SEQ, "refused unit 2 MissingPps 5\n"],
-    )?;
+    );
     // Its reference picture set is one of the sequence set's, which has none.
     let end = "refused unit 3 OutOfRange 14 11\n";
     reports(
-        &rt,
+        rt,
         alloc,
         &[SPS, PPS, IDR, &[0x02, 0x01, 0xd8, 0x40, 0x80]],
         1,
         &[SEQ, BEGUN_0, end],
-    )?;
+    );
     // The bound of the quantiser is that of the sequence set that the picture set was read with.
     reports(
-        &rt,
+        rt,
         alloc,
         &[SPS, PPS, TEN_BIT_LUMA, QUANTISER_MINUS_6],
         1,
         &[SEQ, "refused unit 3 OutOfRange 14 36\n"],
-    )
+    );
 }
 
 /// The worked stream of three pictures, cut to each length from one to another, ends so.
-fn cuts_end(
-    rt: &impl Abort,
-    alloc: Global,
-    first: usize,
-    last: usize,
-    status: u8,
-    end: &str,
-) -> Result<(), Fail> {
+fn cuts_end(rt: &impl Abort, alloc: Global, first: usize, last: usize, status: u8, end: &str) {
     for length in first..=last {
-        let mut bytes = stream(alloc, &[SPS, PPS, IDR, P4, P2])?;
+        let mut bytes = stream(rt, alloc, &[SPS, PPS, IDR, P4, P2]);
         bytes.truncate(length);
-        ends_on(rt, alloc, &[], bytes, status, end)?;
+        ends_on(rt, alloc, &[], bytes, status, end);
     }
-    Ok(())
 }
 
 #[test]
-fn cut_streams_are_decoded_up_to_the_cut(rt: HostRuntime) -> Result<(), Fail> {
+fn cut_streams_are_decoded_up_to_the_cut(rt: HostRuntime) {
     for (first, last, end) in [
         (0, 2, "end pictures 0 shown 0\n"),
         (28, 31, "end pictures 0 shown 0\n"),
@@ -622,13 +592,12 @@ fn cut_streams_are_decoded_up_to_the_cut(rt: HostRuntime) -> Result<(), Fail> {
         (53, 56, "end pictures 2 shown 2\n"),
         (63, 64, "end pictures 3 shown 3\n"),
     ] {
-        cuts_end(&rt, rt.alloc(), first, last, 0, end)?;
+        cuts_end(&rt, rt.alloc(), first, last, 0, end);
     }
-    Ok(())
 }
 
 #[test]
-fn units_cut_within_their_headers_are_refused(rt: HostRuntime) -> Result<(), Fail> {
+fn units_cut_within_their_headers_are_refused(rt: HostRuntime) {
     for (first, last, end) in [
         (3, 4, "refused unit 0 TruncatedNalu\n"),
         (32, 33, "refused unit 1 TruncatedNalu\n"),
@@ -636,86 +605,88 @@ fn units_cut_within_their_headers_are_refused(rt: HostRuntime) -> Result<(), Fai
         (48, 49, "refused unit 3 TruncatedNalu\n"),
         (57, 58, "refused unit 4 TruncatedNalu\n"),
     ] {
-        cuts_end(&rt, rt.alloc(), first, last, 1, end)?;
+        cuts_end(&rt, rt.alloc(), first, last, 1, end);
     }
-    Ok(())
 }
 
 #[test]
-fn units_cut_within_their_payloads_are_refused(rt: HostRuntime) -> Result<(), Fail> {
+fn units_cut_within_their_payloads_are_refused(rt: HostRuntime) {
     for (first, last, end) in [
         (5, 27, "refused unit 0 OutOfBits\n"),
         (43, 43, "refused unit 2 OutOfBits\n"),
         (50, 52, "refused unit 3 OutOfBits\n"),
     ] {
-        cuts_end(&rt, rt.alloc(), first, last, 1, end)?;
+        cuts_end(&rt, rt.alloc(), first, last, 1, end);
     }
-    Ok(())
 }
 
 #[test]
-fn units_before_a_sequence_set_are_passed_over(rt: HostRuntime) -> Result<(), Fail> {
+fn units_before_a_sequence_set_are_passed_over(rt: HostRuntime) {
+    let rt = &rt;
     let alloc = rt.alloc();
-    reports(&rt, alloc, &[], 0, &["end pictures 0 shown 0\n"])?;
+    reports(rt, alloc, &[], 0, &["end pictures 0 shown 0\n"]);
     reports(
-        &rt,
+        rt,
         alloc,
         &[END_OF_SEQUENCE, SPS],
         0,
         &[SEQ, "end pictures 0 shown 0\n"],
-    )?;
-    reports(&rt, alloc, &[IDR], 0, &["end pictures 0 shown 0\n"])
+    );
+    reports(rt, alloc, &[IDR], 0, &["end pictures 0 shown 0\n"]);
 }
 
 #[test]
-fn other_spellings_of_sets_are_read(rt: HostRuntime) -> Result<(), Fail> {
+fn other_spellings_of_sets_are_read(rt: HostRuntime) {
     let alloc = rt.alloc();
     // Scaling lists that are enabled without data are the default ones; a set may end without its trailing bits.
     for set in [SCALING_LISTS_ENABLED, &SPS[..SPS.len() - 1]] {
         let end = "show 0 poc 0 unit 3\nend pictures 1 shown 1\n";
-        reports(&rt, alloc, &[set, PPS, IDR], 0, &[SEQ, PICTURE_0, end])?;
+        reports(&rt, alloc, &[set, PPS, IDR], 0, &[SEQ, PICTURE_0, end]);
     }
-    Ok(())
 }
 
 #[test]
-fn cra_pictures_are_handled_as_bla_pictures(rt: HostRuntime) -> Result<(), Fail> {
+fn cra_pictures_are_handled_as_bla_pictures(rt: HostRuntime) {
+    let rt = &rt;
     let alloc = rt.alloc();
     let end =
         "show 0 poc 0 unit 4\nshow 1 poc 4 unit 5\nshow 2 poc 8 unit 5\nend pictures 3 shown 3\n";
-    ends(&rt, alloc, &[], &[SPS, PPS, IDR, P4, CRA], 0, end)?;
+    ends(rt, alloc, &[], &[SPS, PPS, IDR, P4, CRA], 0, end);
     for words in [["cra"].as_slice(), &["layer", "6", "cra"]] {
         let end =
             "submit 2 handle 2\nshow 0 poc 0 unit 4\nshow 2 poc 8 unit 5\nend pictures 3 shown 2\n";
-        ends(&rt, alloc, words, &[SPS, PPS, IDR, P4, CRA], 0, end)?;
+        ends(rt, alloc, words, &[SPS, PPS, IDR, P4, CRA], 0, end);
     }
-    Ok(())
 }
 
 #[test]
-fn upper_sub_layers_are_left_out(rt: HostRuntime) -> Result<(), Fail> {
+fn upper_sub_layers_are_left_out(rt: HostRuntime) {
+    let rt = &rt;
     let alloc = rt.alloc();
     let end =
         "submit 1 handle 1\nshow 0 poc 0 unit 5\nshow 1 poc 4 unit 5\nend pictures 2 shown 2\n";
     ends(
-        &rt,
+        rt,
         alloc,
         &["layer", "0"],
         &[SPS, PPS, IDR, P4, UPPER_P2],
         0,
         end,
-    )?;
-    let bytes = stream(alloc, &[SPS, PPS, IDR, P4, UPPER_P2])?;
-    let sink = written_by(&rt, alloc, &["layer", "1"], bytes, 0)?;
+    );
+    let bytes = stream(rt, alloc, &[SPS, PPS, IDR, P4, UPPER_P2]);
+    let sink = written_by(rt, alloc, &["layer", "1"], bytes, 0);
     let shown =
         "show 0 poc 0 unit 4\nshow 2 poc 2 unit 5\nshow 1 poc 4 unit 5\nend pictures 3 shown 3\n";
-    let whole = format!(in alloc; "{SEQ}{PICTURE_0}{P4_1}{UPPER_P2_2}{shown}")?;
-    expect_eq(&rt, &sink.written(), &whole.as_bytes());
-    Ok(())
+    let whole = ok(
+        rt,
+        format!(in alloc; "{SEQ}{PICTURE_0}{P4_1}{UPPER_P2_2}{shown}"),
+    );
+    expect_eq(rt, sink.written(), whole.as_bytes());
 }
 
 #[test]
-fn other_words_are_no_command(rt: HostRuntime) -> Result<(), Fail> {
+fn other_words_are_no_command(rt: HostRuntime) {
+    let rt = &rt;
     let alloc = rt.alloc();
     for words in [
         ["layer", "7"].as_slice(),
@@ -738,25 +709,23 @@ fn other_words_are_no_command(rt: HostRuntime) -> Result<(), Fail> {
         &["--help"],
         &[""],
     ] {
-        let bytes = stream(alloc, &[SPS, PPS, IDR])?;
-        let sink = written_by(&rt, alloc, words, bytes, 2)?;
-        expect(&rt, sink.written().is_empty());
+        let bytes = stream(rt, alloc, &[SPS, PPS, IDR]);
+        let sink = written_by(rt, alloc, words, bytes, 2);
+        expect(rt, sink.written().is_empty());
     }
-    Ok(())
 }
 
 /// A run by `make` and this number reads nothing, ends with status 0, and writes this line.
-fn makes(rt: &impl Abort, alloc: Global, number: &str, line: &str) -> Result<(), Fail> {
-    let words = words_of(alloc, &["make", number])?;
-    let mut source = MemorySource::new(stream(alloc, &[SPS])?, vec![in alloc; 1]?);
+fn makes(rt: &impl Abort, alloc: Global, number: &str, line: &str) {
+    let words = words_of(rt, alloc, &["make", number]);
+    let mut source = MemorySource::new(stream(rt, alloc, &[SPS]), ok(rt, vec![in alloc; 1]));
     let mut sink = MemorySink::new(alloc, Vec::new(alloc));
-    expect_eq(rt, &run(alloc, &words, &mut source, &mut sink), &0);
-    expect_eq(rt, &sink.written(), &line.as_bytes());
-    Ok(())
+    expect_eq(rt, run(alloc, &words, &mut source, &mut sink), 0);
+    expect_eq(rt, sink.written(), line.as_bytes());
 }
 
 #[test]
-fn made_streams_are_summed_up(rt: HostRuntime) -> Result<(), Fail> {
+fn made_streams_are_summed_up(rt: HostRuntime) {
     for (number, line) in [
         ("1", "made 1 shown 1 lowest 0 highest 0 falls 0\n"),
         ("2", "made 2 shown 2 lowest 0 highest 8 falls 0\n"),
@@ -767,64 +736,52 @@ fn made_streams_are_summed_up(rt: HostRuntime) -> Result<(), Fail> {
             "made 1000 shown 1000 lowest 0 highest 1000 falls 0\n",
         ),
     ] {
-        makes(&rt, rt.alloc(), number, line)?;
+        makes(&rt, rt.alloc(), number, line);
     }
-    Ok(())
 }
 
 #[test]
-fn a_made_stream_is_a_stream(rt: HostRuntime) -> Result<(), Fail> {
+fn a_made_stream_is_a_stream(rt: HostRuntime) {
     let alloc = rt.alloc();
-    let bytes = make_stream(alloc, 2)?;
+    let bytes = ok(&rt, make_stream(alloc, 2));
     let picture =
         "pic 1 type 1 poc 8 output 1\nslice 1 at 0 size 7 list0 0 list1 -\nsubmit 1 handle 1\n";
     let end = "show 0 poc 0 unit 4\nshow 1 poc 8 unit 4\nend pictures 2 shown 2\n";
-    reports_on(&rt, alloc, bytes, 0, &[SEQ, PICTURE_0, picture, end])
+    reports_on(&rt, alloc, bytes, 0, &[SEQ, PICTURE_0, picture, end]);
 }
 
 #[test]
-fn a_made_line_that_is_not_written_is_a_fault(rt: HostRuntime) -> Result<(), Fail> {
+fn a_made_line_that_is_not_written_is_a_fault(rt: HostRuntime) {
+    let rt = &rt;
     let alloc = rt.alloc();
-    let words = words_of(alloc, &["make", "9"])?;
+    let words = words_of(rt, alloc, &["make", "9"]);
     let mut source = MemorySource::new(Vec::new(alloc), Vec::new(alloc));
-    let mut sink = MemorySink::new(alloc, vec![in alloc; 1]?);
-    expect_eq(&rt, &run(alloc, &words, &mut source, &mut sink), &4);
-    expect(&rt, sink.written().is_empty());
-    Ok(())
+    let mut sink = MemorySink::new(alloc, ok(rt, vec![in alloc; 1]));
+    expect_eq(rt, run(alloc, &words, &mut source, &mut sink), 4);
+    expect(rt, sink.written().is_empty());
 }
 
 /// A run whose reads and writes with these numbers fail ends with this status. It writes the whole report where it
 /// succeeds, else not, and nothing where a read fails.
-fn fails(
-    rt: &impl Abort,
-    alloc: Global,
-    reads: &[u64],
-    writes: &[u64],
-    status: u8,
-) -> Result<(), Fail> {
-    let bytes = stream(alloc, &[SPS, PPS, IDR, P4, P2])?;
-    let mut source = MemorySource::new(bytes, Vec::from_slice(alloc, reads)?);
-    let mut sink = MemorySink::new(alloc, Vec::from_slice(alloc, writes)?);
-    expect_eq(rt, &run(alloc, &[], &mut source, &mut sink), &status);
+fn fails(rt: &impl Abort, alloc: Global, reads: &[u64], writes: &[u64], status: u8) {
+    let bytes = stream(rt, alloc, &[SPS, PPS, IDR, P4, P2]);
+    let mut source = MemorySource::new(bytes, ok(rt, Vec::from_slice(alloc, reads)));
+    let mut sink = MemorySink::new(alloc, ok(rt, Vec::from_slice(alloc, writes)));
+    expect_eq(rt, run(alloc, &[], &mut source, &mut sink), status);
     let end = "end pictures 3 shown 3\n";
-    expect_eq(
-        rt,
-        &sink.written().ends_with(end.as_bytes()),
-        &(status == 0),
-    );
+    expect_eq(rt, sink.written().ends_with(end.as_bytes()), status == 0);
     expect(rt, status != 3 || sink.written().is_empty());
-    Ok(())
 }
 
 #[test]
-fn faults_have_their_statuses(rt: HostRuntime) -> Result<(), Fail> {
+fn faults_have_their_statuses(rt: HostRuntime) {
+    let rt = &rt;
     let alloc = rt.alloc();
     for (call, status) in [(1, 3), (2, 3), (3, 0)] {
-        fails(&rt, alloc, &[call], &[], status)?;
+        fails(rt, alloc, &[call], &[], status);
     }
     // The lines of the calls are one write, and the others another.
     for (call, status) in [(1, 4), (2, 4), (3, 0)] {
-        fails(&rt, alloc, &[], &[call], status)?;
+        fails(rt, alloc, &[], &[call], status);
     }
-    Ok(())
 }

@@ -1,9 +1,8 @@
 //! A decoder, unit by unit, with its events.
-use crate::expect::{expect, expect_eq};
+use crate::expect::{expect, expect_eq, ok};
 use hevc_backend::{Backend, Call};
 use hevc_stateless::{DecodeError, DecoderEvent, Options, StatelessDecoder};
 use std::process::Abort;
-use std::test::Fail;
 
 /// A sequence set: 16 by 16 luma samples.
 const SEQUENCE_SET: &[u8] = &[
@@ -87,162 +86,167 @@ fn named(call: &Call<u64>) -> (&'static str, u64) {
 /// The backend got these calls, of these pictures, and no others.
 fn got(rt: &impl Abort, decoder: &StatelessDecoder<Backend>, calls: &[(&str, u64)]) {
     let log = decoder.backend().calls();
-    expect_eq(rt, &log.len(), &calls.len());
+    expect_eq(rt, log.len(), calls.len());
     for (call, (name, number)) in log.iter().zip(calls) {
         let (name_now, number_now) = named(call);
         expect(rt, name_now == *name);
-        expect_eq(rt, &number_now, number);
+        expect_eq(rt, number_now, *number);
     }
 }
 
 #[test]
-fn the_first_sequence_set_is_negotiated_and_given_again(rt: HostRuntime) -> Result<(), Fail> {
+fn the_first_sequence_set_is_negotiated_and_given_again(rt: HostRuntime) {
+    let rt = &rt;
     let alloc = rt.alloc();
     let mut decoder = StatelessDecoder::new(alloc, Backend::new(alloc));
-    takes(&rt, &mut decoder, &[IDR]);
+    takes(rt, &mut decoder, &[IDR]);
     expect(
-        &rt,
+        rt,
         decoder.decode(0, SEQUENCE_SET) == Err(DecodeError::CheckEvents),
     );
     expect(
-        &rt,
+        rt,
         decoder.decode(0, SEQUENCE_SET) == Err(DecodeError::CheckEvents),
     );
     expect(
-        &rt,
+        rt,
         matches!(decoder.next_event(), Some(DecoderEvent::FormatChanged)),
     );
-    expect(&rt, accept(&mut decoder));
-    expect(&rt, !decoder.awaiting_format());
-    takes(&rt, &mut decoder, &[SEQUENCE_SET]);
-    expect_eq(&rt, &decoder.backend().calls().len(), &1);
-    Ok(())
+    expect(rt, accept(&mut decoder));
+    expect(rt, !decoder.awaiting_format());
+    takes(rt, &mut decoder, &[SEQUENCE_SET]);
+    expect_eq(rt, decoder.backend().calls().len(), 1);
 }
 
 #[test]
-fn a_picture_set_waits_for_its_sequence_set(rt: HostRuntime) -> Result<(), Fail> {
+fn a_picture_set_waits_for_its_sequence_set(rt: HostRuntime) {
+    let rt = &rt;
     let alloc = rt.alloc();
     let mut decoder = StatelessDecoder::new(alloc, Backend::new(alloc));
-    takes(&rt, &mut decoder, &[PICTURE_SET]);
+    takes(rt, &mut decoder, &[PICTURE_SET]);
     expect(
-        &rt,
+        rt,
         decoder.decode(0, SEQUENCE_SET) == Err(DecodeError::CheckEvents),
     );
-    expect(&rt, accept(&mut decoder));
+    expect(rt, accept(&mut decoder));
     expect(
-        &rt,
+        rt,
         decoder.decode(0, IDR) == Err(DecodeError::MissingPps(0)),
     );
-    takes(&rt, &mut decoder, &[SEQUENCE_SET]);
-    expect(&rt, decoder.decode(5, IDR) == Ok(7));
-    expect(&rt, decoder.flush() == Ok(()));
-    come_out(&rt, &mut decoder, &[0]);
-    expect(&rt, next_number(&mut decoder).is_none());
-    Ok(())
+    takes(rt, &mut decoder, &[SEQUENCE_SET]);
+    expect(rt, decoder.decode(5, IDR) == Ok(7));
+    expect(rt, decoder.flush() == Ok(()));
+    come_out(rt, &mut decoder, &[0]);
+    expect(rt, next_number(&mut decoder).is_none());
 }
 
 #[test]
-fn behind_a_flush_an_idr_picture_is_waited_for(rt: HostRuntime) -> Result<(), Fail> {
+fn behind_a_flush_an_idr_picture_is_waited_for(rt: HostRuntime) {
+    let rt = &rt;
     let alloc = rt.alloc();
     let mut decoder = StatelessDecoder::new(alloc, Backend::new(alloc));
-    expect(&rt, begin(&mut decoder) == Ok(9));
-    takes(&rt, &mut decoder, &[IDR, LATER, END]);
-    expect(&rt, decoder.flush() == Ok(()));
+    expect(rt, begin(&mut decoder) == Ok(9));
+    takes(rt, &mut decoder, &[IDR, LATER, END]);
+    expect(rt, decoder.flush() == Ok(()));
     let calls = decoder.backend().calls().len();
-    takes(&rt, &mut decoder, &[LATER]);
-    expect_eq(&rt, &decoder.backend().calls().len(), &calls);
-    takes(&rt, &mut decoder, &[IDR, LATER]);
-    expect(&rt, decoder.flush() == Ok(()));
-    come_out(&rt, &mut decoder, &[0, 1, 2, 3]);
-    Ok(())
+    takes(rt, &mut decoder, &[LATER]);
+    expect_eq(rt, decoder.backend().calls().len(), calls);
+    takes(rt, &mut decoder, &[IDR, LATER]);
+    expect(rt, decoder.flush() == Ok(()));
+    come_out(rt, &mut decoder, &[0, 1, 2, 3]);
 }
 
 #[test]
-fn a_flush_forgets_a_format_that_is_awaited(rt: HostRuntime) -> Result<(), Fail> {
+fn a_flush_forgets_a_format_that_is_awaited(rt: HostRuntime) {
+    let rt = &rt;
     let alloc = rt.alloc();
     let mut decoder = StatelessDecoder::new(alloc, Backend::new(alloc));
     expect(
-        &rt,
+        rt,
         decoder.decode(0, SEQUENCE_SET) == Err(DecodeError::CheckEvents),
     );
-    expect(&rt, decoder.flush() == Ok(()));
-    expect(&rt, !decoder.awaiting_format());
-    takes(&rt, &mut decoder, &[PICTURE_SET, SEQUENCE_SET]);
-    expect(&rt, decoder.decode(0, IDR) == Err(DecodeError::CheckEvents));
-    expect(&rt, accept(&mut decoder));
-    takes(&rt, &mut decoder, &[IDR]);
-    Ok(())
+    expect(rt, decoder.flush() == Ok(()));
+    expect(rt, !decoder.awaiting_format());
+    takes(rt, &mut decoder, &[PICTURE_SET, SEQUENCE_SET]);
+    expect(rt, decoder.decode(0, IDR) == Err(DecodeError::CheckEvents));
+    expect(rt, accept(&mut decoder));
+    takes(rt, &mut decoder, &[IDR]);
 }
 
 #[test]
-fn sub_layers_above_the_wanted_ones_are_passed_over(rt: HostRuntime) -> Result<(), Fail> {
+fn sub_layers_above_the_wanted_ones_are_passed_over(rt: HostRuntime) {
+    let rt = &rt;
     let alloc = rt.alloc();
     let mut options = Options::new();
     options.highest_tid = 0;
     let mut decoder = StatelessDecoder::new_with(alloc, Backend::new(alloc), options);
-    expect(&rt, begin(&mut decoder) == Ok(9));
-    takes(&rt, &mut decoder, &[IDR]);
+    expect(rt, begin(&mut decoder) == Ok(9));
+    takes(rt, &mut decoder, &[IDR]);
     let calls = decoder.backend().calls().len();
-    takes(&rt, &mut decoder, &[UPPER]);
-    expect_eq(&rt, &decoder.backend().calls().len(), &calls);
-    Ok(())
+    takes(rt, &mut decoder, &[UPPER]);
+    expect_eq(rt, decoder.backend().calls().len(), calls);
 }
 
 #[test]
-fn a_refusal_leaves_the_decoder_where_it_stood(rt: HostRuntime) -> Result<(), Fail> {
+fn a_refusal_leaves_the_decoder_where_it_stood(rt: HostRuntime) {
+    let rt = &rt;
     let alloc = rt.alloc();
-    let backend = Backend::with_plan(alloc, vec![in alloc; 1]?, vec![in alloc; 16, 0]?);
+    let backend = Backend::with_plan(
+        alloc,
+        ok(rt, vec![in alloc; 1]),
+        ok(rt, vec![in alloc; 16, 0]),
+    );
     let mut decoder = StatelessDecoder::new(alloc, backend);
-    expect(&rt, decoder.decode(0, &[]) == Err(DecodeError::NoNal));
+    expect(rt, decoder.decode(0, &[]) == Err(DecodeError::NoNal));
     expect(
-        &rt,
+        rt,
         decoder.decode(0, &[0, 0, 1, 0x26]) == Err(DecodeError::TruncatedNalu),
     );
     let unspecified = Err(DecodeError::InvalidNaluType(48));
-    expect(&rt, decoder.decode(0, &[0, 0, 1, 0x60, 1]) == unspecified);
+    expect(rt, decoder.decode(0, &[0, 0, 1, 0x60, 1]) == unspecified);
     expect(
-        &rt,
+        rt,
         decoder.decode(0, SEQUENCE_SET) == Err(DecodeError::Backend),
     );
-    expect(&rt, begin(&mut decoder) == Ok(9));
-    takes(&rt, &mut decoder, &[IDR]);
+    expect(rt, begin(&mut decoder) == Ok(9));
+    takes(rt, &mut decoder, &[IDR]);
     let full = Err(DecodeError::NotEnoughOutputBuffers(1));
-    expect(&rt, decoder.decode(0, LATER) == full);
-    takes(&rt, &mut decoder, &[LATER]);
-    expect(&rt, decoder.flush() == Ok(()));
-    come_out(&rt, &mut decoder, &[0, 1]);
-    Ok(())
+    expect(rt, decoder.decode(0, LATER) == full);
+    takes(rt, &mut decoder, &[LATER]);
+    expect(rt, decoder.flush() == Ok(()));
+    come_out(rt, &mut decoder, &[0, 1]);
 }
 
 #[test]
-fn another_format_is_negotiated_behind_what_waits(rt: HostRuntime) -> Result<(), Fail> {
+fn another_format_is_negotiated_behind_what_waits(rt: HostRuntime) {
+    let rt = &rt;
     let alloc = rt.alloc();
     let mut decoder = StatelessDecoder::new(alloc, Backend::new(alloc));
-    expect(&rt, begin(&mut decoder) == Ok(9));
-    takes(&rt, &mut decoder, &[IDR, WIDE_SET]);
-    expect(&rt, next_number(&mut decoder).is_none());
-    expect(&rt, decoder.decode(0, IDR) == Err(DecodeError::CheckEvents));
-    come_out(&rt, &mut decoder, &[0]);
+    expect(rt, begin(&mut decoder) == Ok(9));
+    takes(rt, &mut decoder, &[IDR, WIDE_SET]);
+    expect(rt, next_number(&mut decoder).is_none());
+    expect(rt, decoder.decode(0, IDR) == Err(DecodeError::CheckEvents));
+    come_out(rt, &mut decoder, &[0]);
     expect(
-        &rt,
+        rt,
         matches!(decoder.next_event(), Some(DecoderEvent::FormatChanged)),
     );
-    expect(&rt, accept(&mut decoder));
+    expect(rt, accept(&mut decoder));
     let calls = decoder.backend().calls().len();
-    takes(&rt, &mut decoder, &[IDR]);
-    expect_eq(&rt, &decoder.backend().calls().len(), &(calls + 3));
-    Ok(())
+    takes(rt, &mut decoder, &[IDR]);
+    expect_eq(rt, decoder.backend().calls().len(), calls + 3);
 }
 
 #[test]
-fn a_picture_whose_call_failed_is_given_again_as_another(rt: HostRuntime) -> Result<(), Fail> {
+fn a_picture_whose_call_failed_is_given_again_as_another(rt: HostRuntime) {
+    let rt = &rt;
     let alloc = rt.alloc();
-    let backend = Backend::with_plan(alloc, vec![in alloc; 3]?, Vec::new(alloc));
+    let backend = Backend::with_plan(alloc, ok(rt, vec![in alloc; 3]), Vec::new(alloc));
     let mut decoder = StatelessDecoder::new(alloc, backend);
-    expect(&rt, begin(&mut decoder) == Ok(9));
-    expect(&rt, decoder.decode(0, IDR) == Err(DecodeError::Backend));
-    got(&rt, &decoder, &[("NewSequence", 0), ("NewPicture", 0)]);
-    takes(&rt, &mut decoder, &[IDR]);
+    expect(rt, begin(&mut decoder) == Ok(9));
+    expect(rt, decoder.decode(0, IDR) == Err(DecodeError::Backend));
+    got(rt, &decoder, &[("NewSequence", 0), ("NewPicture", 0)]);
+    takes(rt, &mut decoder, &[IDR]);
     let calls = [
         ("NewSequence", 0),
         ("NewPicture", 0),
@@ -250,22 +254,22 @@ fn a_picture_whose_call_failed_is_given_again_as_another(rt: HostRuntime) -> Res
         ("BeginPicture", 1),
         ("DecodeSlice", 1),
     ];
-    got(&rt, &decoder, &calls);
-    expect(&rt, decoder.flush() == Ok(()));
-    come_out(&rt, &mut decoder, &[1]);
-    expect(&rt, next_number(&mut decoder).is_none());
-    Ok(())
+    got(rt, &decoder, &calls);
+    expect(rt, decoder.flush() == Ok(()));
+    come_out(rt, &mut decoder, &[1]);
+    expect(rt, next_number(&mut decoder).is_none());
 }
 
 #[test]
-fn a_picture_without_a_frame_is_given_again_as_itself(rt: HostRuntime) -> Result<(), Fail> {
+fn a_picture_without_a_frame_is_given_again_as_itself(rt: HostRuntime) {
+    let rt = &rt;
     let alloc = rt.alloc();
-    let backend = Backend::with_plan(alloc, Vec::new(alloc), vec![in alloc; 16, 0]?);
+    let backend = Backend::with_plan(alloc, Vec::new(alloc), ok(rt, vec![in alloc; 16, 0]));
     let mut decoder = StatelessDecoder::new(alloc, backend);
-    expect(&rt, begin(&mut decoder) == Ok(9));
-    takes(&rt, &mut decoder, &[IDR]);
+    expect(rt, begin(&mut decoder) == Ok(9));
+    takes(rt, &mut decoder, &[IDR]);
     let full = Err(DecodeError::NotEnoughOutputBuffers(1));
-    expect(&rt, decoder.decode(0, LATER) == full);
+    expect(rt, decoder.decode(0, LATER) == full);
     let calls = [
         ("NewSequence", 0),
         ("NewPicture", 0),
@@ -273,17 +277,16 @@ fn a_picture_without_a_frame_is_given_again_as_itself(rt: HostRuntime) -> Result
         ("DecodeSlice", 0),
         ("SubmitPicture", 0),
     ];
-    got(&rt, &decoder, &calls);
-    takes(&rt, &mut decoder, &[LATER]);
-    expect(&rt, decoder.flush() == Ok(()));
-    come_out(&rt, &mut decoder, &[0, 1]);
-    expect(&rt, next_number(&mut decoder).is_none());
+    got(rt, &decoder, &calls);
+    takes(rt, &mut decoder, &[LATER]);
+    expect(rt, decoder.flush() == Ok(()));
+    come_out(rt, &mut decoder, &[0, 1]);
+    expect(rt, next_number(&mut decoder).is_none());
     let calls = decoder.backend().calls().len();
-    takes(&rt, &mut decoder, &[LATER]);
-    expect_eq(&rt, &decoder.backend().calls().len(), &calls);
-    takes(&rt, &mut decoder, &[IDR]);
-    expect_eq(&rt, &decoder.backend().calls().len(), &(calls + 3));
-    expect(&rt, decoder.flush() == Ok(()));
-    come_out(&rt, &mut decoder, &[2]);
-    Ok(())
+    takes(rt, &mut decoder, &[LATER]);
+    expect_eq(rt, decoder.backend().calls().len(), calls);
+    takes(rt, &mut decoder, &[IDR]);
+    expect_eq(rt, decoder.backend().calls().len(), calls + 3);
+    expect(rt, decoder.flush() == Ok(()));
+    come_out(rt, &mut decoder, &[2]);
 }

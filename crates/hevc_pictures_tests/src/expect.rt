@@ -1,4 +1,6 @@
 //! What tests expect, checked here once and not at each place; an assertion that later lines rest on is an `assert!`.
+ghost use Rattle.std.specs.Prelude.{◌≡◌, Ok, Some};
+
 use std::fmt::Debug;
 use std::process::Abort;
 
@@ -8,6 +10,26 @@ pub fn expect(rt: &impl Abort, is_so: bool) {
 }
 
 /// Stops the test, and tells both, where what was found isn't equal to what was expected.
-pub fn expect_eq<T: PartialEq + Debug>(rt: &impl Abort, found: &T, expected: &T) {
-    assert_eq!(rt; *found, *expected);
+pub fn expect_eq<T: PartialEq + Debug + Copy>(rt: &impl Abort, found: T, expected: T) {
+    assert_eq!(rt; found, expected);
+}
+
+/// Gives the value of an Ok; stops the test where it is an error.
+pub fn ok<T, E: Drop>(rt: &impl Abort, found: Result<T, E>) -> T
+    ensures { found ≡ Ok result }
+{
+    match found {
+        Ok(value) => value,
+        Err(_) => rt.abort(),
+    }
+}
+
+/// Gives the value where there is one; stops the test where there is none.
+pub fn some<T>(rt: &impl Abort, found: Option<T>) -> T
+    ensures { found ≡ Some result }
+{
+    match found {
+        Some(value) => value,
+        None => rt.abort(),
+    }
 }

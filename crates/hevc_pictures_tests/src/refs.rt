@@ -1,14 +1,14 @@
 //! Sets and lists over a buffer of three pictures.
 ghost use Rattle.std.specs.Prelude.{pos, ◌<ℤ◌};
 
-use crate::expect::expect;
+use crate::expect::{expect, ok, some};
 use hevc_bits::NaluType;
 use hevc_dpb::{Dpb, PictureData, Reference};
 use hevc_refs::{RefPicListEntry, RefPicSet, build_ref_pic_lists, derive_and_mark};
 use hevc_types_a::{ShortTermRefPicSet, SliceType};
 use hevc_types_d::SliceHeader;
 use std::alloc::Global;
-use std::test::Fail;
+use std::process::Abort;
 
 fn picture(count: i32) -> PictureData {
     let mut picture = PictureData::default();
@@ -18,14 +18,14 @@ fn picture(count: i32) -> PictureData {
 }
 
 /// A buffer of pictures 0, 1 and 2 of order counts 0, 4 and 20.
-fn buffer(alloc: Global) -> Result<Dpb<u64>, Fail> {
+fn buffer(rt: &impl Abort, alloc: Global) -> Dpb<u64> {
     let mut dpb = Dpb::new(alloc);
-    dpb.reserve()?;
+    ok(rt, dpb.reserve());
     dpb.set_max_num_pics(3);
-    dpb.store_picture(0, picture(0), 0).or(Err("full"))?;
-    dpb.store_picture(1, picture(4), 0).or(Err("full"))?;
-    dpb.store_picture(2, picture(20), 0).or(Err("full"))?;
-    Ok(dpb)
+    ok(rt, dpb.store_picture(0, picture(0), 0));
+    ok(rt, dpb.store_picture(1, picture(4), 0));
+    ok(rt, dpb.store_picture(2, picture(20), 0));
+    dpb
 }
 
 /// A set of one picture before the current one, and used by it.
@@ -52,8 +52,9 @@ fn one_before(delta: i32) -> ShortTermRefPicSet
 }
 
 #[test]
-fn long_term_members_are_found_first(rt: HostRuntime) -> Result<(), Fail> {
-    let mut dpb = buffer(rt.alloc())?;
+fn long_term_members_are_found_first(rt: HostRuntime) {
+    let rt = &rt;
+    let mut dpb = buffer(rt, rt.alloc());
     let mut header = SliceHeader::new(rt.alloc());
     header.num_long_term_pics = 3;
     header.poc_lsb_lt[0] = 4;
@@ -65,18 +66,18 @@ fn long_term_members_are_found_first(rt: HostRuntime) -> Result<(), Fail> {
     header.delta_poc_msb_present_flag[2] = true;
     header.delta_poc_msb_cycle_lt[2] = 18446744073709551615;
     let set = derive_and_mark(&mut dpb, &picture(24), &header, &one_before(-20), 16);
-    expect(&rt, set.lt_curr() == [Some(1)].as_slice());
-    expect(&rt, set.lt_foll() == [Some(1), None].as_slice());
-    expect(&rt, set.st_curr_before() == [None].as_slice());
-    let second = dpb.entries().get(1).ok_or("none")?;
-    expect(&rt, *second.picture.reference() == Reference::LongTerm);
-    expect(&rt, dpb.get_all_references().as_slice() == [1].as_slice());
-    Ok(())
+    expect(rt, set.lt_curr() == [Some(1)].as_slice());
+    expect(rt, set.lt_foll() == [Some(1), None].as_slice());
+    expect(rt, set.st_curr_before() == [None].as_slice());
+    let second = some(rt, dpb.entries().get(1));
+    expect(rt, *second.picture.reference() == Reference::LongTerm);
+    expect(rt, dpb.get_all_references().as_slice() == [1].as_slice());
 }
 
 #[test]
-fn sixteen_members_may_name_one_picture(rt: HostRuntime) -> Result<(), Fail> {
-    let mut dpb = buffer(rt.alloc())?;
+fn sixteen_members_may_name_one_picture(rt: HostRuntime) {
+    let rt = &rt;
+    let mut dpb = buffer(rt, rt.alloc());
     let mut header = SliceHeader::new(rt.alloc());
     header.num_long_term_pics = 16;
     header.poc_lsb_lt = [4; 16];
@@ -88,52 +89,51 @@ fn sixteen_members_may_name_one_picture(rt: HostRuntime) -> Result<(), Fail> {
         &ShortTermRefPicSet::new(),
         16,
     );
-    expect(&rt, set.lt_curr() == [Some(1); 16].as_slice());
-    expect(&rt, dpb.get_all_references().as_slice() == [1].as_slice());
-    Ok(())
+    expect(rt, set.lt_curr() == [Some(1); 16].as_slice());
+    expect(rt, dpb.get_all_references().as_slice() == [1].as_slice());
 }
 
 #[test]
-fn an_idr_picture_refers_to_nothing(rt: HostRuntime) -> Result<(), Fail> {
-    let mut dpb = buffer(rt.alloc())?;
+fn an_idr_picture_refers_to_nothing(rt: HostRuntime) {
+    let rt = &rt;
+    let mut dpb = buffer(rt, rt.alloc());
     let mut idr = picture(0);
     idr.nalu_type = NaluType::IdrNLp;
     let header = SliceHeader::new(rt.alloc());
     let set = derive_and_mark(&mut dpb, &idr, &header, &one_before(-4), 16);
     expect(
-        &rt,
+        rt,
         set.st_curr_before().is_empty() && set.st_foll().is_empty(),
     );
-    expect(&rt, dpb.get_all_references().is_empty());
-    Ok(())
+    expect(rt, dpb.get_all_references().is_empty());
 }
 
 #[test]
-fn lists_go_round_their_base(rt: HostRuntime) -> Result<(), Fail> {
-    let mut dpb = buffer(rt.alloc())?;
+fn lists_go_round_their_base(rt: HostRuntime) {
+    let rt = &rt;
+    let mut dpb = buffer(rt, rt.alloc());
     let mut header = SliceHeader::new(rt.alloc());
     header.num_ref_idx_l0_active_minus1 = 2;
     header.num_pic_total_curr = 4;
     let set = derive_and_mark(&mut dpb, &picture(24), &header, &one_before(-4), 16);
-    expect(&rt, set.st_curr_before() == [Some(2)].as_slice());
+    expect(rt, set.st_curr_before() == [Some(2)].as_slice());
     let lists = build_ref_pic_lists(&header, &set, false);
     let stored = Some(RefPicListEntry::DpbEntry(2));
     expect(
-        &rt,
+        rt,
         lists.ref_pic_list0.as_slice() == [stored, stored, stored].as_slice(),
     );
-    expect(&rt, lists.ref_pic_list1.as_slice().is_empty());
+    expect(rt, lists.ref_pic_list1.as_slice().is_empty());
     let current = Some(RefPicListEntry::CurrentPicture);
     let lists = build_ref_pic_lists(&header, &set, true);
     expect(
-        &rt,
+        rt,
         lists.ref_pic_list0.as_slice() == [stored, current, current].as_slice(),
     );
     header.type_ = SliceType::B;
     let lists = build_ref_pic_lists(&header, &RefPicSet::new(), false);
-    expect(&rt, lists.ref_pic_list1.as_slice() == [None].as_slice());
+    expect(rt, lists.ref_pic_list1.as_slice() == [None].as_slice());
     header.type_ = SliceType::I;
     let lists = build_ref_pic_lists(&header, &set, true);
-    expect(&rt, lists.ref_pic_list0.as_slice().is_empty());
-    Ok(())
+    expect(rt, lists.ref_pic_list0.as_slice().is_empty());
 }

@@ -8,7 +8,7 @@ mod sequence_set;
 mod slice;
 mod video_set;
 
-use crate::expect::{expect, expect_eq};
+use crate::expect::{expect, expect_eq, ok};
 use hevc_bit_writer::{BitWriter, append_unit};
 use hevc_bits::{Nalu, NaluHeader};
 use hevc_sets::{ParseError, read_pps, read_sps, read_vps};
@@ -18,7 +18,6 @@ use hevc_types_d::{Pps, SliceHeader};
 use std::alloc::Global;
 use std::collections::BTreeMap;
 use std::process::Abort;
-use std::test::Fail;
 
 /// How an element is written: u(n), ue(v) or se(v).
 #[derive(Clone, Copy)]
@@ -62,14 +61,14 @@ struct Kept {
 }
 
 /// All lines of a unit.
-fn lines_of(alloc: Global, unit: &Unit) -> Result<Vec<Line>, Fail> {
+fn lines_of(rt: &impl Abort, alloc: Global, unit: &Unit) -> Vec<Line> {
     let mut lines = Vec::new(alloc);
     for part in unit.parts {
         for line in *part {
-            lines.push(*line)?;
+            ok(rt, lines.push(*line));
         }
     }
-    Ok(lines)
+    lines
 }
 
 /// Whether a value can be written so at all.
@@ -82,57 +81,59 @@ fn is_written(form: Form, value: i64) -> bool {
 }
 
 /// Writes an element.
-fn write(writer: &mut BitWriter, form: Form, value: i64) -> Result<(), Fail> {
+fn write(rt: &impl Abort, writer: &mut BitWriter, form: Form, value: i64) {
     match form {
         Form::U(num_bits) => {
             if num_bits <= 32 {
-                writer.write_bits(num_bits, u32::try_from(value)?)?;
+                ok(
+                    rt,
+                    writer.write_bits(num_bits, ok(rt, u32::try_from(value))),
+                );
             }
         }
         Form::Ue => {
-            let value = u32::try_from(value)?;
+            let value = ok(rt, u32::try_from(value));
             if value < u32::MAX {
-                writer.write_ue(value)?;
+                ok(rt, writer.write_ue(value));
             }
         }
         Form::Se => {
-            let value = i32::try_from(value)?;
+            let value = ok(rt, i32::try_from(value));
             if value > i32::MIN {
-                writer.write_se(value)?;
+                ok(rt, writer.write_se(value));
             }
         }
     }
-    Ok(())
 }
 
 /// Writes lines as they are.
-fn write_lines(writer: &mut BitWriter, lines: &[Line]) -> Result<(), Fail> {
+fn write_lines(rt: &impl Abort, writer: &mut BitWriter, lines: &[Line]) {
     for line in lines {
         match *line {
             Line::Bits(num_bits, value) => {
                 if num_bits <= 32 {
-                    writer.write_bits(num_bits, value)?;
+                    ok(rt, writer.write_bits(num_bits, value));
                 }
             }
-            Line::Bounded(form, value, _, _, _) => write(writer, form, value)?,
+            Line::Bounded(form, value, _, _, _) => write(rt, writer, form, value),
             Line::Checked(_, _, _, _) => {}
         }
     }
-    Ok(())
 }
 
 /// A unit of this header and these bits.
-fn unit_of(
-    rt: &impl Abort,
-    alloc: Global,
-    header: [u8; 2],
-    writer: &mut BitWriter,
-) -> Result<Vec<u8>, Fail> {
-    writer.write_trailing_bits()?;
+fn unit_of(rt: &impl Abort, alloc: Global, header: [u8; 2], writer: &mut BitWriter) -> Vec<u8>
+    ensures { length result.items < 10000 }
+{
+    ok(rt, writer.write_trailing_bits());
     expect(rt, writer.is_whole());
     let mut stream = Vec::new(alloc);
-    append_unit(alloc, &mut stream, header, writer.as_bytes())?;
-    Ok(stream)
+    ok(
+        rt,
+        append_unit(alloc, &mut stream, header, writer.as_bytes()),
+    );
+    assert!(rt; stream.len() < 10000);
+    stream
 }
 
 /// Why a unit isn't read.
@@ -171,15 +172,14 @@ impl Trial<'_> {
         (at, end): (usize, usize),
         form: Form,
         value: i64,
-    ) -> Result<Option<ParseError>, Fail> {
+    ) -> Option<ParseError> {
         assert!(rt; at < end && end <= self.lines.len());
         let mut writer = BitWriter::new(alloc);
-        write_lines(&mut writer, &self.lines[..at])?;
-        write(&mut writer, form, value)?;
-        write_lines(&mut writer, &self.lines[at + 1..end])?;
-        let stream = unit_of(rt, alloc, self.header, &mut writer)?;
-        assert!(rt; stream.len() < 10000);
-        Ok(refusal(alloc, self.kept, &stream))
+        write_lines(rt, &mut writer, &self.lines[..at]);
+        write(rt, &mut writer, form, value);
+        write_lines(rt, &mut writer, &self.lines[at + 1..end]);
+        let stream = unit_of(rt, alloc, self.header, &mut writer);
+        refusal(alloc, self.kept, &stream)
     }
 
     /// A value that can be written is refused with this row, or isn't.
@@ -192,14 +192,13 @@ impl Trial<'_> {
         row: Row,
         value: i64,
         refused: bool,
-    ) -> Result<(), Fail> {
+    ) {
         if is_written(form, value) {
-            let answer = self.refusal_at(rt, alloc, place, form, value)?;
+            let answer = self.refusal_at(rt, alloc, place, form, value);
             let Row(table, row) = row;
             let is = answer == Some(ParseError::OutOfRange { table, row });
             assert_eq!(rt; is, refused, "row {row} of table {table} at {value}");
         }
-        Ok(())
     }
 
     /// Values at the bounds are let through, and those beyond are refused.
@@ -212,20 +211,19 @@ impl Trial<'_> {
         row: Row,
         low: Option<i64>,
         high: Option<i64>,
-    ) -> Result<(), Fail> {
+    ) {
         if let Some(low) = low {
-            self.is_refused(rt, alloc, place, form, row, low, false)?;
-            self.is_refused(rt, alloc, place, form, row, low.saturating_sub(1), true)?;
+            self.is_refused(rt, alloc, place, form, row, low, false);
+            self.is_refused(rt, alloc, place, form, row, low.saturating_sub(1), true);
         }
         if let Some(high) = high {
-            self.is_refused(rt, alloc, place, form, row, high, false)?;
-            self.is_refused(rt, alloc, place, form, row, high.saturating_add(1), true)?;
+            self.is_refused(rt, alloc, place, form, row, high, false);
+            self.is_refused(rt, alloc, place, form, row, high.saturating_add(1), true);
         }
-        Ok(())
     }
 
     /// The bounds of the line at a place.
-    fn try_line(&self, rt: &impl Abort, alloc: Global, at: usize) -> Result<(), Fail> {
+    fn try_line(&self, rt: &impl Abort, alloc: Global, at: usize) {
         match self.lines.get(at).copied() {
             Some(Line::Bounded(form, _, row, low, high)) => {
                 self.has_bounds(rt, alloc, (at, at + 1), form, row, Some(low), Some(high))
@@ -237,36 +235,36 @@ impl Trial<'_> {
                     Some(Line::Bounded(form, _, _, _, _)) => {
                         self.has_bounds(rt, alloc, (looked_at, at), form, row, low, high)
                     }
-                    _ => Ok(()),
+                    _ => {}
                 }
             }
-            _ => Ok(()),
+            _ => {}
         }
     }
 }
 
 /// Each bound of a unit, and the unit as it is.
-fn try_unit(rt: &impl Abort, alloc: Global, kept: &Kept, unit: &Unit) -> Result<(), Fail> {
-    let lines = lines_of(alloc, unit)?;
+fn try_unit(rt: &impl Abort, alloc: Global, kept: &Kept, unit: &Unit) {
+    let lines = lines_of(rt, alloc, unit);
     let trial = Trial {
         kept,
         header: unit.header,
         lines: &lines,
     };
     for at in 0..lines.len() {
-        trial.try_line(rt, alloc, at)?;
+        trial.try_line(rt, alloc, at);
     }
-    let stream = whole(rt, alloc, unit)?;
-    assert!(rt; stream.len() < 10000);
-    expect_eq(rt, &refusal(alloc, kept, &stream), &None);
-    Ok(())
+    let stream = whole(rt, alloc, unit);
+    expect_eq(rt, refusal(alloc, kept, &stream), None);
 }
 
 /// A unit as it is.
-fn whole(rt: &impl Abort, alloc: Global, unit: &Unit) -> Result<Vec<u8>, Fail> {
-    let lines = lines_of(alloc, unit)?;
+fn whole(rt: &impl Abort, alloc: Global, unit: &Unit) -> Vec<u8>
+    ensures { length result.items < 10000 }
+{
+    let lines = lines_of(rt, alloc, unit);
     let mut writer = BitWriter::new(alloc);
-    write_lines(&mut writer, &lines)?;
+    write_lines(rt, &mut writer, &lines);
     unit_of(rt, alloc, unit.header, &mut writer)
 }
 
@@ -278,45 +276,46 @@ fn no_sets(alloc: Global) -> Kept {
     }
 }
 
-fn both_sets(rt: &impl Abort, alloc: Global) -> Result<Kept, Fail> {
+fn both_sets(rt: &impl Abort, alloc: Global) -> Kept {
     let mut kept = no_sets(alloc);
     let mut position = 0;
-    let stream = whole(rt, alloc, &sequence_set::SEQUENCE_SET)?;
-    assert!(rt; stream.len() < 10000);
-    let sps = read_sps(alloc, &Nalu::<NaluHeader>::next(&stream, &mut position)?)?;
-    kept.spses.insert(0, sps)?;
-    let stream = whole(rt, alloc, &picture_set::PICTURE_SET)?;
-    assert!(rt; stream.len() < 10000);
+    let stream = whole(rt, alloc, &sequence_set::SEQUENCE_SET);
+    let unit = ok(rt, Nalu::<NaluHeader>::next(&stream, &mut position));
+    let sps = ok(rt, read_sps(alloc, &unit));
+    ok(rt, kept.spses.insert(0, sps));
+    let stream = whole(rt, alloc, &picture_set::PICTURE_SET);
     let mut position = 0;
-    let unit = Nalu::<NaluHeader>::next(&stream, &mut position)?;
-    let pps = read_pps(alloc, &unit, &kept.spses)?;
-    kept.ppses.insert(0, pps)?;
-    Ok(kept)
+    let unit = ok(rt, Nalu::<NaluHeader>::next(&stream, &mut position));
+    let pps = ok(rt, read_pps(alloc, &unit, &kept.spses));
+    ok(rt, kept.ppses.insert(0, pps));
+    kept
 }
 
 #[test]
-fn a_video_set_has_bounds(rt: HostRuntime) -> Result<(), Fail> {
+fn a_video_set_has_bounds(rt: HostRuntime) {
     let alloc = rt.alloc();
-    try_unit(&rt, alloc, &no_sets(alloc), &video_set::VIDEO_SET)
+    try_unit(&rt, alloc, &no_sets(alloc), &video_set::VIDEO_SET);
 }
 
 #[test]
-fn a_sequence_set_has_bounds(rt: HostRuntime) -> Result<(), Fail> {
+fn a_sequence_set_has_bounds(rt: HostRuntime) {
     let alloc = rt.alloc();
-    try_unit(&rt, alloc, &no_sets(alloc), &sequence_set::SEQUENCE_SET)
+    try_unit(&rt, alloc, &no_sets(alloc), &sequence_set::SEQUENCE_SET);
 }
 
 #[test]
-fn a_picture_set_has_bounds(rt: HostRuntime) -> Result<(), Fail> {
+fn a_picture_set_has_bounds(rt: HostRuntime) {
+    let rt = &rt;
     let alloc = rt.alloc();
-    let kept = both_sets(&rt, alloc)?;
-    try_unit(&rt, alloc, &kept, &picture_set::PICTURE_SET)
+    let kept = both_sets(rt, alloc);
+    try_unit(rt, alloc, &kept, &picture_set::PICTURE_SET);
 }
 
 #[test]
-fn a_slice_header_has_bounds(rt: HostRuntime) -> Result<(), Fail> {
+fn a_slice_header_has_bounds(rt: HostRuntime) {
+    let rt = &rt;
     let alloc = rt.alloc();
-    let kept = both_sets(&rt, alloc)?;
-    try_unit(&rt, alloc, &kept, &slice::SLICE)?;
-    try_unit(&rt, alloc, &kept, &slice::NAMING_SLICE)
+    let kept = both_sets(rt, alloc);
+    try_unit(rt, alloc, &kept, &slice::SLICE);
+    try_unit(rt, alloc, &kept, &slice::NAMING_SLICE);
 }

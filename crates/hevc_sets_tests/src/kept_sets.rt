@@ -1,10 +1,9 @@
 //! Sets in any order.
-use crate::expect::{expect, expect_eq};
+use crate::expect::{expect, expect_eq, ok};
 use crate::streams::{PICTURE_SET, SEQUENCE_SET, VIDEO_SET};
 use hevc_bits::{Nalu, NaluHeader, NaluType};
 use hevc_kept_sets::{KeptSets, Options};
 use std::process::Abort;
-use std::test::Fail;
 
 /// Another sequence set of that id, with samples of 10 bits.
 const DEEP_SET: &[u8] = &[
@@ -72,8 +71,8 @@ fn picture_set_kept(sets: &KeptSets) -> Option<bool> {
 
 /// So many picture sets wait, and that of id 0 has dependent slice segments or hasn't, if it is kept.
 fn stand(rt: &impl Abort, sets: &KeptSets, waiting: usize, kept: Option<bool>) {
-    expect_eq(rt, &sets.num_waiting(), &waiting);
-    expect_eq(rt, &picture_set_kept(sets), &kept);
+    expect_eq(rt, sets.num_waiting(), waiting);
+    expect_eq(rt, picture_set_kept(sets), kept);
 }
 
 /// How many bits above 8 the luma samples have by the sequence set of id 0, if it is kept.
@@ -83,120 +82,136 @@ fn depth_kept(sets: &KeptSets) -> Option<u8> {
 }
 
 #[test]
-fn a_repeated_sequence_set_is_the_one_that_was_read(rt: HostRuntime) -> Result<(), Fail> {
+fn a_repeated_sequence_set_is_the_one_that_was_read(rt: HostRuntime) {
+    let rt = &rt;
     let mut sets = KeptSets::new(rt.alloc(), Options::new());
-    take(&mut sets, &[SEQUENCE_SET, DEEP_SET, DEEP_SET])?;
-    expect_eq(&rt, &depth_kept(&sets), &Some(2));
-    take(&mut sets, &[SEQUENCE_SET, OTHER_DEEP_SET, SEQUENCE_SET])?;
-    expect_eq(&rt, &depth_kept(&sets), &Some(0));
-    Ok(())
+    ok(rt, take(&mut sets, &[SEQUENCE_SET, DEEP_SET, DEEP_SET]));
+    expect_eq(rt, depth_kept(&sets), Some(2));
+    ok(
+        rt,
+        take(&mut sets, &[SEQUENCE_SET, OTHER_DEEP_SET, SEQUENCE_SET]),
+    );
+    expect_eq(rt, depth_kept(&sets), Some(0));
 }
 
 #[test]
-fn a_picture_set_waits_for_its_sequence_set(rt: HostRuntime) -> Result<(), Fail> {
+fn a_picture_set_waits_for_its_sequence_set(rt: HostRuntime) {
+    let rt = &rt;
     let mut sets = KeptSets::new(rt.alloc(), Options::new());
-    take(&mut sets, &[VIDEO_SET, PICTURE_SET])?;
-    stand(&rt, &sets, 1, None);
-    take(&mut sets, &[SEQUENCE_SET])?;
-    stand(&rt, &sets, 0, Some(false));
-    expect(&rt, sets.parser().get_vps(0).is_some());
-    Ok(())
+    ok(rt, take(&mut sets, &[VIDEO_SET, PICTURE_SET]));
+    stand(rt, &sets, 1, None);
+    ok(rt, take(&mut sets, &[SEQUENCE_SET]));
+    stand(rt, &sets, 0, Some(false));
+    expect(rt, sets.parser().get_vps(0).is_some());
 }
 
 #[test]
-fn the_later_waiting_set_of_an_id_stands(rt: HostRuntime) -> Result<(), Fail> {
+fn the_later_waiting_set_of_an_id_stands(rt: HostRuntime) {
+    let rt = &rt;
     let mut sets = KeptSets::new(rt.alloc(), Options::new());
-    take(&mut sets, &[PICTURE_SET, LATER_SET])?;
-    expect_eq(&rt, &sets.num_waiting(), &2);
-    take(&mut sets, &[SEQUENCE_SET])?;
-    stand(&rt, &sets, 0, Some(true));
-    take(&mut sets, &[PICTURE_SET])?;
-    stand(&rt, &sets, 0, Some(false));
-    Ok(())
+    ok(rt, take(&mut sets, &[PICTURE_SET, LATER_SET]));
+    expect_eq(rt, sets.num_waiting(), 2);
+    ok(rt, take(&mut sets, &[SEQUENCE_SET]));
+    stand(rt, &sets, 0, Some(true));
+    ok(rt, take(&mut sets, &[PICTURE_SET]));
+    stand(rt, &sets, 0, Some(false));
 }
 
 #[test]
-fn a_broken_set_waits_on(rt: HostRuntime) -> Result<(), Fail> {
+fn a_broken_set_waits_on(rt: HostRuntime) {
+    let rt = &rt;
     let mut sets = KeptSets::new(rt.alloc(), Options::new());
-    take(&mut sets, &[BROKEN_SET, PICTURE_SET, SEQUENCE_SET])?;
-    stand(&rt, &sets, 1, Some(false));
-    take(&mut sets, &[SEQUENCE_SET])?;
-    stand(&rt, &sets, 1, Some(false));
-    Ok(())
+    ok(
+        rt,
+        take(&mut sets, &[BROKEN_SET, PICTURE_SET, SEQUENCE_SET]),
+    );
+    stand(rt, &sets, 1, Some(false));
+    ok(rt, take(&mut sets, &[SEQUENCE_SET]));
+    stand(rt, &sets, 1, Some(false));
 }
 
 #[test]
-fn a_set_waits_on_where_its_sequence_set_is_repeated(rt: HostRuntime) -> Result<(), Fail> {
+fn a_set_waits_on_where_its_sequence_set_is_repeated(rt: HostRuntime) {
+    let rt = &rt;
     let mut sets = KeptSets::new(rt.alloc(), Options::new());
-    take(&mut sets, &[SEQUENCE_SET, DEEP_PICTURE_SET, SEQUENCE_SET])?;
-    stand(&rt, &sets, 1, None);
-    take(&mut sets, &[DEEP_SET])?;
-    stand(&rt, &sets, 0, Some(false));
-    Ok(())
+    ok(
+        rt,
+        take(&mut sets, &[SEQUENCE_SET, DEEP_PICTURE_SET, SEQUENCE_SET]),
+    );
+    stand(rt, &sets, 1, None);
+    ok(rt, take(&mut sets, &[DEEP_SET]));
+    stand(rt, &sets, 0, Some(false));
 }
 
 #[test]
-fn a_set_waits_on_where_another_sequence_set_changes(rt: HostRuntime) -> Result<(), Fail> {
+fn a_set_waits_on_where_another_sequence_set_changes(rt: HostRuntime) {
+    let rt = &rt;
     let mut sets = KeptSets::new(rt.alloc(), Options::new());
-    take(&mut sets, &[DEEP_PICTURE_SET, OTHER_DEEP_SET])?;
-    stand(&rt, &sets, 1, None);
-    take(&mut sets, &[SEQUENCE_SET])?;
-    expect_eq(&rt, &sets.num_waiting(), &1);
-    take(&mut sets, &[OTHER_DEEP_SET])?;
-    expect_eq(&rt, &sets.num_waiting(), &1);
-    take(&mut sets, &[DEEP_SET])?;
-    stand(&rt, &sets, 0, Some(false));
-    Ok(())
+    ok(rt, take(&mut sets, &[DEEP_PICTURE_SET, OTHER_DEEP_SET]));
+    stand(rt, &sets, 1, None);
+    ok(rt, take(&mut sets, &[SEQUENCE_SET]));
+    expect_eq(rt, sets.num_waiting(), 1);
+    ok(rt, take(&mut sets, &[OTHER_DEEP_SET]));
+    expect_eq(rt, sets.num_waiting(), 1);
+    ok(rt, take(&mut sets, &[DEEP_SET]));
+    stand(rt, &sets, 0, Some(false));
 }
 
 #[test]
-fn the_sets_of_one_sequence_set_are_read_in_their_order(rt: HostRuntime) -> Result<(), Fail> {
+fn the_sets_of_one_sequence_set_are_read_in_their_order(rt: HostRuntime) {
+    let rt = &rt;
     let mut sets = KeptSets::new(rt.alloc(), Options::new());
-    take(
-        &mut sets,
-        &[
-            LATER_SET,
-            OTHER_PICTURE_SET,
-            BROKEN_SET,
-            PICTURE_SET,
-            SEQUENCE_SET,
-        ],
-    )?;
-    stand(&rt, &sets, 2, Some(false));
-    take(&mut sets, &[OTHER_DEEP_SET])?;
-    stand(&rt, &sets, 1, Some(true));
-    Ok(())
+    ok(
+        rt,
+        take(
+            &mut sets,
+            &[
+                LATER_SET,
+                OTHER_PICTURE_SET,
+                BROKEN_SET,
+                PICTURE_SET,
+                SEQUENCE_SET,
+            ],
+        ),
+    );
+    stand(rt, &sets, 2, Some(false));
+    ok(rt, take(&mut sets, &[OTHER_DEEP_SET]));
+    stand(rt, &sets, 1, Some(true));
 }
 
 #[test]
-fn a_set_that_names_none_waits_on(rt: HostRuntime) -> Result<(), Fail> {
+fn a_set_that_names_none_waits_on(rt: HostRuntime) {
     let mut sets = KeptSets::new(rt.alloc(), Options::new());
-    take(
-        &mut sets,
-        &[
-            &[0x00, 0x00, 0x01, 0x44, 0x01, 0x80],
-            SEQUENCE_SET,
-            OTHER_DEEP_SET,
-        ],
-    )?;
-    expect_eq(&rt, &sets.num_waiting(), &1);
-    Ok(())
+    ok(
+        &rt,
+        take(
+            &mut sets,
+            &[
+                &[0x00, 0x00, 0x01, 0x44, 0x01, 0x80],
+                SEQUENCE_SET,
+                OTHER_DEEP_SET,
+            ],
+        ),
+    );
+    expect_eq(&rt, sets.num_waiting(), 1);
 }
 
 #[test]
-fn sub_layers_above_the_wanted_ones(rt: HostRuntime) -> Result<(), Fail> {
+fn sub_layers_above_the_wanted_ones(rt: HostRuntime) {
     let options = Options {
         handle_cra_as_bla: false,
         highest_tid: 0,
     };
     let mut sets = KeptSets::new(rt.alloc(), options);
-    take(
-        &mut sets,
-        &[
-            SEQUENCE_SET,
-            &[0x00, 0x00, 0x01, 0x44, 0x02, 0xc0, 0x71, 0x80, 0x12],
-        ],
-    )?;
+    ok(
+        &rt,
+        take(
+            &mut sets,
+            &[
+                SEQUENCE_SET,
+                &[0x00, 0x00, 0x01, 0x44, 0x02, 0xc0, 0x71, 0x80, 0x12],
+            ],
+        ),
+    );
     stand(&rt, &sets, 0, None);
-    Ok(())
 }

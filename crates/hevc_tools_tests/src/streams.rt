@@ -1,5 +1,7 @@
 //! Units, and streams that are put together of them.
-use std::alloc::{AllocError, Global};
+use crate::expect::ok;
+use std::alloc::Global;
+use std::process::Abort;
 
 /// A sequence set of 16 by 16 luma samples: a buffer of five pictures, one of which may be decoded
 /// before another and output after it, and no latency.
@@ -95,16 +97,16 @@ pub(crate) const END_OF_BITSTREAM: &[u8] = &[0x4a, 0x01];
 pub(crate) const TRUNCATED: &[u8] = &[0x42];
 
 /// The units, each after this start code.
-pub(crate) fn joined(alloc: Global, start: &[u8], units: &[&[u8]]) -> Result<Vec<u8>, AllocError> {
+pub(crate) fn joined(rt: &impl Abort, alloc: Global, start: &[u8], units: &[&[u8]]) -> Vec<u8> {
     let mut bytes = Vec::new(alloc);
     for unit in units {
-        bytes.extend_from_slice(start)?;
-        bytes.extend_from_slice(unit)?;
+        ok(rt, bytes.extend_from_slice(start));
+        ok(rt, bytes.extend_from_slice(unit));
     }
-    Ok(bytes)
+    bytes
 }
 
 /// The units, each after 00 00 01.
-pub(crate) fn stream(alloc: Global, units: &[&[u8]]) -> Result<Vec<u8>, AllocError> {
-    joined(alloc, &[0x00, 0x00, 0x01], units)
+pub(crate) fn stream(rt: &impl Abort, alloc: Global, units: &[&[u8]]) -> Vec<u8> {
+    joined(rt, alloc, &[0x00, 0x00, 0x01], units)
 }

@@ -1,12 +1,11 @@
 //! Worked structures of 7.3.3 and Annex E, read, and written again.
-use crate::expect::expect;
+use crate::expect::ok;
 use crate::written::assert_written;
 use hevc_bit_writer::BitWriter;
 use hevc_bits::NaluReader;
 use hevc_sets::{read_hrd_parameters, read_profile_tier_level, read_vui_parameters};
 use hevc_types_b::HrdParams;
 use hevc_write_parts::{write_hrd_parameters, write_profile_tier_level, write_vui_parameters};
-use std::test::Fail;
 
 /// Usability with every group of elements, and a one after its last bit.
 const USABILITY: &[u8] = &[
@@ -36,34 +35,31 @@ const WRITTEN_PROFILE: &[u8] = &[
 ];
 
 #[test]
-fn usability_is_written_as_it_was(rt: HostRuntime) -> Result<(), Fail> {
+fn usability_is_written_as_it_was(rt: HostRuntime) {
+    let rt = &rt;
     let mut r = NaluReader::new(USABILITY);
     let mut w = BitWriter::new(rt.alloc());
-    match read_vui_parameters(&mut r, 0) {
-        Ok(vui) => write_vui_parameters(&mut w, 0, &vui)?,
-        Err(_) => expect(&rt, false),
-    }
-    assert_written(&rt, rt.alloc(), &mut w, USABILITY)
+    let vui = ok(rt, read_vui_parameters(&mut r, 0));
+    ok(rt, write_vui_parameters(&mut w, 0, &vui));
+    assert_written(rt, rt.alloc(), &mut w, USABILITY);
 }
 
 #[test]
-fn schedules_are_written_as_they_were(rt: HostRuntime) -> Result<(), Fail> {
+fn schedules_are_written_as_they_were(rt: HostRuntime) {
+    let rt = &rt;
     let mut r = NaluReader::new(SCHEDULES);
     let mut w = BitWriter::new(rt.alloc());
-    match read_hrd_parameters(&mut r, true, 1, &HrdParams::new()) {
-        Ok(hrd) => write_hrd_parameters(&mut w, true, 1, &hrd)?,
-        Err(_) => expect(&rt, false),
-    }
-    assert_written(&rt, rt.alloc(), &mut w, SCHEDULES)
+    let hrd = ok(rt, read_hrd_parameters(&mut r, true, 1, &HrdParams::new()));
+    ok(rt, write_hrd_parameters(&mut w, true, 1, &hrd));
+    assert_written(rt, rt.alloc(), &mut w, SCHEDULES);
 }
 
 #[test]
-fn reserved_bits_of_a_profile_are_zeros(rt: HostRuntime) -> Result<(), Fail> {
+fn reserved_bits_of_a_profile_are_zeros(rt: HostRuntime) {
+    let rt = &rt;
     let mut r = NaluReader::new(PROFILE);
     let mut w = BitWriter::new(rt.alloc());
-    match read_profile_tier_level(&mut r, 1) {
-        Ok(profile) => write_profile_tier_level(&mut w, 1, &profile)?,
-        Err(_) => expect(&rt, false),
-    }
-    assert_written(&rt, rt.alloc(), &mut w, WRITTEN_PROFILE)
+    let profile = ok(rt, read_profile_tier_level(&mut r, 1));
+    ok(rt, write_profile_tier_level(&mut w, 1, &profile));
+    assert_written(rt, rt.alloc(), &mut w, WRITTEN_PROFILE);
 }

@@ -4,7 +4,7 @@
 //! 4:2:0 chroma and a substream for each row of blocks. Those of the cropped one have 184 rows of
 //! samples, of which 180 are shown, and those of the full one have 240. What a builder here doesn't
 //! set is as in a new record.
-use crate::expect::{expect, expect_eq};
+use crate::expect::{expect, expect_eq, expect_fewer, ok};
 use hevc_bits::{Nalu, NaluHeader, NaluType};
 use hevc_sets::{default_scaling_lists, read_pps, read_sps, read_vps};
 use hevc_slice_header::read_slice_header;
@@ -13,10 +13,9 @@ use hevc_types_b::{PredWeightTable, Vps, VuiParams};
 use hevc_types_c::Sps;
 use hevc_types_d::{Pps, SliceHeader};
 use hevc_write::{PictureUnit, SliceUnit, Syntax, WriteError, write_unit};
-use std::alloc::{AllocError, Global};
+use std::alloc::Global;
 use std::collections::BTreeMap;
 use std::process::Abort;
-use std::test::Fail;
 
 /// The bytes after a slice header.
 const BODY: &[u8] = &[0xb5, 0x80];
@@ -34,8 +33,8 @@ fn main_profile() -> ProfileTierLevel {
 }
 
 /// The video set of the cropped stream: one layer of one sub-layer, with no bound on latency.
-fn cropped_video_set(alloc: Global) -> Result<Vps, AllocError> {
-    let mut vps = Vps::new(alloc)?;
+fn cropped_video_set(rt: &impl Abort, alloc: Global) -> Vps {
+    let mut vps = ok(rt, Vps::new(alloc));
     vps.base_layer_internal_flag = true;
     vps.base_layer_available_flag = true;
     vps.temporal_id_nesting_flag = true;
@@ -43,14 +42,14 @@ fn cropped_video_set(alloc: Global) -> Result<Vps, AllocError> {
     vps.sub_layer_ordering_info_present_flag = true;
     vps.max_dec_pic_buffering_minus1 = [4, 0, 0, 0, 0, 0, 0];
     vps.max_num_reorder_pics = [2, 0, 0, 0, 0, 0, 0];
-    Ok(vps)
+    vps
 }
 
 /// The video set of the full stream, which bounds the latency.
-fn full_video_set(alloc: Global) -> Result<Vps, AllocError> {
-    let mut vps = cropped_video_set(alloc)?;
+fn full_video_set(rt: &impl Abort, alloc: Global) -> Vps {
+    let mut vps = cropped_video_set(rt, alloc);
     vps.max_latency_increase_plus1 = [5, 0, 0, 0, 0, 0, 0];
-    Ok(vps)
+    vps
 }
 
 /// A sequence set of 5x3 blocks, with the last rows cropped.
@@ -182,19 +181,19 @@ fn cropped_predicted_slice(alloc: Global) -> SliceHeader {
 }
 
 /// The header of an I slice, the first one of an IDR picture of the full stream.
-fn full_intra_slice(alloc: Global) -> Result<SliceHeader, AllocError> {
+fn full_intra_slice(rt: &impl Abort, alloc: Global) -> SliceHeader {
     let mut header = cropped_intra_slice(alloc);
     header.qp_delta = 7;
     header.num_entry_point_offsets = 3;
     header.offset_len_minus1 = 11;
-    header.entry_point_offset_minus1 = Items::from_slice(alloc, &[999, 799, 599])?;
+    header.entry_point_offset_minus1 = ok(rt, Items::from_slice(alloc, &[999, 799, 599]));
     header.header_bit_size = 88;
-    Ok(header)
+    header
 }
 
 /// The header of a P slice of the full stream, which refers to the picture of order count 0.
-fn full_predicted_slice(alloc: Global) -> Result<SliceHeader, AllocError> {
-    let mut header = full_intra_slice(alloc)?;
+fn full_predicted_slice(rt: &impl Abort, alloc: Global) -> SliceHeader {
+    let mut header = full_intra_slice(rt, alloc);
     header.type_ = SliceType::P;
     header.pic_order_cnt_lsb = 3;
     header.short_term_ref_pic_set = picture_3_before();
@@ -206,7 +205,7 @@ fn full_predicted_slice(alloc: Global) -> Result<SliceHeader, AllocError> {
     header.offset_len_minus1 = 10;
     header.header_bit_size = 112;
     header.st_rps_bits = 8;
-    Ok(header)
+    header
 }
 
 /// The picture whose order count is lower by 4.
@@ -264,32 +263,36 @@ fn written<R: Syntax>(
 }
 
 /// A video set, written and read back.
-fn video_set_again(rt: &impl Abort, alloc: Global, vps: &Vps) -> Result<Vps, Fail> {
-    let stream = written(alloc, vps, NaluType::VpsNut)?;
-    assert!(rt; stream.len() < 1000);
+fn video_set_again(rt: &impl Abort, alloc: Global, vps: &Vps) -> Vps {
+    let stream = ok(rt, written(alloc, vps, NaluType::VpsNut));
+    expect_fewer(rt, &stream, 1000);
     let mut position = 0;
-    let nalu = Nalu::<NaluHeader>::next(stream.as_slice(), &mut position)?;
-    Ok(read_vps(alloc, &nalu)?)
+    let nalu = ok(rt, Nalu::<NaluHeader>::next(&stream, &mut position));
+    ok(rt, read_vps(alloc, &nalu))
 }
 
 /// A sequence set, written and read back.
-fn sequence_set_again(rt: &impl Abort, alloc: Global, sps: &Sps) -> Result<Sps, Fail> {
-    let stream = written(alloc, sps, NaluType::SpsNut)?;
-    assert!(rt; stream.len() < 1000);
+fn sequence_set_again(rt: &impl Abort, alloc: Global, sps: &Sps) -> Sps {
+    let stream = ok(rt, written(alloc, sps, NaluType::SpsNut));
+    expect_fewer(rt, &stream, 1000);
     let mut position = 0;
-    let nalu = Nalu::<NaluHeader>::next(stream.as_slice(), &mut position)?;
-    Ok(read_sps(alloc, &nalu)?)
+    let nalu = ok(rt, Nalu::<NaluHeader>::next(&stream, &mut position));
+    ok(rt, read_sps(alloc, &nalu))
 }
 
 /// A picture set that names this sequence set, written and read back.
-fn picture_set_again(rt: &impl Abort, alloc: Global, sps: &Sps, pps: &Pps) -> Result<Pps, Fail> {
-    let stream = written(alloc, &PictureUnit { pps, sps }, NaluType::PpsNut)?;
-    assert!(rt; stream.len() < 1000);
+fn picture_set_again(rt: &impl Abort, alloc: Global, sps: &Sps, pps: &Pps) -> Pps {
+    let stream = ok(
+        rt,
+        written(alloc, &PictureUnit { pps, sps }, NaluType::PpsNut),
+    );
+    expect_fewer(rt, &stream, 1000);
     let mut spses = BTreeMap::new(alloc);
-    spses.insert(sps.seq_parameter_set_id, sps.try_clone()?)?;
+    let kept = ok(rt, sps.try_clone());
+    ok(rt, spses.insert(sps.seq_parameter_set_id, kept));
     let mut position = 0;
-    let nalu = Nalu::<NaluHeader>::next(stream.as_slice(), &mut position)?;
-    Ok(read_pps(alloc, &nalu, &spses)?)
+    let nalu = ok(rt, Nalu::<NaluHeader>::next(&stream, &mut position));
+    ok(rt, read_pps(alloc, &nalu, &spses))
 }
 
 /// The header of a slice in a unit of this type, written and read back.
@@ -298,63 +301,62 @@ fn header_again(
     alloc: Global,
     slice: &SliceUnit<'_>,
     nalu_type: NaluType,
-) -> Result<SliceHeader, Fail> {
-    let stream = written(alloc, slice, nalu_type)?;
-    assert!(rt; stream.len() < 1000);
+) -> SliceHeader {
+    let stream = ok(rt, written(alloc, slice, nalu_type));
+    expect_fewer(rt, &stream, 1000);
     let mut spses = BTreeMap::new(alloc);
-    spses.insert(slice.sps.seq_parameter_set_id, slice.sps.try_clone()?)?;
+    let kept = ok(rt, slice.sps.try_clone());
+    ok(rt, spses.insert(slice.sps.seq_parameter_set_id, kept));
     let mut ppses = BTreeMap::new(alloc);
-    ppses.insert(slice.pps.pic_parameter_set_id, *slice.pps)?;
+    ok(rt, ppses.insert(slice.pps.pic_parameter_set_id, *slice.pps));
     let mut position = 0;
-    let nalu = Nalu::<NaluHeader>::next(stream.as_slice(), &mut position)?;
+    let nalu = ok(rt, Nalu::<NaluHeader>::next(&stream, &mut position));
     let mut header = SliceHeader::new(alloc);
-    read_slice_header(alloc, &nalu, &spses, &ppses, &mut header)?;
-    Ok(header)
+    ok(
+        rt,
+        read_slice_header(alloc, &nalu, &spses, &ppses, &mut header),
+    );
+    header
 }
 
 /// A slice header of these sets is read back as it was, with its sizes.
-fn assert_header(
-    rt: &impl Abort,
-    alloc: Global,
-    slice: &SliceUnit<'_>,
-    nalu_type: NaluType,
-) -> Result<(), Fail> {
-    let read = header_again(rt, alloc, slice, nalu_type)?;
+fn assert_header(rt: &impl Abort, alloc: Global, slice: &SliceUnit<'_>, nalu_type: NaluType) {
+    let read = header_again(rt, alloc, slice, nalu_type);
     expect(rt, read == *slice.header);
-    Ok(())
 }
 
 #[test]
-fn video_sets_are_read_as_they_were_built(rt: HostRuntime) -> Result<(), Fail> {
-    let vps = cropped_video_set(rt.alloc())?;
-    expect(&rt, video_set_again(&rt, rt.alloc(), &vps)? == vps);
-    let vps = full_video_set(rt.alloc())?;
-    expect(&rt, video_set_again(&rt, rt.alloc(), &vps)? == vps);
-    Ok(())
+fn video_sets_are_read_as_they_were_built(rt: HostRuntime) {
+    let rt = &rt;
+    let vps = cropped_video_set(rt, rt.alloc());
+    expect(rt, video_set_again(rt, rt.alloc(), &vps) == vps);
+    let vps = full_video_set(rt, rt.alloc());
+    expect(rt, video_set_again(rt, rt.alloc(), &vps) == vps);
 }
 
 #[test]
-fn sequence_sets_are_read_as_they_were_built(rt: HostRuntime) -> Result<(), Fail> {
+fn sequence_sets_are_read_as_they_were_built(rt: HostRuntime) {
+    let rt = &rt;
     let sps = cropped_sequence_set(rt.alloc());
-    expect(&rt, sequence_set_again(&rt, rt.alloc(), &sps)? == sps);
+    expect(rt, sequence_set_again(rt, rt.alloc(), &sps) == sps);
     let sps = full_sequence_set(rt.alloc());
-    expect(&rt, sequence_set_again(&rt, rt.alloc(), &sps)? == sps);
-    Ok(())
+    expect(rt, sequence_set_again(rt, rt.alloc(), &sps) == sps);
 }
 
 #[test]
-fn picture_sets_are_read_as_they_were_built(rt: HostRuntime) -> Result<(), Fail> {
+fn picture_sets_are_read_as_they_were_built(rt: HostRuntime) {
+    let rt = &rt;
     let sps = cropped_sequence_set(rt.alloc());
     let pps = cropped_picture_set();
-    expect(&rt, picture_set_again(&rt, rt.alloc(), &sps, &pps)? == pps);
+    expect(rt, picture_set_again(rt, rt.alloc(), &sps, &pps) == pps);
     let sps = full_sequence_set(rt.alloc());
     let pps = full_picture_set();
-    expect(&rt, picture_set_again(&rt, rt.alloc(), &sps, &pps)? == pps);
-    Ok(())
+    expect(rt, picture_set_again(rt, rt.alloc(), &sps, &pps) == pps);
 }
 
 #[test]
-fn headers_of_the_cropped_stream_are_read_as_they_were_built(rt: HostRuntime) -> Result<(), Fail> {
+fn headers_of_the_cropped_stream_are_read_as_they_were_built(rt: HostRuntime) {
+    let rt = &rt;
     let sps = cropped_sequence_set(rt.alloc());
     let pps = cropped_picture_set();
     let intra = cropped_intra_slice(rt.alloc());
@@ -365,90 +367,91 @@ fn headers_of_the_cropped_stream_are_read_as_they_were_built(rt: HostRuntime) ->
         sps: &sps,
         body: BODY,
     };
-    assert_header(&rt, rt.alloc(), &slice, NaluType::IdrWRadl)?;
+    assert_header(rt, rt.alloc(), &slice, NaluType::IdrWRadl);
     slice.header = &predicted;
-    assert_header(&rt, rt.alloc(), &slice, NaluType::TrailR)
+    assert_header(rt, rt.alloc(), &slice, NaluType::TrailR);
 }
 
 #[test]
-fn headers_of_the_full_stream_are_read_as_they_were_built(rt: HostRuntime) -> Result<(), Fail> {
+fn headers_of_the_full_stream_are_read_as_they_were_built(rt: HostRuntime) {
+    let rt = &rt;
     let sps = full_sequence_set(rt.alloc());
     let pps = full_picture_set();
-    let intra = full_intra_slice(rt.alloc())?;
-    let predicted = full_predicted_slice(rt.alloc())?;
+    let intra = full_intra_slice(rt, rt.alloc());
+    let predicted = full_predicted_slice(rt, rt.alloc());
     let mut slice = SliceUnit {
         header: &intra,
         pps: &pps,
         sps: &sps,
         body: BODY,
     };
-    assert_header(&rt, rt.alloc(), &slice, NaluType::IdrNLp)?;
+    assert_header(rt, rt.alloc(), &slice, NaluType::IdrNLp);
     slice.header = &predicted;
-    assert_header(&rt, rt.alloc(), &slice, NaluType::TrailR)
+    assert_header(rt, rt.alloc(), &slice, NaluType::TrailR);
 }
 
 #[test]
-fn a_video_set_has_another_id_up_to_15(rt: HostRuntime) -> Result<(), Fail> {
+fn a_video_set_has_another_id_up_to_15(rt: HostRuntime) {
+    let rt = &rt;
     let alloc = rt.alloc();
-    let mut vps = video_set_again(&rt, alloc, &full_video_set(alloc)?)?;
+    let mut vps = video_set_again(rt, alloc, &full_video_set(rt, alloc));
     vps.video_parameter_set_id = 3;
-    expect(&rt, video_set_again(&rt, alloc, &vps)? == vps);
+    expect(rt, video_set_again(rt, alloc, &vps) == vps);
     vps.video_parameter_set_id = 16;
     let refused = written(alloc, &vps, NaluType::VpsNut).err();
-    expect_eq(&rt, &refused, &Some(WriteError::NotFormed));
-    Ok(())
+    expect_eq(rt, refused, Some(WriteError::NotFormed));
 }
 
 #[test]
-fn a_sequence_set_has_another_id_up_to_15(rt: HostRuntime) -> Result<(), Fail> {
+fn a_sequence_set_has_another_id_up_to_15(rt: HostRuntime) {
+    let rt = &rt;
     let alloc = rt.alloc();
-    let mut sps = sequence_set_again(&rt, alloc, &full_sequence_set(alloc))?;
+    let mut sps = sequence_set_again(rt, alloc, &full_sequence_set(alloc));
     sps.seq_parameter_set_id = 7;
-    expect(&rt, sequence_set_again(&rt, alloc, &sps)? == sps);
+    expect(rt, sequence_set_again(rt, alloc, &sps) == sps);
     sps.seq_parameter_set_id = 16;
     let refused = written(alloc, &sps, NaluType::SpsNut).err();
-    expect_eq(&rt, &refused, &Some(WriteError::NotFormed));
-    Ok(())
+    expect_eq(rt, refused, Some(WriteError::NotFormed));
 }
 
 #[test]
-fn a_picture_set_has_another_id_up_to_63(rt: HostRuntime) -> Result<(), Fail> {
+fn a_picture_set_has_another_id_up_to_63(rt: HostRuntime) {
+    let rt = &rt;
     let alloc = rt.alloc();
     let sps = full_sequence_set(alloc);
-    let mut pps = picture_set_again(&rt, alloc, &sps, &full_picture_set())?;
+    let mut pps = picture_set_again(rt, alloc, &sps, &full_picture_set());
     pps.pic_parameter_set_id = 63;
-    expect(&rt, picture_set_again(&rt, alloc, &sps, &pps)? == pps);
+    expect(rt, picture_set_again(rt, alloc, &sps, &pps) == pps);
     pps.pic_parameter_set_id = 64;
     let unit = PictureUnit {
         pps: &pps,
         sps: &sps,
     };
     let refused = written(alloc, &unit, NaluType::PpsNut).err();
-    expect_eq(&rt, &refused, &Some(WriteError::NotFormed));
-    Ok(())
+    expect_eq(rt, refused, Some(WriteError::NotFormed));
 }
 
 #[test]
-fn a_slice_has_another_quantiser_within_its_range(rt: HostRuntime) -> Result<(), Fail> {
+fn a_slice_has_another_quantiser_within_its_range(rt: HostRuntime) {
+    let rt = &rt;
     let alloc = rt.alloc();
     let sps = full_sequence_set(alloc);
     let pps = full_picture_set();
-    let built = full_predicted_slice(alloc)?;
+    let built = full_predicted_slice(rt, alloc);
     let mut slice = SliceUnit {
         header: &built,
         pps: &pps,
         sps: &sps,
         body: BODY,
     };
-    let mut header = header_again(&rt, alloc, &slice, NaluType::TrailR)?;
+    let mut header = header_again(rt, alloc, &slice, NaluType::TrailR);
     header.qp_delta = 25;
     header.header_bit_size = 120;
     slice.header = &header;
-    assert_header(&rt, alloc, &slice, NaluType::TrailR)?;
-    let mut above = header_again(&rt, alloc, &slice, NaluType::TrailR)?;
+    assert_header(rt, alloc, &slice, NaluType::TrailR);
+    let mut above = header_again(rt, alloc, &slice, NaluType::TrailR);
     above.qp_delta = 26;
     slice.header = &above;
     let refused = written(alloc, &slice, NaluType::TrailR).err();
-    expect_eq(&rt, &refused, &Some(WriteError::NotFormed));
-    Ok(())
+    expect_eq(rt, refused, Some(WriteError::NotFormed));
 }

@@ -1,7 +1,5 @@
 //! Worked parameter sets (7.3.2), read, and written again.
-ghost use Rattle.std.specs.Prelude.{◌<◌, length};
-
-use crate::expect::{expect, expect_eq};
+use crate::expect::{expect, expect_eq, expect_fewer, ok};
 use crate::written::assert_unit;
 use hevc_bit_writer::{BitWriter, append_unit};
 use hevc_bits::{Nalu, NaluHeader};
@@ -13,7 +11,6 @@ use hevc_write_vps::write_vps;
 use std::alloc::Global;
 use std::collections::BTreeMap;
 use std::process::Abort;
-use std::test::Fail;
 
 /// Rows 1 to 25 of table 1: two sub-layers of their own numbers, three layer sets of two layers, a clock, and three structures of
 /// timing, of which the second has the common elements of the first.
@@ -117,83 +114,87 @@ fn ten_blocks(alloc: Global) -> Sps {
 }
 
 /// A video set is written as it was.
-fn assert_video_set(rt: &impl Abort, alloc: Global, stream: &[u8]) -> Result<(), Fail> {
-    assert!(rt; stream.len() < 1000);
+fn assert_video_set(rt: &impl Abort, alloc: Global, stream: &[u8]) {
+    expect_fewer(rt, stream, 1000);
     let mut position = 0;
-    let vps = read_vps(alloc, &Nalu::<NaluHeader>::next(stream, &mut position)?)?;
+    let nalu = ok(rt, Nalu::<NaluHeader>::next(stream, &mut position));
+    let vps = ok(rt, read_vps(alloc, &nalu));
     let mut w = BitWriter::new(alloc);
-    write_vps(&mut w, &vps)?;
-    assert_unit(rt, alloc, &mut w, stream)
+    ok(rt, write_vps(&mut w, &vps));
+    assert_unit(rt, alloc, &mut w, stream);
 }
 
 /// A sequence set is written as it was.
-fn assert_sequence_set(rt: &impl Abort, alloc: Global, stream: &[u8]) -> Result<(), Fail> {
-    assert!(rt; stream.len() < 1000);
+fn assert_sequence_set(rt: &impl Abort, alloc: Global, stream: &[u8]) {
+    expect_fewer(rt, stream, 1000);
     let mut position = 0;
-    let sps = read_sps(alloc, &Nalu::<NaluHeader>::next(stream, &mut position)?)?;
+    let nalu = ok(rt, Nalu::<NaluHeader>::next(stream, &mut position));
+    let sps = ok(rt, read_sps(alloc, &nalu));
     let mut w = BitWriter::new(alloc);
-    write_sps(&mut w, &sps)?;
-    assert_unit(rt, alloc, &mut w, stream)
+    ok(rt, write_sps(&mut w, &sps));
+    assert_unit(rt, alloc, &mut w, stream);
 }
 
 /// A picture set that names this sequence set is written as it was.
-fn assert_picture_set(
-    rt: &impl Abort,
-    alloc: Global,
-    sps: &Sps,
-    stream: &[u8],
-) -> Result<(), Fail> {
-    assert!(rt; stream.len() < 1000);
+fn assert_picture_set(rt: &impl Abort, alloc: Global, sps: &Sps, stream: &[u8]) {
+    expect_fewer(rt, stream, 1000);
     let mut spses = BTreeMap::new(alloc);
-    spses.insert(sps.seq_parameter_set_id, sps.try_clone()?)?;
+    let kept = ok(rt, sps.try_clone());
+    ok(rt, spses.insert(sps.seq_parameter_set_id, kept));
     let mut position = 0;
-    let nalu = Nalu::<NaluHeader>::next(stream, &mut position)?;
-    let pps = read_pps(alloc, &nalu, &spses)?;
+    let nalu = ok(rt, Nalu::<NaluHeader>::next(stream, &mut position));
+    let pps = ok(rt, read_pps(alloc, &nalu, &spses));
     let mut w = BitWriter::new(alloc);
-    write_pps(&mut w, sps, &pps)?;
-    assert_unit(rt, alloc, &mut w, stream)
+    ok(rt, write_pps(&mut w, sps, &pps));
+    assert_unit(rt, alloc, &mut w, stream);
 }
 
 #[test]
-fn video_sets_are_written_as_they_were(rt: HostRuntime) -> Result<(), Fail> {
-    assert_video_set(&rt, rt.alloc(), COMMON_VIDEO_SET)?;
-    assert_video_set(&rt, rt.alloc(), VIDEO_SET)
+fn video_sets_are_written_as_they_were(rt: HostRuntime) {
+    let rt = &rt;
+    assert_video_set(rt, rt.alloc(), COMMON_VIDEO_SET);
+    assert_video_set(rt, rt.alloc(), VIDEO_SET);
 }
 
 #[test]
-fn layers_that_no_record_keeps_are_zeros(rt: HostRuntime) -> Result<(), Fail> {
-    assert!(rt; TIMED_VIDEO_SET.len() < 1000);
+fn layers_that_no_record_keeps_are_zeros(rt: HostRuntime) {
+    let rt = &rt;
+    expect_fewer(rt, TIMED_VIDEO_SET, 1000);
     let mut position = 0;
-    let nalu = Nalu::<NaluHeader>::next(TIMED_VIDEO_SET, &mut position)?;
-    let vps = read_vps(rt.alloc(), &nalu)?;
+    let nalu = ok(rt, Nalu::<NaluHeader>::next(TIMED_VIDEO_SET, &mut position));
+    let vps = ok(rt, read_vps(rt.alloc(), &nalu));
     let mut w = BitWriter::new(rt.alloc());
-    write_vps(&mut w, &vps)?;
-    w.write_trailing_bits()?;
+    ok(rt, write_vps(&mut w, &vps));
+    ok(rt, w.write_trailing_bits());
     let mut unit = Vec::new(rt.alloc());
-    append_unit(rt.alloc(), &mut unit, [0x40, 0x01], w.as_bytes())?;
-    expect_eq(&rt, &unit.len(), &TIMED_VIDEO_SET.len());
-    assert!(rt; unit.len() < 1000);
+    ok(
+        rt,
+        append_unit(rt.alloc(), &mut unit, [0x40, 0x01], w.as_bytes()),
+    );
+    expect_eq(rt, unit.len(), TIMED_VIDEO_SET.len());
+    expect_fewer(rt, &unit, 1000);
     position = 0;
-    let nalu = Nalu::<NaluHeader>::next(unit.as_slice(), &mut position)?;
-    expect(&rt, read_vps(rt.alloc(), &nalu)? == vps);
-    Ok(())
+    let nalu = ok(rt, Nalu::<NaluHeader>::next(unit.as_slice(), &mut position));
+    expect(rt, ok(rt, read_vps(rt.alloc(), &nalu)) == vps);
 }
 
 #[test]
-fn sequence_sets_are_written_as_they_were(rt: HostRuntime) -> Result<(), Fail> {
-    assert_sequence_set(&rt, rt.alloc(), EXTENDED_SEQUENCE_SET)?;
-    assert_sequence_set(&rt, rt.alloc(), MANY_SETS)?;
-    assert_sequence_set(&rt, rt.alloc(), TIMED_SEQUENCE_SET)?;
-    assert_sequence_set(&rt, rt.alloc(), DISPLAYED_SEQUENCE_SET)?;
-    assert_sequence_set(&rt, rt.alloc(), SEQUENCE_SET)
+fn sequence_sets_are_written_as_they_were(rt: HostRuntime) {
+    let rt = &rt;
+    assert_sequence_set(rt, rt.alloc(), EXTENDED_SEQUENCE_SET);
+    assert_sequence_set(rt, rt.alloc(), MANY_SETS);
+    assert_sequence_set(rt, rt.alloc(), TIMED_SEQUENCE_SET);
+    assert_sequence_set(rt, rt.alloc(), DISPLAYED_SEQUENCE_SET);
+    assert_sequence_set(rt, rt.alloc(), SEQUENCE_SET);
 }
 
 #[test]
-fn picture_sets_are_written_as_they_were(rt: HostRuntime) -> Result<(), Fail> {
+fn picture_sets_are_written_as_they_were(rt: HostRuntime) {
+    let rt = &rt;
     let sps = ten_blocks(rt.alloc());
-    assert_picture_set(&rt, rt.alloc(), &sps, EVEN_TILES)?;
-    assert_picture_set(&rt, rt.alloc(), &sps, TOLD_TILES)?;
-    assert_picture_set(&rt, rt.alloc(), &sps, EXTENDED_PICTURE_SET)?;
-    assert_picture_set(&rt, rt.alloc(), &sps, FILTERED_PICTURE_SET)?;
-    assert_picture_set(&rt, rt.alloc(), &sps, PICTURE_SET)
+    assert_picture_set(rt, rt.alloc(), &sps, EVEN_TILES);
+    assert_picture_set(rt, rt.alloc(), &sps, TOLD_TILES);
+    assert_picture_set(rt, rt.alloc(), &sps, EXTENDED_PICTURE_SET);
+    assert_picture_set(rt, rt.alloc(), &sps, FILTERED_PICTURE_SET);
+    assert_picture_set(rt, rt.alloc(), &sps, PICTURE_SET);
 }

@@ -1,29 +1,27 @@
 //! Worked parts of slice segment headers (7.3.6.2, 7.3.6.3), written.
-use crate::expect::expect;
+use crate::expect::ok;
 use crate::written::assert_written;
 use hevc_bit_writer::BitWriter;
 use hevc_bits::NaluReader;
 use hevc_slice_parts::read_ref_pic_list_modification;
 use hevc_types_b::PredWeightTable;
 use hevc_write_slices::{write_pred_weight_table, write_ref_pic_list_modification};
-use std::test::Fail;
 
 /// Of five pictures: 1 | 100 000 | 1 | 011, and 1 0 .. 0.
 const BOTH_LISTS: &[u8] = &[0xc1, 0x70];
 
 #[test]
-fn lists_are_written_as_they_were(rt: HostRuntime) -> Result<(), Fail> {
+fn lists_are_written_as_they_were(rt: HostRuntime) {
+    let rt = &rt;
     let mut r = NaluReader::new(BOTH_LISTS);
     let mut w = BitWriter::new(rt.alloc());
-    match read_ref_pic_list_modification(&mut r, true, 5, 1, 0) {
-        Ok(lists) => write_ref_pic_list_modification(&mut w, true, 5, &lists)?,
-        Err(_) => expect(&rt, false),
-    }
-    assert_written(&rt, rt.alloc(), &mut w, BOTH_LISTS)
+    let lists = ok(rt, read_ref_pic_list_modification(&mut r, true, 5, 1, 0));
+    ok(rt, write_ref_pic_list_modification(&mut w, true, 5, &lists));
+    assert_written(rt, rt.alloc(), &mut w, BOTH_LISTS);
 }
 
 #[test]
-fn weights_of_one_place(rt: HostRuntime) -> Result<(), Fail> {
+fn weights_of_one_place(rt: HostRuntime) {
     let mut x = PredWeightTable::new();
     x.luma_log2_weight_denom = 3;
     x.chroma_log2_weight_denom = 3;
@@ -33,7 +31,7 @@ fn weights_of_one_place(rt: HostRuntime) -> Result<(), Fail> {
     x.delta_chroma_weight_l0[0] = [1, 0];
     x.delta_chroma_offset_l0[0] = [0, -1];
     let mut w = BitWriter::new(rt.alloc());
-    write_pred_weight_table(&mut w, true, false, 0, 0, &x)?;
+    ok(&rt, write_pred_weight_table(&mut w, true, false, 0, 0, &x));
     // 00100 1 | 1 1 | 00101 1 | 010 1 1 011, and 1 0 .. 0
-    assert_written(&rt, rt.alloc(), &mut w, &[0x27, 0x2d, 0x6e])
+    assert_written(&rt, rt.alloc(), &mut w, &[0x27, 0x2d, 0x6e]);
 }

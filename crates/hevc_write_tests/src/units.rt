@@ -1,5 +1,5 @@
 //! Slices, and their refusals, as units (7.3.1.1).
-use crate::expect::{expect, expect_eq};
+use crate::expect::{expect, expect_eq, expect_fewer, ok};
 use hevc_bits::{Nalu, NaluHeader};
 use hevc_slice_header::read_slice_header;
 use hevc_types_c::Sps;
@@ -8,7 +8,6 @@ use hevc_write::{PictureUnit, SliceUnit, Syntax, WriteError, write_unit};
 use std::alloc::Global;
 use std::collections::BTreeMap;
 use std::process::Abort;
-use std::test::Fail;
 
 /// An I slice of an IDR picture, and a byte of its data.
 const INTRA: &[u8] = &[0x00, 0x00, 0x01, 0x26, 0x01, 0xaf, 0x80];
@@ -105,28 +104,25 @@ fn read(
     sps: &Sps,
     pps: &Pps,
     stream: &[u8],
-) -> Result<(NaluHeader, SliceHeader), Fail> {
-    assert!(rt; stream.len() < 1000);
+) -> (NaluHeader, SliceHeader) {
+    expect_fewer(rt, stream, 1000);
     let mut spses = BTreeMap::new(alloc);
-    spses.insert(0, sps.try_clone()?)?;
+    ok(rt, spses.insert(0, ok(rt, sps.try_clone())));
     let mut ppses = BTreeMap::new(alloc);
-    ppses.insert(0, *pps)?;
+    ok(rt, ppses.insert(0, *pps));
     let mut position = 0;
-    let unit = Nalu::<NaluHeader>::next(stream, &mut position)?;
+    let unit = ok(rt, Nalu::<NaluHeader>::next(stream, &mut position));
     let mut header = SliceHeader::new(alloc);
-    read_slice_header(alloc, &unit, &spses, &ppses, &mut header)?;
-    Ok((*unit.header(), header))
+    ok(
+        rt,
+        read_slice_header(alloc, &unit, &spses, &ppses, &mut header),
+    );
+    (*unit.header(), header)
 }
 
 /// A slice with a body of one byte is written as it was.
-fn assert_slice(
-    rt: &impl Abort,
-    alloc: Global,
-    sps: &Sps,
-    pps: &Pps,
-    stream: &[u8],
-) -> Result<(), Fail> {
-    let (unit, header) = read(rt, alloc, sps, pps, stream)?;
+fn assert_slice(rt: &impl Abort, alloc: Global, sps: &Sps, pps: &Pps, stream: &[u8]) {
+    let (unit, header) = read(rt, alloc, sps, pps, stream);
     let slice = SliceUnit {
         header: &header,
         pps,
@@ -134,40 +130,42 @@ fn assert_slice(
         body: &[0x80],
     };
     let mut out = Vec::new(alloc);
-    write_unit(alloc, &slice, &unit, &mut out)?;
+    ok(rt, write_unit(alloc, &slice, &unit, &mut out));
     expect(rt, out.as_slice() == stream);
-    Ok(())
 }
 
 #[test]
-fn slices_are_written_as_they_were(rt: HostRuntime) -> Result<(), Fail> {
+fn slices_are_written_as_they_were(rt: HostRuntime) {
+    let rt = &rt;
     let alloc = rt.alloc();
     let plain = column(alloc);
     let referring = referring_column(alloc);
     let mut dependent = Pps::new();
     dependent.dependent_slice_segments_enabled_flag = true;
-    assert_slice(&rt, alloc, &plain, &Pps::new(), ONE_BEFORE)?;
-    assert_slice(&rt, alloc, &plain, &dependent, LATER_SEGMENT)?;
-    assert_slice(&rt, alloc, &referring, &weighing_set(true), TWO_LISTS)?;
-    assert_slice(&rt, alloc, &referring, &weighing_set(false), ONE_LIST)
+    assert_slice(rt, alloc, &plain, &Pps::new(), ONE_BEFORE);
+    assert_slice(rt, alloc, &plain, &dependent, LATER_SEGMENT);
+    assert_slice(rt, alloc, &referring, &weighing_set(true), TWO_LISTS);
+    assert_slice(rt, alloc, &referring, &weighing_set(false), ONE_LIST);
 }
 
 #[test]
-fn entry_points_are_written_as_they_were(rt: HostRuntime) -> Result<(), Fail> {
+fn entry_points_are_written_as_they_were(rt: HostRuntime) {
+    let rt = &rt;
     let alloc = rt.alloc();
     let tall = tall_column(alloc);
     let mut pps = Pps::new();
     pps.entropy_coding_sync_enabled_flag = true;
-    assert_slice(&rt, alloc, &tall, &pps, FAR_ENTRY_POINT)?;
-    assert_slice(&rt, alloc, &tall, &pps, MANY_ENTRY_POINTS)
+    assert_slice(rt, alloc, &tall, &pps, FAR_ENTRY_POINT);
+    assert_slice(rt, alloc, &tall, &pps, MANY_ENTRY_POINTS);
 }
 
 #[test]
-fn the_body_comes_after_the_header(rt: HostRuntime) -> Result<(), Fail> {
+fn the_body_comes_after_the_header(rt: HostRuntime) {
+    let rt = &rt;
     let alloc = rt.alloc();
     let sps = column(alloc);
-    assert_slice(&rt, alloc, &sps, &Pps::new(), INTRA)?;
-    let (unit, header) = read(&rt, alloc, &sps, &Pps::new(), INTRA)?;
+    assert_slice(rt, alloc, &sps, &Pps::new(), INTRA);
+    let (unit, header) = read(rt, alloc, &sps, &Pps::new(), INTRA);
     let pps = Pps::new();
     let slice = SliceUnit {
         header: &header,
@@ -176,51 +174,51 @@ fn the_body_comes_after_the_header(rt: HostRuntime) -> Result<(), Fail> {
         body: &[0, 0, 1],
     };
     let mut out = Vec::new(alloc);
-    write_unit(alloc, &slice, &unit, &mut out)?;
+    ok(rt, write_unit(alloc, &slice, &unit, &mut out));
     expect(
-        &rt,
+        rt,
         out.as_slice() == [0, 0, 1, 0x26, 0x01, 0xaf, 0, 0, 3, 1].as_slice(),
     );
-    let mut payload = Vec::from_slice(alloc, &[7])?;
-    slice.write_payload(&unit, &mut payload)?;
-    expect(&rt, payload.as_slice() == [7, 0xaf, 0, 0, 1].as_slice());
-    Ok(())
+    let mut payload = ok(rt, Vec::from_slice(alloc, &[7]));
+    ok(rt, slice.write_payload(&unit, &mut payload));
+    expect(rt, payload.as_slice() == [7, 0xaf, 0, 0, 1].as_slice());
 }
 
 #[test]
-fn a_body_ends_in_no_zero(rt: HostRuntime) -> Result<(), Fail> {
+fn a_body_ends_in_no_zero(rt: HostRuntime) {
+    let rt = &rt;
     let alloc = rt.alloc();
     let sps = column(alloc);
     let pps = Pps::new();
-    let (unit, header) = read(&rt, alloc, &sps, &pps, INTRA)?;
+    let (unit, header) = read(rt, alloc, &sps, &pps, INTRA);
     let slice = SliceUnit {
         header: &header,
         pps: &pps,
         sps: &sps,
         body: &[0x80, 0],
     };
-    let mut out = Vec::from_slice(alloc, &[7])?;
+    let mut out = ok(rt, Vec::from_slice(alloc, &[7]));
     expect_eq(
-        &rt,
-        &write_unit(alloc, &slice, &unit, &mut out),
-        &Err(WriteError::ZeroEnd),
+        rt,
+        write_unit(alloc, &slice, &unit, &mut out),
+        Err(WriteError::ZeroEnd),
     );
     expect_eq(
-        &rt,
-        &slice.write_payload(&unit, &mut out),
-        &Err(WriteError::ZeroEnd),
+        rt,
+        slice.write_payload(&unit, &mut out),
+        Err(WriteError::ZeroEnd),
     );
-    expect(&rt, out.as_slice() == [7].as_slice());
-    Ok(())
+    expect(rt, out.as_slice() == [7].as_slice());
 }
 
 #[test]
-fn no_extension_is_written(rt: HostRuntime) -> Result<(), Fail> {
+fn no_extension_is_written(rt: HostRuntime) {
+    let rt = &rt;
     let alloc = rt.alloc();
     let sps = column(alloc);
     let mut pps = Pps::new();
     pps.slice_segment_header_extension_present_flag = true;
-    let (unit, header) = read(&rt, alloc, &sps, &pps, EXTENDED)?;
+    let (unit, header) = read(rt, alloc, &sps, &pps, EXTENDED);
     let slice = SliceUnit {
         header: &header,
         pps: &pps,
@@ -228,20 +226,20 @@ fn no_extension_is_written(rt: HostRuntime) -> Result<(), Fail> {
         body: &[],
     };
     let mut out = Vec::new(alloc);
-    write_unit(alloc, &slice, &unit, &mut out)?;
+    ok(rt, write_unit(alloc, &slice, &unit, &mut out));
     expect(
-        &rt,
+        rt,
         out.as_slice() == [0, 0, 1, 0x26, 0x01, 0xaf, 0x80].as_slice(),
     );
-    Ok(())
 }
 
 #[test]
-fn what_no_unit_has_is_not_formed(rt: HostRuntime) -> Result<(), Fail> {
+fn what_no_unit_has_is_not_formed(rt: HostRuntime) {
+    let rt = &rt;
     let alloc = rt.alloc();
     let sps = column(alloc);
     let pps = Pps::new();
-    let (unit, header) = read(&rt, alloc, &sps, &pps, INTRA)?;
+    let (unit, header) = read(rt, alloc, &sps, &pps, INTRA);
     let mut other = Pps::new();
     other.pic_parameter_set_id = 1;
     let slice = SliceUnit {
@@ -252,9 +250,9 @@ fn what_no_unit_has_is_not_formed(rt: HostRuntime) -> Result<(), Fail> {
     };
     let mut out = Vec::new(alloc);
     expect_eq(
-        &rt,
-        &write_unit(alloc, &slice, &unit, &mut out),
-        &Err(WriteError::NotFormed),
+        rt,
+        write_unit(alloc, &slice, &unit, &mut out),
+        Err(WriteError::NotFormed),
     );
     other.pic_parameter_set_id = 64;
     let set = PictureUnit {
@@ -262,10 +260,9 @@ fn what_no_unit_has_is_not_formed(rt: HostRuntime) -> Result<(), Fail> {
         sps: &sps,
     };
     expect_eq(
-        &rt,
-        &write_unit(alloc, &set, &unit, &mut out),
-        &Err(WriteError::NotFormed),
+        rt,
+        write_unit(alloc, &set, &unit, &mut out),
+        Err(WriteError::NotFormed),
     );
-    expect(&rt, out.is_empty());
-    Ok(())
+    expect(rt, out.is_empty());
 }

@@ -9,7 +9,6 @@ use hevc_decoder::{
     DecodeError, Options, Refused, begin_stream, decode_next_unit, end_stream, judge_stream,
 };
 use std::alloc::Global;
-use std::test::Fail;
 
 /// The units of a stream and its pictures, counted as its units are given one by one.
 fn count_by_steps(alloc: Global, stream: &[u8]) -> Result<(u64, u64), Refused>
@@ -33,16 +32,16 @@ fn count_by_steps(alloc: Global, stream: &[u8]) -> Result<(u64, u64), Refused>
 }
 
 #[test]
-fn a_judged_stream_has_the_calls_and_the_verdict(rt: HostRuntime) -> Result<(), Fail> {
+fn a_judged_stream_has_the_calls_and_the_verdict(rt: HostRuntime) {
+    let rt = &rt;
     let alloc = rt.alloc();
     let decoded = judge_stream(alloc, Backend::new(alloc), Options::new(), TWO_PICTURES);
-    expect(&rt, decoded.result == Ok(2));
-    expect_eq(&rt, &decoded.backend.calls().len(), &9);
-    Ok(())
+    expect(rt, decoded.result == Ok(2));
+    expect_eq(rt, decoded.backend.calls().len(), 9);
 }
 
 #[test]
-fn a_judged_stream_is_refused_at_its_unit(rt: HostRuntime) -> Result<(), Fail> {
+fn a_judged_stream_is_refused_at_its_unit(rt: HostRuntime) {
     let alloc = rt.alloc();
     let refused = Refused {
         unit: 0,
@@ -51,13 +50,12 @@ fn a_judged_stream_is_refused_at_its_unit(rt: HostRuntime) -> Result<(), Fail> {
     let stream = &[0x00, 0x00, 0x01, 0x48, 0x00, 0x05];
     let decoded = judge_stream(alloc, SilentBackend::new(), Options::new(), stream);
     expect(&rt, decoded.result == Err(refused));
-    Ok(())
 }
 
 #[test]
-fn units_are_given_one_by_one(rt: HostRuntime) -> Result<(), Fail> {
+fn units_are_given_one_by_one(rt: HostRuntime) {
+    let rt = &rt;
     let alloc = rt.alloc();
-    expect(&rt, count_by_steps(alloc, TWO_PICTURES) == Ok((4, 2)));
-    expect(&rt, count_by_steps(alloc, &[]) == Ok((0, 0)));
-    Ok(())
+    expect(rt, count_by_steps(alloc, TWO_PICTURES) == Ok((4, 2)));
+    expect(rt, count_by_steps(alloc, &[]) == Ok((0, 0)));
 }

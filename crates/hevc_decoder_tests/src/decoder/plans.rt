@@ -1,10 +1,9 @@
 //! A stream of three pictures over backends of which one call fails, each in turn.
-use crate::expect::{expect, expect_eq};
+use crate::expect::{expect, expect_eq, ok};
 use hevc_backend::Backend;
 use hevc_decoder::{DecodeError, Refused, Shown, decode_stream};
 use std::alloc::Global;
 use std::process::Abort;
-use std::test::Fail;
 
 /// A sequence set of 16 by 16 luma samples of which one picture may be needed for output, a picture set, an IDR
 /// picture, and P pictures of order counts 4 and 2, every unit after a start code.
@@ -46,15 +45,14 @@ fn ends(
     last: u64,
     answer: Result<u64, Refused>,
     outputs: &[Shown<u64>],
-) -> Result<(), Fail> {
+) {
     for call in first..=last {
-        let backend = Backend::with_plan(alloc, vec![in alloc; call]?, Vec::new(alloc));
+        let backend = Backend::with_plan(alloc, ok(rt, vec![in alloc; call]), Vec::new(alloc));
         let mut shown = Vec::new(alloc);
         let decoded = decode_stream(alloc, backend, THREE_PICTURES, &mut shown);
         expect(rt, decoded.result == answer);
         expect(rt, shown.as_slice() == outputs);
     }
-    Ok(())
 }
 
 /// The backend is blamed at this unit.
@@ -64,15 +62,16 @@ fn blamed(unit: u64) -> Result<u64, Refused> {
 }
 
 #[test]
-fn each_call_in_turn_fails(rt: HostRuntime) -> Result<(), Fail> {
+fn each_call_in_turn_fails(rt: HostRuntime) {
+    let rt = &rt;
     let alloc = rt.alloc();
-    ends(&rt, alloc, 1, 1, blamed(0), &[])?;
-    ends(&rt, alloc, 2, 4, blamed(2), &[])?;
-    ends(&rt, alloc, 5, 8, blamed(3), &[])?;
-    ends(&rt, alloc, 9, 9, blamed(4), &[])?;
-    ends(&rt, alloc, 10, 12, blamed(4), &OUTPUTS[..1])?;
-    ends(&rt, alloc, 13, 13, blamed(5), &OUTPUTS[..1])?;
-    ends(&rt, alloc, 14, 14, Ok(3), OUTPUTS)
+    ends(rt, alloc, 1, 1, blamed(0), &[]);
+    ends(rt, alloc, 2, 4, blamed(2), &[]);
+    ends(rt, alloc, 5, 8, blamed(3), &[]);
+    ends(rt, alloc, 9, 9, blamed(4), &[]);
+    ends(rt, alloc, 10, 12, blamed(4), &OUTPUTS[..1]);
+    ends(rt, alloc, 13, 13, blamed(5), &OUTPUTS[..1]);
+    ends(rt, alloc, 14, 14, Ok(3), OUTPUTS);
 }
 
 /// An IDR picture, a P picture of order count 4, and I pictures of 2 and 1, where one picture may be needed for output.
@@ -85,15 +84,15 @@ const REORDERED_TOO_FAR: &[u8] = &[
 ];
 
 #[test]
-fn a_broken_order_is_not_mended(rt: HostRuntime) -> Result<(), Fail> {
+fn a_broken_order_is_not_mended(rt: HostRuntime) {
+    let rt = &rt;
     let alloc = rt.alloc();
     let mut shown = Vec::new(alloc);
     let decoded = decode_stream(alloc, Backend::new(alloc), REORDERED_TOO_FAR, &mut shown);
-    expect(&rt, decoded.result == Ok(4));
+    expect(rt, decoded.result == Ok(4));
     let mut counts = Vec::new(alloc);
     for output in &shown {
-        counts.push(output.order_count)?;
+        ok(rt, counts.push(output.order_count));
     }
-    expect_eq(&rt, &counts.as_slice(), &[0i32, 2, 1, 4].as_slice());
-    Ok(())
+    expect_eq(rt, counts.as_slice(), [0i32, 2, 1, 4].as_slice());
 }

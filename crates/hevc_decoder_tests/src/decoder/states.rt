@@ -1,9 +1,8 @@
 //! A decoder that is driven by hand, over a backend that fails and has no frame by a plan.
-use crate::expect::{expect, expect_eq};
+use crate::expect::{expect, expect_eq, ok};
 use hevc_backend::Backend;
 use hevc_decoder::{DecodeError, DecoderEvent, StatelessDecoder};
 use std::process::Abort;
-use std::test::Fail;
 
 /// A sequence set: 16 by 16 luma samples.
 const SEQUENCE_SET: &[u8] = &[
@@ -72,7 +71,7 @@ fn waits_behind_a_flush(rt: &impl Abort, decoder: &mut StatelessDecoder<Backend>
     expect(rt, decoder.decode(0, LATER) == Ok(9));
     expect(rt, decoder.decode(0, SEQUENCE_SET) == Ok(29));
     expect(rt, decoder.decode(0, PICTURE_SET) == Ok(9));
-    expect_eq(rt, &decoder.num_pictures(), &0);
+    expect_eq(rt, decoder.num_pictures(), 0);
 }
 
 /// Nothing: the format is negotiated anew, by the second call of that kind, with a frame.
@@ -85,7 +84,7 @@ fn negotiates_anew(rt: &impl Abort, decoder: &mut StatelessDecoder<Backend>) {
     expect(rt, decoder.decode(7, IDR) == Err(DecodeError::CheckEvents));
     expect(rt, accepts(decoder));
     expect(rt, decoder.decode(7, IDR) == Ok(7));
-    expect_eq(rt, &decoder.num_pictures(), &1);
+    expect_eq(rt, decoder.num_pictures(), 1);
 }
 
 /// The next pictures that are output have these numbers, and no more do.
@@ -97,22 +96,26 @@ fn come_out(rt: &impl Abort, decoder: &mut StatelessDecoder<Backend>, numbers: &
 }
 
 #[test]
-fn four_states_by_hand(rt: HostRuntime) -> Result<(), Fail> {
+fn four_states_by_hand(rt: HostRuntime) {
+    let rt = &rt;
     let alloc = rt.alloc();
-    let backend = Backend::with_plan(alloc, vec![in alloc; 2]?, vec![in alloc; 16, 0, 16]?);
+    let backend = Backend::with_plan(
+        alloc,
+        ok(rt, vec![in alloc; 2]),
+        ok(rt, vec![in alloc; 16, 0, 16]),
+    );
     let mut decoder = StatelessDecoder::new(alloc, backend);
-    waits_for_a_sequence_set(&rt, &mut decoder);
-    waits_for_a_format(&rt, &mut decoder);
-    waits_behind_a_flush(&rt, &mut decoder);
-    negotiates_anew(&rt, &mut decoder);
-    come_out(&rt, &mut decoder, &[]);
-    expect(&rt, decoder.flush() == Ok(()));
-    come_out(&rt, &mut decoder, &[0]);
+    waits_for_a_sequence_set(rt, &mut decoder);
+    waits_for_a_format(rt, &mut decoder);
+    waits_behind_a_flush(rt, &mut decoder);
+    negotiates_anew(rt, &mut decoder);
+    come_out(rt, &mut decoder, &[]);
+    expect(rt, decoder.flush() == Ok(()));
+    come_out(rt, &mut decoder, &[0]);
 
     // And once more after a flush.
-    expect(&rt, decoder.decode(8, IDR) == Ok(7));
-    expect(&rt, decoder.decode(9, LATER) == Ok(9));
-    expect(&rt, decoder.flush() == Ok(()));
-    come_out(&rt, &mut decoder, &[1, 2]);
-    Ok(())
+    expect(rt, decoder.decode(8, IDR) == Ok(7));
+    expect(rt, decoder.decode(9, LATER) == Ok(9));
+    expect(rt, decoder.flush() == Ok(()));
+    come_out(rt, &mut decoder, &[1, 2]);
 }

@@ -2,7 +2,6 @@
 use crate::expect::{expect, expect_eq};
 use crate::telling::{Came, KeptSegment, TellingBackend};
 use hevc_decoder::decode_stream;
-use std::test::Fail;
 
 /// A sequence set of 16 by 16 luma samples, a picture set with `dependent_slice_segments_enabled_flag`, an IDR picture whose
 /// slice has `slice_qp_delta` 1, and a dependent slice segment of it, every unit after a start code.
@@ -22,7 +21,8 @@ fn is_of_stream(segment: &KeptSegment, dependent: bool) -> bool {
 }
 
 #[test]
-fn a_dependent_segment_comes_with_the_whole_header(rt: HostRuntime) -> Result<(), Fail> {
+fn a_dependent_segment_comes_with_the_whole_header(rt: HostRuntime) {
+    let rt = &rt;
     let alloc = rt.alloc();
     let mut shown = Vec::new(alloc);
     let decoded = decode_stream(
@@ -31,9 +31,9 @@ fn a_dependent_segment_comes_with_the_whole_header(rt: HostRuntime) -> Result<()
         DEPENDENT_SEGMENT,
         &mut shown,
     );
-    expect(&rt, decoded.result == Ok(1));
+    expect(rt, decoded.result == Ok(1));
     let came = decoded.backend.came.as_slice();
-    expect_eq(&rt, &came.len(), &4);
+    expect_eq(rt, came.len(), 4);
     match (came.get(0), came.get(1)) {
         (
             Some(
@@ -50,13 +50,10 @@ fn a_dependent_segment_comes_with_the_whole_header(rt: HostRuntime) -> Result<()
                 },
             ),
         ) => {
-            expect(
-                &rt,
-                *picture == *announced && picture.pic_order_cnt_val == 0,
-            );
-            expect(&rt, is_of_stream(segment, false));
+            expect(rt, *picture == *announced && picture.pic_order_cnt_val == 0);
+            expect(rt, is_of_stream(segment, false));
         }
-        _ => return Err("no picture begins".into()),
+        _ => panic!(rt; "no picture begins"),
     }
     match (came.get(2), came.get(3)) {
         (
@@ -73,12 +70,8 @@ fn a_dependent_segment_comes_with_the_whole_header(rt: HostRuntime) -> Result<()
                 },
             ),
         ) => {
-            expect(
-                &rt,
-                is_of_stream(first, false) && is_of_stream(second, true),
-            );
+            expect(rt, is_of_stream(first, false) && is_of_stream(second, true));
         }
-        _ => return Err("no two segments".into()),
+        _ => panic!(rt; "no two segments"),
     }
-    Ok(())
 }

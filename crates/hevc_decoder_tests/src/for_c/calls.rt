@@ -1,12 +1,13 @@
 //! A stream that is decoded by the calls for C.
 use super::{check, check_all, pull_decoder};
+use crate::expect::ok;
 use hevc_c_parts::{Event, event_of_picture};
 use hevc_made::make_stream;
 use hevc_pull::{
     DecodeCall, PullDecoder, UnitCall, accept_format, decode, flush, next_event, next_unit,
 };
 use std::alloc::Global;
-use std::test::Fail;
+use std::process::Abort;
 
 /// What came of a stream: how many events, and the numbers of the pictures that were output.
 #[derive(Drop)]
@@ -23,7 +24,7 @@ fn take_one(decoder: &mut PullDecoder) -> Event {
 }
 
 /// Takes all that waits.
-fn take_all(decoder: &mut PullDecoder, came: &mut Came) -> Result<(), Fail> {
+fn take_all(rt: &impl Abort, decoder: &mut PullDecoder, came: &mut Came) {
     for _ in 0..100 {
         let event = take_one(decoder);
         if event.kind == 7 {
@@ -31,22 +32,21 @@ fn take_all(decoder: &mut PullDecoder, came: &mut Came) -> Result<(), Fail> {
         }
         came.events = came.events.saturating_add(1);
         if event.kind == 6 {
-            came.outputs.push(event.number)?;
+            ok(rt, came.outputs.push(event.number));
         }
     }
-    Ok(())
 }
 
 /// Decodes a stream of a few units.
-fn decode_all(alloc: Global, stream: &[u8]) -> Result<Came, Fail> {
+fn decode_all(rt: &impl Abort, alloc: Global, stream: &[u8]) -> Came {
     let mut decoder = pull_decoder(alloc);
-    let came = decode_with(&mut decoder, alloc, stream);
+    let came = decode_with(rt, &mut decoder, alloc, stream);
     let _waiting = decoder.end();
     came
 }
 
 /// The same, with a decoder that is left.
-fn decode_with(decoder: &mut PullDecoder, alloc: Global, stream: &[u8]) -> Result<Came, Fail> {
+fn decode_with(rt: &impl Abort, decoder: &mut PullDecoder, alloc: Global, stream: &[u8]) -> Came {
     let mut came = Came {
         events: 0,
         outputs: Vec::new(alloc),
@@ -60,9 +60,9 @@ fn decode_with(decoder: &mut PullDecoder, alloc: Global, stream: &[u8]) -> Resul
     };
     let mut at = 0usize;
     for _ in 0..100 {
-        let rest = stream.get(at..).ok_or("past the end")?;
+        let rest = ok(rt, stream.get(at..).ok_or("past the end"));
         let status = decode(decoder, rest, &mut call);
-        take_all(decoder, &mut came)?;
+        take_all(rt, decoder, &mut came);
         if status == 2 {
             let _accepted = accept_format(decoder);
         } else if status == 0 {
@@ -72,15 +72,16 @@ fn decode_with(decoder: &mut PullDecoder, alloc: Global, stream: &[u8]) -> Resul
         }
     }
     let _flushed = flush(decoder);
-    take_all(decoder, &mut came)?;
-    Ok(came)
+    take_all(rt, decoder, &mut came);
+    came
 }
 
 #[test]
-fn nine_pictures_are_output_in_order(rt: HostRuntime) -> Result<(), Fail> {
-    let stream = make_stream(rt.alloc(), 9)?;
-    let came = decode_all(rt.alloc(), &stream)?;
-    check_all(&[
+fn nine_pictures_are_output_in_order(rt: HostRuntime) {
+    let rt = &rt;
+    let stream = ok(rt, make_stream(rt.alloc(), 9));
+    let came = decode_all(rt, rt.alloc(), &stream);
+    let facts = [
         (
             came.outputs.as_slice() == [0, 4, 3, 5, 2, 7, 6, 8, 1].as_slice(),
             "outputs",
@@ -89,17 +90,19 @@ fn nine_pictures_are_output_in_order(rt: HostRuntime) -> Result<(), Fail> {
             came.events == 1 + 4 * 9 + 9,
             "a sequence, four calls for each picture, and the outputs",
         ),
-    ])
+    ];
+    check_all(rt, &facts);
 }
 
 #[test]
-fn a_format_that_is_not_awaited(rt: HostRuntime) -> Result<(), Fail> {
+fn a_format_that_is_not_awaited(rt: HostRuntime) {
     let mut decoder = pull_decoder(rt.alloc());
     let status = accept_format(&mut decoder);
     check(
+        &rt,
         decoder.end() == 0 && status == 16,
         "refused, and nothing waits",
-    )
+    );
 }
 
 /// The unit of a call that told nothing yet.
@@ -121,10 +124,10 @@ fn status_of(stream: &[u8], from: usize, unit: &mut UnitCall) -> u32 {
 }
 
 #[test]
-fn units_of_a_stream() -> Result<(), Fail> {
+fn units_of_a_stream(rt: HostRuntime) {
     let stream = [0, 0, 1, 0x40, 1, 12, 0, 0, 1, 0x46, 0x0B, 0x50];
     let mut unit = no_unit();
-    check_all(&[
+    let facts = [
         (status_of(&stream, 0, &mut unit) == 0, "the first unit"),
         (unit.offset == 3 && unit.size == 3, "its place"),
         (unit.nal_unit_type == 32, "its type"),
@@ -149,5 +152,6 @@ fn units_of_a_stream() -> Result<(), Fail> {
             "an unspecified type",
         ),
         (unit.row == 62, "its number"),
-    ])
+    ];
+    check_all(&rt, &facts);
 }

@@ -1,12 +1,13 @@
 //! The structs of Linux's stateless decoders over a decoder.
 use super::{check, check_all, pull_decoder};
+use crate::expect::ok;
 use hevc_made::make_stream;
 use hevc_pull::{
     DecodeCall, PullDecoder, accept_format, decode, picture_controls, slice_control, want_controls,
 };
 use hevc_queue::PictureControls;
 use hevc_v4l2::V4l2CtrlHevcSliceParams;
-use std::test::Fail;
+use std::process::Abort;
 
 /// Decodes a unit. The answer is its status.
 fn status_of(decoder: &mut PullDecoder, bytes: &[u8], call: &mut DecodeCall) -> u32 {
@@ -20,21 +21,22 @@ fn accept(decoder: &mut PullDecoder) -> u32 {
 
 /// Decodes a unit, or accepts a format. The answer is how many bytes were taken.
 fn decode_next(
+    rt: &impl Abort,
     decoder: &mut PullDecoder,
     bytes: &[u8],
     call: &mut DecodeCall,
-) -> Result<usize, Fail> {
+) -> usize {
     let status = status_of(decoder, bytes, call);
     if status == 2 {
         let _accepted = accept(decoder);
-        return Ok(0);
+        return 0;
     }
-    check(status == 0, "refused")?;
-    Ok(call.taken as usize)
+    check(rt, status == 0, "refused");
+    call.taken as usize
 }
 
 /// Decodes the units of a stream up to the second picture.
-fn decode_some(decoder: &mut PullDecoder, stream: &[u8]) -> Result<(), Fail> {
+fn decode_some(rt: &impl Abort, decoder: &mut PullDecoder, stream: &[u8]) {
     let mut call = DecodeCall {
         timestamp: 0,
         free_frames: 16,
@@ -44,36 +46,37 @@ fn decode_some(decoder: &mut PullDecoder, stream: &[u8]) -> Result<(), Fail> {
     };
     let mut at = 0usize;
     for _ in 0..5 {
-        let rest = stream.get(at..).ok_or("past the end")?;
-        at = at.saturating_add(decode_next(decoder, rest, &mut call)?);
+        let rest = ok(rt, stream.get(at..).ok_or("past the end"));
+        at = at.saturating_add(decode_next(rt, decoder, rest, &mut call));
     }
-    Ok(())
 }
 
 /// The structs of the second picture and its slice segment.
 fn structs_of(
+    rt: &impl Abort,
     decoder: &mut PullDecoder,
     stream: &[u8],
-) -> Result<(PictureControls, V4l2CtrlHevcSliceParams), Fail> {
-    decode_some(decoder, stream)?;
-    let filled = decoder.picture_controls().ok_or("no structs")?;
-    let picture = filled.or(Err("not held"))?;
-    let filled = decoder.slice_control().ok_or("no struct")?;
-    Ok((picture, filled.or(Err("not held"))?))
+) -> (PictureControls, V4l2CtrlHevcSliceParams) {
+    decode_some(rt, decoder, stream);
+    let filled = ok(rt, decoder.picture_controls().ok_or("no structs"));
+    let picture = ok(rt, filled);
+    let filled = ok(rt, decoder.slice_control().ok_or("no struct"));
+    (picture, ok(rt, filled))
 }
 
 /// Compares what the calls fill with what the decoder has.
-fn compare(decoder: &mut PullDecoder, stream: &[u8]) -> Result<(), Fail> {
-    check_all(&[
+fn compare(rt: &impl Abort, decoder: &mut PullDecoder, stream: &[u8]) {
+    let facts = [
         (decoder.picture_controls().is_none(), "no structs"),
         (decoder.slice_control().is_none(), "no struct"),
         (want_controls(decoder) == 0, "structs are wanted"),
         (decoder.picture_controls().is_none(), "none is filled yet"),
-    ])?;
-    let (mut picture, mut slice) = structs_of(decoder, stream)?;
+    ];
+    check_all(rt, &facts);
+    let (mut picture, mut slice) = structs_of(rt, decoder, stream);
     picture.decode_params.num_active_dpb_entries = 0;
     slice.bit_size = 0;
-    check_all(&[
+    let facts = [
         (
             picture_controls(decoder, &mut picture) == 0,
             "the structs of a picture",
@@ -98,18 +101,20 @@ fn compare(decoder: &mut PullDecoder, stream: &[u8]) -> Result<(), Fail> {
         (slice.slice_pic_order_cnt == 8, "its picture"),
         (slice.ref_idx_l0[0] == 0, "its reference"),
         (slice.bit_size != 0, "its size"),
-    ])
+    ];
+    check_all(rt, &facts);
 }
 
 #[test]
-fn structs_of_the_latest_picture(rt: HostRuntime) -> Result<(), Fail> {
-    let stream = make_stream(rt.alloc(), 2)?;
+fn structs_of_the_latest_picture(rt: HostRuntime) {
+    let rt = &rt;
+    let stream = ok(rt, make_stream(rt.alloc(), 2));
     let mut decoder = pull_decoder(rt.alloc());
-    let compared = compare(&mut decoder, stream.as_slice());
+    compare(rt, &mut decoder, stream.as_slice());
     let waiting = decoder.end();
-    compared?;
     check(
+        rt,
         waiting == 1 + 2 * 3 + 1,
         "a sequence, three calls for each picture, that the first is whole",
-    )
+    );
 }

@@ -1,5 +1,6 @@
 //! Sets and headers that are read without a decoder.
 use super::check_all;
+use crate::expect::ok;
 use hevc_made::make_stream;
 use hevc_pull::{UnitCall, UnitRead, pps_fields, read_unit, slice_fields, sps_fields, vps_fields};
 use hevc_slice::Parser;
@@ -7,11 +8,11 @@ use hevc_types_b::Vps;
 use hevc_types_c::Sps;
 use hevc_types_d::{Pps, SliceHeader};
 use std::alloc::Global;
-use std::test::Fail;
+use std::process::Abort;
 
 /// Nothing that was read.
-fn nothing_read(alloc: Global) -> Result<UnitRead, Fail> {
-    Ok(UnitRead {
+fn nothing_read(rt: &impl Abort, alloc: Global) -> UnitRead {
+    UnitRead {
         unit: UnitCall {
             offset: 0,
             size: 0,
@@ -21,11 +22,11 @@ fn nothing_read(alloc: Global) -> Result<UnitRead, Fail> {
             table: 0,
             row: 0,
         },
-        vps: vps_fields(&Vps::new(alloc)?),
+        vps: vps_fields(&ok(rt, Vps::new(alloc))),
         sps: sps_fields(&Sps::new(alloc)),
         pps: pps_fields(&Pps::new()),
         slice: slice_fields(&SliceHeader::new(alloc)),
-    })
+    }
 }
 
 /// Reads a unit. The answer is its status.
@@ -34,10 +35,10 @@ fn status_of(sets: &mut Parser, bytes: &[u8], told: &mut UnitRead) -> u32 {
 }
 
 /// Reads three units of a stream of two pictures: each set, and the second picture's slice segment header.
-fn read_two_pictures(sets: &mut Parser, stream: &[u8], told: &mut UnitRead) -> Result<(), Fail> {
-    let rest = stream.get(30..).ok_or("short")?;
-    let slices = stream.get(46..).ok_or("short")?;
-    check_all(&[
+fn read_two_pictures(rt: &impl Abort, sets: &mut Parser, stream: &[u8], told: &mut UnitRead) {
+    let rest = ok(rt, stream.get(30..).ok_or("short"));
+    let slices = ok(rt, stream.get(46..).ok_or("short"));
+    let facts = [
         (status_of(sets, stream, told) == 0, "a sequence set"),
         (told.unit.nal_unit_type == 33, "its type"),
         (told.unit.offset == 3 && told.unit.size == 27, "its place"),
@@ -56,22 +57,24 @@ fn read_two_pictures(sets: &mut Parser, stream: &[u8], told: &mut UnitRead) -> R
             told.sps.pic_height_in_luma_samples == 16,
             "the sequence set stays told",
         ),
-    ])
+    ];
+    check_all(rt, &facts);
 }
 
 #[test]
-fn sets_and_headers_of_a_stream(rt: HostRuntime) -> Result<(), Fail> {
-    let stream = make_stream(rt.alloc(), 2)?;
+fn sets_and_headers_of_a_stream(rt: HostRuntime) {
+    let rt = &rt;
+    let stream = ok(rt, make_stream(rt.alloc(), 2));
     let mut sets = Parser::new(rt.alloc());
-    let mut told = nothing_read(rt.alloc())?;
-    read_two_pictures(&mut sets, stream.as_slice(), &mut told)
+    let mut told = nothing_read(rt, rt.alloc());
+    read_two_pictures(rt, &mut sets, stream.as_slice(), &mut told);
 }
 
 /// Reads units that are refused, and two that are passed over.
-fn read_refused(sets: &mut Parser, stream: &[u8], told: &mut UnitRead) -> Result<(), Fail> {
-    let rest = stream.get(30..).ok_or("short")?;
-    let slice = stream.get(39..).ok_or("short")?;
-    check_all(&[
+fn read_refused(rt: &impl Abort, sets: &mut Parser, stream: &[u8], told: &mut UnitRead) {
+    let rest = ok(rt, stream.get(30..).ok_or("short"));
+    let slice = ok(rt, stream.get(39..).ok_or("short"));
+    let facts = [
         (
             status_of(sets, rest, told) == 18,
             "a picture set without its sequence set",
@@ -93,13 +96,15 @@ fn read_refused(sets: &mut Parser, stream: &[u8], told: &mut UnitRead) -> Result
         (told.unit.nal_unit_type == 35, "its type"),
         (status_of(sets, &[0, 0], told) == 1, "no unit"),
         (told.unit.size == 0, "no bytes"),
-    ])
+    ];
+    check_all(rt, &facts);
 }
 
 #[test]
-fn what_is_refused_and_what_is_passed_over(rt: HostRuntime) -> Result<(), Fail> {
-    let stream = make_stream(rt.alloc(), 1)?;
+fn what_is_refused_and_what_is_passed_over(rt: HostRuntime) {
+    let rt = &rt;
+    let stream = ok(rt, make_stream(rt.alloc(), 1));
     let mut sets = Parser::new(rt.alloc());
-    let mut told = nothing_read(rt.alloc())?;
-    read_refused(&mut sets, stream.as_slice(), &mut told)
+    let mut told = nothing_read(rt, rt.alloc());
+    read_refused(rt, &mut sets, stream.as_slice(), &mut told);
 }

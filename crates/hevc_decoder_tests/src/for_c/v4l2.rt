@@ -1,5 +1,6 @@
 //! The structs of Linux's stateless decoders: values from outside, and each call once.
 use super::check_all;
+use crate::expect::ok;
 use hevc_bits::{Nalu, NaluHeader};
 use hevc_dpb::{Dpb, PictureData};
 use hevc_refs::{RefPicSet, ReferencePicLists};
@@ -10,7 +11,6 @@ use hevc_v4l2::{
     decode_control, pps_control, scaling_control, slice_control, sps_control,
 };
 use std::alloc::Global;
-use std::test::Fail;
 
 /// A unit of type 1 with four bytes, after its start code.
 const STREAM: [u8; 7] = [0, 0, 1, 2, 1, 0xD2, 0x14];
@@ -32,24 +32,26 @@ fn sequence_set(alloc: Global, has_lists: bool) -> Sps {
 }
 
 #[test]
-fn a_sequence_set(rt: HostRuntime) -> Result<(), Fail> {
+fn a_sequence_set(rt: HostRuntime) {
     let control = sps_control(&sequence_set(rt.alloc(), false));
-    check_all(&[
+    let facts = [
         (control.pic_width_in_luma_samples == 1, "its width"),
         (control.flags == 0x104, "its flags"),
-    ])
+    ];
+    check_all(&rt, &facts);
 }
 
 #[test]
-fn a_picture_set() -> Result<(), Fail> {
+fn a_picture_set(rt: HostRuntime) {
+    let rt = &rt;
     let mut pps = Pps::new();
     pps.column_width_minus1[0] = 255;
-    let control = pps_control(&pps).or(Err("refused"))?;
+    let control = ok(rt, pps_control(&pps));
     pps.row_height_minus1[21] = 256;
     let too_high = pps_control(&pps).err();
     pps.column_width_minus1[0] = 256;
     let too_wide = pps_control(&pps).err();
-    check_all(&[
+    let facts = [
         (control.num_tile_columns_minus1 == 0, "one column"),
         (control.column_width_minus1[0] == 255, "its width"),
         (control.flags == 0x10_2000, "its flags"),
@@ -61,7 +63,8 @@ fn a_picture_set() -> Result<(), Fail> {
             too_wide == Some(ControlError::TileColumns),
             "a column that is too wide",
         ),
-    ])
+    ];
+    check_all(rt, &facts);
 }
 
 /// The lists of sets without any, where coefficients are scaled by lists, or not.
@@ -70,10 +73,10 @@ fn lists_of(alloc: Global, is_enabled: bool) -> V4l2CtrlHevcScalingMatrix {
 }
 
 #[test]
-fn default_lists_row_by_row(rt: HostRuntime) -> Result<(), Fail> {
+fn default_lists_row_by_row(rt: HostRuntime) {
     let flat = lists_of(rt.alloc(), false);
     let control = lists_of(rt.alloc(), true);
-    check_all(&[
+    let facts = [
         (flat.scaling_list_32x32 == [[16; 64]; 2], "flat lists"),
         (control.scaling_list_8x8[0] == INTRA, "8x8"),
         (control.scaling_list_32x32[0] == INTRA, "32x32"),
@@ -81,7 +84,8 @@ fn default_lists_row_by_row(rt: HostRuntime) -> Result<(), Fail> {
             control.scaling_list_dc_coef_16x16 == [16; 6],
             "first entries",
         ),
-    ])
+    ];
+    check_all(&rt, &facts);
 }
 
 /// A slice segment of this unit, of whose header 17 bits and two bytes are told.
@@ -120,13 +124,14 @@ fn structs_of(
 }
 
 #[test]
-fn a_slice_and_its_picture(rt: HostRuntime) -> Result<(), Fail> {
+fn a_slice_and_its_picture(rt: HostRuntime) {
+    let rt = &rt;
     let mut position = 0;
-    let nalu = Nalu::<NaluHeader>::next(&STREAM, &mut position).or(Err("no unit"))?;
+    let nalu = ok(rt, Nalu::<NaluHeader>::next(&STREAM, &mut position));
     let (slice, picture) = structs_of(rt.alloc(), &slice_of(rt.alloc(), nalu));
-    let control = slice.or(Err("refused"))?;
-    let picture = picture.or(Err("refused"))?;
-    check_all(&[
+    let control = ok(rt, slice);
+    let picture = ok(rt, picture);
+    let facts = [
         (control.bit_size == 32, "its size"),
         (control.data_byte_offset == 5, "its header's size"),
         (control.nal_unit_type == 1, "its type"),
@@ -134,5 +139,6 @@ fn a_slice_and_its_picture(rt: HostRuntime) -> Result<(), Fail> {
         (control.ref_idx_l0 == [255; 16], "no reference picture"),
         (picture.num_active_dpb_entries == 0, "no picture"),
         (picture.flags == 1, "an IRAP picture"),
-    ])
+    ];
+    check_all(rt, &facts);
 }

@@ -1,7 +1,7 @@
 //! Worked sets, each in a stream of its own.
 ghost use Rattle.std.specs.Prelude.{◌<◌, length};
 
-use crate::expect::{expect, expect_eq};
+use crate::expect::{expect, expect_eq, ok};
 use crate::streams::{PICTURE_SET, SEQUENCE_SET};
 use hevc_bits::{Nalu, NaluHeader};
 use hevc_sets::{ParseError, default_scaling_lists, read_pps};
@@ -11,7 +11,6 @@ use hevc_types_d::Pps;
 use std::alloc::Global;
 use std::collections::BTreeMap;
 use std::process::Abort;
-use std::test::Fail;
 
 /// Three columns that are spread evenly.
 const EVEN: &[u8] = &[0x00, 0x00, 0x01, 0x44, 0x01, 0xc0, 0x71, 0x84, 0xf8, 0x48];
@@ -133,85 +132,86 @@ fn refusal(rt: &impl Abort, alloc: Global, stream: &[u8]) -> Option<ParseError> 
 }
 
 #[test]
-fn a_usual_set(rt: HostRuntime) -> Result<(), Fail> {
-    let pps = read(rt.alloc(), Sps::new(rt.alloc()), PICTURE_SET)?;
-    expect(&rt, !pps.tiles_enabled_flag && pps.uniform_spacing_flag);
-    expect_eq(&rt, &pps.column_width_minus1, &[0; 20]);
-    expect_eq(&rt, &pps.temporal_id, &0);
-    expect(&rt, pps.scaling_list == default_scaling_lists());
+fn a_usual_set(rt: HostRuntime) {
+    let rt = &rt;
+    let pps = ok(rt, read(rt.alloc(), Sps::new(rt.alloc()), PICTURE_SET));
+    expect(rt, !pps.tiles_enabled_flag && pps.uniform_spacing_flag);
+    expect_eq(rt, pps.column_width_minus1, [0; 20]);
+    expect_eq(rt, pps.temporal_id, 0);
+    expect(rt, pps.scaling_list == default_scaling_lists());
     let dc_coefs = pps.scaling_list.scaling_list_dc_coef_minus8_16x16;
-    expect_eq(&rt, &dc_coefs[0], &8);
-    Ok(())
+    expect_eq(rt, dc_coefs[0], 8);
 }
 
 #[test]
-fn columns_spread_evenly(rt: HostRuntime) -> Result<(), Fail> {
-    let pps = read(rt.alloc(), ten_blocks(rt.alloc()), EVEN)?;
+fn columns_spread_evenly(rt: HostRuntime) {
+    let rt = &rt;
+    let pps = ok(rt, read(rt.alloc(), ten_blocks(rt.alloc()), EVEN));
     let widths = pps.column_width_minus1;
-    expect_eq(&rt, &widths[0], &2);
-    expect_eq(&rt, &widths[1], &2);
-    expect_eq(&rt, &widths[2], &3);
-    expect_eq(&rt, &widths[3], &0);
-    expect(&rt, pps.loop_filter_across_tiles_enabled_flag);
-    let pps = read(rt.alloc(), twenty_blocks(rt.alloc()), NARROW)?;
-    expect_eq(&rt, &pps.num_tile_columns_minus1, &19);
-    expect_eq(&rt, &pps.column_width_minus1, &[0; 20]);
-    expect(&rt, !pps.loop_filter_across_tiles_enabled_flag);
-    Ok(())
+    expect_eq(rt, widths[0], 2);
+    expect_eq(rt, widths[1], 2);
+    expect_eq(rt, widths[2], 3);
+    expect_eq(rt, widths[3], 0);
+    expect(rt, pps.loop_filter_across_tiles_enabled_flag);
+    let pps = ok(rt, read(rt.alloc(), twenty_blocks(rt.alloc()), NARROW));
+    expect_eq(rt, pps.num_tile_columns_minus1, 19);
+    expect_eq(rt, pps.column_width_minus1, [0; 20]);
+    expect(rt, !pps.loop_filter_across_tiles_enabled_flag);
 }
 
 #[test]
-fn columns_with_their_sizes(rt: HostRuntime) -> Result<(), Fail> {
-    let pps = read(rt.alloc(), ten_blocks(rt.alloc()), TOLD)?;
+fn columns_with_their_sizes(rt: HostRuntime) {
+    let rt = &rt;
+    let pps = ok(rt, read(rt.alloc(), ten_blocks(rt.alloc()), TOLD));
     let widths = pps.column_width_minus1;
-    expect_eq(&rt, &widths[0], &0);
-    expect_eq(&rt, &widths[1], &3);
-    expect_eq(&rt, &widths[2], &4);
-    expect_eq(&rt, &pps.row_height_minus1, &[0; 22]);
-    Ok(())
+    expect_eq(rt, widths[0], 0);
+    expect_eq(rt, widths[1], 3);
+    expect_eq(rt, widths[2], 4);
+    expect_eq(rt, pps.row_height_minus1, [0; 22]);
 }
 
 #[test]
-fn offsets_of_filters(rt: HostRuntime) -> Result<(), Fail> {
-    let pps = read(rt.alloc(), ten_blocks(rt.alloc()), FILTERED)?;
-    expect_eq(&rt, &pps.beta_offset_div2, &-6);
-    expect_eq(&rt, &pps.tc_offset_div2, &6);
-    expect(&rt, pps.lists_modification_present_flag);
-    expect_eq(&rt, &pps.log2_parallel_merge_level_minus2, &1);
-    expect_eq(&rt, &pps.qp_bd_offset_y, &24);
-    Ok(())
+fn offsets_of_filters(rt: HostRuntime) {
+    let rt = &rt;
+    let pps = ok(rt, read(rt.alloc(), ten_blocks(rt.alloc()), FILTERED));
+    expect_eq(rt, pps.beta_offset_div2, -6);
+    expect_eq(rt, pps.tc_offset_div2, 6);
+    expect(rt, pps.lists_modification_present_flag);
+    expect_eq(rt, pps.log2_parallel_merge_level_minus2, 1);
+    expect_eq(rt, pps.qp_bd_offset_y, 24);
 }
 
 #[test]
-fn both_extensions(rt: HostRuntime) -> Result<(), Fail> {
-    let pps = read(rt.alloc(), ten_blocks(rt.alloc()), EXTENDED)?;
-    has_chroma_offsets(&rt, &pps.range_extension);
-    has_palettes(&rt, &pps.scc_extension);
-    Ok(())
+fn both_extensions(rt: HostRuntime) {
+    let rt = &rt;
+    let pps = ok(rt, read(rt.alloc(), ten_blocks(rt.alloc()), EXTENDED));
+    has_chroma_offsets(rt, &pps.range_extension);
+    has_palettes(rt, &pps.scc_extension);
 }
 
 /// The range extension of `EXTENDED`.
 fn has_chroma_offsets(rt: &impl Abort, x: &PpsRangeExtension) {
     expect(rt, x.cross_component_prediction_enabled_flag);
-    expect_eq(rt, &x.chroma_qp_offset_list_len_minus1, &1);
-    expect_eq(rt, &x.cb_qp_offset_list, &[-3, 12, 0, 0, 0, 0]);
-    expect_eq(rt, &x.cr_qp_offset_list, &[4, -12, 0, 0, 0, 0]);
-    expect_eq(rt, &x.log2_sao_offset_scale_luma, &2);
+    expect_eq(rt, x.chroma_qp_offset_list_len_minus1, 1);
+    expect_eq(rt, x.cb_qp_offset_list, [-3, 12, 0, 0, 0, 0]);
+    expect_eq(rt, x.cr_qp_offset_list, [4, -12, 0, 0, 0, 0]);
+    expect_eq(rt, x.log2_sao_offset_scale_luma, 2);
 }
 
 /// Its extension for screen content.
 fn has_palettes(rt: &impl Abort, x: &PpsSccExtension) {
-    expect_eq(rt, &x.act_y_qp_offset_plus5, &-7);
-    expect_eq(rt, &x.act_cr_qp_offset_plus3, &15);
-    expect_eq(rt, &x.num_palette_predictor_initializers, &2);
+    expect_eq(rt, x.act_y_qp_offset_plus5, -7);
+    expect_eq(rt, x.act_cr_qp_offset_plus3, 15);
+    expect_eq(rt, x.num_palette_predictor_initializers, 2);
     let predictors = x.palette_predictor_initializer;
-    expect_eq(rt, &predictors[0][0], &4095);
-    expect_eq(rt, &predictors[1][0], &255);
-    expect_eq(rt, &predictors[2][1], &9);
+    expect_eq(rt, predictors[0][0], 4095);
+    expect_eq(rt, predictors[1][0], 255);
+    expect_eq(rt, predictors[2][1], 9);
 }
 
 #[test]
-fn refusals_name_their_rows(rt: HostRuntime) -> Result<(), Fail> {
+fn refusals_name_their_rows(rt: HostRuntime) {
+    let rt = &rt;
     let alloc = rt.alloc();
     for (stream, table, row) in [
         (DEEP_QUANTISER, 11, 10),
@@ -224,33 +224,32 @@ fn refusals_name_their_rows(rt: HostRuntime) -> Result<(), Fail> {
         (MANY_PREDICTORS, 13, 7),
         (OTHER_DEPTH, 13, 9),
     ] {
-        let refused = refusal(&rt, alloc, stream);
+        let refused = refusal(rt, alloc, stream);
         let at_row = Some(ParseError::OutOfRange { table, row });
         assert_eq!(rt; refused, at_row, "row {row} of table {table}");
     }
     expect_eq(
-        &rt,
-        &refusal(&rt, alloc, &PICTURE_SET[..6]),
-        &Some(ParseError::OutOfBits),
+        rt,
+        refusal(rt, alloc, &PICTURE_SET[..6]),
+        Some(ParseError::OutOfBits),
     );
     expect_eq(
-        &rt,
-        &refusal(&rt, alloc, SEQUENCE_SET),
-        &Some(ParseError::WrongNaluType),
+        rt,
+        refusal(rt, alloc, SEQUENCE_SET),
+        Some(ParseError::WrongNaluType),
     );
-    Ok(())
 }
 
 #[test]
-fn quantisers_by_the_depth_of_luma(rt: HostRuntime) -> Result<(), Fail> {
-    let pps = read(rt.alloc(), ten_blocks(rt.alloc()), LOW_QUANTISER)?;
-    expect_eq(&rt, &pps.init_qp_minus26, &-27);
+fn quantisers_by_the_depth_of_luma(rt: HostRuntime) {
+    let rt = &rt;
+    let pps = ok(rt, read(rt.alloc(), ten_blocks(rt.alloc()), LOW_QUANTISER));
+    expect_eq(rt, pps.init_qp_minus26, -27);
     expect_eq(
-        &rt,
-        &read(rt.alloc(), twenty_blocks(rt.alloc()), LOW_QUANTISER).err(),
-        &Some(ParseError::OutOfRange { table: 11, row: 8 }),
+        rt,
+        read(rt.alloc(), twenty_blocks(rt.alloc()), LOW_QUANTISER).err(),
+        Some(ParseError::OutOfRange { table: 11, row: 8 }),
     );
-    Ok(())
 }
 
 #[test]
@@ -258,7 +257,7 @@ fn a_sequence_set_that_is_not_kept(rt: HostRuntime) {
     let spses = BTreeMap::new(rt.alloc());
     expect_eq(
         &rt,
-        &read_with(rt.alloc(), &spses, PICTURE_SET).err(),
-        &Some(ParseError::MissingSps(0)),
+        read_with(rt.alloc(), &spses, PICTURE_SET).err(),
+        Some(ParseError::MissingSps(0)),
     );
 }

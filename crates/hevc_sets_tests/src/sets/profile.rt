@@ -26,6 +26,7 @@ const LEVEL_OR_PROFILE: &[u8] = &[
 
 #[test]
 fn range_extensions_with_a_sub_layer(rt: HostRuntime) {
+    let rt = &rt;
     let mut want = ProfileTierLevel::new();
     want.general_tier_flag = true;
     want.general_profile_idc = 4;
@@ -52,12 +53,13 @@ fn range_extensions_with_a_sub_layer(rt: HostRuntime) {
     want.sub_layer_inbld_flag[0] = true;
     want.sub_layer_level_idc[0] = Level::L3_1;
     let mut r = NaluReader::new(RANGE_EXTENSIONS);
-    expect(&rt, read_profile_tier_level(&mut r, 1) == Ok(want));
-    expect_eq(&rt, &r.num_bits_left(), &8);
+    expect(rt, read_profile_tier_level(&mut r, 1) == Ok(want));
+    expect_eq(rt, r.num_bits_left(), 8);
 }
 
 #[test]
 fn a_level_or_a_profile_alone(rt: HostRuntime) {
+    let rt = &rt;
     let mut want = ProfileTierLevel::new();
     want.general_profile_space = 3;
     want.general_profile_idc = 6;
@@ -75,26 +77,27 @@ fn a_level_or_a_profile_alone(rt: HostRuntime) {
     want.sub_layer_max_14bit_constraint_flag[1] = true;
     want.sub_layer_inbld_flag[1] = true;
     let mut r = NaluReader::new(LEVEL_OR_PROFILE);
-    expect(&rt, read_profile_tier_level(&mut r, 2) == Ok(want));
-    expect_eq(&rt, &r.num_bits_left(), &0);
+    expect(rt, read_profile_tier_level(&mut r, 2) == Ok(want));
+    expect_eq(rt, r.num_bits_left(), 0);
 }
 
 #[test]
 fn a_refusal_stands_before_its_element(rt: HostRuntime) {
+    let rt = &rt;
     // 00 0 00001, the flag of profile 1 of 32, 1001, 43 zeros, 0, and level 0
     let mut r = NaluReader::new(&[
         0x01, 0x40, 0x00, 0x00, 0x03, 0x00, 0x90, 0x00, 0x00, 0x03, 0x00, 0x00, 0x03, 0x00, 0x00,
     ]);
     let read = read_profile_tier_level(&mut r, 0);
     expect(
-        &rt,
+        rt,
         read == Err(ParseError::OutOfRange { table: 2, row: 27 }),
     );
-    expect_eq(&rt, &r.num_bits_left(), &8);
+    expect_eq(rt, r.num_bits_left(), 8);
     let mut r = NaluReader::new(&[0xc6]);
     expect(
-        &rt,
+        rt,
         read_profile_tier_level(&mut r, 0) == Err(ParseError::OutOfBits),
     );
-    expect_eq(&rt, &r.num_bits_left(), &0);
+    expect_eq(rt, r.num_bits_left(), 0);
 }

@@ -29,6 +29,7 @@ fn list(first: u8, second: u8, between: u8, last: u8) -> [u8; 64] {
 
 #[test]
 fn each_kind_of_matrix(rt: HostRuntime) {
+    let rt = &rt;
     let defaults = default_scaling_lists();
     let intra = defaults.scaling_list_8x8[0];
     let inter = defaults.scaling_list_8x8[3];
@@ -56,59 +57,50 @@ fn each_kind_of_matrix(rt: HostRuntime) {
     want.scaling_list_32x32[3] = of_32x32;
     let mut r = NaluReader::new(EACH_KIND);
     let read = read_scaling_list_data(&mut r);
-    expect(&rt, read == Ok(want));
-    expect_eq(&rt, &r.num_bits_left(), &4);
+    expect(rt, read == Ok(want));
+    expect_eq(rt, r.num_bits_left(), 4);
 }
 
 #[test]
 fn default_lists_are_read_and_given(rt: HostRuntime) {
+    let rt = &rt;
     // 20 times 0 1
     let mut r = NaluReader::new(&[0x55, 0x55, 0x55, 0x55, 0x55]);
     let read = read_scaling_list_data(&mut r);
-    expect(&rt, read == Ok(default_scaling_lists()));
-    expect_eq(&rt, &r.num_bits_left(), &0);
+    expect(rt, read == Ok(default_scaling_lists()));
+    expect_eq(rt, r.num_bits_left(), 0);
 }
 
 #[test]
 fn a_difference_above_its_matrix(rt: HostRuntime) {
+    let rt = &rt;
     // 0 | 010: matrix 0 as the one before it
     let mut r = NaluReader::new(&[0x20]);
     let read = read_scaling_list_data(&mut r);
-    expect(
-        &rt,
-        read == Err(ParseError::OutOfRange { table: 6, row: 2 }),
-    );
-    expect_eq(&rt, &r.num_bits_left(), &7);
+    expect(rt, read == Err(ParseError::OutOfRange { table: 6, row: 2 }));
+    expect_eq(rt, r.num_bits_left(), 7);
     // 19 times 0 1, then 0 | 011: at 32x32 matrix 3 as the second one before it
     let mut r = NaluReader::new(&[0x55, 0x55, 0x55, 0x55, 0x54, 0xc0]);
     let read = read_scaling_list_data(&mut r);
-    expect(
-        &rt,
-        read == Err(ParseError::OutOfRange { table: 6, row: 2 }),
-    );
-    expect_eq(&rt, &r.num_bits_left(), &9);
+    expect(rt, read == Err(ParseError::OutOfRange { table: 6, row: 2 }));
+    expect_eq(rt, r.num_bits_left(), 9);
 }
 
 #[test]
 fn refusals_stand_before_their_element(rt: HostRuntime) {
+    let rt = &rt;
     // 12 times 0 1, then 1 | 000010001: -8
     let mut r = NaluReader::new(&[0x55, 0x55, 0x55, 0x84, 0x40]);
     let read = read_scaling_list_data(&mut r);
-    expect(
-        &rt,
-        read == Err(ParseError::OutOfRange { table: 6, row: 3 }),
-    );
-    expect_eq(&rt, &r.num_bits_left(), &15);
+    expect(rt, read == Err(ParseError::OutOfRange { table: 6, row: 3 }));
+    expect_eq(rt, r.num_bits_left(), 15);
     // 1 | 00000000100000000: 128
     let mut r = NaluReader::new(&[0x80, 0x40, 0x00]);
     let read = read_scaling_list_data(&mut r);
-    expect(
-        &rt,
-        read == Err(ParseError::OutOfRange { table: 6, row: 4 }),
-    );
-    expect_eq(&rt, &r.num_bits_left(), &23);
+    expect(rt, read == Err(ParseError::OutOfRange { table: 6, row: 4 }));
+    expect_eq(rt, r.num_bits_left(), 23);
     let mut r = NaluReader::new(&[]);
     let read = read_scaling_list_data(&mut r);
-    expect(&rt, read == Err(ParseError::OutOfBits));
-    expect_eq(&rt, &r.num_bits_left(), &0);
+    expect(rt, read == Err(ParseError::OutOfBits));
+    expect_eq(rt, r.num_bits_left(), 0);
 }

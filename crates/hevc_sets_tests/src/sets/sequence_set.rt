@@ -1,14 +1,13 @@
 //! Worked sets, each in a stream of its own.
 ghost use Rattle.std.specs.Prelude.{◌<◌, length};
 
-use crate::expect::{expect, expect_eq};
+use crate::expect::{expect, expect_eq, ok};
 use crate::streams::{PICTURE_SET, SEQUENCE_SET};
 use hevc_bits::{Nalu, NaluHeader};
 use hevc_sets::{ParseError, read_sps};
 use hevc_types_c::{Sps, SpsSccExtension};
 use std::alloc::Global;
 use std::process::Abort;
-use std::test::Fail;
 
 /// Row 2: eight sub-layers.
 const MANY_SUB_LAYERS: &[u8] = &[0x00, 0x00, 0x01, 0x42, 0x01, 0x0f, 0x80];
@@ -100,97 +99,87 @@ fn refusal(rt: &impl Abort, alloc: Global, stream: &[u8]) -> Option<ParseError> 
 }
 
 #[test]
-fn a_usual_set(rt: HostRuntime) -> Result<(), Fail> {
-    let sps = read(rt.alloc(), SEQUENCE_SET)?;
-    expect_eq(&rt, &sps.ctb_size_y, &16);
-    expect_eq(&rt, &sps.pic_size_in_ctbs_y, &1);
-    expect_eq(&rt, &sps.max_tb_log2_size_y, &4);
-    expect_eq(&rt, &sps.wp_offset_half_range_y, &128);
-    expect_eq(
-        &rt,
-        &sps.max_dec_pic_buffering_minus1,
-        &[4, 0, 0, 0, 0, 0, 0],
-    );
-    expect_eq(&rt, &sps.max_num_reorder_pics, &[1, 0, 0, 0, 0, 0, 0]);
-    Ok(())
+fn a_usual_set(rt: HostRuntime) {
+    let rt = &rt;
+    let sps = ok(rt, read(rt.alloc(), SEQUENCE_SET));
+    expect_eq(rt, sps.ctb_size_y, 16);
+    expect_eq(rt, sps.pic_size_in_ctbs_y, 1);
+    expect_eq(rt, sps.max_tb_log2_size_y, 4);
+    expect_eq(rt, sps.wp_offset_half_range_y, 128);
+    expect_eq(rt, sps.max_dec_pic_buffering_minus1, [4, 0, 0, 0, 0, 0, 0]);
+    expect_eq(rt, sps.max_num_reorder_pics, [1, 0, 0, 0, 0, 0, 0]);
 }
 
 #[test]
-fn both_extensions(rt: HostRuntime) -> Result<(), Fail> {
-    let sps = read(rt.alloc(), EXTENDED)?;
-    expect_eq(&rt, &sps.chroma_array_type, &3);
-    expect_eq(&rt, &sps.pic_size_in_ctbs_y, &6);
-    expect(
-        &rt,
-        sps.range_extension.transform_skip_rotation_enabled_flag,
-    );
-    expect(&rt, sps.range_extension.cabac_bypass_alignment_enabled_flag);
-    expect(&rt, !sps.range_extension.explicit_rdpcm_enabled_flag);
-    expect_eq(&rt, &sps.wp_offset_half_range_y, &512);
-    expect_eq(&rt, &sps.wp_offset_half_range_c, &256);
-    has_palettes(&rt, &sps.scc_extension);
-    Ok(())
+fn both_extensions(rt: HostRuntime) {
+    let rt = &rt;
+    let sps = ok(rt, read(rt.alloc(), EXTENDED));
+    expect_eq(rt, sps.chroma_array_type, 3);
+    expect_eq(rt, sps.pic_size_in_ctbs_y, 6);
+    expect(rt, sps.range_extension.transform_skip_rotation_enabled_flag);
+    expect(rt, sps.range_extension.cabac_bypass_alignment_enabled_flag);
+    expect(rt, !sps.range_extension.explicit_rdpcm_enabled_flag);
+    expect_eq(rt, sps.wp_offset_half_range_y, 512);
+    expect_eq(rt, sps.wp_offset_half_range_c, 256);
+    has_palettes(rt, &sps.scc_extension);
 }
 
 /// The extension for screen content of `EXTENDED`.
 fn has_palettes(rt: &impl Abort, x: &SpsSccExtension) {
-    expect_eq(rt, &x.palette_max_size, &2);
-    expect_eq(rt, &x.num_palette_predictor_initializer_minus1, &1);
+    expect_eq(rt, x.palette_max_size, 2);
+    expect_eq(rt, x.num_palette_predictor_initializer_minus1, 1);
     let predictors = x.palette_predictor_initializer;
-    expect_eq(rt, &predictors[0][0], &1023);
-    expect_eq(rt, &predictors[1][0], &511);
-    expect_eq(rt, &predictors[2][1], &8);
-    expect_eq(rt, &x.motion_vector_resolution_control_idc, &2);
+    expect_eq(rt, predictors[0][0], 1023);
+    expect_eq(rt, predictors[1][0], 511);
+    expect_eq(rt, predictors[2][1], 8);
+    expect_eq(rt, x.motion_vector_resolution_control_idc, 2);
     expect(rt, x.intra_boundary_filtering_disabled_flag);
 }
 
 #[test]
-fn many_sets_of_references(rt: HostRuntime) -> Result<(), Fail> {
-    let sps = read(rt.alloc(), MANY_SETS)?;
+fn many_sets_of_references(rt: HostRuntime) {
+    let rt = &rt;
+    let sps = ok(rt, read(rt.alloc(), MANY_SETS));
     let sets = sps.short_term_ref_pic_set.as_slice();
-    expect_eq(&rt, &sets.len(), &64);
-    let last = sets.get(63).ok_or("no set")?;
-    expect(&rt, last.inter_ref_pic_set_prediction_flag);
-    expect_eq(&rt, &last.num_negative_pics, &1);
+    expect_eq(rt, sets.len(), 64);
+    let last = ok(rt, sets.get(63).ok_or("no set"));
+    expect(rt, last.inter_ref_pic_set_prediction_flag);
+    expect_eq(rt, last.num_negative_pics, 1);
     let deltas = last.delta_poc_s0;
-    expect_eq(&rt, &deltas[0], &-1);
-    expect_eq(&rt, &sps.num_long_term_ref_pics_sps, &2);
+    expect_eq(rt, deltas[0], -1);
+    expect_eq(rt, sps.num_long_term_ref_pics_sps, 2);
     let lsbs = sps.lt_ref_pic_poc_lsb_sps;
-    expect_eq(&rt, &lsbs[1], &200);
+    expect_eq(rt, lsbs[1], 200);
     expect(
-        &rt,
+        rt,
         sps.used_by_curr_pic_lt_sps_flag[0] && !sps.used_by_curr_pic_lt_sps_flag[1],
     );
-    Ok(())
 }
 
 #[test]
-fn usability_with_both_kinds_of_schedules(rt: HostRuntime) -> Result<(), Fail> {
-    let sps = read(rt.alloc(), TIMED)?;
-    expect_eq(
-        &rt,
-        &sps.max_dec_pic_buffering_minus1,
-        &[2, 2, 0, 0, 0, 0, 0],
-    );
-    expect_eq(&rt, &sps.max_latency_increase_plus1, &[3, 3, 0, 0, 0, 0, 0]);
-    expect_eq(&rt, &sps.conf_win_top_offset, &2);
-    expect_eq(&rt, &sps.pcm_sample_bit_depth_chroma_minus1, &6);
-    expect_eq(&rt, &sps.log2_diff_max_min_pcm_luma_coding_block_size, &1);
+fn usability_with_both_kinds_of_schedules(rt: HostRuntime) {
+    let rt = &rt;
+    let sps = ok(rt, read(rt.alloc(), TIMED));
+    expect_eq(rt, sps.max_dec_pic_buffering_minus1, [2, 2, 0, 0, 0, 0, 0]);
+    expect_eq(rt, sps.max_latency_increase_plus1, [3, 3, 0, 0, 0, 0, 0]);
+    expect_eq(rt, sps.conf_win_top_offset, 2);
+    expect_eq(rt, sps.pcm_sample_bit_depth_chroma_minus1, 6);
+    expect_eq(rt, sps.log2_diff_max_min_pcm_luma_coding_block_size, 1);
     expect(
-        &rt,
+        rt,
         sps.scaling_list_enabled_flag && !sps.scaling_list_data_present_flag,
     );
     let vui = &sps.vui_parameters;
-    expect_eq(&rt, &vui.time_scale, &30_000);
+    expect_eq(rt, vui.time_scale, 30_000);
     let sizes = vui.hrd.nal_hrd[1].cpb_size_du_value_minus1;
-    expect_eq(&rt, &sizes[1], &31);
+    expect_eq(rt, sizes[1], 31);
     let rates = vui.hrd.vcl_hrd[0].bit_rate_value_minus1;
-    expect_eq(&rt, &rates[1], &21);
-    Ok(())
+    expect_eq(rt, rates[1], 21);
 }
 
 #[test]
 fn refusals_name_their_rows(rt: HostRuntime) {
+    let rt = &rt;
     let alloc = rt.alloc();
     for (stream, table, row) in [
         (MANY_SUB_LAYERS, 5, 2),
@@ -202,18 +191,18 @@ fn refusals_name_their_rows(rt: HostRuntime) {
         (THREE_DIMENSIONS, 5, 46),
         (NO_PREDICTOR, 10, 5),
     ] {
-        let refused = refusal(&rt, alloc, stream);
+        let refused = refusal(rt, alloc, stream);
         let at_row = Some(ParseError::OutOfRange { table, row });
         assert_eq!(rt; refused, at_row, "row {row} of table {table}");
     }
     expect_eq(
-        &rt,
-        &refusal(&rt, alloc, &SEQUENCE_SET[..25]),
-        &Some(ParseError::OutOfBits),
+        rt,
+        refusal(rt, alloc, &SEQUENCE_SET[..25]),
+        Some(ParseError::OutOfBits),
     );
     expect_eq(
-        &rt,
-        &refusal(&rt, alloc, PICTURE_SET),
-        &Some(ParseError::WrongNaluType),
+        rt,
+        refusal(rt, alloc, PICTURE_SET),
+        Some(ParseError::WrongNaluType),
     );
 }

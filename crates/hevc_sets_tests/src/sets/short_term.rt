@@ -33,6 +33,7 @@ fn neighbours() -> ShortTermRefPicSet {
 
 #[test]
 fn members_that_are_written_out(rt: HostRuntime) {
+    let rt = &rt;
     // 011 | 010 | 1 1 | 00100 0 | 010 1
     let mut r = NaluReader::new(&[0x6b, 0x21, 0x40]);
     let mut want = ShortTermRefPicSet::new();
@@ -45,12 +46,13 @@ fn members_that_are_written_out(rt: HostRuntime) {
     want.used_by_curr_pic_s0[0] = true;
     want.used_by_curr_pic_s1[0] = true;
     let read = read_short_term_set(&mut r, &[], 0, 3, 0);
-    expect(&rt, read == Ok(want));
-    expect_eq(&rt, &r.num_bits_left(), &6);
+    expect(rt, read == Ok(want));
+    expect_eq(rt, r.num_bits_left(), 6);
 }
 
 #[test]
 fn a_shift_backwards(rt: HostRuntime) {
+    let rt = &rt;
     // 1 | 1 | 1 | 1 1 1
     let mut r = NaluReader::new(&[0xfc]);
     let mut want = ShortTermRefPicSet::new();
@@ -66,12 +68,13 @@ fn a_shift_backwards(rt: HostRuntime) {
     want.used_by_curr_pic_s0[1] = true;
     want.used_by_curr_pic_s1[0] = true;
     let read = read_short_term_set(&mut r, &[two_before_three_after()], 2, 16, 1);
-    expect(&rt, read == Ok(want));
-    expect_eq(&rt, &r.num_bits_left(), &2);
+    expect(rt, read == Ok(want));
+    expect_eq(rt, r.num_bits_left(), 2);
 }
 
 #[test]
 fn a_shift_forwards_onto_the_picture(rt: HostRuntime) {
+    let rt = &rt;
     // 1 | 0 | 1 | 1 1 1
     let mut r = NaluReader::new(&[0xbc]);
     let mut want = ShortTermRefPicSet::new();
@@ -83,12 +86,13 @@ fn a_shift_forwards_onto_the_picture(rt: HostRuntime) {
     want.used_by_curr_pic_s1[0] = true;
     want.used_by_curr_pic_s1[1] = true;
     let read = read_short_term_set(&mut r, &[neighbours()], 2, 16, 1);
-    expect(&rt, read == Ok(want));
-    expect_eq(&rt, &r.num_bits_left(), &2);
+    expect(rt, read == Ok(want));
+    expect_eq(rt, r.num_bits_left(), 2);
 }
 
 #[test]
 fn a_slice_header_names_the_first_of_two_sets(rt: HostRuntime) {
+    let rt = &rt;
     // 1 | 010 | 0 | 1 | 0 1, 0 0, 1
     let mut r = NaluReader::new(&[0xa5, 0x20]);
     let mut want = ShortTermRefPicSet::new();
@@ -101,34 +105,30 @@ fn a_slice_header_names_the_first_of_two_sets(rt: HostRuntime) {
     want.delta_poc_s1[0] = 1;
     want.used_by_curr_pic_s1[0] = true;
     let sets = [two_before_three_after(), neighbours()];
-    expect(
-        &rt,
-        read_short_term_set(&mut r, &sets, 2, 16, 2) == Ok(want),
-    );
-    expect_eq(&rt, &r.num_bits_left(), &5);
+    expect(rt, read_short_term_set(&mut r, &sets, 2, 16, 2) == Ok(want));
+    expect_eq(rt, r.num_bits_left(), 5);
 }
 
 #[test]
 fn a_predicted_set_of_seventeen(rt: HostRuntime) {
+    let rt = &rt;
     let mut r = NaluReader::new(SIXTEEN_BEFORE);
     let mut other = ShortTermRefPicSet::new();
     if let Ok(set) = read_short_term_set(&mut r, &[], 1, 16, 0) {
         other = set;
     }
     let differences = other.delta_poc_s0();
-    expect(&rt, differences[15] == -16);
+    expect(rt, differences[15] == -16);
     // 1 | 1 | 1 | seventeen times 1
     let mut r = NaluReader::new(&[0xff, 0xff, 0xf0]);
     let read = read_short_term_set(&mut r, &[other], 2, 16, 1);
-    expect(
-        &rt,
-        read == Err(ParseError::OutOfRange { table: 7, row: 6 }),
-    );
-    expect_eq(&rt, &r.num_bits_left(), &4);
+    expect(rt, read == Err(ParseError::OutOfRange { table: 7, row: 6 }));
+    expect_eq(rt, r.num_bits_left(), 4);
 }
 
 #[test]
 fn a_difference_of_more_than_32_bits(rt: HostRuntime) {
+    let rt = &rt;
     let mut other = ShortTermRefPicSet::new();
     other.num_positive_pics = 1;
     other.num_delta_pocs = 1;
@@ -136,34 +136,29 @@ fn a_difference_of_more_than_32_bits(rt: HostRuntime) {
     // 1 | 0 | 1 | 1 1
     let mut r = NaluReader::new(&[0xb8]);
     let read = read_short_term_set(&mut r, &[other], 2, 16, 1);
-    expect(
-        &rt,
-        read == Err(ParseError::OutOfRange { table: 7, row: 6 }),
-    );
-    expect_eq(&rt, &r.num_bits_left(), &3);
+    expect(rt, read == Err(ParseError::OutOfRange { table: 7, row: 6 }));
+    expect_eq(rt, r.num_bits_left(), 3);
 }
 
 #[test]
 fn a_refusal_stands_before_its_element(rt: HostRuntime) {
+    let rt = &rt;
     // 000010010: 17 members before the picture
     let mut r = NaluReader::new(&[0x09, 0x40]);
     let read = read_short_term_set(&mut r, &[], 0, 16, 0);
-    expect(
-        &rt,
-        read == Err(ParseError::OutOfRange { table: 7, row: 7 }),
-    );
-    expect_eq(&rt, &r.num_bits_left(), &16);
+    expect(rt, read == Err(ParseError::OutOfRange { table: 7, row: 7 }));
+    expect_eq(rt, r.num_bits_left(), 16);
     let mut r = NaluReader::new(&[]);
     expect(
-        &rt,
+        rt,
         read_short_term_set(&mut r, &[], 0, 16, 0) == Err(ParseError::OutOfBits),
     );
     // three bits before the set, 010 | 1 | 1, and no row 10
     let mut r = NaluReader::new(&[0x0b]);
     let _ = r.skip_bits(3);
     expect(
-        &rt,
+        rt,
         read_short_term_set(&mut r, &[], 0, 16, 0) == Err(ParseError::OutOfBits),
     );
-    expect_eq(&rt, &r.num_bits_left(), &0);
+    expect_eq(rt, r.num_bits_left(), 0);
 }

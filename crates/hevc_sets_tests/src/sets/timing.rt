@@ -61,6 +61,7 @@ fn put_second_sub_layer(hrd: &mut HrdParams) {
 
 #[test]
 fn both_kinds_with_decoding_units(rt: HostRuntime) {
+    let rt = &rt;
     let mut want = HrdParams::new();
     want.nal_hrd_parameters_present_flag = true;
     want.vcl_hrd_parameters_present_flag = true;
@@ -79,12 +80,13 @@ fn both_kinds_with_decoding_units(rt: HostRuntime) {
     put_second_sub_layer(&mut want);
     let mut r = NaluReader::new(BOTH_KINDS);
     let read = read_hrd_parameters(&mut r, true, 1, &HrdParams::new());
-    expect(&rt, read == Ok(want));
-    expect_eq(&rt, &r.num_bits_left(), &7);
+    expect(rt, read == Ok(want));
+    expect_eq(rt, r.num_bits_left(), 7);
 }
 
 #[test]
 fn a_structure_without_common_elements(rt: HostRuntime) {
+    let rt = &rt;
     // 0 | 1 | 1 | 1 | 00100 00101 | 1
     let mut r = NaluReader::new(&[0x72, 0x16]);
     let mut before = HrdParams::new();
@@ -99,24 +101,25 @@ fn a_structure_without_common_elements(rt: HostRuntime) {
     want.vcl_hrd[0].cpb_size_value_minus1[0] = 4;
     want.vcl_hrd[0].cbr_flag[0] = true;
     let read = read_hrd_parameters(&mut r, false, 0, &before);
-    expect(&rt, read == Ok(want));
-    expect_eq(&rt, &r.num_bits_left(), &1);
+    expect(rt, read == Ok(want));
+    expect_eq(rt, r.num_bits_left(), 1);
 }
 
 #[test]
 fn refusals_stand_before_their_element(rt: HostRuntime) {
+    let rt = &rt;
     // 0 0 | 1 | 1 | 00000100001: 33 schedules
     let mut r = NaluReader::new(&[0x30, 0x42]);
     let before = HrdParams::new();
     let read = read_hrd_parameters(&mut r, true, 0, &before);
     expect(
-        &rt,
+        rt,
         read == Err(ParseError::OutOfRange { table: 3, row: 14 }),
     );
-    expect_eq(&rt, &r.num_bits_left(), &12);
+    expect_eq(rt, r.num_bits_left(), 12);
     // 1 0 | 0 | 0000, and one bit of the second row 7
     let mut r = NaluReader::new(&[0x80]);
     let read = read_hrd_parameters(&mut r, true, 0, &before);
-    expect(&rt, read == Err(ParseError::OutOfBits));
-    expect_eq(&rt, &r.num_bits_left(), &1);
+    expect(rt, read == Err(ParseError::OutOfBits));
+    expect_eq(rt, r.num_bits_left(), 1);
 }

@@ -98,36 +98,39 @@ fn put_hrd(hrd: &mut HrdParams) {
 
 #[test]
 fn every_group_with_both_kinds_of_schedules(rt: HostRuntime) {
+    let rt = &rt;
     let mut want = VuiParams::new();
     put_appearance(&mut want);
     put_timing(&mut want);
     put_hrd(&mut want.hrd);
     let mut r = NaluReader::new(EVERY_GROUP);
-    expect(&rt, read_vui_parameters(&mut r, 0) == Ok(want));
-    expect_eq(&rt, &r.num_bits_left(), &5);
+    expect(rt, read_vui_parameters(&mut r, 0) == Ok(want));
+    expect_eq(rt, r.num_bits_left(), 5);
 }
 
 #[test]
 fn no_flag_is_set(rt: HostRuntime) {
+    let rt = &rt;
     let mut r = NaluReader::new(&[0x00, 0x20]);
-    expect(&rt, read_vui_parameters(&mut r, 6) == Ok(VuiParams::new()));
-    expect_eq(&rt, &r.num_bits_left(), &6);
+    expect(rt, read_vui_parameters(&mut r, 6) == Ok(VuiParams::new()));
+    expect_eq(rt, r.num_bits_left(), 6);
 }
 
 #[test]
 fn a_refusal_stands_before_its_element(rt: HostRuntime) {
+    let rt = &rt;
     // 0 | 0 | 0 | 1 00111: a place of chroma samples of 6
     let mut r = NaluReader::new(&[0x13, 0x80]);
     let read = read_vui_parameters(&mut r, 0);
     expect(
-        &rt,
+        rt,
         read == Err(ParseError::OutOfRange { table: 8, row: 11 }),
     );
-    expect_eq(&rt, &r.num_bits_left(), &12);
+    expect_eq(rt, r.num_bits_left(), 12);
     let mut r = NaluReader::new(&[0xff]);
     expect(
-        &rt,
+        rt,
         read_vui_parameters(&mut r, 0) == Err(ParseError::OutOfBits),
     );
-    expect_eq(&rt, &r.num_bits_left(), &7);
+    expect_eq(rt, r.num_bits_left(), 7);
 }

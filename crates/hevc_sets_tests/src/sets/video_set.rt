@@ -1,7 +1,7 @@
 //! Worked sets, each in a stream of its own.
 ghost use Rattle.std.specs.Prelude.{◌<◌, length};
 
-use crate::expect::{expect, expect_eq};
+use crate::expect::{expect, expect_eq, ok};
 use crate::streams::{PICTURE_SET, VIDEO_SET};
 use hevc_bits::{Nalu, NaluHeader};
 use hevc_sets::{ParseError, read_vps};
@@ -9,7 +9,6 @@ use hevc_types_a::Level;
 use hevc_types_b::{HrdParams, Vps};
 use std::alloc::Global;
 use std::process::Abort;
-use std::test::Fail;
 
 /// Rows 1 to 25 of table 1: two sub-layers of their own numbers, three layer sets of two layers, a clock, and three structures of
 /// timing, of which the second has the common elements of the first.
@@ -66,51 +65,39 @@ fn refusal(rt: &impl Abort, alloc: Global, stream: &[u8]) -> Option<ParseError> 
 }
 
 #[test]
-fn a_usual_set(rt: HostRuntime) -> Result<(), Fail> {
-    let vps = read(rt.alloc(), VIDEO_SET)?;
-    expect_eq(&rt, &vps.video_parameter_set_id, &0);
-    expect_eq(&rt, &vps.max_sub_layers_minus1, &0);
-    expect_eq(
-        &rt,
-        &vps.max_dec_pic_buffering_minus1,
-        &[4, 0, 0, 0, 0, 0, 0],
-    );
-    expect_eq(&rt, &vps.max_num_reorder_pics, &[1, 0, 0, 0, 0, 0, 0]);
-    expect_eq(&rt, &vps.max_latency_increase_plus1, &[0; 7]);
-    expect(&rt, vps.profile_tier_level.general_level_idc == Level::L2);
-    expect(&rt, !vps.timing_info_present_flag);
-    expect_eq(&rt, &vps.cprms_present_flag.as_slice(), &[true].as_slice());
-    Ok(())
+fn a_usual_set(rt: HostRuntime) {
+    let rt = &rt;
+    let vps = ok(rt, read(rt.alloc(), VIDEO_SET));
+    expect_eq(rt, vps.video_parameter_set_id, 0);
+    expect_eq(rt, vps.max_sub_layers_minus1, 0);
+    expect_eq(rt, vps.max_dec_pic_buffering_minus1, [4, 0, 0, 0, 0, 0, 0]);
+    expect_eq(rt, vps.max_num_reorder_pics, [1, 0, 0, 0, 0, 0, 0]);
+    expect_eq(rt, vps.max_latency_increase_plus1, [0; 7]);
+    expect(rt, vps.profile_tier_level.general_level_idc == Level::L2);
+    expect(rt, !vps.timing_info_present_flag);
+    expect_eq(rt, vps.cprms_present_flag.as_slice(), [true].as_slice());
 }
 
 #[test]
-fn three_structures_of_timing(rt: HostRuntime) -> Result<(), Fail> {
-    let vps = read(rt.alloc(), TIMED)?;
-    expect_eq(&rt, &vps.video_parameter_set_id, &3);
+fn three_structures_of_timing(rt: HostRuntime) {
+    let rt = &rt;
+    let vps = ok(rt, read(rt.alloc(), TIMED));
+    expect_eq(rt, vps.video_parameter_set_id, 3);
+    expect_eq(rt, vps.max_dec_pic_buffering_minus1, [2, 4, 0, 0, 0, 0, 0]);
+    expect_eq(rt, vps.max_num_reorder_pics, [0, 2, 0, 0, 0, 0, 0]);
+    expect_eq(rt, vps.max_latency_increase_plus1, [0, 5, 0, 0, 0, 0, 0]);
+    expect_eq(rt, vps.max_layer_id, 1);
+    expect_eq(rt, vps.num_layer_sets_minus1, 2);
+    expect_eq(rt, vps.num_units_in_tick, 1001);
+    expect_eq(rt, vps.time_scale, 60_000);
+    expect_eq(rt, vps.num_ticks_poc_diff_one_minus1, 7);
+    expect_eq(rt, vps.hrd_layer_set_idx.as_slice(), [0, 1, 2].as_slice());
     expect_eq(
-        &rt,
-        &vps.max_dec_pic_buffering_minus1,
-        &[2, 4, 0, 0, 0, 0, 0],
+        rt,
+        vps.cprms_present_flag.as_slice(),
+        [true, false, true].as_slice(),
     );
-    expect_eq(&rt, &vps.max_num_reorder_pics, &[0, 2, 0, 0, 0, 0, 0]);
-    expect_eq(&rt, &vps.max_latency_increase_plus1, &[0, 5, 0, 0, 0, 0, 0]);
-    expect_eq(&rt, &vps.max_layer_id, &1);
-    expect_eq(&rt, &vps.num_layer_sets_minus1, &2);
-    expect_eq(&rt, &vps.num_units_in_tick, &1001);
-    expect_eq(&rt, &vps.time_scale, &60_000);
-    expect_eq(&rt, &vps.num_ticks_poc_diff_one_minus1, &7);
-    expect_eq(
-        &rt,
-        &vps.hrd_layer_set_idx.as_slice(),
-        &[0, 1, 2].as_slice(),
-    );
-    expect_eq(
-        &rt,
-        &vps.cprms_present_flag.as_slice(),
-        &[true, false, true].as_slice(),
-    );
-    has_structures(&rt, vps.hrd_parameters.as_slice());
-    Ok(())
+    has_structures(rt, vps.hrd_parameters.as_slice());
 }
 
 /// The structures of timing of `TIMED`.
@@ -122,49 +109,46 @@ fn has_structures(rt: &impl Abort, structures: &[HrdParams]) {
         rt,
         first.nal_hrd_parameters_present_flag && second.nal_hrd_parameters_present_flag,
     );
-    expect_eq(rt, &second.cpb_size_scale, &2);
+    expect_eq(rt, second.cpb_size_scale, 2);
     let rates = second.nal_hrd[1].bit_rate_value_minus1;
-    expect_eq(rt, &rates[1], &11);
+    expect_eq(rt, rates[1], 11);
     expect(
         rt,
         !third.nal_hrd_parameters_present_flag && third.sub_pic_hrd_params_present_flag,
     );
     let sizes = third.vcl_hrd[0].cpb_size_du_value_minus1;
-    expect_eq(rt, &sizes[1], &61);
+    expect_eq(rt, sizes[1], 61);
 }
 
 #[test]
-fn numbers_of_the_highest_sub_layer_hold_for_all(rt: HostRuntime) -> Result<(), Fail> {
-    let vps = read(rt.alloc(), COMMON)?;
-    expect_eq(
-        &rt,
-        &vps.max_dec_pic_buffering_minus1,
-        &[3, 3, 3, 0, 0, 0, 0],
-    );
-    expect_eq(&rt, &vps.max_num_reorder_pics, &[1, 1, 1, 0, 0, 0, 0]);
-    Ok(())
+fn numbers_of_the_highest_sub_layer_hold_for_all(rt: HostRuntime) {
+    let rt = &rt;
+    let vps = ok(rt, read(rt.alloc(), COMMON));
+    expect_eq(rt, vps.max_dec_pic_buffering_minus1, [3, 3, 3, 0, 0, 0, 0]);
+    expect_eq(rt, vps.max_num_reorder_pics, [1, 1, 1, 0, 0, 0, 0]);
 }
 
 #[test]
 fn refusals_name_their_rows(rt: HostRuntime) {
+    let rt = &rt;
     let alloc = rt.alloc();
     for (stream, table, row) in [
         (FALLING, 1, 12),
         (FALLING_REORDERING, 1, 13),
         (TOO_MANY, 1, 21),
     ] {
-        let refused = refusal(&rt, alloc, stream);
+        let refused = refusal(rt, alloc, stream);
         let at_row = Some(ParseError::OutOfRange { table, row });
         assert_eq!(rt; refused, at_row, "row {row} of table {table}");
     }
     expect_eq(
-        &rt,
-        &refusal(&rt, alloc, &VIDEO_SET[..20]),
-        &Some(ParseError::OutOfBits),
+        rt,
+        refusal(rt, alloc, &VIDEO_SET[..20]),
+        Some(ParseError::OutOfBits),
     );
     expect_eq(
-        &rt,
-        &refusal(&rt, alloc, PICTURE_SET),
-        &Some(ParseError::WrongNaluType),
+        rt,
+        refusal(rt, alloc, PICTURE_SET),
+        Some(ParseError::WrongNaluType),
     );
 }

@@ -1,12 +1,11 @@
 //! The program over streams in memory, from the words of the command line to the status.
-use crate::expect::expect_eq;
+use crate::expect::{expect_eq, ok};
 use crate::streams::{IDR, P4, PPS, SPS, TRUNCATED, UPPER_P2, stream};
 use crate::words::words_of;
 use hevc_extract::run_extract;
 use hevc_io::{MemorySink, MemorySource};
 use std::alloc::Global;
 use std::process::Abort;
-use std::test::Fail;
 
 /// A run by these words over these bytes, whose reads and writes with these numbers fail, ends with
 /// this status and writes these bytes.
@@ -19,28 +18,20 @@ fn writes(
     writes: Vec<u64>,
     status: u8,
     written: &[u8],
-) -> Result<(), Fail> {
-    let words = words_of(alloc, texts)?;
-    let mut source = MemorySource::new(Vec::from_slice(alloc, bytes)?, reads);
+) {
+    let words = words_of(rt, alloc, texts);
+    let mut source = MemorySource::new(ok(rt, Vec::from_slice(alloc, bytes)), reads);
     let mut sink = MemorySink::new(alloc, writes);
     expect_eq(
         rt,
-        &run_extract(alloc, &words, &mut source, &mut sink),
-        &status,
+        run_extract(alloc, &words, &mut source, &mut sink),
+        status,
     );
-    expect_eq(rt, &sink.written(), &written);
-    Ok(())
+    expect_eq(rt, sink.written(), written);
 }
 
 /// A run by these words over these bytes, in which nothing fails.
-fn gives(
-    rt: &impl Abort,
-    alloc: Global,
-    texts: &[&str],
-    bytes: &[u8],
-    status: u8,
-    written: &[u8],
-) -> Result<(), Fail> {
+fn gives(rt: &impl Abort, alloc: Global, texts: &[&str], bytes: &[u8], status: u8, written: &[u8]) {
     let none = Vec::new(alloc);
     writes(
         rt,
@@ -51,89 +42,94 @@ fn gives(
         Vec::new(alloc),
         status,
         written,
-    )
+    );
 }
 
 #[test]
-fn the_bytes_alone_are_written(rt: HostRuntime) -> Result<(), Fail> {
+fn the_bytes_alone_are_written(rt: HostRuntime) {
+    let rt = &rt;
     let alloc = rt.alloc();
-    let bytes = stream(alloc, &[SPS, PPS, IDR, P4, UPPER_P2])?;
-    let lower = stream(alloc, &[SPS, PPS, IDR, P4])?;
-    expect_eq(&rt, &lower.len(), &54);
-    gives(&rt, alloc, &["0"], &bytes, 0, &lower)?;
-    gives(&rt, alloc, &["1"], &bytes, 0, &bytes)?;
-    gives(&rt, alloc, &["6"], &bytes, 0, &bytes)?;
-    gives(&rt, alloc, &["0"], &[], 0, &[])?;
-    let upper = stream(alloc, &[UPPER_P2])?;
-    gives(&rt, alloc, &["0"], &upper, 0, &[])
+    let bytes = stream(rt, alloc, &[SPS, PPS, IDR, P4, UPPER_P2]);
+    let lower = stream(rt, alloc, &[SPS, PPS, IDR, P4]);
+    expect_eq(rt, lower.len(), 54);
+    gives(rt, alloc, &["0"], &bytes, 0, &lower);
+    gives(rt, alloc, &["1"], &bytes, 0, &bytes);
+    gives(rt, alloc, &["6"], &bytes, 0, &bytes);
+    gives(rt, alloc, &["0"], &[], 0, &[]);
+    let upper = stream(rt, alloc, &[UPPER_P2]);
+    gives(rt, alloc, &["0"], &upper, 0, &[]);
 }
 
 #[test]
-fn layers_are_a_second_word(rt: HostRuntime) -> Result<(), Fail> {
+fn layers_are_a_second_word(rt: HostRuntime) {
+    let rt = &rt;
     let alloc = rt.alloc();
     let of_layer_62: &[u8] = &[0x03, 0xf1, 0xd2];
     let of_layer_63: &[u8] = &[0x03, 0xf9, 0xd2];
-    let bytes = stream(alloc, &[IDR, of_layer_62, of_layer_63])?;
-    let base = stream(alloc, &[IDR])?;
+    let bytes = stream(rt, alloc, &[IDR, of_layer_62, of_layer_63]);
+    let base = stream(rt, alloc, &[IDR]);
     for top in ["0", "9", "10", "61"] {
-        gives(&rt, alloc, &["0", top], &bytes, 0, &base)?;
+        gives(rt, alloc, &["0", top], &bytes, 0, &base);
     }
-    let lower = stream(alloc, &[IDR, of_layer_62])?;
-    gives(&rt, alloc, &["0", "62"], &bytes, 0, &lower)?;
-    gives(&rt, alloc, &["0"], &bytes, 0, &bytes)
+    let lower = stream(rt, alloc, &[IDR, of_layer_62]);
+    gives(rt, alloc, &["0", "62"], &bytes, 0, &lower);
+    gives(rt, alloc, &["0"], &bytes, 0, &bytes);
 }
 
 #[test]
-fn a_refused_unit_has_a_line(rt: HostRuntime) -> Result<(), Fail> {
+fn a_refused_unit_has_a_line(rt: HostRuntime) {
+    let rt = &rt;
     let alloc = rt.alloc();
     let line = b"refused unit 0 TruncatedNalu\n";
-    gives(&rt, alloc, &["0"], &[0x00, 0x00, 0x01, 0x42], 1, line)?;
+    gives(rt, alloc, &["0"], &[0x00, 0x00, 0x01, 0x42], 1, line);
     let unspecified: &[u8] = &[0x60, 0x01, 0x80];
     let no_temporal_id: &[u8] = &[0x26, 0x00, 0x80];
-    let bytes = stream(alloc, &[SPS, UPPER_P2, unspecified, TRUNCATED])?;
+    let bytes = stream(rt, alloc, &[SPS, UPPER_P2, unspecified, TRUNCATED]);
     let line = b"refused unit 2 InvalidNaluType 48\n";
-    gives(&rt, alloc, &["0", "0"], &bytes, 1, line)?;
-    let bytes = stream(alloc, &[SPS, no_temporal_id])?;
+    gives(rt, alloc, &["0", "0"], &bytes, 1, line);
+    let bytes = stream(rt, alloc, &[SPS, no_temporal_id]);
     gives(
-        &rt,
+        rt,
         alloc,
         &["6"],
         &bytes,
         1,
         b"refused unit 1 OutOfRange 0 1\n",
-    )
+    );
 }
 
 #[test]
-fn other_words_are_refused(rt: HostRuntime) -> Result<(), Fail> {
+fn other_words_are_refused(rt: HostRuntime) {
+    let rt = &rt;
     let alloc = rt.alloc();
-    let bytes = stream(alloc, &[IDR])?;
+    let bytes = stream(rt, alloc, &[IDR]);
     let none: &[&str] = &[];
-    gives(&rt, alloc, none, &bytes, 2, &[])?;
+    gives(rt, alloc, none, &bytes, 2, &[]);
     for word in ["", "7", "00", "06", "a", "-1", "layer"] {
-        gives(&rt, alloc, &[word], &bytes, 2, &[])?;
-        gives(&rt, alloc, &[word, "0"], &bytes, 2, &[])?;
+        gives(rt, alloc, &[word], &bytes, 2, &[]);
+        gives(rt, alloc, &[word, "0"], &bytes, 2, &[]);
     }
     for word in ["", "63", "64", "00", "05", "100", "6a", "a", "0 "] {
-        gives(&rt, alloc, &["0", word], &bytes, 2, &[])?;
+        gives(rt, alloc, &["0", word], &bytes, 2, &[]);
     }
-    gives(&rt, alloc, &["0", "0", "0"], &bytes, 2, &[])
+    gives(rt, alloc, &["0", "0", "0"], &bytes, 2, &[]);
 }
 
 #[test]
-fn faults_have_their_statuses(rt: HostRuntime) -> Result<(), Fail> {
+fn faults_have_their_statuses(rt: HostRuntime) {
+    let rt = &rt;
     let alloc = rt.alloc();
-    let bytes = stream(alloc, &[SPS, PPS, IDR])?;
+    let bytes = stream(rt, alloc, &[SPS, PPS, IDR]);
     for call in 1..3u64 {
-        let reads = vec![in alloc; call]?;
-        writes(&rt, alloc, &["0"], &bytes, reads, Vec::new(alloc), 3, &[])?;
+        let reads = ok(rt, vec![in alloc; call]);
+        writes(rt, alloc, &["0"], &bytes, reads, Vec::new(alloc), 3, &[]);
     }
-    let first = vec![in alloc; 1]?;
-    writes(&rt, alloc, &["0"], &bytes, Vec::new(alloc), first, 4, &[])?;
-    let first = vec![in alloc; 1]?;
-    let truncated = stream(alloc, &[TRUNCATED])?;
+    let first = ok(rt, vec![in alloc; 1]);
+    writes(rt, alloc, &["0"], &bytes, Vec::new(alloc), first, 4, &[]);
+    let first = ok(rt, vec![in alloc; 1]);
+    let truncated = stream(rt, alloc, &[TRUNCATED]);
     writes(
-        &rt,
+        rt,
         alloc,
         &["0"],
         &truncated,
@@ -141,5 +137,5 @@ fn faults_have_their_statuses(rt: HostRuntime) -> Result<(), Fail> {
         first,
         4,
         &[],
-    )
+    );
 }

@@ -2,7 +2,7 @@
 ghost use Rattle.std.specs.Prelude.{◌<◌, length};
 ghost use Rattle.hevc_bits.specs.declared.stream_limit.TheConstants.{STREAM_LIMIT};
 
-use crate::expect::{expect, expect_eq};
+use crate::expect::{expect, expect_eq, expect_fewer, ok};
 use crate::streams::{BLA, IDR, OTHER_PPS, OTHER_SPS, P4, P12, PPS, RASL6, SPS, WIDE_SPS, stream};
 use hevc_backend::SilentBackend;
 use hevc_bits::{Nalu, NaluHeader, STREAM_LIMIT};
@@ -11,17 +11,16 @@ use hevc_index::{Point, index, splice};
 use hevc_made::make_stream;
 use std::alloc::Global;
 use std::process::Abort;
-use std::test::Fail;
 
 /// The outputs of these bytes, which are decoded to their end.
-fn outputs(rt: &impl Abort, alloc: Global, bytes: &[u8]) -> Result<Vec<Shown<()>>, Fail>
+fn outputs(rt: &impl Abort, alloc: Global, bytes: &[u8]) -> Vec<Shown<()>>
     requires { length bytes.now < STREAM_LIMIT }
 {
     let mut shown = Vec::new(alloc);
     let decoded = decode_stream(alloc, SilentBackend::new(), bytes, &mut shown);
     let Decoded { backend: _, result } = decoded;
     expect(rt, result.is_ok());
-    Ok(shown)
+    shown
 }
 
 /// How many units these bytes have.
@@ -36,19 +35,13 @@ fn num_units(bytes: &[u8]) -> u64 {
 }
 
 /// From this point on the outputs are those of the whole, but for numbers and units.
-fn begins_at(
-    rt: &impl Abort,
-    alloc: Global,
-    bytes: &[u8],
-    point: &Point,
-    whole: &[Shown<()>],
-) -> Result<(), Fail>
+fn begins_at(rt: &impl Abort, alloc: Global, bytes: &[u8], point: &Point, whole: &[Shown<()>])
     requires { length bytes.now < STREAM_LIMIT }
 {
     let mut out = Vec::new(alloc);
     expect(rt, splice(alloc, bytes, point.number, &mut out).is_ok());
-    assert!(rt; out.len() < STREAM_LIMIT);
-    let part = outputs(rt, alloc, &out)?;
+    expect_fewer(rt, &out, STREAM_LIMIT);
+    let part = outputs(rt, alloc, &out);
     // All units from the point on come after the sets.
     let later = num_units(bytes).wrapping_sub(point.unit);
     let sets = num_units(&out).wrapping_sub(later);
@@ -60,54 +53,48 @@ fn begins_at(
         let Some(other) = others.next() else {
             panic!(rt; "an output is missing");
         };
-        expect_eq(rt, &other.number, &output.number.wrapping_sub(point.number));
-        expect_eq(rt, &other.order_count, &output.order_count);
+        expect_eq(rt, other.number, output.number.wrapping_sub(point.number));
+        expect_eq(rt, other.order_count, output.order_count);
         let unit = output.unit.wrapping_sub(point.unit).wrapping_add(sets);
-        expect_eq(rt, &other.unit, &unit);
+        expect_eq(rt, other.unit, unit);
     }
     expect(rt, others.next().is_none());
-    Ok(())
 }
 
 /// That is so from each of the points on, of which there are so many.
-fn begins_at_each(
-    rt: &impl Abort,
-    alloc: Global,
-    bytes: &[u8],
-    number_of_points: usize,
-) -> Result<(), Fail> {
-    assert!(rt; bytes.len() < STREAM_LIMIT);
-    let whole = outputs(rt, alloc, bytes)?;
+fn begins_at_each(rt: &impl Abort, alloc: Global, bytes: &[u8], number_of_points: usize) {
+    expect_fewer(rt, bytes, STREAM_LIMIT);
+    let whole = outputs(rt, alloc, bytes);
     let Ok(points) = index(alloc, bytes) else {
         panic!(rt; "the stream is refused");
     };
-    expect_eq(rt, &points.as_slice().len(), &number_of_points);
+    expect_eq(rt, points.as_slice().len(), number_of_points);
     for point in points.as_slice() {
-        begins_at(rt, alloc, bytes, point, &whole)?;
+        begins_at(rt, alloc, bytes, point, &whole);
     }
-    Ok(())
 }
 
 #[test]
-fn each_point_begins_a_stream(rt: HostRuntime) -> Result<(), Fail> {
+fn each_point_begins_a_stream(rt: HostRuntime) {
+    let rt = &rt;
     let alloc = rt.alloc();
-    let bytes = stream(alloc, &[SPS, PPS, IDR, P4, IDR, P4])?;
-    begins_at_each(&rt, alloc, &bytes, 2)?;
-    let bytes = stream(alloc, &[SPS, PPS, IDR, P4, BLA, RASL6, P12, IDR, P4])?;
-    begins_at_each(&rt, alloc, &bytes, 3)?;
-    let bytes = stream(alloc, &[SPS, PPS, IDR, WIDE_SPS, PPS, IDR, P4])?;
-    begins_at_each(&rt, alloc, &bytes, 2)?;
-    let bytes = stream(alloc, &[OTHER_PPS, SPS, PPS, IDR, OTHER_SPS, IDR, P4])?;
-    begins_at_each(&rt, alloc, &bytes, 2)
+    let bytes = stream(rt, alloc, &[SPS, PPS, IDR, P4, IDR, P4]);
+    begins_at_each(rt, alloc, &bytes, 2);
+    let bytes = stream(rt, alloc, &[SPS, PPS, IDR, P4, BLA, RASL6, P12, IDR, P4]);
+    begins_at_each(rt, alloc, &bytes, 3);
+    let bytes = stream(rt, alloc, &[SPS, PPS, IDR, WIDE_SPS, PPS, IDR, P4]);
+    begins_at_each(rt, alloc, &bytes, 2);
+    let bytes = stream(rt, alloc, &[OTHER_PPS, SPS, PPS, IDR, OTHER_SPS, IDR, P4]);
+    begins_at_each(rt, alloc, &bytes, 2);
 }
 
 #[test]
-fn made_streams_are_joined(rt: HostRuntime) -> Result<(), Fail> {
+fn made_streams_are_joined(rt: HostRuntime) {
     let alloc = rt.alloc();
-    let made = make_stream(alloc, 9)?;
+    let made = ok(&rt, make_stream(alloc, 9));
     let mut bytes = Vec::new(alloc);
     for _ in 0..4 {
-        bytes.extend_from_slice(&made)?;
+        ok(&rt, bytes.extend_from_slice(&made));
     }
-    begins_at_each(&rt, alloc, &bytes, 4)
+    begins_at_each(&rt, alloc, &bytes, 4);
 }
