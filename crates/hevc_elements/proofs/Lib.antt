@@ -3,3 +3,4 @@ pub mod Loops
 pub mod Meaning
 pub mod LongBits
 pub mod SetMeaning
+pub mod Chains

@@ -1,6 +1,6 @@
 //! The extensions of a set (7.3.2.3.1, rows 28 to 35 of table 11).
 ghost use Rattle.std.specs.Prelude.{◌≡◌};
-ghost use Rattle.hevc_elements.specs.Words.{Fills};
+ghost use Rattle.hevc_elements.specs.Words.{Fills, when};
 ghost use Rattle.hevc_tables.specs.PpsTable as table;
 ghost use Rattle.hevc_types_a.specs.PpsRangeExtension.{plain_pps_range_extension};
 ghost use Rattle.hevc_types_a.specs.PpsSccExtension.{plain_pps_scc_extension};
@@ -46,20 +46,53 @@ fn set_extension_present(pps: &mut Pps, present: bool)
 }
 
 /// Rows 29 to 35 of table 11.
-#[tactic(auto, unfolding(hevc_tables::specs::PpsTable::extension_data, hevc_spec::specs::Rows::when))]
+#[tactic(auto, unfolding(hevc_tables::specs::PpsTable::extension_data))]
 fn read_extension_data(r: &mut NaluReader<'_>, sps: &Sps, pps: &mut Pps) -> Result<(), ParseError>
     ensures fills { Fills plain_pps
         (table.extension_data (plain_sps sps.now)) result pps.old pps.new r.old r.new }
     ensures same { KeepsTiles pps.old pps.new }
 {
     read_extension_flags(r, pps)?;
+    read_range_extension_if_present(r, sps, pps)?;
+    read_scc_extension_if_present(r, sps, pps)
+}
+
+/// Row 34 of table 11, where its flag is set.
+#[tactic(auto, unfolding(hevc_spec::specs::Rows::when))]
+fn read_range_extension_if_present(
+    r: &mut NaluReader<'_>,
+    sps: &Sps,
+    pps: &mut Pps,
+) -> Result<(), ParseError>
+    ensures fills { Fills plain_pps
+        (λ p. when p.range_extension_flag p (table.range_extension (plain_sps sps.now) p))
+        result pps.old pps.new r.old r.new }
+    ensures same { KeepsTiles pps.old pps.new }
+{
     if pps.range_extension_flag {
-        read_range_extension(r, sps, pps)?;
+        read_range_extension(r, sps, pps)
+    } else {
+        Ok(())
     }
+}
+
+/// Row 35 of table 11, where its flag is set.
+#[tactic(auto, unfolding(hevc_spec::specs::Rows::when))]
+fn read_scc_extension_if_present(
+    r: &mut NaluReader<'_>,
+    sps: &Sps,
+    pps: &mut Pps,
+) -> Result<(), ParseError>
+    ensures fills { Fills plain_pps
+        (λ p. when p.scc_extension_flag p (table.scc_extension (plain_sps sps.now) p))
+        result pps.old pps.new r.old r.new }
+    ensures same { KeepsTiles pps.old pps.new }
+{
     if pps.scc_extension_flag {
-        read_scc_extension(r, sps, pps)?;
+        read_scc_extension(r, sps, pps)
+    } else {
+        Ok(())
     }
-    Ok(())
 }
 
 /// Rows 29 to 33 of table 11.

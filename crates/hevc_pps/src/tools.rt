@@ -89,59 +89,61 @@ pub(crate) fn read_quantiser(
     let depth = ue_u8_if(r, changes, Row(11, 10), 0, most_depth)?;
     let cb = se_i8(r, Row(11, 11), -12, 12)?;
     let cr = se_i8(r, Row(11, 12), -12, 12)?;
-    set_init_qp(pps, offset, init_qp);
-    set_blocks(pps, constrained_intra, transform_skip);
-    set_qp_changes(pps, changes, depth);
-    set_chroma_offsets(pps, cb, cr);
+    let quantiser = Quantiser {
+        offset,
+        init_qp,
+        constrained_intra,
+        transform_skip,
+        changes,
+        depth,
+        cb,
+        cr,
+    };
+    set_quantiser(pps, quantiser);
     Ok(())
 }
 
-/// Fills in row 8, and the offset that bounds it.
-fn set_init_qp(pps: &mut Pps, offset: u32, init_qp: i8)
-    requires offset { offset ≤ 36 }
-    requires least { neg_ℤ (pos (26 + offset)) ≤ℤ init_qp }
-    requires most { init_qp ≤ℤ pos 25 }
-    ensures { plain_pps pps.new ≡ record (plain_pps pps.old) {
-      qp_bd_offset_y = offset;
-      init_qp_minus26 = init_qp;
-    } }
-{
-    pps.qp_bd_offset_y = offset;
-    pps.init_qp_minus26 = init_qp;
+/// What rows 8 to 12 have, and QpBdOffsetY.
+#[derive(Clone, Copy)]
+struct Quantiser {
+    offset: u32,
+    init_qp: i8,
+    constrained_intra: bool,
+    transform_skip: bool,
+    changes: bool,
+    depth: u8,
+    cb: i8,
+    cr: i8,
 }
 
-/// Fills in the first two flags of row 9.
-fn set_blocks(pps: &mut Pps, constrained_intra: bool, transform_skip: bool)
+/// Fills in rows 8 to 12.
+fn set_quantiser(pps: &mut Pps, quantiser: Quantiser)
+    requires offset { quantiser.offset ≤ 36 }
+    requires least { neg_ℤ (pos (26 + quantiser.offset)) ≤ℤ quantiser.init_qp }
+    requires most { quantiser.init_qp ≤ℤ pos 25 }
+    requires cb_least { neg_ℤ (pos 12) ≤ℤ quantiser.cb }
+    requires cb_most { quantiser.cb ≤ℤ pos 12 }
+    requires cr_least { neg_ℤ (pos 12) ≤ℤ quantiser.cr }
+    requires cr_most { quantiser.cr ≤ℤ pos 12 }
     ensures { plain_pps pps.new ≡ record (plain_pps pps.old) {
-      constrained_intra_pred_flag = constrained_intra;
-      transform_skip_enabled_flag = transform_skip;
+      qp_bd_offset_y = quantiser.offset;
+      init_qp_minus26 = quantiser.init_qp;
+      constrained_intra_pred_flag = quantiser.constrained_intra;
+      transform_skip_enabled_flag = quantiser.transform_skip;
+      cu_qp_delta_enabled_flag = quantiser.changes;
+      diff_cu_qp_delta_depth = quantiser.depth;
+      cb_qp_offset = quantiser.cb;
+      cr_qp_offset = quantiser.cr;
     } }
 {
-    pps.constrained_intra_pred_flag = constrained_intra;
-    pps.transform_skip_enabled_flag = transform_skip;
-}
-
-/// Fills in the last flag of row 9, and row 10.
-fn set_qp_changes(pps: &mut Pps, changes: bool, depth: u8)
-    ensures { plain_pps pps.new ≡ record (plain_pps pps.old) {
-      cu_qp_delta_enabled_flag = changes;
-      diff_cu_qp_delta_depth = depth;
-    } }
-{
-    pps.cu_qp_delta_enabled_flag = changes;
-    pps.diff_cu_qp_delta_depth = depth;
-}
-
-/// Fills in rows 11 and 12.
-fn set_chroma_offsets(pps: &mut Pps, cb: i8, cr: i8)
-    requires cb_least { neg_ℤ (pos 12) ≤ℤ cb }
-    requires cb_most { cb ≤ℤ pos 12 }
-    requires cr_least { neg_ℤ (pos 12) ≤ℤ cr }
-    requires cr_most { cr ≤ℤ pos 12 }
-    ensures { plain_pps pps.new ≡ record (plain_pps pps.old) { cb_qp_offset = cb; cr_qp_offset = cr } }
-{
-    pps.cb_qp_offset = cb;
-    pps.cr_qp_offset = cr;
+    pps.qp_bd_offset_y = quantiser.offset;
+    pps.init_qp_minus26 = quantiser.init_qp;
+    pps.constrained_intra_pred_flag = quantiser.constrained_intra;
+    pps.transform_skip_enabled_flag = quantiser.transform_skip;
+    pps.cu_qp_delta_enabled_flag = quantiser.changes;
+    pps.diff_cu_qp_delta_depth = quantiser.depth;
+    pps.cb_qp_offset = quantiser.cb;
+    pps.cr_qp_offset = quantiser.cr;
 }
 
 /// QpBdOffsetY (7-5).

@@ -3,7 +3,7 @@ ghost use Rattle.std.specs.Prelude.{◌≡◌, OnErr};
 ghost use Rattle.hevc_elements.specs.Words.{bits, IsAhead, IsReached, read, Reads, Means, Fills};
 ghost use Rattle.hevc_tables.specs.SliceHeaderTable as table;
 ghost use Rattle.hevc_tables.specs.SliceTypes.{is_i as is_i_type};
-ghost use Rattle.hevc_slice_header.specs.Weights.{weights_of};
+ghost use Rattle.hevc_slice_header.specs.Weights.{weights_of, weights_if_weighted};
 ghost use Rattle.hevc_types_b.specs.PredWeightTable.{plain_pred_weight_table};
 ghost use Rattle.hevc_types_c.specs.Sps.{plain_sps};
 ghost use Rattle.hevc_types_d.specs.Pps.{plain_pps};
@@ -80,11 +80,7 @@ fn read_weights(
     ensures { Fills plain_slice_header
         (table.weights (plain_sps sps.now) (plain_pps pps.now)) result h.old h.new r.old r.new }
 {
-    if is_weighted(pps, h) {
-        read_into(h, r, sps)?;
-    } else {
-        h.pred_weight_table = PredWeightTable::new();
-    }
+    read_weight_table(r, sps, pps, h)?;
     h.five_minus_max_num_merge_cand = ue_u8(r, Row(14, 33), 0, 255)?;
     let told = sps.scc_extension.motion_vector_resolution_control_idc == 2;
     h.use_integer_mv_flag = flag_or(r, told, h.use_integer_mv_flag, Row(14, 34))?;
@@ -141,6 +137,29 @@ pub fn parse_pred_weight_table(
     ensures refused { OnErr result (hdr.new ≡ hdr.old) }
 {
     read_into(hdr, r, sps)
+}
+
+/// Row 32 of table 14: table 16 where the slice is weighted, else its default weights.
+#[tactic(auto, unfolding(hevc_spec::specs::Rows::when))]
+fn read_weight_table(
+    r: &mut NaluReader<'_>,
+    sps: &Sps,
+    pps: &Pps,
+    h: &mut SliceHeader,
+) -> Result<(), ParseError>
+    ensures read { Reads (λ _. plain_pred_weight_table h.new.pred_weight_table) result r.new
+        (read (weights_if_weighted (plain_sps sps.now) (plain_pps pps.now)
+        (plain_slice_header h.old)) (bits r.old)) }
+    ensures moves { IsAhead r.old r.new }
+    ensures same { plain_slice_header h.new ≡ record (plain_slice_header h.old) {
+      pred_weight_table = plain_pred_weight_table h.new.pred_weight_table;
+    } }
+{
+    if is_weighted(pps, h) {
+        return read_into(h, r, sps);
+    }
+    h.pred_weight_table = PredWeightTable::new();
+    Ok(())
 }
 
 /// Table 16, into a header that stays where it is refused.

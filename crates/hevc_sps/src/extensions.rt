@@ -1,6 +1,6 @@
 //! The extensions of a set (7.3.2.2.1, rows 43 to 50 of table 5).
 ghost use Rattle.std.specs.Prelude.{◌≡◌};
-ghost use Rattle.hevc_elements.specs.Words.{Fills};
+ghost use Rattle.hevc_elements.specs.Words.{Fills, when};
 ghost use Rattle.hevc_tables.specs.SpsTable as table;
 ghost use Rattle.hevc_types_c.specs.Sps.{plain_sps};
 ghost use Rattle.hevc_types_c.specs.SpsRangeExtension.{plain_sps_range_extension};
@@ -38,18 +38,39 @@ fn set_extension_present(sps: &mut Sps, present: bool)
 }
 
 /// Rows 44 to 50 of table 5.
-#[tactic(auto, unfolding(hevc_tables::specs::SpsTable::extension_data, hevc_spec::specs::Rows::when))]
+#[tactic(auto, unfolding(hevc_tables::specs::SpsTable::extension_data))]
 fn read_extension_data(r: &mut NaluReader<'_>, sps: &mut Sps) -> Result<(), ParseError>
     ensures { Fills plain_sps table.extension_data result sps.old sps.new r.old r.new }
 {
     read_extension_flags(r, sps)?;
+    read_range_extension_if_present(r, sps)?;
+    read_scc_extension_if_present(r, sps)
+}
+
+/// Row 49 of table 5, where its flag is set.
+#[tactic(auto, unfolding(hevc_spec::specs::Rows::when))]
+fn read_range_extension_if_present(r: &mut NaluReader<'_>, sps: &mut Sps) -> Result<(), ParseError>
+    ensures { Fills plain_sps (λ s. when s.range_extension_flag s (table.range_extension s))
+        result sps.old sps.new r.old r.new }
+{
     if sps.range_extension_flag {
-        read_range_extension(r, sps)?;
+        read_range_extension(r, sps)
+    } else {
+        Ok(())
     }
+}
+
+/// Row 50 of table 5, where its flag is set.
+#[tactic(auto, unfolding(hevc_spec::specs::Rows::when))]
+fn read_scc_extension_if_present(r: &mut NaluReader<'_>, sps: &mut Sps) -> Result<(), ParseError>
+    ensures { Fills plain_sps (λ s. when s.scc_extension_flag s (table.scc_extension s))
+        result sps.old sps.new r.old r.new }
+{
     if sps.scc_extension_flag {
-        read_scc_extension(r, sps)?;
+        read_scc_extension(r, sps)
+    } else {
+        Ok(())
     }
-    Ok(())
 }
 
 /// Rows 44 to 48 of table 5.
