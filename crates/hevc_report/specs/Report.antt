@@ -115,6 +115,13 @@ cause_text errors.PictureNumbersSpent = codes "PictureNumbersSpent"
 cause_text errors.Backend = codes "Backend"
 cause_text errors.NoMemory = codes "NoMemory"
 
+-- the numbers of a cause, each after a blank
+abbrev pub cause_numbers : DecodeError → List ℕ
+cause_numbers (errors.InvalidNaluType nal_unit_type) = codes " " ++ decimal nal_unit_type
+cause_numbers (errors.OutOfRange table row) = codes " " ++ decimal table ++ codes " " ++ decimal row
+cause_numbers (errors.MissingPps id) = codes " " ++ decimal id
+cause_numbers error = []
+
 -- the line of a refusal
 abbrev pub refusal_line : Refused → List ℕ
 refusal_line refused =

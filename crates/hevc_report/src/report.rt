@@ -4,6 +4,7 @@ ghost use Rattle.std.specs.List.{flat_map};
 ghost use Rattle.hevc_report.specs.Lines.{rest_text, shown_line};
 
 mod backend;
+mod field;
 mod last;
 mod line;
 mod list;

@@ -1,7 +1,7 @@
 //! The last line of the report.
 ghost use Rattle.std.specs.Prelude.{◌≡◌, ◌++◌, IfOk, OnOk};
 ghost use Rattle.std.specs.String.{string_bytes};
-ghost use Rattle.hevc_report.specs.Report.{last_line, refusal_line, cause_text};
+ghost use Rattle.hevc_report.specs.Report.{last_line, refusal_line, cause_numbers, cause_text};
 
 use hevc_decoder::{DecodeError, Refused};
 use std::alloc::{AllocError, Global};
@@ -40,32 +40,45 @@ fn push_refusal(text: &mut String, refused: Refused) -> Result<(), AllocError>
     ensures { OnOk result (string_bytes text.new ≡ string_bytes text.old ++ refusal_line refused) }
 {
     let unit = refused.unit;
-    write!(text, "refused unit {unit} ")?;
-    push_cause(text, refused.error)?;
+    let cause = cause_name(refused.error);
+    write!(text, "refused unit {unit} {cause}")?;
+    push_cause_numbers(text, refused.error)?;
     text.push_str("\n")?;
     Ok(())
 }
 
-/// Adds the cause of a refusal.
-#[tactic(auto, using(std::proofs::Common::append_assoc))]
-fn push_cause(text: &mut String, error: DecodeError) -> Result<(), AllocError>
-    ensures { OnOk result (string_bytes text.new ≡ string_bytes text.old ++ cause_text error) }
+/// The name of a cause.
+fn cause_name(error: DecodeError) -> &'static str
+    ensures { result.now ++ cause_numbers error ≡ cause_text error }
 {
     match error {
-        DecodeError::NoNal => text.push_str("NoNal"),
-        DecodeError::TruncatedNalu => text.push_str("TruncatedNalu"),
-        DecodeError::InvalidNaluType(number) => write!(text, "InvalidNaluType {number}"),
-        DecodeError::OutOfBits => text.push_str("OutOfBits"),
-        DecodeError::OutOfRange { table, row } => write!(text, "OutOfRange {table} {row}"),
-        DecodeError::MissingPps(id) => write!(text, "MissingPps {id}"),
-        DecodeError::NoIndependentSlice => text.push_str("NoIndependentSlice"),
-        DecodeError::ChangedMidPicture { .. } => text.push_str("ChangedMidPicture"),
-        DecodeError::PocOutOfRange => text.push_str("PocOutOfRange"),
-        DecodeError::DpbFull => text.push_str("DpbFull"),
-        DecodeError::NotEnoughOutputBuffers(_) => text.push_str("NotEnoughOutputBuffers"),
-        DecodeError::CheckEvents => text.push_str("CheckEvents"),
-        DecodeError::PictureNumbersSpent => text.push_str("PictureNumbersSpent"),
-        DecodeError::Backend => text.push_str("Backend"),
-        DecodeError::NoMemory => text.push_str("NoMemory"),
+        DecodeError::NoNal => "NoNal",
+        DecodeError::TruncatedNalu => "TruncatedNalu",
+        DecodeError::InvalidNaluType(_) => "InvalidNaluType",
+        DecodeError::OutOfBits => "OutOfBits",
+        DecodeError::OutOfRange { .. } => "OutOfRange",
+        DecodeError::MissingPps(_) => "MissingPps",
+        DecodeError::NoIndependentSlice => "NoIndependentSlice",
+        DecodeError::ChangedMidPicture { .. } => "ChangedMidPicture",
+        DecodeError::PocOutOfRange => "PocOutOfRange",
+        DecodeError::DpbFull => "DpbFull",
+        DecodeError::NotEnoughOutputBuffers(_) => "NotEnoughOutputBuffers",
+        DecodeError::CheckEvents => "CheckEvents",
+        DecodeError::PictureNumbersSpent => "PictureNumbersSpent",
+        DecodeError::Backend => "Backend",
+        DecodeError::NoMemory => "NoMemory",
+    }
+}
+
+/// Adds the numbers of a cause, each after a blank.
+#[tactic(auto, using(std::proofs::Common::append_assoc))]
+fn push_cause_numbers(text: &mut String, error: DecodeError) -> Result<(), AllocError>
+    ensures { OnOk result (string_bytes text.new ≡ string_bytes text.old ++ cause_numbers error) }
+{
+    match error {
+        DecodeError::InvalidNaluType(number) => write!(text, " {number}"),
+        DecodeError::OutOfRange { table, row } => write!(text, " {table} {row}"),
+        DecodeError::MissingPps(id) => write!(text, " {id}"),
+        _ => Ok(()),
     }
 }

@@ -9,8 +9,8 @@ ghost use Rattle.hevc_report.specs.Grows.{Grows};
 ghost use Rattle.hevc_report.specs.Lines.{shown_line};
 ghost use Rattle.hevc_report.specs.Report.{list_text, sequence_line, picture_line, slice_line, submission_line};
 
+use super::field::{push_field, push_last_field, push_signed_field};
 use super::list::push_list;
-use super::number::{push_number, push_signed};
 use hevc_backend::NegotiationInfo;
 use hevc_bits::NaluType;
 use hevc_decoder::Shown;
@@ -44,6 +44,7 @@ fn type_number(nalu_type: NaluType) -> u64
 
 /// Adds the line of a picture that begins: its number, the type of its first slice, its order count, and
 /// whether it is to be output.
+#[tactic(auto, using(std::proofs::Common::append_assoc))]
 pub(crate) fn push_picture(
     text: &mut Vec<u8>,
     number: u64,
@@ -55,28 +56,9 @@ pub(crate) fn push_picture(
         ++ picture_line number (nalu_type_number nalu_type) order_count is_output) }
     ensures grows { Grows text.old.items text.new.items }
 {
-    push_picture_of(text, number, type_number(nalu_type), order_count, is_output)
-}
-
-/// The same, for a type of this number.
-#[tactic(auto, using(std::proofs::Common::append_assoc))]
-fn push_picture_of(
-    text: &mut Vec<u8>,
-    number: u64,
-    kind: u64,
-    order_count: i32,
-    is_output: bool,
-) -> Result<(), AllocError>
-    ensures ok { OnOk result (text.new.items ≡ text.old.items
-        ++ picture_line number kind order_count is_output) }
-    ensures grows { Grows text.old.items text.new.items }
-{
-    text.extend_from_slice(b"pic ")?;
-    push_number(text, number)?;
-    text.extend_from_slice(b" type ")?;
-    push_number(text, kind)?;
-    push_output(text, order_count, is_output)?;
-    Ok(())
+    push_field(text, b"pic ", number)?;
+    push_field(text, b" type ", type_number(nalu_type))?;
+    push_output(text, order_count, is_output)
 }
 
 /// Adds the order count of a picture, and whether it is to be output, and ends its line.
@@ -87,10 +69,8 @@ fn push_output(text: &mut Vec<u8>, order_count: i32, is_output: bool) -> Result<
         ++ codes " output " ++ decimal (if is_output then 1 else 0) ++ codes "\n") }
     ensures grows { Grows text.old.items text.new.items }
 {
-    text.extend_from_slice(b" poc ")?;
-    push_signed(text, order_count)?;
-    push_output_flag(text, is_output)?;
-    Ok(())
+    push_signed_field(text, b" poc ", order_count)?;
+    push_output_flag(text, is_output)
 }
 
 /// Adds whether a picture is to be output, and ends its line.
@@ -121,27 +101,23 @@ pub(crate) fn push_slice(
         ++ slice_line number address size (plain_places list0.now) (plain_places list1.now)) }
     ensures grows { Grows text.old.items text.new.items }
 {
-    text.extend_from_slice(b"slice ")?;
-    push_number(text, number)?;
-    push_address(text, address)?;
-    push_number(text, size as u64)?;
+    push_field(text, b"slice ", number)?;
+    push_extent(text, address, size as u64)?;
     push_lists(text, list0, list1)
 }
 
-/// Adds the address of a slice, which is 0 for a picture's first one, up to the number of its bytes.
+/// Adds the address of a slice, which is 0 for a picture's first one, and how many bytes its unit has.
 #[tactic(auto, using(std::proofs::Common::append_assoc))]
-fn push_address(text: &mut Vec<u8>, address: u32) -> Result<(), AllocError>
+fn push_extent(text: &mut Vec<u8>, address: u32, size: u64) -> Result<(), AllocError>
     ensures ok { OnOk result (text.new.items ≡ text.old.items
-        ++ codes " at " ++ decimal address ++ codes " size ") }
+        ++ codes " at " ++ decimal address ++ codes " size " ++ decimal size) }
     ensures grows { Grows text.old.items text.new.items }
 {
     if address == 0 {
-        return text.extend_from_slice(b" at 0 size ");
+        return push_field(text, b" at 0 size ", size);
     }
-    text.extend_from_slice(b" at ")?;
-    push_number(text, u64::from(address))?;
-    text.extend_from_slice(b" size ")?;
-    Ok(())
+    push_field(text, b" at ", u64::from(address))?;
+    push_field(text, b" size ", size)
 }
 
 /// Adds the reference picture lists of a slice, and ends its line.
@@ -159,12 +135,25 @@ fn push_lists(
     if let ([], []) = (list0, list1) {
         return text.extend_from_slice(b" list0 - list1 -\n");
     }
-    text.extend_from_slice(b" list0 ")?;
-    push_list(text, list0)?;
-    text.extend_from_slice(b" list1 ")?;
-    push_list(text, list1)?;
-    text.extend_from_slice(b"\n")?;
-    Ok(())
+    push_named_list(text, b" list0 ", list0)?;
+    push_named_list(text, b" list1 ", list1)?;
+    text.extend_from_slice(b"\n")
+}
+
+/// Adds a word, and the places of a list after it.
+#[inline(always)]
+#[tactic(auto, using(std::proofs::Common::append_assoc))]
+fn push_named_list(
+    text: &mut Vec<u8>,
+    name: &[u8],
+    places: &[Option<RefPicListEntry>],
+) -> Result<(), AllocError>
+    ensures ok { OnOk result (text.new.items ≡ text.old.items
+        ++ name.now ++ list_text (plain_places places.now)) }
+    ensures grows { Grows text.old.items text.new.items }
+{
+    text.extend_from_slice(name)?;
+    push_list(text, places)
 }
 
 /// Adds the line of a picture that is whole: its number and its handle.
@@ -177,12 +166,8 @@ pub(crate) fn push_submission(
     ensures ok { OnOk result (text.new.items ≡ text.old.items ++ submission_line number handle) }
     ensures grows { Grows text.old.items text.new.items }
 {
-    text.extend_from_slice(b"submit ")?;
-    push_number(text, number)?;
-    text.extend_from_slice(b" handle ")?;
-    push_number(text, handle)?;
-    text.extend_from_slice(b"\n")?;
-    Ok(())
+    push_field(text, b"submit ", number)?;
+    push_last_field(text, b" handle ", handle)
 }
 
 /// Adds the line of an output.
@@ -191,12 +176,7 @@ pub(crate) fn push_shown(text: &mut Vec<u8>, output: &Shown<u64>) -> Result<(), 
     ensures ok { OnOk result (text.new.items ≡ text.old.items ++ shown_line output.now) }
     ensures grows { Grows text.old.items text.new.items }
 {
-    text.extend_from_slice(b"show ")?;
-    push_number(text, output.number)?;
-    text.extend_from_slice(b" poc ")?;
-    push_signed(text, output.order_count)?;
-    text.extend_from_slice(b" unit ")?;
-    push_number(text, output.unit)?;
-    text.extend_from_slice(b"\n")?;
-    Ok(())
+    push_field(text, b"show ", output.number)?;
+    push_signed_field(text, b" poc ", output.order_count)?;
+    push_last_field(text, b" unit ", output.unit)
 }

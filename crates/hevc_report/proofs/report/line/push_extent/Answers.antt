@@ -1,6 +1,6 @@
 use Rattle.std.proofs.Common.{◌≡◌, rules, append_assoc, arith}
 use Rattle.std.proofs.lemmas.Fmt.{decimal_digit}
-use Rattle.hevc_report.proofs.report.line.push_address.Goals as goal
+use Rattle.hevc_report.proofs.report.line.push_extent.Goals as goal
 
 pub returns-then-address-eq0-clause-ok : goal.returns-then-address-eq0-clause-ok
 returns-then-address-eq0-clause-ok c =
