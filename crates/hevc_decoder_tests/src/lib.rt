@@ -15,4 +15,3 @@ mod for_c;
 mod report;
 #[cfg(test)]
 mod stateless;
-pub mod telling;

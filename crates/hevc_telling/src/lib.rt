@@ -1,8 +1,10 @@
 //! A backend that decodes nothing, and keeps all that comes with its calls.
+#![tactic(auto)]
+
 ghost use Rattle.std.specs.Prelude.{◌≡◌, [], false, None, Some, IfOk};
 ghost use Rattle.hevc_backend.specs.Handed.{segment_of};
 ghost use Rattle.hevc_backend.specs.Trait.{counts_of};
-ghost use Rattle.hevc_decoder_tests.specs.Telling.{all_handed, kept_segment};
+ghost use Rattle.hevc_telling.specs.Telling.{all_handed, kept_segment};
 
 use hevc_backend::{BackendError, StatelessH265DecoderBackend, StreamInfo};
 use hevc_dpb::{Dpb, PictureData};

@@ -4,8 +4,8 @@ use Rattle.hevc_backend.specs.Handed.{Handed, Announced, Begun, Decoded, Segment
 use Rattle.hevc_types_c.specs.Sps.{plain_sps}
 use Rattle.hevc_types_d.specs.Pps.{plain_pps}
 use Rattle.hevc_types_d.specs.SliceHeader.{plain_slice_header}
-use Rattle.hevc_decoder_tests.specs.declared.telling.KeptSegment.{KeptSegment}
-use Rattle.hevc_decoder_tests.specs.declared.telling.Came as came
+use Rattle.hevc_telling.specs.declared.KeptSegment.{KeptSegment}
+use Rattle.hevc_telling.specs.declared.Came as came
 
 abbrev pub kept_segment : KeptSegment → Segment
 kept_segment s = record {
