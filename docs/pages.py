@@ -14,6 +14,7 @@ from pathlib import Path
 TOP = Path(__file__).resolve().parent.parent
 DOCS = TOP / "docs"
 CRATES = TOP / "crates"
+RECORD_CRATES = ("hevc_set_parts", "hevc_video_set", "hevc_sequence_set", "hevc_picture_slice")
 
 # The pages with an example, the file that has it, and its first line and the one after it ("": to the end).
 EXAMPLES = {
@@ -101,7 +102,7 @@ def wrong_records():
     """The records of three fields or more that TABLES.md lacks."""
     listed = {(name, crate) for _, name, crate in records()}
     for crate in crates():
-        for path in sorted((CRATES / crate / "src").glob("*.rt")) if crate.startswith("hevc_types_") else []:
+        for path in sorted((CRATES / crate / "src").glob("*.rt")) if crate in RECORD_CRATES else []:
             for name in re.findall(r"^pub struct (\w+)", path.read_text(), re.M):
                 if (name, crate) not in listed and len(fields_of(crate, name)) > 2:
                     yield f"TABLES.md: {name} of {crate} is missing"

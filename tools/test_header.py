@@ -10,8 +10,8 @@ TOP = pathlib.Path(__file__).resolve().parent.parent
 STRUCTS = {
     'fezhalum_decode_call': ('hevc_pull/src/calls.rt', 'DecodeCall'),
     'fezhalum_unit': ('hevc_pull/src/units.rt', 'UnitCall'),
-    'fezhalum_places': ('hevc_c_parts/src/event.rt', 'Places'),
-    'fezhalum_event': ('hevc_c_parts/src/event.rt', 'Event'),
+    'fezhalum_places': ('hevc_events/src/event.rt', 'Places'),
+    'fezhalum_event': ('hevc_events/src/event.rt', 'Event'),
     'fezhalum_profile': ('hevc_pull/src/fields/profile.rt', 'ProfileFields'),
     'fezhalum_vui': ('hevc_pull/src/fields/vui.rt', 'VuiFields'),
     'fezhalum_vps': ('hevc_pull/src/fields/vps.rt', 'VpsFields'),

@@ -1,8 +1,8 @@
 -- Structs whose fields are numbered from 1 on.
 use Rattle.std.specs.Prelude.{ℕ, pos, [], ◌∷◌, ◌++◌, replicate}
-use Rattle.hevc_c_parts.specs.declared.event.Event.{Event}
-use Rattle.hevc_c_parts.specs.declared.event.Places.{Places}
-use Rattle.hevc_c_parts.specs.Plain.{no_places}
+use Rattle.hevc_events.specs.declared.event.Event.{Event}
+use Rattle.hevc_events.specs.declared.event.Places.{Places}
+use Rattle.hevc_events.specs.Plain.{no_places}
 use Rattle.hevc_pull.specs.declared.calls.DecodeCall.{DecodeCall}
 use Rattle.hevc_pull.specs.declared.reads.UnitRead.{UnitRead}
 use Rattle.hevc_pull.specs.declared.units.UnitCall.{UnitCall}

@@ -2,14 +2,14 @@
 ghost use Rattle.std.specs.Prelude.{◌≡◌};
 ghost use prog.Memory.{capped, size};
 ghost use denote.Param.{layout};
-ghost use Rattle.hevc_c_parts.specs.contracts.event.Event as event_type;
+ghost use Rattle.hevc_events.specs.contracts.event.Event as event_type;
 ghost use Rattle.hevc_pull.specs.contracts.calls.DecodeCall as call_type;
 ghost use Rattle.hevc_pull.specs.contracts.units.UnitCall as unit_type;
 ghost use Rattle.hevc_pull.specs.contracts.reads.UnitRead as read_type;
-ghost use Rattle.hevc_c_parts.specs.Plain.{no_places};
+ghost use Rattle.hevc_events.specs.Plain.{no_places};
 ghost use Rattle.fezhalum.specs.Numbered.{numbered_call, numbered_event, numbered_places, numbered_read, numbered_unit};
 
-use hevc_c_parts::{Event, Places};
+use hevc_events::{Event, Places};
 use hevc_pull::{DecodeCall, UnitCall, UnitRead};
 
 /// Fills an event: its fields with 1, 2, 3 and so on, and of its first and its last list the last places. Answers the size of the

@@ -17,8 +17,8 @@ ghost use Rattle.hevc_pull.specs.Units.{FindsUnit};
 ghost use Rattle.fezhalum.specs.Handles.{Becomes, Leaves};
 ghost use Rattle.fezhalum.specs.Fresh.{IsFresh, IsFreshWith, options_given};
 
-use hevc_c_parts::Event;
 use hevc_driver::Options;
+use hevc_events::Event;
 use hevc_pull::{
     DecodeCall, PullDecoder, UnitCall, accept_format, decode, flush, next_event, next_unit,
 };

@@ -5,13 +5,13 @@ ghost use Rattle.std.specs.Ptr.{lies_at, room_at};
 ghost use prog.Memory.{capped, size};
 ghost use denote.Param.{layout};
 ghost use Rattle.hevc_stream.specs.Kept.{none_kept};
-ghost use Rattle.hevc_slice.specs.contracts.parser.Parser.{the_row};
-ghost use Rattle.hevc_slice.specs.Kept.{kept_by};
+ghost use Rattle.hevc_parser.specs.contracts.parser.Parser.{the_row};
+ghost use Rattle.hevc_parser.specs.Kept.{kept_by};
 ghost use Rattle.hevc_pull.specs.Reads.{Reads};
 ghost use Rattle.fezhalum.specs.Handles.{Becomes};
 
+use hevc_parser::Parser;
 use hevc_pull::{UnitRead, read_unit};
-use hevc_slice::Parser;
 use std::alloc::Global;
 
 /// Parameter sets that are kept, at a pointer.

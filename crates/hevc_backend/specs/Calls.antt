@@ -1,9 +1,9 @@
 -- The calls that are in a log, by what is handed over.
 use Rattle.std.specs.Prelude.{ℕ}
 use Rattle.hevc_bits.specs.FoundUnit.{bytes_of}
-use Rattle.hevc_types_c.specs.declared.sps.Sps.{Sps}
-use Rattle.hevc_types_c.specs.Sps.{plain_sps}
-use Rattle.hevc_types_d.specs.declared.slice.Slice.{Slice}
+use Rattle.hevc_sequence_set.specs.declared.sps.Sps.{Sps}
+use Rattle.hevc_sequence_set.specs.Sps.{plain_sps}
+use Rattle.hevc_picture_slice.specs.declared.slice.Slice.{Slice}
 use Rattle.hevc_walk_inputs.specs.Sequences.{format_of_set}
 use Rattle.hevc_pictures.specs.declared.picture_data.PictureData.{PictureData}
 use Rattle.hevc_refs.specs.declared.ref_pic_set.RefPicSet.{RefPicSet}

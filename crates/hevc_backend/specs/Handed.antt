@@ -6,12 +6,12 @@ use Rattle.hevc_records.specs.Sps.{PlainSps}
 use Rattle.hevc_records.specs.Pps.{PlainPps}
 use Rattle.hevc_records.specs.SliceHeader.{PlainSliceSegmentHeader}
 use Rattle.hevc_bits.specs.NaluType.{nalu_type_number}
-use Rattle.hevc_types_c.specs.declared.sps.Sps.{Sps}
-use Rattle.hevc_types_c.specs.Sps.{plain_sps}
-use Rattle.hevc_types_d.specs.declared.pps.Pps.{Pps}
-use Rattle.hevc_types_d.specs.Pps.{plain_pps}
-use Rattle.hevc_types_d.specs.declared.slice.Slice as code
-use Rattle.hevc_types_d.specs.SliceHeader.{plain_slice_header}
+use Rattle.hevc_sequence_set.specs.declared.sps.Sps.{Sps}
+use Rattle.hevc_sequence_set.specs.Sps.{plain_sps}
+use Rattle.hevc_picture_slice.specs.declared.pps.Pps.{Pps}
+use Rattle.hevc_picture_slice.specs.Pps.{plain_pps}
+use Rattle.hevc_picture_slice.specs.declared.slice.Slice as code
+use Rattle.hevc_picture_slice.specs.SliceHeader.{plain_slice_header}
 use Rattle.hevc_walk.specs.Buffer.{Mark, Unused}
 use Rattle.hevc_walk.specs.Meanings.{Slice}
 use Rattle.hevc_walk.specs.Pictures.{Context, head, no_rasl_output}

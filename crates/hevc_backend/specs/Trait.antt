@@ -1,6 +1,6 @@
 -- What a call of a backend leaves in its log and in its counts.
 use Rattle.std.specs.Prelude.{ℕ, zero, suc, ◌≤◌, ◌≡◌, ◌≢◌, List, [], ◌∷◌, ◌++◌, Option, Some, None, Result, Ok, Err}
-use Rattle.hevc_faults.specs.Faults.{Rose}
+use Rattle.hevc_fault_counts.specs.Faults.{Rose}
 use Rattle.hevc_backend.specs.declared.error.BackendError.{BackendError}
 use Rattle.hevc_backend.specs.declared.error.BackendError.TheVariants.{Failed, NoMemory}
 

@@ -2,7 +2,7 @@
 ghost use Rattle.std.specs.Prelude.{◌≡◌, ◌==◌, not, IsTrue, Bool, List, OnOk, OnErr};
 ghost use Rattle.std.specs.Option.{option_copied};
 ghost use Rattle.std.specs.declared.option.Option.{Option};
-ghost use Rattle.hevc_types_c.specs.Sps.{plain_sps};
+ghost use Rattle.hevc_sequence_set.specs.Sps.{plain_sps};
 ghost use Rattle.hevc_walk_inputs.specs.Sequences.{format_of_set};
 ghost use Rattle.hevc_dpb.specs.Entries.{numbers};
 ghost use Rattle.hevc_dpb.specs.Views.{stored_entries};
@@ -18,9 +18,9 @@ ghost use Rattle.hevc_backend.specs.Told.{WhereTold, IsTold, IsBegun, begun_pict
 use crate::error::BackendError;
 use crate::stream_info::StreamInfo;
 use hevc_dpb::{Dpb, PictureData};
+use hevc_picture_slice::{Pps, Slice};
 use hevc_refs::{RefPicList, RefPicSet};
-use hevc_types_c::Sps;
-use hevc_types_d::{Pps, Slice};
+use hevc_sequence_set::Sps;
 
 /// What decodes the samples of pictures.
 ///

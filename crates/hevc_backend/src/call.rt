@@ -2,7 +2,7 @@
 use crate::negotiation::NegotiationInfo;
 use hevc_bits::NaluType;
 use hevc_refs::RefPicListEntry;
-use hevc_types_a::Items;
+use hevc_set_parts::Items;
 
 /// A call that a backend took, with what it was given; `SubmitPicture` with what it gave.
 ///

@@ -14,10 +14,10 @@ use crate::error::BackendError;
 use crate::negotiation::{NegotiationInfo, Resolution};
 use crate::stream_info::StreamInfo;
 use hevc_dpb::{Dpb, PictureData};
+use hevc_picture_slice::{Pps, Slice};
 use hevc_refs::{RefPicList, RefPicSet};
-use hevc_types_a::Items;
-use hevc_types_c::Sps;
-use hevc_types_d::{Pps, Slice};
+use hevc_sequence_set::Sps;
+use hevc_set_parts::Items;
 use std::alloc::Global;
 use std::marker::Model;
 

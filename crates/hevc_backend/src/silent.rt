@@ -7,9 +7,9 @@ use crate::backend::StatelessH265DecoderBackend;
 use crate::error::BackendError;
 use crate::stream_info::StreamInfo;
 use hevc_dpb::{Dpb, PictureData};
+use hevc_picture_slice::{Pps, Slice};
 use hevc_refs::{RefPicList, RefPicSet};
-use hevc_types_c::Sps;
-use hevc_types_d::{Pps, Slice};
+use hevc_sequence_set::Sps;
 
 /// A backend that decodes nothing, keeps nothing and exposes no log. No call fails, and there is always a free frame.
 #[derive(Drop)]

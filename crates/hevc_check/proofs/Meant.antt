@@ -21,18 +21,18 @@ use Rattle.hevc_walk.specs.Walk.{Store, finish, prepare, begin_picture, is_decod
 use Rattle.hevc_walk_fates.proofs.Accepted.{change-accepted}
 use Rattle.hevc_walk_inputs.specs.Sequences.{format_of_set}
 use Rattle.hevc_bits.specs.FoundUnit.{FoundUnit, bytes_of}
-use Rattle.hevc_types_c.specs.declared.sps.Sps.{Sps}
-use Rattle.hevc_types_c.specs.Sps.{plain_sps}
-use Rattle.hevc_types_d.specs.declared.pps.Pps.{Pps}
-use Rattle.hevc_types_d.specs.Pps.{plain_pps}
-use Rattle.hevc_types_d.specs.declared.slice.Slice as code_slice
-use Rattle.hevc_types_d.specs.SliceHeader.{plain_slice_header}
+use Rattle.hevc_sequence_set.specs.declared.sps.Sps.{Sps}
+use Rattle.hevc_sequence_set.specs.Sps.{plain_sps}
+use Rattle.hevc_picture_slice.specs.declared.pps.Pps.{Pps}
+use Rattle.hevc_picture_slice.specs.Pps.{plain_pps}
+use Rattle.hevc_picture_slice.specs.declared.slice.Slice as code_slice
+use Rattle.hevc_picture_slice.specs.SliceHeader.{plain_slice_header}
 use Rattle.hevc_options.specs.declared.Options as code_options
 use Rattle.hevc_options.specs.Options.{options_of}
 use Rattle.hevc_elements.specs.Naming.{names_picture_set}
 use Rattle.hevc_elements.specs.Sets.{RefusesSet, ReadsSet}
 use Rattle.hevc_slice_header.specs.Answers.{slice_table, NamesNoSequenceSet}
-use Rattle.hevc_slice.specs.Slices.{active_of}
+use Rattle.hevc_parser.specs.Slices.{active_of}
 use Rattle.hevc_driver.specs.Slices.{slice_of}
 use Rattle.hevc_stateless.specs.States.{unit_at, is_parameter_set, is_sequence_set}
 use Rattle.hevc_stateless.proofs.Coding.{of_unwanted, coded_keeps}

@@ -5,7 +5,7 @@ use Rattle.hevc_walk.specs.Meanings.{Format, Slice, Meaning, SequenceSet, CodedS
 use Rattle.hevc_walk.specs.DependentSlices.{KeptHeader, whole_slice, kept_header}
 use Rattle.hevc_walk.specs.Pictures.{Context, Head, Picture, Stream, head, context, with_unit, with_slice, with_whole, with_sequence_end, with_bitstream_end, new_picture}
 use Rattle.hevc_walk.specs.Walk.{latest_head}
-use Rattle.hevc_walk_joined.specs.Standings.{full_by}
+use Rattle.hevc_walk_agree.specs.Standings.{full_by}
 use Rattle.hevc_walk_order.specs.Sequences.{begins, earliest, is_for_output}
 use Rattle.hevc_check_laws.specs.Breaches.{Breach, Changed, Latency, SameCount, Full, Discards, Reorder, latest_sequence, differs_from, all_breaches}
 use Rattle.hevc_check_laws.specs.Orders.{filled_for}

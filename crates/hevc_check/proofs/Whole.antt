@@ -13,7 +13,7 @@ use Rattle.hevc_walk.specs.Walk.{latest_head, store, is_full, full_store, earlie
 use Rattle.hevc_walk.specs.Refusals.{Cause, Refusal, PocOutOfRange, refusal, refusal_of_slice, refusal_of_picture, refusal_of_later, first_refusal, stop_from, stop, covered_stream}
 use Rattle.hevc_walk.specs.Results.{verdict, full, full_or, stop_or, full_at_end}
 use Rattle.hevc_walk_fates.proofs.Numbers.{stream-numbered, numbered-length, covered_all}
-use Rattle.hevc_walk_joined.specs.Standings.{full_by}
+use Rattle.hevc_walk_agree.specs.Standings.{full_by}
 use Rattle.hevc_walk_order.specs.Sequences.{begins, sequences, sequences_from}
 use Rattle.hevc_check_laws.specs.Breaches.{all_breaches}
 use Rattle.hevc_check_laws.specs.Checks as laws

@@ -6,7 +6,7 @@ use Rattle.hevc_decoder.specs.declared.decoded.Refused.{Refused}
 use Rattle.hevc_report.specs.Report.{ending_of, refusal_line}
 use Rattle.hevc_check_laws.specs.Breaches.{Breach, Changed, Latency, SameCount, Full, Discards, Reorder}
 use Rattle.hevc_check_laws.specs.Checks.{Checked, Yes, No}
-use Rattle.hevc_runs.specs.Answers.{Program}
+use Rattle.hevc_program_answers.specs.Answers.{Program}
 use Rattle.hevc_check.specs.declared.table.Table.{Table}
 use Rattle.hevc_check.specs.Tables.{checked_by}
 

@@ -1,9 +1,9 @@
 //! The pictures of a stream as they begin, and what is stored then (8.1.3, 8.3.2, C.5.2).
 ghost use Rattle.std.specs.Prelude.{FitsSigned, ◌≡◌, ◌<◌, ◌+◌, ◌-◌, ◌^◌, ◌&&◌, ◌||◌, ℤ, not, length, true, false, is_some, option_map, IfOk, IfErr, OnOk, OnErr};
 ghost use Rattle.std.specs.Int.{w32};
-ghost use Rattle.hevc_types_c.specs.Sps.{plain_sps};
-ghost use Rattle.hevc_types_c.specs.declared.sps.Sps as code_sps;
-ghost use Rattle.hevc_types_d.specs.declared.pps.Pps as code_pps;
+ghost use Rattle.hevc_sequence_set.specs.Sps.{plain_sps};
+ghost use Rattle.hevc_sequence_set.specs.declared.sps.Sps as code_sps;
+ghost use Rattle.hevc_picture_slice.specs.declared.pps.Pps as code_pps;
 ghost use Rattle.hevc_walk_inputs.specs.Sequences.{format_of_set};
 ghost use Rattle.hevc_walk.specs.Meanings.{SequenceSet, CodedSlice, EndOfSequence, EndOfBitstream};
 ghost use Rattle.hevc_walk.specs.Pictures.{nothing_yet, order_count_in_range};
@@ -24,9 +24,9 @@ use hevc_bumping::{Frame, bump_additionally, bump_for_room};
 use hevc_dpb::{Dpb, DpbFull};
 use hevc_driver::{Context, Head, complete_header, head_of_first, keep_header, reference_set};
 use hevc_options::Options;
+use hevc_picture_slice::{Slice, SliceHeader};
 use hevc_refs::RefPicSet;
-use hevc_types_c::Sps;
-use hevc_types_d::{Slice, SliceHeader};
+use hevc_sequence_set::Sps;
 use std::alloc::{AllocError, Global};
 use std::collections::VecDeque;
 use std::marker::Model;

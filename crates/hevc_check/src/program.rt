@@ -2,13 +2,13 @@
 ghost use Rattle.std.specs.Prelude.{◌≡◌, ◌≤◌, ◌<◌, ◌↔◌, ℕ, List, length, IfOk, IfSome, IsErrOf};
 ghost use Rattle.std.specs.declared.option.Option.TheVariants.{None, Some};
 ghost use Rattle.std.specs.Io.KnownBytes.{Appends, IsAtEnd};
-ghost use Rattle.hevc_faults.specs.Faults.{Rose};
+ghost use Rattle.hevc_fault_counts.specs.Faults.{Rose};
 ghost use Rattle.hevc_io.specs.Prefix.{AppendsLess, AppendsPrefix};
 ghost use Rattle.hevc_stream.specs.Options.{default_options};
 ghost use Rattle.hevc_stream.specs.Stream.{meanings};
 ghost use Rattle.hevc_check.specs.Answers.{AreAllInOrder};
 ghost use Rattle.hevc_check.specs.Requests.{asked_table};
-ghost use Rattle.hevc_runs.specs.Answers.{Answers};
+ghost use Rattle.hevc_program_answers.specs.Answers.{Answers};
 ghost use Rattle.hevc_check.specs.Written.{status_of, written_of, IsAnswer, check_program};
 
 use crate::answer::answer_to;

@@ -4,7 +4,7 @@ use Rattle.hevc_walk.specs.Meanings.{Format, Slice, Meaning, SequenceSet, CodedS
 use Rattle.hevc_walk.specs.DependentSlices.{whole_slice}
 use Rattle.hevc_walk.specs.Walk.{Event, Part, is_accepted, at_unit}
 use Rattle.hevc_walk_units.specs.Units.{Standing, begins_picture, unit_part, refusal_at, is_full_at}
-use Rattle.hevc_walk_joined.proofs.Joined.{at-append}
+use Rattle.hevc_walk_agree.proofs.Joined.{at-append}
 use Rattle.hevc_driver.specs.declared.decode_error.DecodeError.{DecodeError}
 use Rattle.hevc_driver.specs.declared.decode_error.DecodeError.TheVariants as errors
 use Rattle.hevc_driver.specs.Given.{Given}

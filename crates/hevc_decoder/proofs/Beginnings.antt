@@ -7,7 +7,7 @@ use Rattle.hevc_walk.specs.Pictures.{Picture, Stream, new_picture, with_slice, w
 use Rattle.hevc_walk.specs.ReferenceSets.{RefPicSet}
 use Rattle.hevc_walk.specs.Walk.{reference_set_of}
 use Rattle.hevc_walk_units.specs.Units.{SkippedPicture, OpenPicture, begins_picture}
-use Rattle.hevc_walk_joined.specs.Standings.{standing, current_by}
+use Rattle.hevc_walk_agree.specs.Standings.{standing, current_by}
 use Rattle.hevc_driver.specs.Moments.{begins_at, begins_by}
 use Rattle.hevc_dpb.proofs.Members.{contains_first, contains_later}
 use Rattle.hevc_decoder.specs.Headline.{BeginsPicture}

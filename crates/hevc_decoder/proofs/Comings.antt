@@ -9,8 +9,8 @@ use Rattle.hevc_records.specs.SliceHeader.{PlainSliceSegmentHeader}
 use Rattle.hevc_walk.specs.Meanings.{Meaning, Other}
 use Rattle.hevc_walk.specs.Pictures.{stream}
 use Rattle.hevc_walk.specs.Walk.{Event}
-use Rattle.hevc_walk_joined.specs.Standings.{standing}
-use Rattle.hevc_walk_joined.proofs.Cuts.{AllBelow}
+use Rattle.hevc_walk_agree.specs.Standings.{standing}
+use Rattle.hevc_walk_agree.proofs.Cuts.{AllBelow}
 use Rattle.hevc_stream.specs.Options.{Options}
 use Rattle.hevc_stream.specs.Kept.{Kept, none_kept}
 use Rattle.hevc_stream.specs.Stream.{meaning, meanings_behind, kept_behind, kept_behind_all}

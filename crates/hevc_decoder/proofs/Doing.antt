@@ -5,7 +5,7 @@ use Rattle.std.proofs.lemmas.List.{map-append, append-nil}
 use Rattle.std.proofs.lemmas.Grind.{flat_map-append}
 use Rattle.hevc_walk.specs.Walk.{Event, at_unit}
 use Rattle.hevc_walk.specs.Results.{calls_in, outputs_in}
-use Rattle.hevc_walk_joined.proofs.Cuts.{calls_in-append, outputs_in-append}
+use Rattle.hevc_walk_agree.proofs.Cuts.{calls_in-append, outputs_in-append}
 use Rattle.hevc_bumping.specs.declared.frame.Frame.{Frame}
 use Rattle.hevc_bumping.specs.Frames.{frame_ticket}
 use Rattle.hevc_backend.specs.Trait.{logged}

@@ -11,7 +11,7 @@ use Rattle.hevc_walk.specs.Meanings.{Meaning}
 use Rattle.hevc_walk.specs.Pictures.{stream}
 use Rattle.hevc_walk.specs.Results.{walk_events, outputs, outputs_in}
 use Rattle.hevc_walk_units.specs.Units.{events_from}
-use Rattle.hevc_walk_joined.proofs.Cuts.{outputs_in-append}
+use Rattle.hevc_walk_agree.proofs.Cuts.{outputs_in-append}
 use Rattle.hevc_stream.specs.Options.{Options}
 use Rattle.hevc_stream.specs.Kept.{Kept, none_kept}
 use Rattle.hevc_stream.specs.Stream.{meanings, meanings_behind, kept_behind_all}
@@ -26,7 +26,7 @@ use Rattle.hevc_decoder.specs.Runs.{Reached, TakesPiece, EndsRun, Ended}
 use Rattle.hevc_decoder.specs.Sources.{ComeOutFirst, Drained, Fed, Stopped, FedTo}
 use Rattle.hevc_decoder.specs.Windows.{IsLastStart, lead_length}
 use Rattle.hevc_decoder.proofs.Windows.{EndsBehind, lead_without, lead_within}
-use Rattle.hevc_joined_units.proofs.Joined.{units_joined}
+use Rattle.hevc_stream_pieces.proofs.Joined.{units_joined}
 use Rattle.hevc_decoder.proofs.Cutting.{units_moved}
 use Rattle.hevc_records.specs.SliceHeader.{PlainSliceSegmentHeader}
 use Rattle.hevc_backend.specs.Handed.{Segment}

@@ -16,10 +16,10 @@ use Rattle.hevc_walk.specs.Results.{calls, calls_in, events}
 use Rattle.hevc_walk.specs.Walk as walk
 use Rattle.hevc_walk.specs.Walk.{Event, Called, Output, Store, at_unit, finish, output_of, store_picture}
 use Rattle.hevc_walk_units.specs.Units.{Standing, unit_part, refusal_at, events_from, closing_part, sequence_part, open_head}
-use Rattle.hevc_walk_joined.proofs.Cuts.{events-cut}
-use Rattle.hevc_walk_joined.proofs.Ends.{stop-last}
-use Rattle.hevc_walk_joined.proofs.Joined.{refusal-same}
-use Rattle.hevc_walk_joined.proofs.Moment.{moment, stream-last}
+use Rattle.hevc_walk_agree.proofs.Cuts.{events-cut}
+use Rattle.hevc_walk_agree.proofs.Ends.{stop-last}
+use Rattle.hevc_walk_agree.proofs.Joined.{refusal-same}
+use Rattle.hevc_walk_agree.proofs.Moment.{moment, stream-last}
 use Rattle.hevc_stream.specs.Contents.{Content, refused, video_set, sequence_set, picture_set, unread_picture_set, slice, end_of_sequence, end_of_bitstream, nothing, content, header_cause}
 use Rattle.hevc_stream.specs.Kept.{Kept, none_kept}
 use Rattle.hevc_stream.specs.Options.{Options}

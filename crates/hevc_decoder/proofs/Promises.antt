@@ -11,7 +11,7 @@ use Rattle.hevc_walk.specs.Refusals.{Refusal, stop}
 use Rattle.hevc_walk.specs.Results.{OutputPicture, calls_below, calls_in, outputs_in, calls, outputs, verdict, full, full_or, stop_or}
 use Rattle.hevc_walk.specs.Fates.{times, output_numbers}
 use Rattle.hevc_walk.specs.Clean.{IsClean}
-use Rattle.hevc_walk_joined.proofs.Cuts.{calls_in-append, outputs_in-append}
+use Rattle.hevc_walk_agree.proofs.Cuts.{calls_in-append, outputs_in-append}
 use Rattle.hevc_walk_fates.specs.Submissions.{submitted_in, submitted_numbers}
 use Rattle.hevc_walk_fates.proofs.Fates.{output_once, output_by_fate}
 use Rattle.hevc_walk_fates.proofs.Submitted.{submitted_once}

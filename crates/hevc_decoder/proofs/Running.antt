@@ -11,9 +11,9 @@ use Rattle.hevc_walk.specs.Walk.{Event, Called, Output, at_unit}
 use Rattle.hevc_walk.specs.Refusals.{Cause, refusal}
 use Rattle.hevc_walk.specs.Results.{walk_events, events, calls, outputs, verdict, full_or, calls_below, outputs_below}
 use Rattle.hevc_walk_units.specs.Units.{Standing, unit_part, refusal_at, is_full_at, events_from, verdict_from, refused_at, full_or_cause}
-use Rattle.hevc_walk_joined.proofs.Joined.{at-append, refusal-same}
-use Rattle.hevc_walk_joined.proofs.Cuts.{AllBelow, AllFrom, events_from-from, stream-below, events-cut, verdict-cut, calls-before, outputs-before}
-use Rattle.hevc_walk_joined.proofs.Moment.{moment}
+use Rattle.hevc_walk_agree.proofs.Joined.{at-append, refusal-same}
+use Rattle.hevc_walk_agree.proofs.Cuts.{AllBelow, AllFrom, events_from-from, stream-below, events-cut, verdict-cut, calls-before, outputs-before}
+use Rattle.hevc_walk_agree.proofs.Moment.{moment}
 use Rattle.hevc_stream.specs.Options.{Options}
 use Rattle.hevc_stream.specs.Kept.{none_kept}
 use Rattle.hevc_stream.specs.Stream.{meaning, kept_behind, meanings_behind}

@@ -9,8 +9,8 @@ use hevc_backend::{
 };
 use hevc_bits::{Nalu, NaluHeader, NaluType};
 use hevc_dpb::PictureData;
-use hevc_types_c::Sps;
-use hevc_types_d::{Pps, Slice, SliceHeader};
+use hevc_picture_slice::{Pps, Slice, SliceHeader};
+use hevc_sequence_set::Sps;
 use over_device::{Device, OverDevice};
 use std::alloc::Global;
 

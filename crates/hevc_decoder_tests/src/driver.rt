@@ -4,7 +4,7 @@ mod streams;
 use crate::expect::{expect, expect_eq, ok};
 use hevc_backend::{Backend, Call};
 use hevc_driver::{DecodeError, Driver};
-use hevc_types_c::Sps;
+use hevc_sequence_set::Sps;
 use streams::{IDR, close, give, slice, start};
 
 /// The number of pictures that were output, and the number of the last one.

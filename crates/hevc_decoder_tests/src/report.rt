@@ -1,8 +1,8 @@
 //! Streams of the worked units, from the words of the command line and the bytes to the report.
 use crate::expect::{expect, expect_eq, ok};
 use hevc_io::{MemorySink, MemorySource, Word};
-use hevc_made::make_stream;
 use hevc_report::run;
+use hevc_stream_maker::make_stream;
 use std::alloc::Global;
 use std::process::Abort;
 

@@ -2,12 +2,12 @@
 use Rattle.std.proofs.Common.{◌≡◌, ℕ, Bool, true, false, refl, sym, ap, ◌∙◌, subst, if◌then◌else◌}
 use Rattle.std.specs.Prelude.{Option, Some, None, option_map}
 use Rattle.hevc_records.specs.SliceHeader.{PlainSliceSegmentHeader, completed_header}
-use Rattle.hevc_types_c.specs.declared.sps.Sps.{Sps}
-use Rattle.hevc_types_c.specs.Sps.{plain_sps}
-use Rattle.hevc_types_d.specs.declared.pps.Pps.{Pps}
-use Rattle.hevc_types_d.specs.Pps.{plain_pps}
-use Rattle.hevc_types_d.specs.declared.slice.Slice as code
-use Rattle.hevc_types_d.specs.SliceHeader.{plain_slice_header}
+use Rattle.hevc_sequence_set.specs.declared.sps.Sps.{Sps}
+use Rattle.hevc_sequence_set.specs.Sps.{plain_sps}
+use Rattle.hevc_picture_slice.specs.declared.pps.Pps.{Pps}
+use Rattle.hevc_picture_slice.specs.Pps.{plain_pps}
+use Rattle.hevc_picture_slice.specs.declared.slice.Slice as code
+use Rattle.hevc_picture_slice.specs.SliceHeader.{plain_slice_header}
 use Rattle.hevc_walk.specs.Meanings.{Slice}
 use Rattle.hevc_walk.specs.DependentSlices.{whole_slice}
 use Rattle.hevc_walk_units.specs.Units.{Standing}

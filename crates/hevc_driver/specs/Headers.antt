@@ -1,13 +1,13 @@
 -- The headers of slice segments, whole (7.4.7.1).
 use Rattle.std.specs.Prelude.{Bool, true, false, Option, Some, option_map, if◌then◌else◌}
 use Rattle.hevc_records.specs.SliceHeader.{PlainSliceSegmentHeader, completed_header, default_slice_header}
-use Rattle.hevc_types_c.specs.declared.sps.Sps.{Sps}
-use Rattle.hevc_types_c.specs.Sps.{plain_sps}
-use Rattle.hevc_types_d.specs.declared.pps.Pps.{Pps}
-use Rattle.hevc_types_d.specs.Pps.{plain_pps}
-use Rattle.hevc_types_d.specs.declared.slice.Slice.{Slice}
-use Rattle.hevc_types_d.specs.declared.slice_header.SliceHeader.{SliceHeader}
-use Rattle.hevc_types_d.specs.SliceHeader.{plain_slice_header}
+use Rattle.hevc_sequence_set.specs.declared.sps.Sps.{Sps}
+use Rattle.hevc_sequence_set.specs.Sps.{plain_sps}
+use Rattle.hevc_picture_slice.specs.declared.pps.Pps.{Pps}
+use Rattle.hevc_picture_slice.specs.Pps.{plain_pps}
+use Rattle.hevc_picture_slice.specs.declared.slice.Slice.{Slice}
+use Rattle.hevc_picture_slice.specs.declared.slice_header.SliceHeader.{SliceHeader}
+use Rattle.hevc_picture_slice.specs.SliceHeader.{plain_slice_header}
 use Rattle.hevc_backend.specs.Handed.{Segment}
 
 -- what dependent slice segments take from an independent one: all but what each has of its own

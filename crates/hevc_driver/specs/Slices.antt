@@ -1,13 +1,13 @@
 -- What slice segments stand for, with the sets that they make active (7.4.7.1).
 use Rattle.std.specs.Prelude.{◌≡◌, Bool, true, false, Option, Some, None}
 use Rattle.hevc_bits.specs.FoundUnit.{bytes_of}
-use Rattle.hevc_types_c.specs.declared.sps.Sps.{Sps}
-use Rattle.hevc_types_c.specs.Sps.{plain_sps}
-use Rattle.hevc_types_d.specs.declared.pps.Pps.{Pps}
-use Rattle.hevc_types_d.specs.Pps.{plain_pps}
-use Rattle.hevc_types_d.specs.declared.slice.Slice as code
-use Rattle.hevc_types_d.specs.declared.slice_header.SliceHeader as code_header
-use Rattle.hevc_types_d.specs.SliceHeader.{plain_slice_header}
+use Rattle.hevc_sequence_set.specs.declared.sps.Sps.{Sps}
+use Rattle.hevc_sequence_set.specs.Sps.{plain_sps}
+use Rattle.hevc_picture_slice.specs.declared.pps.Pps.{Pps}
+use Rattle.hevc_picture_slice.specs.Pps.{plain_pps}
+use Rattle.hevc_picture_slice.specs.declared.slice.Slice as code
+use Rattle.hevc_picture_slice.specs.declared.slice_header.SliceHeader as code_header
+use Rattle.hevc_picture_slice.specs.SliceHeader.{plain_slice_header}
 use Rattle.hevc_walk.specs.Meanings.{Slice}
 use Rattle.hevc_walk.specs.DependentSlices.{KeptHeader}
 use Rattle.hevc_walk_inputs.specs.Headers.{slice_header_of}

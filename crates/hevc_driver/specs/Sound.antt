@@ -5,11 +5,11 @@ use Rattle.std.specs.VecDeque.{deque_len, deque_capacity}
 use Rattle.hevc_walk.specs.Walk.{accepted_size, is_accepted, is_decoded}
 use Rattle.hevc_walk_inputs.specs.Sequences.{format_of_set}
 use Rattle.hevc_walk_units.specs.Units as units
-use Rattle.hevc_types_c.specs.Sps.{plain_sps}
-use Rattle.hevc_types_c.specs.declared.sps.Sps.{Sps}
-use Rattle.hevc_types_d.specs.declared.pps.Pps.{Pps}
-use Rattle.hevc_types_d.specs.declared.slice.Slice.{Slice}
-use Rattle.hevc_types_d.specs.declared.slice_header.SliceHeader.{SliceHeader}
+use Rattle.hevc_sequence_set.specs.Sps.{plain_sps}
+use Rattle.hevc_sequence_set.specs.declared.sps.Sps.{Sps}
+use Rattle.hevc_picture_slice.specs.declared.pps.Pps.{Pps}
+use Rattle.hevc_picture_slice.specs.declared.slice.Slice.{Slice}
+use Rattle.hevc_picture_slice.specs.declared.slice_header.SliceHeader.{SliceHeader}
 use Rattle.hevc_dpb.specs.Entries.{IsPartOf, numbers, tickets}
 use Rattle.hevc_dpb.specs.Plain.{HaveLatency}
 use Rattle.hevc_dpb.specs.Views.{stored_entries, max_num_pics_of, room_of, buffer_of}

@@ -2,11 +2,11 @@
 ghost use Rattle.std.specs.Prelude.{◌≡◌, ◌&&◌, ◌<◌, ◌+◌, ◌-◌, ◌^◌, pos, true, false, Some, IfOk, OnOk, OnErr, if◌then◌else◌};
 ghost use Rattle.hevc_spec.specs.UnitTypes.{is_rasl};
 ghost use Rattle.hevc_bits.specs.NaluType.{nalu_type_number};
-ghost use Rattle.hevc_types_c.specs.Sps.{plain_sps};
+ghost use Rattle.hevc_sequence_set.specs.Sps.{plain_sps};
 ghost use Rattle.hevc_walk_inputs.specs.Sequences.{format_of_set};
 ghost use Rattle.hevc_backend.specs.Handed.{first_picture, plain_picture};
 ghost use Rattle.hevc_backend.specs.Negotiation.{info_of};
-ghost use Rattle.hevc_types_d.specs.declared.pps.Pps.{Pps};
+ghost use Rattle.hevc_picture_slice.specs.declared.pps.Pps.{Pps};
 ghost use Rattle.hevc_walk.specs.Pictures.{head, order_count_in_range};
 ghost use Rattle.hevc_walk_units.specs.Units.{context_behind, tid0_behind};
 ghost use Rattle.hevc_pictures.specs.OrderCounts.{IsMaxPicOrderCntLsb};
@@ -17,9 +17,9 @@ use crate::head::{Context, Head};
 use hevc_bits::NaluType;
 use hevc_dpb::{Limits, PictureData};
 use hevc_options::Options;
+use hevc_picture_slice::Slice;
 use hevc_pictures::PocOutOfRange;
-use hevc_types_c::Sps;
-use hevc_types_d::Slice;
+use hevc_sequence_set::Sps;
 
 /// MaxPicOrderCntLsb of a sequence set (7-8): 16 to 65536.
 pub fn max_pic_order_cnt_lsb(sps: &Sps) -> i32

@@ -1,15 +1,15 @@
 //! The headers of dependent slice segments (7.4.7.1).
 ghost use Rattle.std.specs.Prelude.{◌≡◌, true, false, ◌==◌, ◌&&◌, nat_le, Option, Some, None, option_map, if◌then◌else◌};
-ghost use Rattle.hevc_types_c.specs.declared.sps.Sps.{Sps};
-ghost use Rattle.hevc_types_d.specs.declared.pps.Pps.{Pps};
+ghost use Rattle.hevc_sequence_set.specs.declared.sps.Sps.{Sps};
+ghost use Rattle.hevc_picture_slice.specs.declared.pps.Pps.{Pps};
 ghost use Rattle.hevc_walk.specs.DependentSlices.{KeptHeader, whole_slice, kept_header};
 ghost use Rattle.hevc_options.specs.declared.Options.{Options};
-ghost use Rattle.hevc_types_d.specs.SliceHeader.{plain_slice_header};
+ghost use Rattle.hevc_picture_slice.specs.SliceHeader.{plain_slice_header};
 ghost use Rattle.hevc_driver.specs.Headers.{OnTrue, latest_behind, latest_of, shared_header, whole_header};
 ghost use Rattle.hevc_driver.specs.Slices.{slice_of, kept_of, StaysUnlessWhole};
 
-use hevc_types_c::Sps;
-use hevc_types_d::{Slice, SliceHeader};
+use hevc_picture_slice::{Slice, SliceHeader};
+use hevc_sequence_set::Sps;
 use std::alloc::Global;
 
 /// Whether a dependent slice segment belongs to an independent one of this header: they name one picture set, and CurrRpsIdx is at most

@@ -1,6 +1,6 @@
 //! A picture begins: first its format is negotiated, where it differs from the accepted one.
 ghost use Rattle.std.specs.Prelude.{◌≡◌, option_map};
-ghost use Rattle.hevc_types_c.specs.Sps.{plain_sps};
+ghost use Rattle.hevc_sequence_set.specs.Sps.{plain_sps};
 ghost use Rattle.hevc_walk_inputs.specs.Sequences.{format_of_set};
 ghost use Rattle.hevc_walk.specs.Walk.{is_accepted, open_sequence};
 ghost use Rattle.hevc_walk_units.specs.Units.{NoPicture, on_store};
@@ -18,8 +18,8 @@ use crate::decode_error::DecodeError;
 use crate::driver::Driver;
 use hevc_backend::{NegotiationInfo, StatelessH265DecoderBackend};
 use hevc_options::Options;
-use hevc_types_c::Sps;
-use hevc_types_d::{Pps, Slice};
+use hevc_picture_slice::{Pps, Slice};
+use hevc_sequence_set::Sps;
 
 /// Whether this is the format that was accepted.
 fn is_accepted(named: &NegotiationInfo, accepted: Option<NegotiationInfo>) -> bool

@@ -22,8 +22,8 @@ use crate::head::Head;
 use crate::references::build_lists;
 use hevc_backend::StatelessH265DecoderBackend;
 use hevc_options::Options;
-use hevc_types_c::Sps;
-use hevc_types_d::{Pps, Slice};
+use hevc_picture_slice::{Pps, Slice};
+use hevc_sequence_set::Sps;
 
 impl<B: StatelessH265DecoderBackend> Driver<B> {
     /// A picture of the accepted format begins, or its slices are passed over.

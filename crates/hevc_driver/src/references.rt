@@ -1,10 +1,10 @@
 //! The reference pictures of a picture and of its slices (8.3.2, 8.3.4).
 ghost use Rattle.std.specs.Prelude.{◌≡◌, ℕ, true, false, get_or};
-ghost use Rattle.hevc_types_c.specs.Sps.{plain_sps};
-ghost use Rattle.hevc_types_d.specs.SliceHeader.{plain_slice_header};
-ghost use Rattle.hevc_types_a.specs.ShortTermRefPicSet.{plain_short_term_ref_pic_set};
-ghost use Rattle.hevc_types_c.specs.declared.sps.Sps as code_sps;
-ghost use Rattle.hevc_types_d.specs.declared.pps.Pps as code_pps;
+ghost use Rattle.hevc_sequence_set.specs.Sps.{plain_sps};
+ghost use Rattle.hevc_picture_slice.specs.SliceHeader.{plain_slice_header};
+ghost use Rattle.hevc_set_parts.specs.ShortTermRefPicSet.{plain_short_term_ref_pic_set};
+ghost use Rattle.hevc_sequence_set.specs.declared.sps.Sps as code_sps;
+ghost use Rattle.hevc_picture_slice.specs.declared.pps.Pps as code_pps;
 ghost use Rattle.hevc_walk.specs.ReferenceSets.{reference_set, with_marks, names, all_members};
 ghost use Rattle.hevc_walk.specs.ReferenceLists.{ref_pic_list0, ref_pic_list1};
 ghost use Rattle.hevc_walk_marks.specs.Marked.{has_reference};
@@ -19,10 +19,10 @@ ghost use Rattle.hevc_driver.specs.Slices.{slice_of};
 use crate::beginning::max_pic_order_cnt_lsb;
 use crate::head::Head;
 use hevc_dpb::Dpb;
+use hevc_picture_slice::{Pps, Slice, SliceHeader};
 use hevc_refs::{RefPicSet, ReferencePicLists, derive_into};
-use hevc_types_a::ShortTermRefPicSet;
-use hevc_types_c::Sps;
-use hevc_types_d::{Pps, Slice, SliceHeader};
+use hevc_sequence_set::Sps;
+use hevc_set_parts::ShortTermRefPicSet;
 
 /// The short-term set of a slice: that of the sequence set, or after those the header's own (7.4.7.1).
 fn short_term_set<'a>(header: &'a SliceHeader, sps: &'a Sps) -> &'a ShortTermRefPicSet

@@ -1,6 +1,6 @@
 //! Pictures leave the buffer before one is decoded (8.3.2, C.5.2.2).
 ghost use Rattle.std.specs.Prelude.{◌≡◌, ◌<◌, ◌+◌, ◌-◌, ◌^◌, List, Option};
-ghost use Rattle.hevc_types_d.specs.declared.pps.Pps.{Pps};
+ghost use Rattle.hevc_picture_slice.specs.declared.pps.Pps.{Pps};
 ghost use Rattle.hevc_walk.specs.ReferenceSets.{reference_set};
 ghost use Rattle.hevc_walk.specs.Buffer.{draining};
 ghost use Rattle.hevc_walk.specs.Walk.{make_room, output_by};
@@ -18,8 +18,8 @@ use crate::head::Head;
 use crate::references::reference_set;
 use crate::standing::Standing;
 use hevc_bumping::{bump_for_room, output_all};
-use hevc_types_c::Sps;
-use hevc_types_d::Slice;
+use hevc_picture_slice::Slice;
+use hevc_sequence_set::Sps;
 
 impl<H: Copy, P> Standing<H, P> {
     ghost use Rattle.hevc_options.specs.declared.Options.{Options};

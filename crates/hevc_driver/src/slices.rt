@@ -14,9 +14,9 @@ ghost use Rattle.hevc_driver.specs.Standings.{standing, traces, current_of};
 ghost use Rattle.hevc_driver.specs.declared.current.Current.TheVariants.{OpenPicture};
 ghost use Rattle.hevc_driver.specs.Sound.{IsSound, HasRoom, AreNamed, StaysSound, with_header};
 ghost use Rattle.hevc_driver.specs.Takes.{Takes, Changes, Follows, given_up_by, ChecksFormat};
-ghost use Rattle.hevc_types_c.specs.declared.sps.Sps as code_sps;
-ghost use Rattle.hevc_types_d.specs.declared.pps.Pps as code_pps;
-ghost use Rattle.hevc_types_d.specs.SliceHeader.{plain_slice_header};
+ghost use Rattle.hevc_sequence_set.specs.declared.sps.Sps as code_sps;
+ghost use Rattle.hevc_picture_slice.specs.declared.pps.Pps as code_pps;
+ghost use Rattle.hevc_picture_slice.specs.SliceHeader.{plain_slice_header};
 ghost use Rattle.hevc_options.specs.declared.Options as code_options;
 
 use crate::current::Current;
@@ -26,8 +26,8 @@ use crate::kept::{complete_header, keep_header};
 use crate::references::build_lists;
 use hevc_backend::{NegotiationInfo, StatelessH265DecoderBackend};
 use hevc_options::Options;
-use hevc_types_c::Sps;
-use hevc_types_d::{Pps, Slice};
+use hevc_picture_slice::{Pps, Slice};
+use hevc_sequence_set::Sps;
 
 /// Whether a slice begins a picture.
 #[tactic(auto, unfolding(crate::specs::Slices::slice_of))]

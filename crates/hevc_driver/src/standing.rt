@@ -4,8 +4,8 @@ use crate::head::Context;
 use hevc_backend::NegotiationInfo;
 use hevc_bumping::Frame;
 use hevc_dpb::Dpb;
+use hevc_picture_slice::SliceHeader;
 use hevc_refs::RefPicSet;
-use hevc_types_d::SliceHeader;
 use std::collections::VecDeque;
 
 /// All but the backend and the parameter sets. While a format is awaited it counts as accepted here.

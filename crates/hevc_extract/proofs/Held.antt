@@ -5,9 +5,9 @@ use Rattle.std.proofs.lemmas.List.Elements.{All-cons, All-nil, All-head, All-tai
 use Rattle.hevc_spec.specs.UnitHeader.{UnitHeader, HeaderFault, unit_header}
 use Rattle.hevc_spec.specs.Units.{NalUnit, units}
 use Rattle.hevc_bit_writer.specs.WrittenUnits.{placed}
-use Rattle.hevc_joined_units.specs.Pieces.{IsWholePiece}
-use Rattle.hevc_joined_units.proofs.Cut.{headed_units}
-use Rattle.hevc_joined_units.proofs.Found.{whole_pieces_found}
+use Rattle.hevc_stream_pieces.specs.Pieces.{IsWholePiece}
+use Rattle.hevc_stream_pieces.proofs.Cut.{headed_units}
+use Rattle.hevc_stream_pieces.proofs.Found.{whole_pieces_found}
 use Rattle.hevc_walk.specs.Meanings.{Meaning}
 use Rattle.hevc_stream.specs.Kept.{Kept, none_kept}
 use Rattle.hevc_stream.specs.Options.{Options}

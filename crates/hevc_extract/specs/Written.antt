@@ -3,7 +3,7 @@ use Rattle.std.specs.Prelude.{◌≡◌, ◌≤◌, ℕ, ◌⊎◌, List, ◌++�
 use Rattle.hevc_spec.specs.Units.{units}
 use Rattle.hevc_bits.specs.declared.header.UnitError.{UnitError}
 use Rattle.hevc_bits.specs.declared.header.UnitError.TheVariants.{NoNal, TruncatedNalu, InvalidNaluType, TemporalIdZero}
-use Rattle.hevc_runs.specs.Answers.{Program}
+use Rattle.hevc_program_answers.specs.Answers.{Program}
 use Rattle.hevc_extract.specs.Extracting.{extracted, first_refused}
 use Rattle.hevc_extract.specs.declared.words.Targets.{Targets}
 

@@ -2,13 +2,13 @@
 ghost use Rattle.std.specs.Prelude.{◌≡◌, ◌≤◌, ◌<◌, ◌↔◌, ℕ, List, length, IfOk, IfSome, IsErrOf, IsTrue};
 ghost use Rattle.std.specs.declared.option.Option.TheVariants.{None, Some};
 ghost use Rattle.std.specs.Io.KnownBytes.{Appends, IsAtEnd};
-ghost use Rattle.hevc_faults.specs.Faults.{Rose};
+ghost use Rattle.hevc_fault_counts.specs.Faults.{Rose};
 ghost use Rattle.hevc_io.specs.Prefix.{AppendsLess, AppendsPrefix};
 ghost use Rattle.hevc_spec.specs.Units.{units};
 ghost use Rattle.hevc_extract.specs.Alike.{DecodesAlike, HoldsKept};
 ghost use Rattle.hevc_extract.specs.Extracting.{extracted, first_refused};
 ghost use Rattle.hevc_extract.specs.Targets.{asked_targets};
-ghost use Rattle.hevc_runs.specs.Answers.{Answers};
+ghost use Rattle.hevc_program_answers.specs.Answers.{Answers};
 ghost use Rattle.hevc_extract.specs.Written.{extract_program, written_of};
 
 use crate::extraction::{ExtractError, extract_layer};

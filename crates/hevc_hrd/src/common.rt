@@ -2,13 +2,13 @@
 ghost use Rattle.std.specs.Prelude.{◌≡◌};
 ghost use Rattle.hevc_elements.specs.Words.{Fills};
 ghost use Rattle.hevc_tables.specs.HrdTable as table;
-ghost use Rattle.hevc_types_b.specs.HrdParams.{plain_hrd_params};
+ghost use Rattle.hevc_video_set.specs.HrdParams.{plain_hrd_params};
 
 use hevc_bits::NaluReader;
 use hevc_elements::ParseError;
 use hevc_elements::rows::{bits_u8, bits_u8_if, flag};
 use hevc_spec::Row;
-use hevc_types_b::{HrdParams, SublayerHrdParameters};
+use hevc_video_set::{HrdParams, SublayerHrdParameters};
 
 /// Rows 1 to 9 of table 3.
 #[tactic(auto, unfolding(hevc_tables::specs::HrdTable::common_parameters, hevc_spec::specs::Rows::when))]

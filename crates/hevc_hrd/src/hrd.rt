@@ -3,13 +3,13 @@ ghost use Rattle.std.specs.Prelude.{◌≡◌, ◌≤◌};
 ghost use Rattle.hevc_elements.specs.Words.{bits, IsAhead, IsReached, read, when, Reads, Means};
 ghost use Rattle.hevc_records.specs.HrdParams.{default_hrd_params};
 ghost use Rattle.hevc_tables.specs.HrdTable as table;
-ghost use Rattle.hevc_types_b.specs.HrdParams.{plain_hrd_params};
+ghost use Rattle.hevc_video_set.specs.HrdParams.{plain_hrd_params};
 
 use crate::common::{common_of, read_common};
 use crate::sub_layers::read_sub_layers;
 use hevc_bits::NaluReader;
 use hevc_elements::ParseError;
-use hevc_types_b::HrdParams;
+use hevc_video_set::HrdParams;
 
 /// Reads parameters of the hypothetical reference decoder, for sub-layers from 0 to `max_sub_layers_minus1`, by table 3 (E.2.2).
 ///

@@ -2,13 +2,13 @@
 ghost use Rattle.std.specs.Prelude.{◌≡◌, ◌+◌, ◌≤◌, ◌<◌};
 ghost use Rattle.hevc_elements.specs.Words.{bits, IsAhead, read, Reads, Fills};
 ghost use Rattle.hevc_tables.specs.HrdTable as table;
-ghost use Rattle.hevc_types_b.specs.SublayerHrdParameters.{plain_sublayer_hrd_parameters};
+ghost use Rattle.hevc_video_set.specs.SublayerHrdParameters.{plain_sublayer_hrd_parameters};
 
 use hevc_bits::NaluReader;
 use hevc_elements::ParseError;
 use hevc_elements::rows::{flag, ue, ue_if};
 use hevc_spec::Row;
-use hevc_types_b::SublayerHrdParameters;
+use hevc_video_set::SublayerHrdParameters;
 
 /// Reads the schedules of a sub-layer, by table 4; those of decoding units where `by_units`.
 #[tactic(auto, using(hevc_elements::proofs::Loops::loops), unfolding(hevc_tables::specs::HrdTable::sub_layer_hrd_parameters))]

@@ -3,15 +3,15 @@ ghost use Rattle.std.specs.Prelude.{◌≡◌, ◌≤◌, ◌<◌};
 ghost use Rattle.hevc_elements.specs.Words.{bits, IsAhead, read, when, Reads, Fills};
 ghost use Rattle.hevc_records.specs.SublayerHrdParameters.{default_sublayer_hrd_parameters};
 ghost use Rattle.hevc_tables.specs.HrdTable as table;
-ghost use Rattle.hevc_types_b.specs.SublayerHrdParameters.{plain_sublayer_hrd_parameters};
-ghost use Rattle.hevc_types_b.specs.HrdParams.{plain_hrd_params};
+ghost use Rattle.hevc_video_set.specs.SublayerHrdParameters.{plain_sublayer_hrd_parameters};
+ghost use Rattle.hevc_video_set.specs.HrdParams.{plain_hrd_params};
 
 use crate::schedules::read_schedules;
 use hevc_bits::NaluReader;
 use hevc_elements::ParseError;
 use hevc_elements::rows::{flag, flag_if, flag_or, ue_if};
 use hevc_spec::Row;
-use hevc_types_b::{HrdParams, SublayerHrdParameters};
+use hevc_video_set::{HrdParams, SublayerHrdParameters};
 
 /// Reads each sub-layer up to the highest into a structure, by rows 10 to 16 of table 3.
 #[tactic(auto, using(hevc_elements::proofs::Loops::loops), unfolding(hevc_tables::specs::HrdTable::sub_layers))]

@@ -5,8 +5,8 @@ use Rattle.hevc_spec.specs.Units.{NalUnit, kept_bytes, units, units_from}
 use Rattle.hevc_walk.specs.Meanings.{Meaning}
 use Rattle.hevc_walk.specs.Pictures.{Stream, nothing_yet, pictures, stream, with_unit}
 use Rattle.hevc_walk_units.specs.Units.{Standing}
-use Rattle.hevc_walk_joined.proofs.Moment.{stream-last}
-use Rattle.hevc_walk_joined.specs.Standings.{standing}
+use Rattle.hevc_walk_agree.proofs.Moment.{stream-last}
+use Rattle.hevc_walk_agree.specs.Standings.{standing}
 use Rattle.hevc_stream.specs.Kept.{none_kept}
 use Rattle.hevc_stream.specs.Options.{default_options}
 use Rattle.hevc_stream.specs.Stream.{meaning}

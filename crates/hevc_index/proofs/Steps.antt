@@ -12,7 +12,7 @@ use Rattle.hevc_walk.specs.ReferenceSets.{RefPicSet}
 use Rattle.hevc_walk.specs.Walk.{reference_set_of}
 use Rattle.hevc_walk_units.specs.Units.{SkippedPicture, OpenPicture, open_head}
 use Rattle.hevc_walk.specs.Pictures.{Head, Picture, Stream, context, head, new_picture, with_bitstream_end, with_sequence_end, with_slice, with_unit, with_whole}
-use Rattle.hevc_walk_joined.specs.Standings.{current_by, next_context, standing}
+use Rattle.hevc_walk_agree.specs.Standings.{current_by, next_context, standing}
 use Rattle.hevc_index_laws.specs.Points.{is_point, PlainPoint}
 use Rattle.hevc_index.specs.Finding.{point_begun, point_by}
 

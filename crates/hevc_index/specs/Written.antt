@@ -8,7 +8,7 @@ use Rattle.hevc_decoder.specs.declared.decoded.Refused.{Refused}
 use Rattle.hevc_report.specs.Report.{refusal_line}
 use Rattle.hevc_index_laws.specs.Points.{points_of, PlainPoint}
 use Rattle.hevc_index_laws.specs.SplicedUnits.{spliced_bytes}
-use Rattle.hevc_runs.specs.Answers.{Program}
+use Rattle.hevc_program_answers.specs.Answers.{Program}
 use Rattle.hevc_index.specs.declared.words.Request.{Request}
 use Rattle.hevc_index.specs.declared.words.Request.TheVariants.{Points, Splice}
 use Rattle.hevc_index.specs.Indexing.{ending, point_at, BeginsAtPoint}

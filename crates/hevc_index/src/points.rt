@@ -14,7 +14,7 @@ use hevc_decoder::{
     Head, Options, StatelessDecoder, StatelessH265DecoderBackend, begin_stream, decode_next_unit,
     end_stream,
 };
-use hevc_types_a::Items;
+use hevc_set_parts::Items;
 use std::alloc::Global;
 
 /// The points of a byte stream (Annex B) of less than 2^60 bytes at which decoding can start, in

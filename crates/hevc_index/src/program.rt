@@ -2,10 +2,10 @@
 ghost use Rattle.std.specs.Prelude.{◌≡◌, ◌≤◌, ◌<◌, ◌↔◌, ℕ, List, length, IfOk, IfSome, IsErrOf};
 ghost use Rattle.std.specs.declared.option.Option.TheVariants.{None, Some};
 ghost use Rattle.std.specs.Io.KnownBytes.{Appends, IsAtEnd};
-ghost use Rattle.hevc_faults.specs.Faults.{Rose};
+ghost use Rattle.hevc_fault_counts.specs.Faults.{Rose};
 ghost use Rattle.hevc_io.specs.Prefix.{AppendsLess, AppendsPrefix};
 ghost use Rattle.hevc_index.specs.Requests.{asked_request};
-ghost use Rattle.hevc_runs.specs.Answers.{Answers};
+ghost use Rattle.hevc_program_answers.specs.Answers.{Answers};
 ghost use Rattle.hevc_index.specs.Written.{status_of, written_of, index_program, BeginsAsAsked, IsAnswer};
 
 use crate::answer::answer_to;

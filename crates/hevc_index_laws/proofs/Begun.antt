@@ -5,9 +5,9 @@ use Rattle.std.proofs.lemmas.List.Elements.{All-append, All-cons, All-drop, All-
 use Rattle.hevc_spec.specs.UnitHeader.{UnitHeader, HeaderFault, unit_header}
 use Rattle.hevc_spec.specs.Units.{NalUnit, units}
 use Rattle.hevc_bit_writer.specs.WrittenUnits.{placed}
-use Rattle.hevc_joined_units.specs.Pieces.{IsWholePiece}
-use Rattle.hevc_joined_units.proofs.Cut.{headed_units}
-use Rattle.hevc_joined_units.proofs.Found.{whole_pieces_found}
+use Rattle.hevc_stream_pieces.specs.Pieces.{IsWholePiece}
+use Rattle.hevc_stream_pieces.proofs.Cut.{headed_units}
+use Rattle.hevc_stream_pieces.proofs.Found.{whole_pieces_found}
 use Rattle.hevc_walk.specs.Meanings.{Meaning, SequenceSet, CodedSlice, EndOfSequence, EndOfBitstream, Other, Refused}
 use Rattle.hevc_walk.specs.Pictures.{Picture, Stream, nothing_yet, pictures, with_unit}
 use Rattle.hevc_walk.specs.Refusals.{Cause, Refusal, first_refusal, refusal, stop, stop_from}

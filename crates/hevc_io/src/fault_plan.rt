@@ -1,6 +1,6 @@
 //! Which calls of a source or a sink over memory fail.
 ghost use Rattle.std.specs.Prelude.{◌≡◌, ◌+◌, ◌↔◌, IsTrue, IsErr, OnOk, Contains};
-ghost use Rattle.hevc_faults.specs.Faults.{HasCause};
+ghost use Rattle.hevc_fault_counts.specs.Faults.{HasCause};
 ghost use Rattle.hevc_io.specs.Memory.{Plan, CountsCall};
 
 use crate::source::Failed;

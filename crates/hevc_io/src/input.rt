@@ -1,7 +1,7 @@
 //! A source read to its end.
 ghost use Rattle.std.specs.Prelude.{◌≡◌, ◌≤◌, ◌<◌, ◌+◌, ℕ, List, length, vec_len, IfOk, IsErrOf};
 ghost use Rattle.std.specs.Io.KnownBytes.{Consumes, IsAtEnd};
-ghost use Rattle.hevc_faults.specs.Faults.{Rose};
+ghost use Rattle.hevc_fault_counts.specs.Faults.{Rose};
 
 use crate::source::{Failed, Source};
 use std::alloc::{AllocError, Global};

@@ -3,7 +3,7 @@ ghost use Rattle.std.specs.Prelude.{◌≡◌, ◌≤◌, ◌+◌, ◌↔◌, Is
 ghost use Rattle.std.specs.declared.option.Option.TheVariants.{Some};
 ghost use Rattle.std.specs.Io.{ReadsAtMost, WritesAtMost};
 ghost use Rattle.std.specs.Io.KnownBytes.{ReadConsumes, WriteAppends};
-ghost use Rattle.hevc_faults.specs.Faults.{HasCause, Rose};
+ghost use Rattle.hevc_fault_counts.specs.Faults.{HasCause, Rose};
 ghost use Rattle.hevc_io.specs.Writes.{TakesSome};
 ghost use Rattle.hevc_io.specs.Memory.{CountsCall, Supply, Store};
 

@@ -1,7 +1,7 @@
 //! A whole text written to a sink.
 ghost use Rattle.std.specs.Prelude.{◌≤◌, OnOk, OnErr, IsErrOf};
 ghost use Rattle.std.specs.Io.KnownBytes.{Appends};
-ghost use Rattle.hevc_faults.specs.Faults.{Rose};
+ghost use Rattle.hevc_fault_counts.specs.Faults.{Rose};
 ghost use Rattle.hevc_io.specs.Prefix.{AppendsLess};
 
 use crate::sink::{Sink, SinkError};

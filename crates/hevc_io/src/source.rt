@@ -3,7 +3,7 @@ ghost use Rattle.std.specs.Prelude.{ℕ, List};
 ghost use Rattle.std.specs.declared.option.Option.{Option};
 ghost use Rattle.std.specs.Io.{ReadsAtMost};
 ghost use Rattle.std.specs.Io.KnownBytes.{ReadConsumes};
-ghost use Rattle.hevc_faults.specs.Faults.{HasCause};
+ghost use Rattle.hevc_fault_counts.specs.Faults.{HasCause};
 
 use thiserror::Error;
 

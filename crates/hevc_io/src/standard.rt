@@ -2,7 +2,7 @@
 ghost use Rattle.std.specs.Prelude.{◌≡◌, ◌≤◌, IsErrOf, OnOk};
 ghost use Rattle.std.specs.Io.{WritesAtMost};
 ghost use Rattle.std.specs.Io.KnownBytes.{WriteAppends};
-ghost use Rattle.hevc_faults.specs.Faults.{Rose};
+ghost use Rattle.hevc_fault_counts.specs.Faults.{Rose};
 ghost use Rattle.hevc_io.specs.Writes.{TakesSome};
 ghost use Rattle.hevc_io.specs.Standard.{StandardSource, StandardSink};
 

@@ -9,10 +9,10 @@ use Rattle.hevc_spec.specs.Payload.{payload}
 use Rattle.hevc_spec.specs.Table.{Reading, gives, refuses, read}
 use Rattle.hevc_records.specs.Sps.{PlainSps}
 use Rattle.hevc_tables.specs.SpsTable.{sequence_parameter_set}
-use Rattle.hevc_types_c.specs.Sps.{plain_sps}
+use Rattle.hevc_sequence_set.specs.Sps.{plain_sps}
 use Rattle.hevc_stream.specs.Kept.{Kept, with_sequence_set}
-use Rattle.hevc_slice.specs.declared.parser.Parser.{Parser}
-use Rattle.hevc_slice.specs.Kept.{kept_by}
+use Rattle.hevc_parser.specs.declared.parser.Parser.{Parser}
+use Rattle.hevc_parser.specs.Kept.{kept_by}
 use Rattle.hevc_kept_sets.specs.declared.read_unit.ReadUnit.{ReadUnit}
 use Rattle.hevc_kept_sets.specs.ReadUnits.{value_read, set_read, IsKeptAsRead}
 use mathlib.Core.Path.{fun_ext}

@@ -22,9 +22,9 @@ use Rattle.hevc_stream.specs.Slices.{temporal_id}
 use Rattle.hevc_stream.specs.Contents.{Content, video_set, sequence_set, unread_picture_set, content_read, picture_set_read, content}
 use Rattle.hevc_stream.specs.Stream.{with_picture_set_unit, with_waited, with_all_waited, with_content, kept_behind}
 use Rattle.hevc_stream_laws.proofs.ByType.{of_video_set, of_sequence_set, of_picture_set}
-use Rattle.hevc_slice.specs.declared.parser.Parser.{Parser}
-use Rattle.hevc_slice.specs.Kept.{kept_by}
-use Rattle.hevc_slice.specs.Lending.{Keeps}
+use Rattle.hevc_parser.specs.declared.parser.Parser.{Parser}
+use Rattle.hevc_parser.specs.Kept.{kept_by}
+use Rattle.hevc_parser.specs.Lending.{Keeps}
 use Rattle.hevc_kept_sets.specs.Takes.{Refuses, TakesVideoSet, KeepsSequenceSet, ReadsPictureSet, picture_set_content, first_waited}
 use Rattle.hevc_kept_sets.specs.CutUnits.{is_wanted_header, is_wanted}
 use Rattle.hevc_kept_sets.proofs.Waiting.{waited_by}

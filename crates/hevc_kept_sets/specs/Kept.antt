@@ -2,7 +2,7 @@
 use Rattle.hevc_stream.specs.Kept.{Kept}
 use Rattle.hevc_stream.specs.Options.{Options}
 use Rattle.hevc_options.specs.Options.{options_of}
-use Rattle.hevc_slice.specs.Kept.{kept_by}
+use Rattle.hevc_parser.specs.Kept.{kept_by}
 use Rattle.hevc_kept_sets.specs.declared.kept_sets.KeptSets.{KeptSets}
 
 -- the parser's sets, and the units that wait

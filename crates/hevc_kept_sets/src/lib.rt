@@ -7,5 +7,5 @@ mod set_ids;
 mod waiting_unit;
 
 pub use hevc_options::Options;
-pub use hevc_slice::{ParseError, Parser};
+pub use hevc_parser::{ParseError, Parser};
 pub use kept_sets::KeptSets;

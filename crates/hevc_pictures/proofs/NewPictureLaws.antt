@@ -2,7 +2,7 @@
 use Rattle.std.proofs.Common.{◌≡◌, ℕ, ℤ, pos, ◌+◌, ◌-ℤ◌, Bool, not, cond, ◌&&◌, ◌||◌, eqb, refl, sym, ap, ◌∙◌}
 use Rattle.std.specs.Prelude.{Option}
 use Rattle.hevc_spec.specs.UnitTypes.{is_idr, is_bla, is_cra, is_irap, is_radl, is_rasl, is_slnr}
-use Rattle.hevc_types_d.specs.declared.slice.Slice.{Slice}
+use Rattle.hevc_picture_slice.specs.declared.slice.Slice.{Slice}
 use Rattle.hevc_walk.specs.Meanings as walk
 use Rattle.hevc_walk.specs.OrderCounts.{count_behind, is_i32}
 use Rattle.hevc_walk.specs.Pictures.{Context, head, no_rasl_output, begins_sequence, order_count_of, order_count_in_range}

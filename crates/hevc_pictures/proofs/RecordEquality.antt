@@ -1,7 +1,7 @@
 -- The derived `==` of a picture's data: true exactly at equal records.
 use Rattle.std.proofs.Common.{◌≡◌, true, subst, rules}
 use denote.Enum.Bare.{same_true}
-use Rattle.hevc_types_a.proofs.Equality.{IsEquality, bool, nat, int, field, last, struct}
+use Rattle.hevc_set_parts.proofs.Equality.{IsEquality, bool, nat, int, field, last, struct}
 use Rattle.hevc_bits.specs.declared.nalu_type.NaluType.{NaluType}
 use Rattle.hevc_bits.specs.contracts.nalu_type.NaluType as nalu_type_enum
 use Rattle.hevc_bits.specs.contracts.nalu_type.NaluTypePartialEq.TheImpl as nalu_type_eq

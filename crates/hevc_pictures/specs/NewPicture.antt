@@ -2,7 +2,7 @@
 use Rattle.std.specs.Prelude.{◌≡◌, ℕ, ℤ, pos, ◌+◌, ◌-ℤ◌, Bool, false, ◌&&◌, Option}
 use Rattle.hevc_spec.specs.UnitTypes.{is_irap}
 use Rattle.hevc_bits.specs.NaluType.{nalu_type_number}
-use Rattle.hevc_types_d.specs.declared.slice.Slice.{Slice}
+use Rattle.hevc_picture_slice.specs.declared.slice.Slice.{Slice}
 use Rattle.hevc_walk.specs.Meanings as walk
 use Rattle.hevc_walk.specs.Pictures.{Context, Head, head, no_rasl_output}
 use Rattle.hevc_pictures.specs.declared.picture_data.PictureData.{PictureData}

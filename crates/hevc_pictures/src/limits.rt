@@ -1,8 +1,8 @@
 //! What a sequence set declares of its pictures' order.
 ghost use Rattle.std.specs.Prelude.{◌≡◌};
-ghost use Rattle.hevc_types_c.specs.Sps.{plain_sps};
+ghost use Rattle.hevc_sequence_set.specs.Sps.{plain_sps};
 
-use hevc_types_c::Sps;
+use hevc_sequence_set::Sps;
 
 /// What a sequence set declares for the highest sub-layer that is decoded (7.4.3.2.1).
 #[derive(Clone, Copy, PartialEq, Eq)]

@@ -7,7 +7,7 @@ ghost use Rattle.hevc_bits.specs.NaluType.{nalu_type_number};
 use crate::order_count::{PocOutOfRange, order_count};
 use crate::picture_data::PictureData;
 use hevc_bits::NaluType;
-use hevc_types_d::Slice;
+use hevc_picture_slice::Slice;
 
 /// NoRaslOutputFlag (8.1.3), which holds for every picture that is first after an end of sequence.
 fn no_rasl_output(

@@ -1,9 +1,9 @@
 //! Pictures by their first slice.
 use crate::expect::{expect, expect_eq, ok};
 use hevc_bits::{Nalu, NaluHeader};
+use hevc_picture_slice::{Slice, SliceHeader};
 use hevc_pictures::{Limits, PictureData, PocOutOfRange, Reference};
-use hevc_types_c::Sps;
-use hevc_types_d::{Slice, SliceHeader};
+use hevc_sequence_set::Sps;
 use std::alloc::Global;
 use std::process::Abort;
 

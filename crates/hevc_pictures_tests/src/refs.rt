@@ -4,9 +4,9 @@ ghost use Rattle.std.specs.Prelude.{pos, ◌<ℤ◌};
 use crate::expect::{expect, ok, some};
 use hevc_bits::NaluType;
 use hevc_dpb::{Dpb, PictureData, Reference};
+use hevc_picture_slice::SliceHeader;
 use hevc_refs::{RefPicListEntry, RefPicSet, build_ref_pic_lists, derive_and_mark};
-use hevc_types_a::{ShortTermRefPicSet, SliceType};
-use hevc_types_d::SliceHeader;
+use hevc_set_parts::{ShortTermRefPicSet, SliceType};
 use std::alloc::Global;
 use std::process::Abort;
 

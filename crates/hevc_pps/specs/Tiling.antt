@@ -6,9 +6,9 @@ use Rattle.hevc_records.specs.Pps.{PlainPps}
 use Rattle.hevc_records.specs.SetsById.{sets_by_id}
 use Rattle.hevc_records.specs.Sps.{PlainSps}
 use Rattle.hevc_tables.specs.PpsTable.{Parts}
-use Rattle.hevc_types_c.specs.declared.sps.Sps.{Sps}
-use Rattle.hevc_types_c.specs.Sps.{plain_sps}
-use Rattle.hevc_types_d.specs.declared.pps.Pps.{Pps}
+use Rattle.hevc_sequence_set.specs.declared.sps.Sps.{Sps}
+use Rattle.hevc_sequence_set.specs.Sps.{plain_sps}
+use Rattle.hevc_picture_slice.specs.declared.pps.Pps.{Pps}
 
 -- the blocks of so many parts, whose sizes are less 1
 abbrev pub blocks_of : ℕ → List ℕ → ℕ

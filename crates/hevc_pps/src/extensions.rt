@@ -2,10 +2,10 @@
 ghost use Rattle.std.specs.Prelude.{◌≡◌};
 ghost use Rattle.hevc_elements.specs.Words.{Fills, when};
 ghost use Rattle.hevc_tables.specs.PpsTable as table;
-ghost use Rattle.hevc_types_a.specs.PpsRangeExtension.{plain_pps_range_extension};
-ghost use Rattle.hevc_types_a.specs.PpsSccExtension.{plain_pps_scc_extension};
-ghost use Rattle.hevc_types_c.specs.Sps.{plain_sps};
-ghost use Rattle.hevc_types_d.specs.Pps.{plain_pps};
+ghost use Rattle.hevc_set_parts.specs.PpsRangeExtension.{plain_pps_range_extension};
+ghost use Rattle.hevc_set_parts.specs.PpsSccExtension.{plain_pps_scc_extension};
+ghost use Rattle.hevc_sequence_set.specs.Sps.{plain_sps};
+ghost use Rattle.hevc_picture_slice.specs.Pps.{plain_pps};
 ghost use Rattle.hevc_pps.specs.Tiling.{KeepsTiles};
 
 use crate::range_extension::read_pps_range_extension;
@@ -13,10 +13,10 @@ use crate::scc_extension::read_pps_scc_extension;
 use hevc_bits::NaluReader;
 use hevc_elements::ParseError;
 use hevc_elements::rows::{flag, skip, zero};
+use hevc_picture_slice::Pps;
+use hevc_sequence_set::Sps;
+use hevc_set_parts::{PpsRangeExtension, PpsSccExtension};
 use hevc_spec::Row;
-use hevc_types_a::{PpsRangeExtension, PpsSccExtension};
-use hevc_types_c::Sps;
-use hevc_types_d::Pps;
 
 /// The last flag of row 28, and rows 29 to 35 of table 11.
 #[tactic(auto, unfolding(hevc_tables::specs::PpsTable::extensions, hevc_spec::specs::Rows::when))]

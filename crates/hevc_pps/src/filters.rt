@@ -5,19 +5,19 @@ ghost use Rattle.hevc_elements.specs.Words.{bits, IsAhead, read, Reads, Fills};
 ghost use Rattle.hevc_records.specs.DefaultScalingLists.{default_lists};
 ghost use Rattle.hevc_tables.specs.PpsTable as table;
 ghost use Rattle.hevc_tables.specs.ScalingListTable.{scaling_list_data};
-ghost use Rattle.hevc_types_a.specs.ScalingLists.{plain_scaling_lists};
-ghost use Rattle.hevc_types_c.specs.Sps.{plain_sps};
-ghost use Rattle.hevc_types_d.specs.Pps.{plain_pps};
+ghost use Rattle.hevc_set_parts.specs.ScalingLists.{plain_scaling_lists};
+ghost use Rattle.hevc_sequence_set.specs.Sps.{plain_sps};
+ghost use Rattle.hevc_picture_slice.specs.Pps.{plain_pps};
 ghost use Rattle.hevc_pps.specs.Tiling.{KeepsTiles};
 
 use hevc_bits::NaluReader;
 use hevc_elements::ParseError;
 use hevc_elements::rows::{flag, se_i8, ue_u8};
+use hevc_picture_slice::Pps;
 use hevc_scaling::{default_scaling_lists, read_scaling_list_data};
+use hevc_sequence_set::Sps;
+use hevc_set_parts::ScalingLists;
 use hevc_spec::Row;
-use hevc_types_a::ScalingLists;
-use hevc_types_c::Sps;
-use hevc_types_d::Pps;
 
 /// Rows 20 to 23 of table 11.
 #[tactic(auto, unfolding(hevc_tables::specs::PpsTable::filters, hevc_spec::specs::Rows::when))]

@@ -7,8 +7,8 @@ ghost use Rattle.hevc_elements.specs.Words.{bits, read, Fills, ReadsSet, MeansSe
 ghost use Rattle.hevc_elements.specs.Naming.{ReadsNaming};
 ghost use Rattle.hevc_records.specs.SetsById.{sets_by_id};
 ghost use Rattle.hevc_tables.specs.PpsTable as table;
-ghost use Rattle.hevc_types_c.specs.Sps.{plain_sps};
-ghost use Rattle.hevc_types_d.specs.Pps.{plain_pps};
+ghost use Rattle.hevc_sequence_set.specs.Sps.{plain_sps};
+ghost use Rattle.hevc_picture_slice.specs.Pps.{plain_pps};
 ghost use Rattle.hevc_pps.specs.Answers.{NamesNoOtherSet};
 ghost use Rattle.hevc_pps.specs.Tiling.{TilesCover, CoverKept};
 ghost use Rattle.hevc_bits.specs.declared.stream_limit.TheConstants.{STREAM_LIMIT};
@@ -20,9 +20,9 @@ use crate::tools::{read_presence, read_quantiser, read_tools};
 use hevc_bits::{Nalu, NaluHeader, NaluReader, NaluType};
 use hevc_elements::ParseError;
 use hevc_elements::rows::ue_u8;
+use hevc_picture_slice::Pps;
+use hevc_sequence_set::Sps;
 use hevc_spec::Row;
-use hevc_types_c::Sps;
-use hevc_types_d::Pps;
 use std::alloc::Global;
 use std::collections::BTreeMap;
 

@@ -2,15 +2,15 @@
 ghost use Rattle.std.specs.Prelude.{◌≤◌, ◌<◌};
 ghost use Rattle.hevc_elements.specs.Words.{bits, IsAhead, read, Reads, Fills};
 ghost use Rattle.hevc_tables.specs.PpsRangeExtensionTable as table;
-ghost use Rattle.hevc_types_a.specs.PpsRangeExtension.{plain_pps_range_extension};
-ghost use Rattle.hevc_types_c.specs.Sps.{plain_sps};
+ghost use Rattle.hevc_set_parts.specs.PpsRangeExtension.{plain_pps_range_extension};
+ghost use Rattle.hevc_sequence_set.specs.Sps.{plain_sps};
 
 use hevc_bits::NaluReader;
 use hevc_elements::ParseError;
 use hevc_elements::rows::{flag, se, ue, ue_if};
+use hevc_sequence_set::Sps;
+use hevc_set_parts::PpsRangeExtension;
 use hevc_spec::Row;
-use hevc_types_a::PpsRangeExtension;
-use hevc_types_c::Sps;
 
 /// Table 12, of a set that allows skipped transforms or not.
 #[tactic(auto, unfolding(hevc_tables::specs::PpsRangeExtensionTable::pps_range_extension, hevc_spec::specs::Rows::when))]

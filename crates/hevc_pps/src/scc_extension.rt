@@ -5,15 +5,15 @@ ghost use Rattle.hevc_tables.specs.PpsSccExtensionTable as table;
 ghost use Rattle.hevc_tables.specs.PpsTable.{max_palette_predictors as most_predictors};
 ghost use Rattle.hevc_tables.specs.SpsSccExtensionTable.{bit_depth as bit_depth_of};
 ghost use Rattle.hevc_tables.specs.SpsTable.{sample_format};
-ghost use Rattle.hevc_types_a.specs.PpsSccExtension.{plain_pps_scc_extension};
-ghost use Rattle.hevc_types_c.specs.Sps.{plain_sps};
+ghost use Rattle.hevc_set_parts.specs.PpsSccExtension.{plain_pps_scc_extension};
+ghost use Rattle.hevc_sequence_set.specs.Sps.{plain_sps};
 
 use hevc_bits::NaluReader;
 use hevc_elements::ParseError;
 use hevc_elements::rows::{bits_u32, flag, se_i8, ue_u8, ue_u8_if};
+use hevc_sequence_set::Sps;
+use hevc_set_parts::PpsSccExtension;
 use hevc_spec::Row;
-use hevc_types_a::PpsSccExtension;
-use hevc_types_c::Sps;
 
 /// Table 13.
 #[tactic(auto, unfolding(hevc_tables::specs::PpsSccExtensionTable::pps_scc_extension, hevc_spec::specs::Rows::when))]

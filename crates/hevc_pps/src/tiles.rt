@@ -2,17 +2,17 @@
 ghost use Rattle.std.specs.Prelude.{◌≡◌, ◌≤◌, OnOk};
 ghost use Rattle.hevc_elements.specs.Words.{Fills};
 ghost use Rattle.hevc_tables.specs.PpsTable as table;
-ghost use Rattle.hevc_types_c.specs.Sps.{plain_sps};
-ghost use Rattle.hevc_types_d.specs.Pps.{plain_pps};
+ghost use Rattle.hevc_sequence_set.specs.Sps.{plain_sps};
+ghost use Rattle.hevc_picture_slice.specs.Pps.{plain_pps};
 ghost use Rattle.hevc_pps.specs.Tiling.{HaveBlocks, AddUp};
 
 use crate::tile_sizes::{even_sizes, read_told_sizes};
 use hevc_bits::NaluReader;
 use hevc_elements::ParseError;
 use hevc_elements::rows::{flag, ue_u8};
+use hevc_picture_slice::Pps;
+use hevc_sequence_set::Sps;
 use hevc_spec::Row;
-use hevc_types_c::Sps;
-use hevc_types_d::Pps;
 
 /// Rows 14 to 19 of table 11, of a set with tiles.
 #[tactic(auto, unfolding(hevc_tables::specs::PpsTable::tiles, hevc_spec::specs::Rows::either))]

@@ -3,15 +3,15 @@ ghost use Rattle.std.specs.Prelude.{◌≡◌, ◌+◌, ◌≤◌, ◌≤ℤ◌,
 ghost use Rattle.hevc_spec.specs.Rows.{row, ue_row};
 ghost use Rattle.hevc_elements.specs.Words.{bits, IsAhead, read, Fills};
 ghost use Rattle.hevc_tables.specs.PpsTable as table;
-ghost use Rattle.hevc_types_c.specs.Sps.{plain_sps};
-ghost use Rattle.hevc_types_d.specs.Pps.{plain_pps};
+ghost use Rattle.hevc_sequence_set.specs.Sps.{plain_sps};
+ghost use Rattle.hevc_picture_slice.specs.Pps.{plain_pps};
 
 use hevc_bits::NaluReader;
 use hevc_elements::ParseError;
 use hevc_elements::rows::{bits_u8, flag, se_i8, ue_u8, ue_u8_if};
+use hevc_picture_slice::Pps;
+use hevc_sequence_set::Sps;
 use hevc_spec::Row;
-use hevc_types_c::Sps;
-use hevc_types_d::Pps;
 
 /// Rows 3 to 7 of table 11.
 #[tactic(auto, unfolding(hevc_tables::specs::PpsTable::presence))]

@@ -2,9 +2,9 @@
 use Rattle.std.proofs.Common.{◌≡◌, ◌≢◌, ℕ, true, false, Option, Some, None, refl, sym, arith}
 use Rattle.std.specs.Prelude.{◌↔◌, nat_eq}
 use Rattle.hevc_records.specs.ProfileConformance.{is_level}
-use Rattle.hevc_types_a.specs.Level.{level_number}
-use Rattle.hevc_types_a.specs.declared.level.Level.{Level}
-use Rattle.hevc_types_a.specs.declared.level.Level.TheVariants.{L1, L2, L2_1, L3, L3_1, L4, L4_1, L5, L5_1, L5_2, L6, L6_1, L6_2}
+use Rattle.hevc_set_parts.specs.Level.{level_number}
+use Rattle.hevc_set_parts.specs.declared.level.Level.{Level}
+use Rattle.hevc_set_parts.specs.declared.level.Level.TheVariants.{L1, L2, L2_1, L3, L3_1, L4, L4_1, L5, L5_1, L5_2, L6, L6_1, L6_2}
 
 number_is_level : (level : Level) → is_level (level_number level) ≡ true
 number_is_level L1 = refl

@@ -1,10 +1,10 @@
 //! What is told of the profile of a layer (7.3.3, rows 1 to 15 of table 2).
 ghost use Rattle.std.specs.Prelude.{◌≡◌, ◌<◌};
 ghost use Rattle.hevc_tables.specs.ProfileTierLevelTable as table;
-ghost use Rattle.hevc_types_a.specs.ProfileTierLevel.{plain_profile_tier_level};
+ghost use Rattle.hevc_set_parts.specs.ProfileTierLevel.{plain_profile_tier_level};
 ghost use Rattle.hevc_profile.specs.LayerProfile.{plain_layer_profile};
 
-use hevc_types_a::ProfileTierLevel;
+use hevc_set_parts::ProfileTierLevel;
 
 /// The profile of the whole stream, or of a sub-layer. Fields have the names of their syntax elements, without `general_` and
 /// `sub_layer_`.

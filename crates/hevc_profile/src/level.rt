@@ -3,13 +3,13 @@ ghost use Rattle.hevc_spec.specs.Payload.{bits, IsAhead};
 ghost use Rattle.hevc_spec.specs.Table.{read};
 ghost use Rattle.hevc_elements.specs.Reads.{Reads};
 ghost use Rattle.hevc_tables.specs.ProfileTierLevelTable.{level as level_table};
-ghost use Rattle.hevc_types_a.specs.Level.{level_number};
+ghost use Rattle.hevc_set_parts.specs.Level.{level_number};
 
 use hevc_bits::NaluReader;
 use hevc_elements::ParseError;
 use hevc_elements::rows::{out_of_range, refusal};
+use hevc_set_parts::Level;
 use hevc_spec::Row;
-use hevc_types_a::Level;
 
 /// The level whose number is there, u(8). Other numbers are out of range.
 #[tactic(auto, using(crate::proofs::LevelNumbers::level_numbers), unfolding(hevc_tables::specs::ProfileTierLevelTable::level))]

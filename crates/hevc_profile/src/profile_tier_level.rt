@@ -3,7 +3,7 @@ ghost use Rattle.std.specs.Prelude.{◌≤◌};
 ghost use Rattle.hevc_elements.specs.Words.{bits, IsAhead, IsReached, read, Reads, Means, Fills};
 ghost use Rattle.hevc_tables.specs.ProfileTierLevelTable as table;
 ghost use Rattle.hevc_tables.specs.ProfileTierLevelTable.{profile_tier_level};
-ghost use Rattle.hevc_types_a.specs.ProfileTierLevel.{plain_profile_tier_level};
+ghost use Rattle.hevc_set_parts.specs.ProfileTierLevel.{plain_profile_tier_level};
 
 use crate::layer::read_layer_profile;
 use crate::layer_profile::put_general_profile;
@@ -12,8 +12,8 @@ use crate::scope::Scope;
 use crate::sub_layers::{read_presence, read_sub_layers, skip_absent_layers};
 use hevc_bits::NaluReader;
 use hevc_elements::ParseError;
+use hevc_set_parts::ProfileTierLevel;
 use hevc_spec::Row;
-use hevc_types_a::ProfileTierLevel;
 
 /// Reads profile, tier and level of a set whose highest sub-layer is `max_sub_layers_minus1`, by table 2 (7.3.3).
 ///

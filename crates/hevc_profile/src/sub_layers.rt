@@ -2,7 +2,7 @@
 ghost use Rattle.std.specs.Prelude.{◌≤◌, ◌<◌};
 ghost use Rattle.hevc_elements.specs.Words.{bits, IsAhead, read, when, Reads, Fills};
 ghost use Rattle.hevc_tables.specs.ProfileTierLevelTable as table;
-ghost use Rattle.hevc_types_a.specs.ProfileTierLevel.{plain_profile_tier_level};
+ghost use Rattle.hevc_set_parts.specs.ProfileTierLevel.{plain_profile_tier_level};
 
 use crate::layer::read_layer_profile;
 use crate::layer_profile::put_sub_layer_profile;
@@ -11,8 +11,8 @@ use crate::scope::Scope;
 use hevc_bits::NaluReader;
 use hevc_elements::ParseError;
 use hevc_elements::rows::{flag, skip};
+use hevc_set_parts::ProfileTierLevel;
 use hevc_spec::Row;
-use hevc_types_a::ProfileTierLevel;
 
 /// Row 28 of table 2, for each sub-layer below the highest.
 #[tactic(auto, using(hevc_elements::proofs::Loops::loops), unfolding(hevc_tables::specs::ProfileTierLevelTable::presence))]

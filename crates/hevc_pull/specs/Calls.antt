@@ -6,8 +6,8 @@ use Rattle.hevc_driver.specs.Given.{Given}
 use Rattle.hevc_stateless.specs.declared.state.State.TheVariants.{AwaitingFormat, Decoding}
 use Rattle.hevc_stateless.specs.Flushes.{Flushes}
 use Rattle.hevc_stateless.specs.Steps.{TakesFirst}
-use Rattle.hevc_c_parts.specs.declared.event.Event.{Event}
-use Rattle.hevc_c_parts.specs.Plain.{bare_event}
+use Rattle.hevc_events.specs.declared.event.Event.{Event}
+use Rattle.hevc_events.specs.Plain.{bare_event}
 use Rattle.hevc_pull.specs.declared.decoder.PullDecoder.{PullDecoder}
 use Rattle.hevc_pull.specs.declared.pulled.Pulled.{Pulled}
 use Rattle.hevc_pull.specs.declared.pulled.Pulled.TheVariants.{Asked, Output, FormatChanged}

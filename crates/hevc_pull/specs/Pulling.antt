@@ -3,7 +3,7 @@ use Rattle.std.specs.Prelude.{◌≡◌, ℕ, ◌+◌, ◌==◌, Bool, true, fal
 use Rattle.hevc_backend.specs.declared.call.Call.{Call}
 use Rattle.hevc_stateless.specs.States.{is_awaited}
 use Rattle.hevc_stateless.specs.Views.{View}
-use Rattle.hevc_c_parts.specs.declared.event.Event.{Event}
+use Rattle.hevc_events.specs.declared.event.Event.{Event}
 use Rattle.hevc_queue.specs.Events.{event_of}
 use Rattle.hevc_queue.specs.Queue.{Queue, log_of}
 use Rattle.hevc_pull.specs.declared.pulled.Pulled.{Pulled}

@@ -18,9 +18,9 @@ use Rattle.hevc_elements.specs.declared.parse_error.ParseError.{ParseError}
 use Rattle.hevc_elements.specs.declared.parse_error.ParseError.TheVariants.{WrongNaluType, OutOfBits, OutOfRange, MissingSps, MissingPps, NoMemory}
 use Rattle.hevc_elements.specs.Sets.{RefusesSet}
 use Rattle.hevc_slice_header.specs.Answers.{slice_table}
-use Rattle.hevc_slice.specs.declared.parser.Parser.{Parser}
-use Rattle.hevc_slice.specs.Kept.{kept_by}
-use Rattle.hevc_slice.specs.Slices.{active_of}
+use Rattle.hevc_parser.specs.declared.parser.Parser.{Parser}
+use Rattle.hevc_parser.specs.Kept.{kept_by}
+use Rattle.hevc_parser.specs.Slices.{active_of}
 use Rattle.hevc_driver.specs.Errors.{unit_error}
 use Rattle.hevc_pull.specs.Fields.Vps.{fields_of_vps}
 use Rattle.hevc_pull.specs.Fields.Sps.{fields_of_sps}

@@ -5,7 +5,7 @@ ghost use Rattle.hevc_pull.specs.Calls.{Accepts, Decodes, FlushesAll, TakesNext,
 use crate::decoder::PullDecoder;
 use crate::pulled::Pulled;
 use crate::status::{FORMAT_NOT_AWAITED, TOO_LONG, row_of, status_of, table_of};
-use hevc_c_parts::{Event, event_of_picture};
+use hevc_events::{Event, event_of_picture};
 
 /// What a call of `decode` is given, and what it answers.
 #[repr(C)]

@@ -13,8 +13,8 @@ ghost use Rattle.hevc_pull.specs.Views.{kept_of, options_for, seen_of, traces_in
 ghost use Rattle.hevc_pull.specs.Pulling.{PullsNext, TakesEvent, outputs_are_due};
 
 use crate::pulled::Pulled;
-use hevc_c_parts::Event;
 use hevc_driver::{DecodeError, Frame};
+use hevc_events::Event;
 use hevc_queue::{PictureControls, QueueBackend};
 use hevc_stateless::{DecoderEvent, StatelessDecoder};
 use hevc_v4l2::{ControlError, V4l2CtrlHevcSliceParams};

@@ -1,6 +1,6 @@
 //! What came of units.
-use hevc_c_parts::Event;
 use hevc_driver::Frame;
+use hevc_events::Event;
 
 /// What came of units.
 #[derive(Drop)]

@@ -5,8 +5,8 @@ ghost use Rattle.hevc_spec.specs.Table.{read};
 ghost use Rattle.hevc_spec.specs.UnitTypes.{is_slice};
 ghost use Rattle.hevc_bits.specs.FoundUnit.{bytes_of};
 ghost use Rattle.hevc_bits.specs.declared.stream_limit.TheConstants.{STREAM_LIMIT};
-ghost use Rattle.hevc_slice.specs.Kept.{kept_by};
-ghost use Rattle.hevc_slice.specs.Slices.{active_of};
+ghost use Rattle.hevc_parser.specs.Kept.{kept_by};
+ghost use Rattle.hevc_parser.specs.Slices.{active_of};
 ghost use Rattle.hevc_slice_header.specs.Answers.{slice_table};
 ghost use Rattle.hevc_pull.specs.Reads.{Reads, ReadsContent, ReadsUnit, Takes, keep_nothing, row_of_refusal, status_of_reading, status_of_refusal, table_of_refusal, with_slice};
 
@@ -18,7 +18,7 @@ use crate::units::{UnitCall, refused_unit, type_number, unit_of};
 use hevc_bits::{Nalu, NaluHeader};
 use hevc_driver::DecodeError;
 use hevc_elements::ParseError;
-use hevc_slice::Parser;
+use hevc_parser::Parser;
 
 /// What a unit has. Of sets and headers the one of the unit's type is written, and the others stay as they were.
 #[repr(C)]

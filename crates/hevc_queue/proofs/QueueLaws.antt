@@ -2,8 +2,8 @@
 use Rattle.std.proofs.Common.{◌≡◌, ℕ, zero, suc, ◌+◌, List, [], ◌∷◌, ◌++◌, length, drop, map, get_or, Option, Some, None, IfSome, IfNone, refl, ap, sym, ◌∙◌, arith}
 use Rattle.std.proofs.lemmas.List.{drop-append-le, length_push, length-map, map-append}
 use Rattle.hevc_backend.specs.declared.call.Call.{Call}
-use Rattle.hevc_c_parts.specs.declared.event.Event.{Event}
-use Rattle.hevc_c_parts.specs.Waiting.{Waiting, next_place, with_event}
+use Rattle.hevc_events.specs.declared.event.Event.{Event}
+use Rattle.hevc_events.specs.Waiting.{Waiting, next_place, with_event}
 use Rattle.hevc_queue.specs.declared.given.Given.{Given}
 use Rattle.hevc_queue.specs.Events.{event_of, events_from, events_of}
 use Rattle.hevc_queue.specs.Given.{call_of}

@@ -6,9 +6,9 @@ use Rattle.hevc_refs.specs.declared.ref_pic_list.RefPicListEntry.TheVariants as 
 use Rattle.hevc_backend.specs.declared.call.Call.{Call}
 use Rattle.hevc_backend.specs.declared.call.Call.TheVariants.{NewSequence, NewPicture, BeginPicture, DecodeSlice, SubmitPicture}
 use Rattle.hevc_v4l2.specs.Arrays.{padded}
-use Rattle.hevc_c_parts.specs.declared.event.Places.{Places}
-use Rattle.hevc_c_parts.specs.declared.event.Event.{Event}
-use Rattle.hevc_c_parts.specs.Plain.{bare_event, event_of_picture, no_places}
+use Rattle.hevc_events.specs.declared.event.Places.{Places}
+use Rattle.hevc_events.specs.declared.event.Event.{Event}
+use Rattle.hevc_events.specs.Plain.{bare_event, event_of_picture, no_places}
 
 -- ---- lists of pictures
 

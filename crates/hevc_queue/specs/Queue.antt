@@ -4,7 +4,7 @@ use Rattle.std.specs.List.{flat_map}
 use Rattle.hevc_backend.specs.declared.call.Call.{Call}
 use Rattle.hevc_backend.specs.Handed.{Handed}
 use Rattle.hevc_backend.specs.Trait.{Counts, counts_of}
-use Rattle.hevc_c_parts.specs.declared.event.Event.{Event}
+use Rattle.hevc_events.specs.declared.event.Event.{Event}
 use Rattle.hevc_queue.specs.declared.given.Given.{Given}
 use Rattle.hevc_queue.specs.Given.{call_of, handed_in}
 

@@ -1,9 +1,9 @@
 -- By what a proof tells queues apart.
 use Rattle.std.specs.Prelude.{ℕ, Bool, List, Option, refl}
 use Rattle.std.specs.Coded.{Coded, code_by, coded×, coded_ℕ, coded_bool, coded_list, coded_option}
-use Rattle.hevc_c_parts.specs.declared.event.Event.{Event}
+use Rattle.hevc_events.specs.declared.event.Event.{Event}
 use Rattle.hevc_queue.specs.declared.given.Given.{Given}
-use Rattle.hevc_c_parts.specs.contracts.event.Event as event_type
+use Rattle.hevc_events.specs.contracts.event.Event as event_type
 use Rattle.hevc_queue.specs.contracts.given.Given as given_type
 use Rattle.hevc_queue.specs.Queue.{Queue}
 

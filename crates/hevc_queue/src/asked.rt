@@ -8,10 +8,10 @@ ghost use Rattle.hevc_queue.specs.Events.{event_of};
 use crate::places::{places_of_entries, places_of_members};
 use hevc_backend::NegotiationInfo;
 use hevc_bits::NaluType;
-use hevc_c_parts::{Event, event_of_picture, no_places};
 use hevc_dpb::PictureData;
+use hevc_events::{Event, event_of_picture, no_places};
+use hevc_picture_slice::Slice;
 use hevc_refs::{RefPicList, RefPicSet};
-use hevc_types_d::Slice;
 
 /// A sequence begins.
 pub(crate) fn sequence_event(place: u64, info: &NegotiationInfo) -> Event

@@ -2,7 +2,7 @@
 ghost use Rattle.std.specs.Prelude.{◌≡◌, ◌+◌, ◌<◌, ◌^◌, ◌↔◌, [], ◌∷◌, ℕ, drop, length, slice_index_or, None, Some, IsNone, IfSome, IfNone, IfOk, OnOk, OnErr};
 ghost use Rattle.hevc_backend.specs.Trait.{CountsFaults};
 ghost use Rattle.hevc_backend.specs.declared.call.Call.{Call};
-ghost use Rattle.hevc_c_parts.specs.Waiting.{sequence_is_next};
+ghost use Rattle.hevc_events.specs.Waiting.{sequence_is_next};
 ghost use Rattle.hevc_queue.specs.Events.{event_of, events_of};
 ghost use Rattle.hevc_queue.specs.Controls.{latest_picture_controls, latest_slice_control};
 ghost use Rattle.hevc_queue.specs.Queue.{given_wanted, handed_of, log_of, new_queue, with_controls_after, with_controls};
@@ -11,12 +11,12 @@ use crate::asked::{picture_event, sequence_event, sets_event, slice_event, submi
 use crate::controls::{Controls, PictureControls, fill_picture, fill_slice, no_controls};
 use crate::given::Given;
 use hevc_backend::{BackendError, NegotiationInfo, StatelessH265DecoderBackend, StreamInfo};
-use hevc_c_parts::{Event, EventQueue};
 use hevc_dpb::{Dpb, PictureData};
+use hevc_events::{Event, EventQueue};
 use hevc_history::History;
+use hevc_picture_slice::{Pps, Slice};
 use hevc_refs::{RefPicList, RefPicSet};
-use hevc_types_c::Sps;
-use hevc_types_d::{Pps, Slice};
+use hevc_sequence_set::Sps;
 use hevc_v4l2::{ControlError, V4l2CtrlHevcSliceParams};
 use std::alloc::{AllocError, Global};
 use std::marker::Model;
@@ -45,7 +45,7 @@ pub struct QueueBackend {
 impl Model for QueueBackend {
     ghost use Rattle.std.specs.Prelude.{◌≡◌, drop, length, map};
     ghost use Rattle.std.specs.Option.{option_map};
-    ghost use Rattle.hevc_c_parts.specs.Waiting.{next_place};
+    ghost use Rattle.hevc_events.specs.Waiting.{next_place};
     ghost use Rattle.hevc_queue.specs.Controls.{AreOfCalls, wanted};
     ghost use Rattle.hevc_queue.specs.Events.{events_of};
     ghost use Rattle.hevc_queue.specs.Given.{call_of};

@@ -5,9 +5,9 @@ ghost use Rattle.hevc_queue.specs.Given.{begun_with, slice_with};
 ghost use Rattle.hevc_queue.specs.Controls.{controls_of, picture_controls, wanted, with_begun, with_slice};
 
 use hevc_dpb::{Dpb, PictureData};
+use hevc_picture_slice::{Pps, Slice};
 use hevc_refs::{RefPicList, RefPicSet};
-use hevc_types_c::Sps;
-use hevc_types_d::{Pps, Slice};
+use hevc_sequence_set::Sps;
 use hevc_v4l2::{
     ControlError, V4l2CtrlHevcDecodeParams, V4l2CtrlHevcPps, V4l2CtrlHevcScalingMatrix,
     V4l2CtrlHevcSliceParams, V4l2CtrlHevcSps, decode_control, pps_control, scaling_control,

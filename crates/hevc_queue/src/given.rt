@@ -1,8 +1,8 @@
 //! What the calls on a backend were given, for proofs alone: no code makes such a value.
 use hevc_dpb::{Dpb, PictureData};
+use hevc_picture_slice::{Pps, Slice};
 use hevc_refs::{RefPicList, RefPicSet};
-use hevc_types_c::Sps;
-use hevc_types_d::{Pps, Slice};
+use hevc_sequence_set::Sps;
 
 /// A picture whose slices come: its sets, the buffer, its reference picture set, and its first slice segment.
 #[derive(Drop)]

@@ -4,7 +4,7 @@ ghost use Rattle.hevc_v4l2.specs.Arrays.{padded};
 ghost use Rattle.hevc_queue.specs.Events.{entry_kind, entry_number, member_kind, member_number, places_of_entries, places_of_members};
 
 use arrayvec::ArrayVec;
-use hevc_c_parts::Places;
+use hevc_events::Places;
 use hevc_refs::RefPicListEntry;
 
 /// A list of a reference picture set.

@@ -3,45 +3,45 @@ use Rattle.std.proofs.Common.{◌≡◌, ℕ, ◌==◌, if◌then◌else◌, Lis
 use Rattle.std.specs.Prelude.{map}
 use denote.Struct.Cover.{Cover-one}
 use denote.Struct.Declared.{Declared}
-use Rattle.hevc_types_a.specs.declared.level.Level.{Level}
-use Rattle.hevc_types_a.specs.declared.level.Level.TheVariants.{L1, L2, L2_1, L3, L3_1, L4, L4_1, L5, L5_1, L5_2, L6, L6_1, L6_2}
-use Rattle.hevc_types_a.specs.Level.{level_number}
-use Rattle.hevc_types_a.specs.declared.slice_type.SliceType.{SliceType}
-use Rattle.hevc_types_a.specs.declared.slice_type.SliceType.TheVariants.{B, P, I}
-use Rattle.hevc_types_a.specs.SliceType.{slice_type_number}
+use Rattle.hevc_set_parts.specs.declared.level.Level.{Level}
+use Rattle.hevc_set_parts.specs.declared.level.Level.TheVariants.{L1, L2, L2_1, L3, L3_1, L4, L4_1, L5, L5_1, L5_2, L6, L6_1, L6_2}
+use Rattle.hevc_set_parts.specs.Level.{level_number}
+use Rattle.hevc_set_parts.specs.declared.slice_type.SliceType.{SliceType}
+use Rattle.hevc_set_parts.specs.declared.slice_type.SliceType.TheVariants.{B, P, I}
+use Rattle.hevc_set_parts.specs.SliceType.{slice_type_number}
 use Rattle.hevc_record_laws.specs.Values.{IsItsValues}
-use Rattle.hevc_types_a.specs.ProfileTierLevel.{plain_profile_tier_level}
-use Rattle.hevc_types_a.specs.contracts.profile_tier_level.ProfileTierLevel as profile_tier_level_record
-use Rattle.hevc_types_a.specs.ScalingLists.{plain_scaling_lists}
-use Rattle.hevc_types_a.specs.contracts.scaling_lists.ScalingLists as scaling_lists_record
-use Rattle.hevc_types_a.specs.ShortTermRefPicSet.{plain_short_term_ref_pic_set}
-use Rattle.hevc_types_a.specs.contracts.short_term_ref_pic_set.ShortTermRefPicSet as short_term_ref_pic_set_record
-use Rattle.hevc_types_a.specs.PpsRangeExtension.{plain_pps_range_extension}
-use Rattle.hevc_types_a.specs.contracts.pps_range_extension.PpsRangeExtension as pps_range_extension_record
-use Rattle.hevc_types_a.specs.PpsSccExtension.{plain_pps_scc_extension}
-use Rattle.hevc_types_a.specs.contracts.pps_scc_extension.PpsSccExtension as pps_scc_extension_record
-use Rattle.hevc_types_a.specs.RefPicListModification.{plain_ref_pic_list_modification}
-use Rattle.hevc_types_a.specs.contracts.ref_pic_list_modification.RefPicListModification as ref_pic_list_modification_record
-use Rattle.hevc_types_b.specs.SublayerHrdParameters.{plain_sublayer_hrd_parameters}
-use Rattle.hevc_types_b.specs.contracts.sublayer_hrd_parameters.SublayerHrdParameters as sublayer_hrd_parameters_record
-use Rattle.hevc_types_b.specs.HrdParams.{plain_hrd_params}
-use Rattle.hevc_types_b.specs.contracts.hrd_params.HrdParams as hrd_params_record
-use Rattle.hevc_types_b.specs.VuiParams.{plain_vui_params}
-use Rattle.hevc_types_b.specs.contracts.vui_params.VuiParams as vui_params_record
-use Rattle.hevc_types_b.specs.Vps.{plain_vps}
-use Rattle.hevc_types_b.specs.contracts.vps.Vps as vps_record
-use Rattle.hevc_types_b.specs.PredWeightTable.{plain_pred_weight_table}
-use Rattle.hevc_types_b.specs.contracts.pred_weight_table.PredWeightTable as pred_weight_table_record
-use Rattle.hevc_types_c.specs.SpsRangeExtension.{plain_sps_range_extension}
-use Rattle.hevc_types_c.specs.contracts.sps_range_extension.SpsRangeExtension as sps_range_extension_record
-use Rattle.hevc_types_c.specs.SpsSccExtension.{plain_sps_scc_extension}
-use Rattle.hevc_types_c.specs.contracts.sps_scc_extension.SpsSccExtension as sps_scc_extension_record
-use Rattle.hevc_types_c.specs.Sps.{plain_sps}
-use Rattle.hevc_types_c.specs.contracts.sps.Sps as sps_record
-use Rattle.hevc_types_d.specs.Pps.{plain_pps}
-use Rattle.hevc_types_d.specs.contracts.pps.Pps as pps_record
-use Rattle.hevc_types_d.specs.SliceHeader.{plain_slice_header}
-use Rattle.hevc_types_d.specs.contracts.slice_header.SliceHeader as slice_header_record
+use Rattle.hevc_set_parts.specs.ProfileTierLevel.{plain_profile_tier_level}
+use Rattle.hevc_set_parts.specs.contracts.profile_tier_level.ProfileTierLevel as profile_tier_level_record
+use Rattle.hevc_set_parts.specs.ScalingLists.{plain_scaling_lists}
+use Rattle.hevc_set_parts.specs.contracts.scaling_lists.ScalingLists as scaling_lists_record
+use Rattle.hevc_set_parts.specs.ShortTermRefPicSet.{plain_short_term_ref_pic_set}
+use Rattle.hevc_set_parts.specs.contracts.short_term_ref_pic_set.ShortTermRefPicSet as short_term_ref_pic_set_record
+use Rattle.hevc_set_parts.specs.PpsRangeExtension.{plain_pps_range_extension}
+use Rattle.hevc_set_parts.specs.contracts.pps_range_extension.PpsRangeExtension as pps_range_extension_record
+use Rattle.hevc_set_parts.specs.PpsSccExtension.{plain_pps_scc_extension}
+use Rattle.hevc_set_parts.specs.contracts.pps_scc_extension.PpsSccExtension as pps_scc_extension_record
+use Rattle.hevc_set_parts.specs.RefPicListModification.{plain_ref_pic_list_modification}
+use Rattle.hevc_set_parts.specs.contracts.ref_pic_list_modification.RefPicListModification as ref_pic_list_modification_record
+use Rattle.hevc_video_set.specs.SublayerHrdParameters.{plain_sublayer_hrd_parameters}
+use Rattle.hevc_video_set.specs.contracts.sublayer_hrd_parameters.SublayerHrdParameters as sublayer_hrd_parameters_record
+use Rattle.hevc_video_set.specs.HrdParams.{plain_hrd_params}
+use Rattle.hevc_video_set.specs.contracts.hrd_params.HrdParams as hrd_params_record
+use Rattle.hevc_video_set.specs.VuiParams.{plain_vui_params}
+use Rattle.hevc_video_set.specs.contracts.vui_params.VuiParams as vui_params_record
+use Rattle.hevc_video_set.specs.Vps.{plain_vps}
+use Rattle.hevc_video_set.specs.contracts.vps.Vps as vps_record
+use Rattle.hevc_video_set.specs.PredWeightTable.{plain_pred_weight_table}
+use Rattle.hevc_video_set.specs.contracts.pred_weight_table.PredWeightTable as pred_weight_table_record
+use Rattle.hevc_sequence_set.specs.SpsRangeExtension.{plain_sps_range_extension}
+use Rattle.hevc_sequence_set.specs.contracts.sps_range_extension.SpsRangeExtension as sps_range_extension_record
+use Rattle.hevc_sequence_set.specs.SpsSccExtension.{plain_sps_scc_extension}
+use Rattle.hevc_sequence_set.specs.contracts.sps_scc_extension.SpsSccExtension as sps_scc_extension_record
+use Rattle.hevc_sequence_set.specs.Sps.{plain_sps}
+use Rattle.hevc_sequence_set.specs.contracts.sps.Sps as sps_record
+use Rattle.hevc_picture_slice.specs.Pps.{plain_pps}
+use Rattle.hevc_picture_slice.specs.contracts.pps.Pps as pps_record
+use Rattle.hevc_picture_slice.specs.SliceHeader.{plain_slice_header}
+use Rattle.hevc_picture_slice.specs.contracts.slice_header.SliceHeader as slice_header_record
 
 -- a struct is its fields
 same : (T : Declared) (x y : T.D) → T.as_values x ≡ T.as_values y → x ≡ y

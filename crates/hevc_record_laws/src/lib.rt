@@ -1,10 +1,10 @@
 //! A record of the code is the values of its fields, as tables have them.
 #![tactic(auto)]
 
-ghost use Rattle.hevc_types_b.specs.Vps.{plain_vps};
-ghost use Rattle.hevc_types_c.specs.Sps.{plain_sps};
-ghost use Rattle.hevc_types_d.specs.Pps.{plain_pps};
-ghost use Rattle.hevc_types_d.specs.SliceHeader.{plain_slice_header};
+ghost use Rattle.hevc_video_set.specs.Vps.{plain_vps};
+ghost use Rattle.hevc_sequence_set.specs.Sps.{plain_sps};
+ghost use Rattle.hevc_picture_slice.specs.Pps.{plain_pps};
+ghost use Rattle.hevc_picture_slice.specs.SliceHeader.{plain_slice_header};
 ghost use Rattle.hevc_record_laws.specs.Values.{IsItsValues};
 
 /// Two parameter sets or slice headers whose fields have the same values are the same.

@@ -1,9 +1,9 @@
 -- Which lists a slice has by its type.
 use Rattle.std.proofs.Common.{◌≡◌, ap, ◌∙◌}
 use Rattle.std.specs.Prelude.{Bool}
-use Rattle.hevc_types_a.specs.declared.slice_type.SliceType.{SliceType}
-use Rattle.hevc_types_a.specs.SliceType.{slice_type_number}
-use Rattle.hevc_types_d.specs.declared.slice_header.SliceHeader.{SliceHeader}
+use Rattle.hevc_set_parts.specs.declared.slice_type.SliceType.{SliceType}
+use Rattle.hevc_set_parts.specs.SliceType.{slice_type_number}
+use Rattle.hevc_picture_slice.specs.declared.slice_header.SliceHeader.{SliceHeader}
 use Rattle.hevc_walk_inputs.specs.Headers.{slice_type_of}
 use Rattle.hevc_walk.specs.Meanings as walk
 use Rattle.hevc_walk.specs.ReferenceSets.{RefPicSet}

@@ -16,8 +16,8 @@ use crate::marking::{mark_long_term, unmark_others};
 use crate::ref_pic_set::RefPicSet;
 use crate::short_term::find_short_term;
 use hevc_dpb::{Dpb, PictureData};
-use hevc_types_a::ShortTermRefPicSet;
-use hevc_types_d::SliceHeader;
+use hevc_picture_slice::SliceHeader;
+use hevc_set_parts::ShortTermRefPicSet;
 
 /// Whether it is an IDR picture.
 fn is_idr(pic: &PictureData) -> bool

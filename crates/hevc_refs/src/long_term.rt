@@ -3,7 +3,7 @@ ghost use Rattle.std.specs.Int.{int_rem_euclid};
 ghost use Rattle.std.specs.Prelude.{◌≡◌, ◌≤◌, ◌<◌, ◌+◌, ◌*◌, ◌&&◌, ◌<ℤ◌, ◌≤ℤ◌, ℕ, pos, not, map, filter};
 ghost use Rattle.arrayvec.specs.ArrayVec.{array_vec_len};
 ghost use Rattle.hevc_walk_inputs.specs.Headers.{long_term_member, long_term_members};
-ghost use Rattle.hevc_types_d.specs.SliceHeader.{plain_slice_header};
+ghost use Rattle.hevc_picture_slice.specs.SliceHeader.{plain_slice_header};
 ghost use Rattle.hevc_walk.specs.Meanings.{Slice};
 ghost use Rattle.hevc_walk.specs.Pictures.{Head};
 ghost use Rattle.hevc_walk.specs.Buffer.{Entry, is_reference};
@@ -14,7 +14,7 @@ ghost use Rattle.hevc_dpb.specs.Views.{buffer_of};
 
 use crate::ref_pic_set::{RefPicSet, push_if};
 use hevc_dpb::{Dpb, Sought};
-use hevc_types_d::SliceHeader;
+use hevc_picture_slice::SliceHeader;
 
 /// So many times MaxPicOrderCntLsb.
 fn cycles(cycle: u64, modulus: i32) -> i128

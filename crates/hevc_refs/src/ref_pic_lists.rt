@@ -10,8 +10,8 @@ ghost use Rattle.hevc_refs.specs.Lists.{base_places, plain_place, plain_places, 
 use crate::ref_pic_list::{RefPicList, RefPicListEntry, ReferencePicLists};
 use crate::ref_pic_set::RefPicSet;
 use arrayvec::ArrayVec;
-use hevc_types_a::SliceType;
-use hevc_types_d::SliceHeader;
+use hevc_picture_slice::SliceHeader;
+use hevc_set_parts::SliceType;
 
 /// A stored picture, by its number.
 fn place_of(number: Option<u64>) -> Option<RefPicListEntry>

@@ -3,7 +3,7 @@ ghost use Rattle.std.specs.Prelude.{◌≡◌, ◌≤◌, ◌+◌, ◌++◌, ◌
 ghost use Rattle.std.specs.Ordering.{int_eq};
 ghost use Rattle.arrayvec.specs.ArrayVec.{array_vec_len};
 ghost use Rattle.hevc_walk_inputs.specs.Headers.{short_term_members, short_term_set_of};
-ghost use Rattle.hevc_types_a.specs.ShortTermRefPicSet.{plain_short_term_ref_pic_set};
+ghost use Rattle.hevc_set_parts.specs.ShortTermRefPicSet.{plain_short_term_ref_pic_set};
 ghost use Rattle.hevc_walk.specs.Pictures.{Head};
 ghost use Rattle.hevc_walk.specs.ReferenceSets.{first_number, is_short_term, short_term_entry, is_curr_short_term};
 ghost use Rattle.hevc_dpb.specs.Views.{buffer_of};
@@ -12,7 +12,7 @@ ghost use Rattle.hevc_refs.specs.Marking.{is_wanted};
 use crate::ref_pic_set::{RefPicSet, push_if};
 use arrayvec::ArrayVec;
 use hevc_dpb::{Dpb, Sought};
-use hevc_types_a::ShortTermRefPicSet;
+use hevc_set_parts::ShortTermRefPicSet;
 
 /// The first short-term reference picture whose order count differs so from this one.
 fn number_of<T: Copy>(dpb: &Dpb<T>, order_count: i32, delta: i32) -> Option<u64>

@@ -1,8 +1,8 @@
 //! A made stream, decoded, and one line of it.
 ghost use Rattle.std.specs.Prelude.{◌≡◌, ◌≤◌, ◌<◌, ◌⊎◌, length, IfOk, is_ok, true};
 ghost use Rattle.std.specs.Io.KnownBytes.{Appends};
-ghost use Rattle.hevc_faults.specs.Faults.{Rose};
-ghost use Rattle.hevc_made.specs.Made.{made};
+ghost use Rattle.hevc_fault_counts.specs.Faults.{Rose};
+ghost use Rattle.hevc_stream_maker.specs.Made.{made};
 ghost use Rattle.hevc_walk.specs.Clean.{IsClean};
 ghost use Rattle.hevc_stream.specs.Options.{default_options};
 ghost use Rattle.hevc_stream.specs.Stream.{meanings};
@@ -16,7 +16,7 @@ use crate::report::summary_text;
 use hevc_backend::Backend;
 use hevc_decoder::{Options, decode_stream_with};
 use hevc_io::{Sink, SinkError, write_all};
-use hevc_made::make_stream;
+use hevc_stream_maker::make_stream;
 use std::alloc::{AllocError, Global};
 
 /// A line on a stream, and whether the stream was decoded.

@@ -1,9 +1,9 @@
 //! The default scaling lists (7.4.5).
 ghost use Rattle.std.specs.Prelude.{◌≡◌};
 ghost use Rattle.hevc_records.specs.DefaultScalingLists.{default_lists, flat_list, intra_list, inter_list};
-ghost use Rattle.hevc_types_a.specs.ScalingLists.{plain_scaling_lists};
+ghost use Rattle.hevc_set_parts.specs.ScalingLists.{plain_scaling_lists};
 
-use hevc_types_a::ScalingLists;
+use hevc_set_parts::ScalingLists;
 
 /// The list of each 4x4 matrix (Table 7-5).
 const FLAT: [u8; 16] = [16; 16];

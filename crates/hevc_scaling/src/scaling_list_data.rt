@@ -1,14 +1,14 @@
 //! Scaling lists (7.3.4, table 6).
 ghost use Rattle.hevc_elements.specs.Words.{bits, IsAhead, IsReached, read, Reads, Means};
 ghost use Rattle.hevc_tables.specs.ScalingListTable.{scaling_list_data};
-ghost use Rattle.hevc_types_a.specs.ScalingLists.{plain_scaling_lists};
+ghost use Rattle.hevc_set_parts.specs.ScalingLists.{plain_scaling_lists};
 
 use crate::default_lists::{FLAT_LISTS, LARGER_LISTS};
 use crate::matrices::read_matrices;
 use crate::size::Size;
 use hevc_bits::NaluReader;
 use hevc_elements::ParseError;
-use hevc_types_a::ScalingLists;
+use hevc_set_parts::ScalingLists;
 
 /// Reads scaling lists, by table 6 (7.3.4).
 ///

@@ -1,6 +1,6 @@
 -- The order of the members of a short-term reference picture set (7.4.8).
 use Rattle.hevc_records.specs.ShortTermRefPicSet.{Fall, Rise}
-use Rattle.hevc_types_a.specs.declared.short_term_ref_pic_set.ShortTermRefPicSet.{ShortTermRefPicSet}
+use Rattle.hevc_set_parts.specs.declared.short_term_ref_pic_set.ShortTermRefPicSet.{ShortTermRefPicSet}
 
 -- Whatever chain of predictions leads to the set, its negatives fall from below 0 and its positives
 -- rise from above 0, and so none is 0.

@@ -2,7 +2,7 @@
 ghost use Rattle.std.specs.Prelude.{◌≤◌};
 ghost use Rattle.hevc_elements.specs.Words.{Fills};
 ghost use Rattle.hevc_tables.specs.ShortTermTable as table;
-ghost use Rattle.hevc_types_a.specs.ShortTermRefPicSet.{plain_short_term_ref_pic_set};
+ghost use Rattle.hevc_set_parts.specs.ShortTermRefPicSet.{plain_short_term_ref_pic_set};
 
 use crate::listed_members::{read_listed_after, read_listed_before};
 use crate::set_of_members::put_members;
@@ -10,8 +10,8 @@ use crate::side::Side;
 use hevc_bits::NaluReader;
 use hevc_elements::ParseError;
 use hevc_elements::rows::ue_u8;
+use hevc_set_parts::ShortTermRefPicSet;
 use hevc_spec::Row;
-use hevc_types_a::ShortTermRefPicSet;
 
 /// Rows 7 to 12 of table 7.
 #[tactic(auto, unfolding(hevc_tables::specs::ShortTermTable::listed_set))]

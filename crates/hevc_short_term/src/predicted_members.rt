@@ -1,12 +1,12 @@
 //! The members of a predicted set (7.4.8).
 ghost use Rattle.std.specs.Prelude.{◌≡◌, ◌+◌, ◌≤◌, ◌<◌, [], ◌++◌, length, reverse};
 ghost use Rattle.hevc_tables.specs.ShortTermTable.{deltas, shifted, shifted_one, predicted_members as members_by_table};
-ghost use Rattle.hevc_types_a.specs.ShortTermRefPicSet.{plain_short_term_ref_pic_set};
+ghost use Rattle.hevc_set_parts.specs.ShortTermRefPicSet.{plain_short_term_ref_pic_set};
 ghost use Rattle.hevc_short_term_laws.specs.Orders.{Rises};
 
 use arrayvec::ArrayVec;
+use hevc_set_parts::ShortTermRefPicSet;
 use hevc_tables::{MemberFlags, ShortTermMember};
-use hevc_types_a::ShortTermRefPicSet;
 
 /// The members of a set that is predicted from another, in rising order.
 ///

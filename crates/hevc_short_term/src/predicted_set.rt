@@ -4,7 +4,7 @@ ghost use Rattle.std.specs.Prelude.{◌≤◌, ◌<◌};
 ghost use Rattle.hevc_elements.specs.Words.{Fills};
 ghost use Rattle.hevc_tables.specs.ShortTermTable as table;
 ghost use Rattle.hevc_tables.specs.ShortTermTable.{deltas};
-ghost use Rattle.hevc_types_a.specs.ShortTermRefPicSet.{plain_short_term_ref_pic_set};
+ghost use Rattle.hevc_set_parts.specs.ShortTermRefPicSet.{plain_short_term_ref_pic_set};
 ghost use Rattle.hevc_short_term_laws.specs.Orders.{Rises};
 
 use crate::member_flags::read_all_flags;
@@ -15,9 +15,9 @@ use crate::sides::{has_room, members_after, members_before};
 use hevc_bits::NaluReader;
 use hevc_elements::ParseError;
 use hevc_elements::rows::check;
+use hevc_set_parts::ShortTermRefPicSet;
 use hevc_spec::Row;
 use hevc_tables::ShortTermMember;
-use hevc_types_a::ShortTermRefPicSet;
 
 /// Rows 2 to 6 of table 7, for number `st_rps_idx` of `count` sets or for one after them.
 #[tactic(auto, using(crate::proofs::Parts::set_at), unfolding(hevc_tables::specs::ShortTermTable::predicted_set))]

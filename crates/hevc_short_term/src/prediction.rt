@@ -3,13 +3,13 @@ ghost use Rattle.std.specs.Prelude.{OnOk};
 ghost use Rattle.std.specs.Prelude.{◌≡◌, ◌<◌};
 ghost use Rattle.hevc_elements.specs.Words.{Fills};
 ghost use Rattle.hevc_tables.specs.ShortTermTable as table;
-ghost use Rattle.hevc_types_a.specs.ShortTermRefPicSet.{plain_short_term_ref_pic_set};
+ghost use Rattle.hevc_set_parts.specs.ShortTermRefPicSet.{plain_short_term_ref_pic_set};
 
 use hevc_bits::NaluReader;
 use hevc_elements::ParseError;
 use hevc_elements::rows::{flag, ue_u8, ue_u16};
+use hevc_set_parts::ShortTermRefPicSet;
 use hevc_spec::Row;
-use hevc_types_a::ShortTermRefPicSet;
 
 /// Rows 2 to 4 of table 7.
 #[tactic(auto, unfolding(hevc_tables::specs::ShortTermTable::prediction, hevc_spec::specs::Rows::when))]

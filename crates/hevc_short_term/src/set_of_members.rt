@@ -1,11 +1,11 @@
 //! A set with given members.
 ghost use Rattle.std.specs.Prelude.{◌≡◌, ◌+◌, ◌≤◌, length};
 ghost use Rattle.hevc_tables.specs.ShortTermTable.{with_members};
-ghost use Rattle.hevc_types_a.specs.ShortTermRefPicSet.{plain_short_term_ref_pic_set};
+ghost use Rattle.hevc_set_parts.specs.ShortTermRefPicSet.{plain_short_term_ref_pic_set};
 ghost use Rattle.hevc_short_term_laws.specs.Sides.{LieBefore, LieAfter};
 
 use crate::side::Side;
-use hevc_types_a::ShortTermRefPicSet;
+use hevc_set_parts::ShortTermRefPicSet;
 
 /// Puts the members before the current picture and those after it into a set.
 #[tactic(auto, using(hevc_short_term_laws::proofs::FilledArrays::orders), unfolding(hevc_tables::specs::ShortTermTable::with_members))]

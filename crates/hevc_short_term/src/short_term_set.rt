@@ -3,15 +3,15 @@ ghost use Rattle.std.specs.Prelude.{length, map};
 ghost use Rattle.std.specs.Prelude.{◌≤◌};
 ghost use Rattle.hevc_elements.specs.Words.{bits, IsAhead, IsReached, read, Reads, Means};
 ghost use Rattle.hevc_tables.specs.ShortTermTable.{short_term_ref_pic_set};
-ghost use Rattle.hevc_types_a.specs.ShortTermRefPicSet.{plain_short_term_ref_pic_set};
+ghost use Rattle.hevc_set_parts.specs.ShortTermRefPicSet.{plain_short_term_ref_pic_set};
 
 use crate::listed_set::read_listed_set;
 use crate::predicted_set::read_predicted_set;
 use hevc_bits::NaluReader;
 use hevc_elements::ParseError;
 use hevc_elements::rows::flag_if;
+use hevc_set_parts::ShortTermRefPicSet;
 use hevc_spec::Row;
-use hevc_types_a::ShortTermRefPicSet;
 
 /// Reads a short-term reference picture set, by table 7 (7.3.7).
 ///

@@ -19,10 +19,10 @@ use Rattle.hevc_tables.specs.SliceTypes.{is_b, is_i}
 use Rattle.hevc_tables.specs.SpsTable.{highest_buffering}
 use Rattle.hevc_tables.specs.WeightedPredictionTable.{has_chroma}
 use Rattle.hevc_tables.specs.SliceHeaderTable as table
-use Rattle.hevc_types_c.specs.declared.sps.Sps.{Sps}
-use Rattle.hevc_types_c.specs.Sps.{plain_sps}
-use Rattle.hevc_types_d.specs.declared.pps.Pps.{Pps}
-use Rattle.hevc_types_d.specs.Pps.{plain_pps}
+use Rattle.hevc_sequence_set.specs.declared.sps.Sps.{Sps}
+use Rattle.hevc_sequence_set.specs.Sps.{plain_sps}
+use Rattle.hevc_picture_slice.specs.declared.pps.Pps.{Pps}
+use Rattle.hevc_picture_slice.specs.Pps.{plain_pps}
 use Rattle.hevc_slice_references.proofs.SetSize.{HaveFew, have_few, set_takes}
 use Rattle.hevc_slice_references.proofs.Sizes.{Takes, Any, UpTo, takes_element, takes_done, takes_part, takes_more, takes_any, takes_sized, takes_when, takes_either, takes_repeat, takes_flag, takes_bits, takes_ue, takes_se, takes_skip, takes_check}
 use Rattle.hevc_slice_header.specs.CurrentSet.{IsCurrent}

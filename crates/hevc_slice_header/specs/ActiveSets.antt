@@ -2,8 +2,8 @@
 use Rattle.std.specs.Prelude.{◌≡◌, ℕ, Some}
 use Rattle.std.specs.BTreeMap.{BTreeMap, get}
 use Rattle.std.specs.Ordering.{nat_cmp}
-use Rattle.hevc_types_c.specs.declared.sps.Sps.{Sps}
-use Rattle.hevc_types_d.specs.declared.pps.Pps.{Pps}
+use Rattle.hevc_sequence_set.specs.declared.sps.Sps.{Sps}
+use Rattle.hevc_picture_slice.specs.declared.pps.Pps.{Pps}
 use Rattle.hevc_slice_header.specs.declared.active_sets.ActiveSets.{ActiveSets}
 
 -- The picture set is under this id, and the sequence set under that which it names.

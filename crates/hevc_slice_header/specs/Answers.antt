@@ -9,8 +9,8 @@ use Rattle.hevc_records.specs.SliceHeader.{PlainSliceSegmentHeader, default_slic
 use Rattle.hevc_tables.specs.SliceHeaderTable.{ActiveSets, slice_segment_header}
 use Rattle.hevc_bits.specs.FoundUnit.{FoundUnit, bytes_of}
 use Rattle.hevc_short_term.specs.Predictions.{IsInOrder}
-use Rattle.hevc_types_d.specs.declared.slice_header.SliceHeader.{SliceHeader}
-use Rattle.hevc_types_d.specs.SliceHeader.{plain_slice_header}
+use Rattle.hevc_picture_slice.specs.declared.slice_header.SliceHeader.{SliceHeader}
+use Rattle.hevc_picture_slice.specs.SliceHeader.{plain_slice_header}
 use Rattle.hevc_elements.specs.declared.parse_error.ParseError.{ParseError}
 use Rattle.hevc_elements.specs.declared.parse_error.ParseError.TheVariants.{WrongNaluType, MissingSps, NoMemory}
 use Rattle.hevc_elements.specs.Naming.{RefusesNaming}

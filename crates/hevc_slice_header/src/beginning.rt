@@ -3,17 +3,17 @@ ghost use Rattle.std.specs.Prelude.{◌≡◌, ◌≤◌, ◌^◌};
 ghost use Rattle.hevc_bits.specs.NaluType.{nalu_type_number};
 ghost use Rattle.hevc_elements.specs.Words.{Fills};
 ghost use Rattle.hevc_tables.specs.SliceHeaderTable as table;
-ghost use Rattle.hevc_types_c.specs.Sps.{plain_sps};
-ghost use Rattle.hevc_types_d.specs.Pps.{plain_pps};
-ghost use Rattle.hevc_types_d.specs.SliceHeader.{plain_slice_header};
+ghost use Rattle.hevc_sequence_set.specs.Sps.{plain_sps};
+ghost use Rattle.hevc_picture_slice.specs.Pps.{plain_pps};
+ghost use Rattle.hevc_picture_slice.specs.SliceHeader.{plain_slice_header};
 
 use hevc_bits::{NaluReader, NaluType};
 use hevc_elements::ParseError;
 use hevc_elements::rows::{bits_u32, flag, flag_if, ue_u8};
+use hevc_picture_slice::{Pps, SliceHeader};
+use hevc_sequence_set::Sps;
 use hevc_slice_parts::ceil_log2;
 use hevc_spec::Row;
-use hevc_types_c::Sps;
-use hevc_types_d::{Pps, SliceHeader};
 
 /// Rows 1 to 3 of table 14.
 #[tactic(auto, unfolding(hevc_tables::specs::SliceHeaderTable::beginning))]

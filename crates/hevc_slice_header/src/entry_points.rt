@@ -3,17 +3,17 @@ ghost use Rattle.std.specs.Prelude.{◌≡◌, ◌+◌, ◌-◌, ◌^◌, ◌≤
 ghost use Rattle.hevc_spec.specs.Rows.{row, bits_row};
 ghost use Rattle.hevc_elements.specs.Words.{bits, IsAhead, read, Reads, Fills, ReadsGrowing, FillsGrowing};
 ghost use Rattle.hevc_tables.specs.SliceHeaderTable as table;
-ghost use Rattle.hevc_types_c.specs.Sps.{plain_sps};
-ghost use Rattle.hevc_types_d.specs.Pps.{plain_pps};
-ghost use Rattle.hevc_types_d.specs.SliceHeader.{plain_slice_header};
+ghost use Rattle.hevc_sequence_set.specs.Sps.{plain_sps};
+ghost use Rattle.hevc_picture_slice.specs.Pps.{plain_pps};
+ghost use Rattle.hevc_picture_slice.specs.SliceHeader.{plain_slice_header};
 
 use hevc_bits::NaluReader;
 use hevc_elements::ParseError;
 use hevc_elements::rows::{bits_32, bits_u32, skip, ue, ue_u8};
+use hevc_picture_slice::{Pps, SliceHeader};
+use hevc_sequence_set::Sps;
+use hevc_set_parts::Items;
 use hevc_spec::Row;
-use hevc_types_a::Items;
-use hevc_types_c::Sps;
-use hevc_types_d::{Pps, SliceHeader};
 use std::alloc::Global;
 
 /// Rows 48 to 52 of table 14.

@@ -3,18 +3,18 @@ ghost use Rattle.std.specs.Prelude.{◌≡◌};
 ghost use Rattle.hevc_spec.specs.Rows.{row, ue_row};
 ghost use Rattle.hevc_elements.specs.Words.{bits, IsAhead, read, Reads, Fills};
 ghost use Rattle.hevc_tables.specs.SliceHeaderTable as table;
-ghost use Rattle.hevc_types_a.specs.SliceType.{slice_type_number};
-ghost use Rattle.hevc_types_c.specs.Sps.{plain_sps};
-ghost use Rattle.hevc_types_d.specs.Pps.{plain_pps};
-ghost use Rattle.hevc_types_d.specs.SliceHeader.{plain_slice_header};
+ghost use Rattle.hevc_set_parts.specs.SliceType.{slice_type_number};
+ghost use Rattle.hevc_sequence_set.specs.Sps.{plain_sps};
+ghost use Rattle.hevc_picture_slice.specs.Pps.{plain_pps};
+ghost use Rattle.hevc_picture_slice.specs.SliceHeader.{plain_slice_header};
 
 use hevc_bits::NaluReader;
 use hevc_elements::ParseError;
 use hevc_elements::rows::{bits_u8_if, flag_if, flag_or, skip, ue};
+use hevc_picture_slice::{Pps, SliceHeader};
+use hevc_sequence_set::Sps;
+use hevc_set_parts::SliceType;
 use hevc_spec::Row;
-use hevc_types_a::SliceType;
-use hevc_types_c::Sps;
-use hevc_types_d::{Pps, SliceHeader};
 
 /// Rows 6 to 9 of table 14.
 #[tactic(auto, unfolding(hevc_tables::specs::SliceHeaderTable::kind))]

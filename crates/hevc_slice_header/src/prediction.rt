@@ -4,20 +4,20 @@ ghost use Rattle.hevc_elements.specs.Words.{bits, IsAhead, IsReached, read, Read
 ghost use Rattle.hevc_tables.specs.SliceHeaderTable as table;
 ghost use Rattle.hevc_tables.specs.SliceTypes.{is_i as is_i_type};
 ghost use Rattle.hevc_slice_header.specs.Weights.{weights_of, weights_if_weighted};
-ghost use Rattle.hevc_types_b.specs.PredWeightTable.{plain_pred_weight_table};
-ghost use Rattle.hevc_types_c.specs.Sps.{plain_sps};
-ghost use Rattle.hevc_types_d.specs.Pps.{plain_pps};
-ghost use Rattle.hevc_types_d.specs.SliceHeader.{plain_slice_header};
+ghost use Rattle.hevc_video_set.specs.PredWeightTable.{plain_pred_weight_table};
+ghost use Rattle.hevc_sequence_set.specs.Sps.{plain_sps};
+ghost use Rattle.hevc_picture_slice.specs.Pps.{plain_pps};
+ghost use Rattle.hevc_picture_slice.specs.SliceHeader.{plain_slice_header};
 
 use hevc_bits::NaluReader;
 use hevc_elements::ParseError;
 use hevc_elements::rows::{flag_if, flag_or, ue_u8, ue_u8_if};
+use hevc_picture_slice::{Pps, SliceHeader};
+use hevc_sequence_set::Sps;
 use hevc_slice_parts::read_pred_weight_table;
 use hevc_slice_references::{is_b, read_reference_lists};
 use hevc_spec::Row;
-use hevc_types_b::PredWeightTable;
-use hevc_types_c::Sps;
-use hevc_types_d::{Pps, SliceHeader};
+use hevc_video_set::PredWeightTable;
 
 /// Rows 24 to 34 of table 14.
 #[tactic(auto, unfolding(hevc_tables::specs::SliceHeaderTable::prediction))]

@@ -3,9 +3,9 @@ ghost use Rattle.std.specs.Prelude.{◌≡◌};
 ghost use Rattle.hevc_bits.specs.NaluType.{nalu_type_number};
 ghost use Rattle.hevc_elements.specs.Words.{when, Fills, FillsGrowing};
 ghost use Rattle.hevc_tables.specs.SliceHeaderTable as table;
-ghost use Rattle.hevc_types_c.specs.Sps.{plain_sps};
-ghost use Rattle.hevc_types_d.specs.Pps.{plain_pps};
-ghost use Rattle.hevc_types_d.specs.SliceHeader.{plain_slice_header};
+ghost use Rattle.hevc_sequence_set.specs.Sps.{plain_sps};
+ghost use Rattle.hevc_picture_slice.specs.Pps.{plain_pps};
+ghost use Rattle.hevc_picture_slice.specs.SliceHeader.{plain_slice_header};
 
 use crate::beginning::read_later_segment;
 use crate::entry_points::read_ending;
@@ -15,9 +15,9 @@ use crate::prediction::{is_i, read_prediction};
 use crate::quantiser::read_quantisers;
 use hevc_bits::{NaluReader, NaluType};
 use hevc_elements::ParseError;
+use hevc_picture_slice::{Pps, SliceHeader};
+use hevc_sequence_set::Sps;
 use hevc_slice_references::read_reference_pictures;
-use hevc_types_c::Sps;
-use hevc_types_d::{Pps, SliceHeader};
 use std::alloc::Global;
 
 /// Rows 4 to 52 of table 14.

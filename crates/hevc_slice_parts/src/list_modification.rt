@@ -2,7 +2,7 @@
 ghost use Rattle.std.specs.Prelude.{◌≡◌, ◌+◌, ◌≤◌, ◌^◌, [], IfOk, OnOk, IsTrue};
 ghost use Rattle.hevc_elements.specs.Words.{bits, IsAhead, IsReached, read, when, Reads, Means, Fills};
 ghost use Rattle.hevc_tables.specs.RefPicListModificationTable as table;
-ghost use Rattle.hevc_types_a.specs.RefPicListModification.{plain_ref_pic_list_modification};
+ghost use Rattle.hevc_set_parts.specs.RefPicListModification.{plain_ref_pic_list_modification};
 ghost use Rattle.hevc_slice_parts.specs.Entries.{HasEntries};
 
 use crate::logarithm::ceil_log2;
@@ -10,8 +10,8 @@ use arrayvec::ArrayVec;
 use hevc_bits::NaluReader;
 use hevc_elements::ParseError;
 use hevc_elements::rows::{bits_u32, flag};
+use hevc_set_parts::RefPicListModification;
 use hevc_spec::Row;
-use hevc_types_a::RefPicListModification;
 
 /// Reads how the reference picture lists of a P or B slice are ordered, by table 15 (7.3.6.2).
 ///

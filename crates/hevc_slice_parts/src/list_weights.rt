@@ -3,15 +3,15 @@ ghost use Rattle.std.specs.Prelude.{◌≡◌, ◌-◌, ◌≤◌, ◌<◌, pos,
 ghost use Rattle.hevc_spec.specs.Rows.{se_row};
 ghost use Rattle.hevc_elements.specs.Words.{bits, IsAhead, read, Reads, Fills};
 ghost use Rattle.hevc_tables.specs.WeightedPredictionTable as table;
-ghost use Rattle.hevc_types_c.specs.Sps.{plain_sps};
+ghost use Rattle.hevc_sequence_set.specs.Sps.{plain_sps};
 ghost use Rattle.hevc_slice_parts.specs.Projections.{plain_list_weights};
 
 use crate::records::ListWeights;
 use hevc_bits::NaluReader;
 use hevc_elements::ParseError;
 use hevc_elements::rows::{flag, se, se_i8};
+use hevc_sequence_set::Sps;
 use hevc_spec::Row;
-use hevc_types_c::Sps;
 
 /// No weights.
 pub(crate) fn no_weights() -> ListWeights

@@ -3,8 +3,8 @@ ghost use Rattle.std.specs.Prelude.{◌≡◌, ◌≤◌, ◌+◌, pos, neg_ℤ,
 ghost use Rattle.hevc_spec.specs.Rows.{row, se_row};
 ghost use Rattle.hevc_elements.specs.Words.{bits, IsAhead, IsReached, read, when, Reads, Means, Fills};
 ghost use Rattle.hevc_tables.specs.WeightedPredictionTable as table;
-ghost use Rattle.hevc_types_b.specs.PredWeightTable.{plain_pred_weight_table};
-ghost use Rattle.hevc_types_c.specs.Sps.{plain_sps};
+ghost use Rattle.hevc_video_set.specs.PredWeightTable.{plain_pred_weight_table};
+ghost use Rattle.hevc_sequence_set.specs.Sps.{plain_sps};
 ghost use Rattle.hevc_slice_parts.specs.Projections.{plain_list_weights};
 
 use crate::list_weights::{has_chroma, no_weights, read_list_weights};
@@ -12,9 +12,9 @@ use crate::records::ListWeights;
 use hevc_bits::NaluReader;
 use hevc_elements::ParseError;
 use hevc_elements::rows::{se_i8, ue_u8};
+use hevc_sequence_set::Sps;
 use hevc_spec::Row;
-use hevc_types_b::PredWeightTable;
-use hevc_types_c::Sps;
+use hevc_video_set::PredWeightTable;
 
 /// Reads the weights of predictions of a P or B slice, by table 16 (7.3.6.3), with the sequence set of its picture.
 ///

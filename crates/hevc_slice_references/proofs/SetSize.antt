@@ -7,8 +7,8 @@ use Rattle.hevc_spec.specs.Rows.{row}
 use Rattle.hevc_spec.specs.Table.{gives, read}
 use Rattle.hevc_tables.specs.declared.short_term_member.ShortTermMember.{ShortTermMember}
 use Rattle.hevc_tables.specs.ShortTermTable.{has_room, reference_index, last_delta, prediction, member_flags, next_member_flags, all_member_flags, fitting_set, predicted_set, member_before, next_member_before, listed_before, member_after, next_member_after, listed_after, listed_set, short_term_ref_pic_set}
-use Rattle.hevc_types_a.specs.declared.short_term_ref_pic_set.ShortTermRefPicSet.{ShortTermRefPicSet}
-use Rattle.hevc_types_a.specs.ShortTermRefPicSet.{plain_short_term_ref_pic_set}
+use Rattle.hevc_set_parts.specs.declared.short_term_ref_pic_set.ShortTermRefPicSet.{ShortTermRefPicSet}
+use Rattle.hevc_set_parts.specs.ShortTermRefPicSet.{plain_short_term_ref_pic_set}
 use Rattle.hevc_slice_references.proofs.Sizes.{Takes, Any, takes_done, takes_part, takes_any, takes_when, takes_either, takes_repeat, takes_flag, takes_ue, takes_check}
 
 pub ruleset bounds = (AtMost-at)

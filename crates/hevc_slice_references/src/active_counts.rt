@@ -3,15 +3,15 @@ ghost use Rattle.std.specs.Prelude.{◌≡◌};
 ghost use Rattle.hevc_elements.specs.Words.{Fills};
 ghost use Rattle.hevc_tables.specs.SliceHeaderTable as table;
 ghost use Rattle.hevc_tables.specs.SliceTypes.{is_b as is_b_type};
-ghost use Rattle.hevc_types_d.specs.Pps.{plain_pps};
-ghost use Rattle.hevc_types_d.specs.SliceHeader.{plain_slice_header};
+ghost use Rattle.hevc_picture_slice.specs.Pps.{plain_pps};
+ghost use Rattle.hevc_picture_slice.specs.SliceHeader.{plain_slice_header};
 ghost use Rattle.hevc_slice_references.specs.Unordered.{IsUnordered};
 
 use hevc_bits::NaluReader;
 use hevc_elements::ParseError;
 use hevc_elements::rows::{flag, ue_if, ue_u8};
+use hevc_picture_slice::{Pps, SliceHeader};
 use hevc_spec::Row;
-use hevc_types_d::{Pps, SliceHeader};
 
 /// Rows 24 to 26 of table 14.
 #[tactic(auto, unfolding(hevc_tables::specs::SliceHeaderTable::active_counts, hevc_spec::specs::Rows::either))]

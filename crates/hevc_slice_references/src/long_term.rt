@@ -2,17 +2,17 @@
 ghost use Rattle.std.specs.Prelude.{◌≡◌, ◌+◌, ◌-◌, ◌*◌, ◌^◌, ◌≤◌, ◌<◌, OnOk, slice_index_or};
 ghost use Rattle.hevc_elements.specs.Words.{Fills};
 ghost use Rattle.hevc_tables.specs.SliceHeaderTable as table;
-ghost use Rattle.hevc_types_c.specs.Sps.{plain_sps};
-ghost use Rattle.hevc_types_d.specs.SliceHeader.{plain_slice_header};
+ghost use Rattle.hevc_sequence_set.specs.Sps.{plain_sps};
+ghost use Rattle.hevc_picture_slice.specs.SliceHeader.{plain_slice_header};
 
 use crate::index::read_index;
 use crate::short_term::lsb_bits;
 use hevc_bits::NaluReader;
 use hevc_elements::ParseError;
 use hevc_elements::rows::{bits_u32, flag, ue_if, ue_u8};
+use hevc_picture_slice::SliceHeader;
+use hevc_sequence_set::Sps;
 use hevc_spec::Row;
-use hevc_types_c::Sps;
-use hevc_types_d::SliceHeader;
 
 /// Rows 14 to 20 of table 14.
 #[tactic(auto, unfolding(hevc_tables::specs::SliceHeaderTable::long_term))]

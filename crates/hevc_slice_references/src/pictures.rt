@@ -1,14 +1,14 @@
 //! How many pictures a slice may refer to (7-55).
 ghost use Rattle.std.specs.Prelude.{◌≡◌, ◌≤◌};
 ghost use Rattle.hevc_tables.specs.SliceHeaderTable as table;
-ghost use Rattle.hevc_types_a.specs.ShortTermRefPicSet.{plain_short_term_ref_pic_set};
-ghost use Rattle.hevc_types_c.specs.Sps.{plain_sps};
-ghost use Rattle.hevc_types_d.specs.Pps.{plain_pps};
-ghost use Rattle.hevc_types_d.specs.SliceHeader.{plain_slice_header};
+ghost use Rattle.hevc_set_parts.specs.ShortTermRefPicSet.{plain_short_term_ref_pic_set};
+ghost use Rattle.hevc_sequence_set.specs.Sps.{plain_sps};
+ghost use Rattle.hevc_picture_slice.specs.Pps.{plain_pps};
+ghost use Rattle.hevc_picture_slice.specs.SliceHeader.{plain_slice_header};
 
-use hevc_types_a::ShortTermRefPicSet;
-use hevc_types_c::Sps;
-use hevc_types_d::{Pps, SliceHeader};
+use hevc_picture_slice::{Pps, SliceHeader};
+use hevc_sequence_set::Sps;
+use hevc_set_parts::ShortTermRefPicSet;
 
 /// NumPicTotalCurr (7-55), at most 33.
 #[tactic(auto, unfolding(hevc_tables::specs::SliceHeaderTable::num_pic_total_curr))]

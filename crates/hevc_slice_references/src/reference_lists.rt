@@ -3,20 +3,20 @@ ghost use Rattle.std.specs.Prelude.{◌≡◌, ◌≤◌};
 ghost use Rattle.hevc_elements.specs.Words.{Fills};
 ghost use Rattle.hevc_records.specs.RefPicListModification.{default_ref_pic_list_modification};
 ghost use Rattle.hevc_tables.specs.SliceHeaderTable as table;
-ghost use Rattle.hevc_types_a.specs.RefPicListModification.{plain_ref_pic_list_modification};
-ghost use Rattle.hevc_types_c.specs.Sps.{plain_sps};
-ghost use Rattle.hevc_types_d.specs.Pps.{plain_pps};
-ghost use Rattle.hevc_types_d.specs.SliceHeader.{plain_slice_header};
+ghost use Rattle.hevc_set_parts.specs.RefPicListModification.{plain_ref_pic_list_modification};
+ghost use Rattle.hevc_sequence_set.specs.Sps.{plain_sps};
+ghost use Rattle.hevc_picture_slice.specs.Pps.{plain_pps};
+ghost use Rattle.hevc_picture_slice.specs.SliceHeader.{plain_slice_header};
 ghost use Rattle.hevc_slice_references.specs.Unordered.{IsUnordered};
 
 use crate::active_counts::{is_b, read_active_counts};
 use crate::pictures::num_pic_total_curr;
 use hevc_bits::NaluReader;
 use hevc_elements::ParseError;
+use hevc_picture_slice::{Pps, SliceHeader};
+use hevc_sequence_set::Sps;
+use hevc_set_parts::RefPicListModification;
 use hevc_slice_parts::read_ref_pic_list_modification;
-use hevc_types_a::RefPicListModification;
-use hevc_types_c::Sps;
-use hevc_types_d::{Pps, SliceHeader};
 
 /// Fills in rows 24 to 27 of table 14 (7.3.6.1) of a P or B slice: the active places of its lists, the number of pictures that it may
 /// refer to (7-55), and how its lists are ordered.

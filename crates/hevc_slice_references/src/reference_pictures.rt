@@ -1,17 +1,17 @@
 //! Which pictures are kept for reference (7.3.6.1, rows 10 to 21 of table 14).
 ghost use Rattle.hevc_elements.specs.Words.{Fills};
 ghost use Rattle.hevc_tables.specs.SliceHeaderTable as table;
-ghost use Rattle.hevc_types_c.specs.Sps.{plain_sps};
-ghost use Rattle.hevc_types_d.specs.SliceHeader.{plain_slice_header};
+ghost use Rattle.hevc_sequence_set.specs.Sps.{plain_sps};
+ghost use Rattle.hevc_picture_slice.specs.SliceHeader.{plain_slice_header};
 
 use crate::long_term::read_long_term;
 use crate::short_term::read_short_term;
 use hevc_bits::NaluReader;
 use hevc_elements::ParseError;
 use hevc_elements::rows::flag_if;
+use hevc_picture_slice::SliceHeader;
+use hevc_sequence_set::Sps;
 use hevc_spec::Row;
-use hevc_types_c::Sps;
-use hevc_types_d::SliceHeader;
 
 /// Fills in rows 10 to 21 of table 14 (7.3.6.1) of a slice whose picture isn't IDR: its order count, and its short-term and long-term
 /// reference pictures.

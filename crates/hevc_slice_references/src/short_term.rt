@@ -3,18 +3,18 @@ ghost use Rattle.std.specs.Prelude.{◌≡◌, ◌≤◌};
 ghost use Rattle.hevc_elements.specs.Words.{bits, IsAhead, read, Reads, Fills};
 ghost use Rattle.hevc_tables.specs.SliceHeaderTable as table;
 ghost use Rattle.hevc_tables.specs.SpsTable.{highest_buffering as buffering_of_highest};
-ghost use Rattle.hevc_types_c.specs.Sps.{plain_sps};
-ghost use Rattle.hevc_types_d.specs.SliceHeader.{plain_slice_header};
+ghost use Rattle.hevc_sequence_set.specs.Sps.{plain_sps};
+ghost use Rattle.hevc_picture_slice.specs.SliceHeader.{plain_slice_header};
 
 use crate::index::read_index;
 use crate::size::bits_between;
 use hevc_bits::NaluReader;
 use hevc_elements::ParseError;
 use hevc_elements::rows::{bits_u32, flag, zero};
+use hevc_picture_slice::SliceHeader;
+use hevc_sequence_set::Sps;
 use hevc_short_term::read_short_term_set;
 use hevc_spec::Row;
-use hevc_types_c::Sps;
-use hevc_types_d::SliceHeader;
 
 /// Rows 10 to 13 of table 14.
 #[tactic(auto, unfolding(hevc_tables::specs::SliceHeaderTable::short_term, hevc_spec::specs::Rows::either))]

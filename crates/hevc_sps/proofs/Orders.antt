@@ -2,8 +2,8 @@
 use Rattle.std.proofs.Common.{List, Result, Ok, Err}
 use Rattle.std.specs.Prelude.{IfOk}
 use Rattle.hevc_elements.specs.declared.parse_error.ParseError.{ParseError}
-use Rattle.hevc_types_a.specs.declared.short_term_ref_pic_set.ShortTermRefPicSet.{ShortTermRefPicSet}
-use Rattle.hevc_types_c.specs.declared.sps.Sps.{Sps}
+use Rattle.hevc_set_parts.specs.declared.short_term_ref_pic_set.ShortTermRefPicSet.{ShortTermRefPicSet}
+use Rattle.hevc_sequence_set.specs.declared.sps.Sps.{Sps}
 use Rattle.hevc_sps.specs.Predictions.{AreInOrder}
 
 in_order : (sets : List ShortTermRefPicSet) → AreInOrder sets

@@ -2,13 +2,13 @@
 ghost use Rattle.std.specs.Prelude.{◌≡◌, ◌≤◌, ◌+◌, min};
 ghost use Rattle.hevc_elements.specs.Words.{Fills};
 ghost use Rattle.hevc_tables.specs.SpsTable as table;
-ghost use Rattle.hevc_types_c.specs.Sps.{plain_sps};
+ghost use Rattle.hevc_sequence_set.specs.Sps.{plain_sps};
 
 use hevc_bits::NaluReader;
 use hevc_elements::ParseError;
 use hevc_elements::rows::{check, ue_u8};
+use hevc_sequence_set::Sps;
 use hevc_spec::Row;
-use hevc_types_c::Sps;
 
 /// Rows 20 to 24 of table 5.
 #[tactic(auto, unfolding(hevc_tables::specs::SpsTable::blocks, hevc_tables::specs::SpsTable::with_block_sizes, hevc_tables::specs::SpsTable::with_picture_size))]

@@ -2,9 +2,9 @@
 ghost use Rattle.std.specs.Prelude.{◌≡◌};
 ghost use Rattle.hevc_elements.specs.Words.{Fills, when};
 ghost use Rattle.hevc_tables.specs.SpsTable as table;
-ghost use Rattle.hevc_types_c.specs.Sps.{plain_sps};
-ghost use Rattle.hevc_types_c.specs.SpsRangeExtension.{plain_sps_range_extension};
-ghost use Rattle.hevc_types_c.specs.SpsSccExtension.{plain_sps_scc_extension};
+ghost use Rattle.hevc_sequence_set.specs.Sps.{plain_sps};
+ghost use Rattle.hevc_sequence_set.specs.SpsRangeExtension.{plain_sps_range_extension};
+ghost use Rattle.hevc_sequence_set.specs.SpsSccExtension.{plain_sps_scc_extension};
 
 use crate::frame::half_range;
 use crate::range_extension::read_sps_range_extension;
@@ -13,8 +13,8 @@ use crate::scc_extension::read_sps_scc_extension;
 use hevc_bits::NaluReader;
 use hevc_elements::ParseError;
 use hevc_elements::rows::{flag, skip, zero};
+use hevc_sequence_set::{Sps, SpsRangeExtension, SpsSccExtension};
 use hevc_spec::Row;
-use hevc_types_c::{Sps, SpsRangeExtension, SpsSccExtension};
 
 /// Rows 43 to 50 of table 5.
 #[tactic(auto, unfolding(hevc_tables::specs::SpsTable::extensions, hevc_spec::specs::Rows::when))]

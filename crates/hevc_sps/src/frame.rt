@@ -3,13 +3,13 @@ ghost use Rattle.std.specs.Prelude.{◌≡◌, ◌≤◌, ◌<◌, if◌then◌e
 ghost use Rattle.hevc_elements.specs.Words.{Fills};
 ghost use Rattle.hevc_records.specs.SpsSizes.{leaves_some, sub_width_c, sub_height_c, wp_offset_half_range};
 ghost use Rattle.hevc_tables.specs.SpsTable as table;
-ghost use Rattle.hevc_types_c.specs.Sps.{plain_sps};
+ghost use Rattle.hevc_sequence_set.specs.Sps.{plain_sps};
 
 use hevc_bits::NaluReader;
 use hevc_elements::ParseError;
 use hevc_elements::rows::{check, flag, flag_if, ue, ue_u8, ue_u16};
+use hevc_sequence_set::Sps;
 use hevc_spec::Row;
-use hevc_types_c::Sps;
 
 /// Rows 6 to 9 of table 5.
 #[tactic(auto, unfolding(hevc_tables::specs::SpsTable::samples))]

@@ -2,16 +2,16 @@
 ghost use Rattle.std.specs.Prelude.{◌≡◌, ◌≤◌};
 ghost use Rattle.hevc_elements.specs.Words.{Fills};
 ghost use Rattle.hevc_tables.specs.SpsTable as table;
-ghost use Rattle.hevc_types_a.specs.ProfileTierLevel.{plain_profile_tier_level};
-ghost use Rattle.hevc_types_c.specs.Sps.{plain_sps};
+ghost use Rattle.hevc_set_parts.specs.ProfileTierLevel.{plain_profile_tier_level};
+ghost use Rattle.hevc_sequence_set.specs.Sps.{plain_sps};
 
 use hevc_bits::NaluReader;
 use hevc_elements::ParseError;
 use hevc_elements::rows::{bits_u8, flag, ue_u8};
 use hevc_profile::read_profile_tier_level;
+use hevc_sequence_set::Sps;
+use hevc_set_parts::ProfileTierLevel;
 use hevc_spec::Row;
-use hevc_types_a::ProfileTierLevel;
-use hevc_types_c::Sps;
 
 /// Rows 1 to 5 of table 5.
 #[tactic(auto, unfolding(hevc_tables::specs::SpsTable::identity))]

@@ -1,13 +1,13 @@
 //! The range extension (7.3.2.2.2, table 9).
 ghost use Rattle.hevc_elements.specs.Words.{bits, IsAhead, read, Reads};
 ghost use Rattle.hevc_tables.specs.SpsRangeExtensionTable.{sps_range_extension};
-ghost use Rattle.hevc_types_c.specs.SpsRangeExtension.{plain_sps_range_extension};
+ghost use Rattle.hevc_sequence_set.specs.SpsRangeExtension.{plain_sps_range_extension};
 
 use hevc_bits::NaluReader;
 use hevc_elements::ParseError;
 use hevc_elements::rows::flag;
+use hevc_sequence_set::SpsRangeExtension;
 use hevc_spec::Row;
-use hevc_types_c::SpsRangeExtension;
 
 /// Table 9.
 #[tactic(auto, unfolding(hevc_tables::specs::SpsRangeExtensionTable::sps_range_extension))]

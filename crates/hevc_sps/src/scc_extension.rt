@@ -2,15 +2,15 @@
 ghost use Rattle.std.specs.Prelude.{◌≡◌, ◌≤◌, ◌<◌};
 ghost use Rattle.hevc_elements.specs.Words.{bits, IsAhead, read, Reads, Fills};
 ghost use Rattle.hevc_tables.specs.SpsSccExtensionTable as table;
-ghost use Rattle.hevc_types_c.specs.SpsSccExtension.{plain_sps_scc_extension};
+ghost use Rattle.hevc_sequence_set.specs.SpsSccExtension.{plain_sps_scc_extension};
 ghost use Rattle.hevc_sps.specs.Projections.{plain_format};
 
 use crate::sample_format::SampleFormat;
 use hevc_bits::NaluReader;
 use hevc_elements::ParseError;
 use hevc_elements::rows::{bits_u8, bits_u32, flag, ue_u8};
+use hevc_sequence_set::SpsSccExtension;
 use hevc_spec::Row;
-use hevc_types_c::SpsSccExtension;
 
 /// Table 10.
 #[tactic(auto, unfolding(hevc_tables::specs::SpsSccExtensionTable::sps_scc_extension, hevc_spec::specs::Rows::when))]

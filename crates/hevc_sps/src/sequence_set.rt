@@ -5,7 +5,7 @@ ghost use Rattle.hevc_bits.specs.FoundUnit.{bytes_of};
 ghost use Rattle.hevc_bits.specs.NaluType.{nalu_type_number};
 ghost use Rattle.hevc_elements.specs.Words.{bits, IsAhead, read, Fills, FillsGrowing, ReadsGrowing, ReadsSet, MeansSet, NamesNoSet};
 ghost use Rattle.hevc_tables.specs.SpsTable as table;
-ghost use Rattle.hevc_types_c.specs.Sps.{plain_sps};
+ghost use Rattle.hevc_sequence_set.specs.Sps.{plain_sps};
 ghost use Rattle.hevc_sps.specs.Predictions.{AreInOrder};
 ghost use Rattle.hevc_bits.specs.declared.stream_limit.TheConstants.{STREAM_LIMIT};
 
@@ -20,7 +20,7 @@ use crate::tools::{read_scaling, read_tools};
 use crate::usability::read_usability;
 use hevc_bits::{Nalu, NaluHeader, NaluReader, NaluType};
 use hevc_elements::ParseError;
-use hevc_types_c::Sps;
+use hevc_sequence_set::Sps;
 use std::alloc::Global;
 
 /// Reads a sequence parameter set out of its unit, of a stream of less than 2^60 bytes, by table 5 (7.3.2.2.1).

@@ -3,16 +3,16 @@ ghost use Rattle.std.specs.Prelude.{length, map, IfOk};
 ghost use Rattle.std.specs.Prelude.{◌≡◌, ◌≤◌, ◌<◌};
 ghost use Rattle.hevc_elements.specs.Words.{bits, IsAhead, read, ReadsGrowing, FillsGrowing};
 ghost use Rattle.hevc_tables.specs.SpsTable as table;
-ghost use Rattle.hevc_types_a.specs.ShortTermRefPicSet.{plain_short_term_ref_pic_set};
-ghost use Rattle.hevc_types_c.specs.Sps.{plain_sps};
+ghost use Rattle.hevc_set_parts.specs.ShortTermRefPicSet.{plain_short_term_ref_pic_set};
+ghost use Rattle.hevc_sequence_set.specs.Sps.{plain_sps};
 
 use hevc_bits::NaluReader;
 use hevc_elements::ParseError;
 use hevc_elements::rows::ue_u8;
+use hevc_sequence_set::Sps;
+use hevc_set_parts::{Items, ShortTermRefPicSet};
 use hevc_short_term::read_short_term_set;
 use hevc_spec::Row;
-use hevc_types_a::{Items, ShortTermRefPicSet};
-use hevc_types_c::Sps;
 use std::alloc::Global;
 
 /// Rows 35 and 36 of table 5.

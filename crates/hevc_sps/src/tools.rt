@@ -2,16 +2,16 @@
 ghost use Rattle.std.specs.Prelude.{◌≡◌};
 ghost use Rattle.hevc_elements.specs.Words.{Fills};
 ghost use Rattle.hevc_tables.specs.SpsTable as table;
-ghost use Rattle.hevc_types_a.specs.ScalingLists.{plain_scaling_lists};
-ghost use Rattle.hevc_types_c.specs.Sps.{plain_sps};
+ghost use Rattle.hevc_set_parts.specs.ScalingLists.{plain_scaling_lists};
+ghost use Rattle.hevc_sequence_set.specs.Sps.{plain_sps};
 
 use hevc_bits::NaluReader;
 use hevc_elements::ParseError;
 use hevc_elements::rows::{bits_u8, flag, flag_if, ue_u8};
 use hevc_scaling::read_scaling_list_data;
+use hevc_sequence_set::Sps;
+use hevc_set_parts::ScalingLists;
 use hevc_spec::Row;
-use hevc_types_a::ScalingLists;
-use hevc_types_c::Sps;
 
 /// Rows 25 to 29 of table 5.
 #[tactic(auto, unfolding(hevc_tables::specs::SpsTable::scaling, hevc_spec::specs::Rows::when))]

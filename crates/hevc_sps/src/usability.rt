@@ -2,15 +2,15 @@
 ghost use Rattle.std.specs.Prelude.{◌≡◌};
 ghost use Rattle.hevc_elements.specs.Words.{Fills};
 ghost use Rattle.hevc_tables.specs.SpsTable as table;
-ghost use Rattle.hevc_types_b.specs.VuiParams.{plain_vui_params};
-ghost use Rattle.hevc_types_c.specs.Sps.{plain_sps};
+ghost use Rattle.hevc_video_set.specs.VuiParams.{plain_vui_params};
+ghost use Rattle.hevc_sequence_set.specs.Sps.{plain_sps};
 
 use hevc_bits::NaluReader;
 use hevc_elements::ParseError;
 use hevc_elements::rows::flag;
+use hevc_sequence_set::Sps;
 use hevc_spec::Row;
-use hevc_types_b::VuiParams;
-use hevc_types_c::Sps;
+use hevc_video_set::VuiParams;
 use hevc_vui::read_vui_parameters;
 
 /// Rows 41 and 42 of table 5.

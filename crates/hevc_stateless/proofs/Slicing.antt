@@ -23,12 +23,12 @@ use Rattle.hevc_stream.specs.Stream.{meaning_of}
 use Rattle.hevc_stream_laws.proofs.ByType.{of_slice}
 use Rattle.hevc_walk_units.specs.Units.{Standing}
 use Rattle.hevc_bits.specs.FoundUnit.{FoundUnit, bytes_of}
-use Rattle.hevc_types_c.specs.declared.sps.Sps.{Sps}
-use Rattle.hevc_types_c.specs.Sps.{plain_sps}
-use Rattle.hevc_types_d.specs.declared.pps.Pps.{Pps}
-use Rattle.hevc_types_d.specs.Pps.{plain_pps}
-use Rattle.hevc_types_d.specs.declared.slice.Slice as code_slice
-use Rattle.hevc_types_d.specs.SliceHeader.{plain_slice_header}
+use Rattle.hevc_sequence_set.specs.declared.sps.Sps.{Sps}
+use Rattle.hevc_sequence_set.specs.Sps.{plain_sps}
+use Rattle.hevc_picture_slice.specs.declared.pps.Pps.{Pps}
+use Rattle.hevc_picture_slice.specs.Pps.{plain_pps}
+use Rattle.hevc_picture_slice.specs.declared.slice.Slice as code_slice
+use Rattle.hevc_picture_slice.specs.SliceHeader.{plain_slice_header}
 use Rattle.hevc_options.specs.declared.Options as code_options
 use Rattle.hevc_options.specs.Options.{options_of}
 use Rattle.hevc_driver.specs.Slices.{slice_of}
@@ -37,7 +37,7 @@ use Rattle.hevc_driver.specs.Given.{Given}
 use Rattle.hevc_driver.specs.Does.{Traces}
 use Rattle.hevc_driver.specs.Takes.{Takes}
 use Rattle.hevc_stateless.specs.declared.state.State.{State}
-use Rattle.hevc_slice.specs.Slices.{active_of}
+use Rattle.hevc_parser.specs.Slices.{active_of}
 use Rattle.hevc_stateless.specs.States.{unit_at}
 use Rattle.std.specs.Prelude.{Some}
 use Rattle.hevc_walk.specs.Meanings.{Slice}

@@ -2,10 +2,10 @@
 ghost use Rattle.std.specs.Prelude.{◌≡◌, true, option_map, OnOk, OnErr};
 ghost use Rattle.hevc_spec.specs.UnitTypes.{is_idr};
 ghost use Rattle.hevc_bits.specs.NaluType.{nalu_type_number};
-ghost use Rattle.hevc_types_c.specs.Sps.{plain_sps};
+ghost use Rattle.hevc_sequence_set.specs.Sps.{plain_sps};
 ghost use Rattle.hevc_walk_inputs.specs.Sequences.{format_of_set};
 ghost use Rattle.hevc_walk.specs.Meanings.{SequenceSet, CodedSlice, EndOfSequence, EndOfBitstream};
-ghost use Rattle.hevc_types_d.specs.SliceHeader.{plain_slice_header};
+ghost use Rattle.hevc_picture_slice.specs.SliceHeader.{plain_slice_header};
 ghost use Rattle.hevc_walk_units.specs.Units.{open_head};
 ghost use Rattle.hevc_driver.specs.Headers.{latest_behind, whole_segment};
 ghost use Rattle.hevc_driver.specs.Heads.{head_of};
@@ -23,8 +23,8 @@ ghost use Rattle.hevc_stateless.specs.Views.{at_beginning, traces_of, moment_of,
 use crate::state::State;
 use hevc_bits::NaluType;
 use hevc_driver::{DecodeError, Driver, Frame, Head, Options, StatelessH265DecoderBackend};
-use hevc_types_c::Sps;
-use hevc_types_d::{Pps, Slice};
+use hevc_picture_slice::{Pps, Slice};
+use hevc_sequence_set::Sps;
 use std::alloc::Global;
 use std::marker::Model;
 

@@ -15,11 +15,11 @@ use Rattle.hevc_walk_units.specs.Units.{Standing, unit_part}
 use Rattle.std.proofs.Common.{cond}
 use Rattle.hevc_walk.specs.Walk.{earlier_of}
 use Rattle.hevc_walk_units.specs.Units.{is_full_at}
-use Rattle.hevc_walk_joined.specs.Standings.{full_by}
-use Rattle.hevc_walk_joined.proofs.Moment.{moment}
-use Rattle.hevc_walk_joined.proofs.Ends.{stop-last}
-use Rattle.hevc_walk_joined.proofs.Joined.{refusal-same}
-use Rattle.hevc_walk_joined.proofs.Cuts.{calls-at}
+use Rattle.hevc_walk_agree.specs.Standings.{full_by}
+use Rattle.hevc_walk_agree.proofs.Moment.{moment}
+use Rattle.hevc_walk_agree.proofs.Ends.{stop-last}
+use Rattle.hevc_walk_agree.proofs.Joined.{refusal-same}
+use Rattle.hevc_walk_agree.proofs.Cuts.{calls-at}
 use Rattle.hevc_stream.specs.Options.{Options}
 use Rattle.hevc_stream.specs.Kept.{Kept, none_kept}
 use Rattle.hevc_stream.specs.Stream.{meaning, kept_behind}

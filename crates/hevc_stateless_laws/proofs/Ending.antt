@@ -11,8 +11,8 @@ use Rattle.hevc_walk.specs.Walk.{at_unit}
 use Rattle.hevc_walk.specs.Refusals.{stop}
 use Rattle.hevc_walk.specs.Results.{verdict, full_or, events, calls, outputs, calls_in, outputs_in, calls_of_unit, outputs_of_unit, walk_events}
 use Rattle.hevc_walk_units.specs.Units.{Standing, is_full_now, closing_part, verdict_from, refused_at, full_or_cause}
-use Rattle.hevc_walk_joined.specs.Standings.{standing, full_by}
-use Rattle.hevc_walk_joined.proofs.Cuts.{AllBelow, stream-below, events-cut, verdict-cut, of_unit, of_unit-below, of_unit-at, calls_of_unit-in, outputs_of_unit-in}
+use Rattle.hevc_walk_agree.specs.Standings.{standing, full_by}
+use Rattle.hevc_walk_agree.proofs.Cuts.{AllBelow, stream-below, events-cut, verdict-cut, of_unit, of_unit-below, of_unit-at, calls_of_unit-in, outputs_of_unit-in}
 use Rattle.hevc_stream.specs.Options.{Options}
 use Rattle.hevc_stream.specs.Kept.{none_kept}
 use Rattle.hevc_backend.specs.Trait.{logged}

@@ -10,7 +10,7 @@ use Rattle.hevc_walk.specs.Meanings.{Format, Meaning}
 use Rattle.hevc_walk.specs.Walk.{Part}
 use Rattle.hevc_walk.specs.Results.{outputs, outputs_of_unit}
 use Rattle.hevc_walk_units.specs.Units.{Standing, unit_part}
-use Rattle.hevc_walk_joined.proofs.Cuts.{outputs-at}
+use Rattle.hevc_walk_agree.proofs.Cuts.{outputs-at}
 use Rattle.hevc_stream.specs.Options.{Options}
 use Rattle.hevc_stream.specs.Kept.{Kept, none_kept}
 use Rattle.hevc_stream.specs.Contents.{content, header_cause}

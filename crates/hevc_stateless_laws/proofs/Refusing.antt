@@ -9,8 +9,8 @@ use Rattle.hevc_walk.specs.Walk.{Part}
 use Rattle.hevc_walk.specs.Refusals.{Cause, UnitRefused, DpbFull, refusal}
 use Rattle.hevc_walk.specs.Results.{verdict, full_or, calls, outputs, calls_of_unit, outputs_of_unit}
 use Rattle.hevc_walk_units.specs.Units.{Standing, unit_part, refusal_at, is_full_at, verdict_from, refused_at, full_or_cause}
-use Rattle.hevc_walk_joined.proofs.Joined.{refusal-same}
-use Rattle.hevc_walk_joined.proofs.Cuts.{calls-at, outputs-at, verdict-cut}
+use Rattle.hevc_walk_agree.proofs.Joined.{refusal-same}
+use Rattle.hevc_walk_agree.proofs.Cuts.{calls-at, outputs-at, verdict-cut}
 use Rattle.hevc_stream.specs.Options.{Options}
 use Rattle.hevc_stream.specs.Kept.{Kept, none_kept}
 use Rattle.hevc_stream.specs.Contents.{content, header_cause}

@@ -8,7 +8,7 @@ use Rattle.hevc_walk.specs.Walk as walk
 use Rattle.hevc_walk.specs.Refusals.{Cause, refusal, stop}
 use Rattle.hevc_walk.specs.Results.{OutputPicture, verdict, calls, outputs, calls_of_unit, outputs_of_unit}
 use Rattle.hevc_walk_units.specs.Units.{Standing, is_full_at}
-use Rattle.hevc_walk_joined.specs.Standings as joined
+use Rattle.hevc_walk_agree.specs.Standings as joined
 use Rattle.hevc_stream.specs.Options.{Options}
 use Rattle.hevc_stream.specs.Kept.{Kept, none_kept}
 use Rattle.hevc_stream.specs.Contents.{content}

@@ -5,8 +5,8 @@ use Rattle.hevc_records.specs.Sps.{PlainSps}
 use Rattle.hevc_records.specs.SliceHeader.{PlainSliceSegmentHeader}
 use Rattle.hevc_records.specs.ShortTermRefPicSet.{default_short_term_ref_pic_set}
 use Rattle.hevc_bits.specs.NaluType.{nalu_type_number}
-use Rattle.hevc_types_d.specs.declared.slice.Slice.{Slice}
-use Rattle.hevc_types_d.specs.SliceHeader.{plain_slice_header}
+use Rattle.hevc_picture_slice.specs.declared.slice.Slice.{Slice}
+use Rattle.hevc_picture_slice.specs.SliceHeader.{plain_slice_header}
 use Rattle.hevc_walk.specs.ReferenceSets.{RefPicSet}
 use Rattle.hevc_pictures.specs.declared.picture_data.PictureData.{PictureData}
 use Rattle.hevc_dpb.specs.declared.entry.DpbEntry.{DpbEntry}
@@ -16,7 +16,7 @@ use Rattle.hevc_v4l2.specs.declared.error.ControlError.TheVariants.{ShortTermSiz
 use Rattle.hevc_v4l2.specs.declared.decode.V4l2CtrlHevcDecodeParams.{V4l2CtrlHevcDecodeParams}
 use Rattle.hevc_v4l2.specs.Arrays.{padded}
 use Rattle.hevc_v4l2.specs.Buffer.{control_of_entry, member_index, no_entry}
-use Rattle.hevc_c_parts.specs.Flags.{flags_of}
+use Rattle.hevc_events.specs.Flags.{flags_of}
 use Rattle.hevc_v4l2.specs.LongTerm.{long_term_size}
 
 -- what the struct can't hold

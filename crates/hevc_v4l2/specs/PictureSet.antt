@@ -6,7 +6,7 @@ use Rattle.hevc_v4l2.specs.declared.error.ControlError.{ControlError}
 use Rattle.hevc_v4l2.specs.declared.error.ControlError.TheVariants.{TileColumns, TileRows}
 use Rattle.hevc_v4l2.specs.declared.picture_set.V4l2CtrlHevcPps.{V4l2CtrlHevcPps}
 use Rattle.hevc_v4l2.specs.Arrays.{is_byte}
-use Rattle.hevc_c_parts.specs.Flags.{flags_of}
+use Rattle.hevc_events.specs.Flags.{flags_of}
 
 -- the first thing that the struct can't hold
 abbrev pub pps_error : PlainPps → Option ControlError

@@ -5,7 +5,7 @@ use Rattle.hevc_records.specs.DefaultScalingLists.{default_lists}
 use Rattle.hevc_records.specs.Sps.{PlainSps}
 use Rattle.hevc_records.specs.Pps.{PlainPps}
 use Rattle.hevc_v4l2.specs.declared.scaling.V4l2CtrlHevcScalingMatrix.{V4l2CtrlHevcScalingMatrix}
-use Rattle.hevc_c_parts.specs.Scan.{in_raster_order, scan_places_4x4, scan_places_8x8}
+use Rattle.hevc_events.specs.Scan.{in_raster_order, scan_places_4x4, scan_places_8x8}
 
 -- 16 everywhere (8.6.4.2)
 abbrev pub flat_lists : PlainScalingLists

@@ -2,7 +2,7 @@
 use Rattle.std.specs.Prelude.{[], ◌∷◌, slice_index, replicate}
 use Rattle.hevc_records.specs.Sps.{PlainSps}
 use Rattle.hevc_v4l2.specs.declared.sequence_set.V4l2CtrlHevcSps.{V4l2CtrlHevcSps}
-use Rattle.hevc_c_parts.specs.Flags.{flags_of}
+use Rattle.hevc_events.specs.Flags.{flags_of}
 
 -- Each field has the element of its name. Of the numbers that each sub-layer has, those of the
 -- highest one are taken. The flags are in the order of V4L2_HEVC_SPS_FLAG_*.

@@ -5,8 +5,8 @@ use Rattle.std.specs.Option.{option_or}
 use Rattle.hevc_records.specs.Sps.{PlainSps}
 use Rattle.hevc_records.specs.SliceHeader.{PlainSliceSegmentHeader}
 use Rattle.hevc_pictures.specs.declared.picture_data.PictureData.{PictureData}
-use Rattle.hevc_types_d.specs.declared.slice.Slice.{Slice}
-use Rattle.hevc_types_d.specs.SliceHeader.{plain_slice_header}
+use Rattle.hevc_picture_slice.specs.declared.slice.Slice.{Slice}
+use Rattle.hevc_picture_slice.specs.SliceHeader.{plain_slice_header}
 use Rattle.hevc_refs.specs.declared.ref_pic_list.RefPicListEntry.{RefPicListEntry}
 use Rattle.hevc_v4l2.specs.declared.error.ControlError.{ControlError}
 use Rattle.hevc_v4l2.specs.declared.error.ControlError.TheVariants.{UnitSize, ShortTermSize, CurrentPicture}
@@ -14,7 +14,7 @@ use Rattle.hevc_v4l2.specs.declared.weights.V4l2HevcPredWeightTable.{V4l2HevcPre
 use Rattle.hevc_v4l2.specs.declared.slice.V4l2CtrlHevcSliceParams.{V4l2CtrlHevcSliceParams}
 use Rattle.hevc_v4l2.specs.Arrays.{padded}
 use Rattle.hevc_v4l2.specs.Buffer.{is_current, place_index}
-use Rattle.hevc_c_parts.specs.Flags.{flags_of}
+use Rattle.hevc_events.specs.Flags.{flags_of}
 use Rattle.hevc_v4l2.specs.LongTerm.{long_term_size}
 use Rattle.hevc_v4l2.specs.Weights.{control_of_weights, weights_error}
 

@@ -2,9 +2,9 @@
 ghost use Rattle.std.specs.Prelude.{◌≡◌, ◌≤◌, map, slice_index_or, IfOk};
 ghost use Rattle.std.specs.Result.{result_err};
 ghost use Rattle.hevc_records.specs.ShortTermRefPicSet.{default_short_term_ref_pic_set};
-ghost use Rattle.hevc_types_a.specs.ShortTermRefPicSet.{plain_short_term_ref_pic_set};
-ghost use Rattle.hevc_types_c.specs.Sps.{plain_sps};
-ghost use Rattle.hevc_types_d.specs.SliceHeader.{plain_slice_header};
+ghost use Rattle.hevc_set_parts.specs.ShortTermRefPicSet.{plain_short_term_ref_pic_set};
+ghost use Rattle.hevc_sequence_set.specs.Sps.{plain_sps};
+ghost use Rattle.hevc_picture_slice.specs.SliceHeader.{plain_slice_header};
 ghost use Rattle.hevc_dpb.specs.Views.{stored_entries};
 ghost use Rattle.hevc_refs.specs.Sets.{plain_set};
 ghost use Rattle.hevc_v4l2.specs.Decode.{control_of_decoding, decode_flags, indices_of, num_delta_pocs_of_ref_rps, short_term_error};
@@ -12,13 +12,13 @@ ghost use Rattle.hevc_v4l2.specs.Decode.{control_of_decoding, decode_flags, indi
 use crate::buffer::{V4l2HevcDpbEntry, entry_places, member_indices, reference_controls};
 use crate::error::ControlError;
 use crate::long_term::long_term_size;
-use hevc_c_parts::flag_bits;
 use hevc_dpb::Dpb;
+use hevc_events::flag_bits;
+use hevc_picture_slice::{Slice, SliceHeader};
 use hevc_pictures::PictureData;
 use hevc_refs::RefPicSet;
-use hevc_types_a::ShortTermRefPicSet;
-use hevc_types_c::Sps;
-use hevc_types_d::{Slice, SliceHeader};
+use hevc_sequence_set::Sps;
+use hevc_set_parts::ShortTermRefPicSet;
 
 /// `struct v4l2_ctrl_hevc_decode_params`: a picture, the buffer and its reference picture set (8.3.2).
 #[repr(C)]

@@ -1,13 +1,13 @@
 //! How many bits the long-term part of a slice header takes.
 ghost use Rattle.std.specs.Prelude.{◌≡◌, ◌≤◌, ◌<◌, ◌+◌, ◌*◌};
 ghost use Rattle.hevc_tables.specs.SliceHeaderTable.{cycles_before};
-ghost use Rattle.hevc_types_c.specs.Sps.{plain_sps};
-ghost use Rattle.hevc_types_d.specs.SliceHeader.{plain_slice_header};
+ghost use Rattle.hevc_sequence_set.specs.Sps.{plain_sps};
+ghost use Rattle.hevc_picture_slice.specs.SliceHeader.{plain_slice_header};
 ghost use Rattle.hevc_v4l2.specs.LongTerm.{candidate_count_bits, cycle_bits, long_term_bits, long_term_size, picture_bits, ue_bits};
 
+use hevc_picture_slice::{Slice, SliceHeader};
+use hevc_sequence_set::Sps;
 use hevc_slice_parts::ceil_log2;
-use hevc_types_c::Sps;
-use hevc_types_d::{Slice, SliceHeader};
 
 /// The bits of rows 14 to 20 of table 14 in the header of a slice, 0 where they are absent.
 pub(crate) fn long_term_size(slice: &Slice<'_>, sps: &Sps) -> u16

@@ -2,14 +2,14 @@
 ghost use Rattle.std.specs.Prelude.{◌≡◌, IfOk, IsTrue};
 ghost use Rattle.std.specs.Result.{result_err};
 ghost use Rattle.std.specs.List.{list_all};
-ghost use Rattle.hevc_types_d.specs.Pps.{plain_pps};
+ghost use Rattle.hevc_picture_slice.specs.Pps.{plain_pps};
 ghost use Rattle.hevc_v4l2.specs.Arrays.{is_byte};
 ghost use Rattle.hevc_v4l2.specs.PictureSet.{control_of_pps, pps_error};
 
 use crate::arrays::{are_bytes, bytes_of};
 use crate::error::ControlError;
-use hevc_c_parts::flag_bits;
-use hevc_types_d::Pps;
+use hevc_events::flag_bits;
+use hevc_picture_slice::Pps;
 
 /// `struct v4l2_ctrl_hevc_pps`: the elements of a picture parameter set (7.3.2.3.1), by their names in H.265.
 #[repr(C)]

@@ -1,17 +1,17 @@
 //! The scaling lists: `struct v4l2_ctrl_hevc_scaling_matrix`.
 ghost use Rattle.std.specs.Prelude.{◌≡◌, ◌≤ℤ◌, negsuc, pos, map};
-ghost use Rattle.hevc_c_parts.specs.Scan.{in_raster_order, scan_places_8x8};
+ghost use Rattle.hevc_events.specs.Scan.{in_raster_order, scan_places_8x8};
 ghost use Rattle.hevc_records.specs.Bounds.{Within};
-ghost use Rattle.hevc_types_a.specs.ScalingLists.{plain_scaling_lists};
-ghost use Rattle.hevc_types_c.specs.Sps.{plain_sps};
-ghost use Rattle.hevc_types_d.specs.Pps.{plain_pps};
+ghost use Rattle.hevc_set_parts.specs.ScalingLists.{plain_scaling_lists};
+ghost use Rattle.hevc_sequence_set.specs.Sps.{plain_sps};
+ghost use Rattle.hevc_picture_slice.specs.Pps.{plain_pps};
 ghost use Rattle.hevc_v4l2.specs.Scaling.{active_lists, control_of_lists, dc_coef, flat_lists, luma_lists, luma_coefs};
 
-use hevc_c_parts::{SCAN_PLACES_4X4, SCAN_PLACES_8X8, raster_list, raster_lists};
+use hevc_events::{SCAN_PLACES_4X4, SCAN_PLACES_8X8, raster_list, raster_lists};
+use hevc_picture_slice::Pps;
 use hevc_scaling::default_scaling_lists;
-use hevc_types_a::ScalingLists;
-use hevc_types_c::Sps;
-use hevc_types_d::Pps;
+use hevc_sequence_set::Sps;
+use hevc_set_parts::ScalingLists;
 
 /// `struct v4l2_ctrl_hevc_scaling_matrix`: scaling lists (7.3.4), each in raster order.
 ///

@@ -1,10 +1,10 @@
 //! The sequence parameter set: `struct v4l2_ctrl_hevc_sps`.
 ghost use Rattle.std.specs.Prelude.{◌≡◌};
-ghost use Rattle.hevc_types_c.specs.Sps.{plain_sps};
+ghost use Rattle.hevc_sequence_set.specs.Sps.{plain_sps};
 ghost use Rattle.hevc_v4l2.specs.SequenceSet.{control_of_sps};
 
-use hevc_c_parts::flag_bits;
-use hevc_types_c::Sps;
+use hevc_events::flag_bits;
+use hevc_sequence_set::Sps;
 
 /// `struct v4l2_ctrl_hevc_sps`: the elements of a sequence parameter set (7.3.2.2.1), by their names in H.265.
 #[repr(C)]

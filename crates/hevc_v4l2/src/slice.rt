@@ -1,9 +1,9 @@
 //! A slice segment: `struct v4l2_ctrl_hevc_slice_params`.
 ghost use Rattle.std.specs.Prelude.{◌≡◌, ◌*◌, pos, ◌≤ℤ◌, map, None, Some, IfNone, IfOk, IfSome};
 ghost use Rattle.std.specs.Result.{result_err};
-ghost use Rattle.hevc_types_a.specs.SliceType.{slice_type_number};
-ghost use Rattle.hevc_types_c.specs.Sps.{plain_sps};
-ghost use Rattle.hevc_types_d.specs.SliceHeader.{plain_slice_header};
+ghost use Rattle.hevc_set_parts.specs.SliceType.{slice_type_number};
+ghost use Rattle.hevc_sequence_set.specs.Sps.{plain_sps};
+ghost use Rattle.hevc_picture_slice.specs.SliceHeader.{plain_slice_header};
 ghost use Rattle.hevc_dpb.specs.Entries.{reference_numbers};
 ghost use Rattle.hevc_dpb.specs.Views.{stored_entries};
 ghost use Rattle.hevc_refs.specs.Lists.{places_of};
@@ -16,13 +16,13 @@ use crate::buffer::{has_current, place_indices};
 use crate::error::ControlError;
 use crate::long_term::long_term_size;
 use crate::weights::{V4l2HevcPredWeightTable, weights_control};
-use hevc_c_parts::flag_bits;
 use hevc_dpb::Dpb;
+use hevc_events::flag_bits;
+use hevc_picture_slice::{Slice, SliceHeader};
 use hevc_pictures::PictureData;
 use hevc_refs::RefPicList;
-use hevc_types_a::SliceType;
-use hevc_types_c::Sps;
-use hevc_types_d::{Slice, SliceHeader};
+use hevc_sequence_set::Sps;
+use hevc_set_parts::SliceType;
 
 /// `struct v4l2_ctrl_hevc_slice_params`: a slice segment (7.3.6.1), its elements by their names in H.265.
 #[repr(C)]

@@ -2,7 +2,7 @@
 ghost use Rattle.std.specs.Prelude.{◌≡◌, ◌≤◌, ◌^◌, pos, negsuc, neg_ℤ, ◌≤ℤ◌, ◌+ℤ◌, ◌-ℤ◌, ◌*ℤ◌, IsTrue, IfOk};
 ghost use Rattle.std.specs.Int.{int_shr};
 ghost use Rattle.std.specs.Result.{result_err};
-ghost use Rattle.hevc_types_b.specs.PredWeightTable.{plain_pred_weight_table};
+ghost use Rattle.hevc_video_set.specs.PredWeightTable.{plain_pred_weight_table};
 ghost use Rattle.hevc_v4l2.specs.Weights.{chroma_offset, chroma_offset_pair, chroma_offsets, chroma_fits, clip3, control_of_weights, luma_fits, offsets_error, weights_error, with_chroma_offsets};
 
 use crate::arrays::{
@@ -10,7 +10,7 @@ use crate::arrays::{
     signed_bytes_of,
 };
 use crate::error::ControlError;
-use hevc_types_b::PredWeightTable;
+use hevc_video_set::PredWeightTable;
 
 /// `struct v4l2_hevc_pred_weight_table`: the weights and offsets of weighted prediction (7.3.6.3), with 16 places for the 15 entries of a
 /// list.

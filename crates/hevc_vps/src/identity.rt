@@ -1,14 +1,14 @@
 //! The ids, the layers and the profile (7.3.2.1, rows 1 to 7 and 14 to 16 of table 1).
 ghost use Rattle.hevc_elements.specs.Words.{Fills};
 ghost use Rattle.hevc_tables.specs.VpsTable as table;
-ghost use Rattle.hevc_types_b.specs.Vps.{plain_vps};
+ghost use Rattle.hevc_video_set.specs.Vps.{plain_vps};
 
 use hevc_bits::NaluReader;
 use hevc_elements::ParseError;
 use hevc_elements::rows::{bits_u8, flag, skip, ue};
 use hevc_profile::read_profile_tier_level;
 use hevc_spec::Row;
-use hevc_types_b::Vps;
+use hevc_video_set::Vps;
 
 /// Rows 1 to 7 of table 1.
 #[tactic(auto, unfolding(hevc_tables::specs::VpsTable::identity))]

@@ -4,13 +4,13 @@ ghost use Rattle.hevc_spec.specs.Rows.{check_row};
 ghost use Rattle.std.specs.Prelude.{◌≡◌, ◌≤◌, ◌<◌};
 ghost use Rattle.hevc_elements.specs.Words.{bits, IsAhead, read, when, Reads, Fills};
 ghost use Rattle.hevc_tables.specs.VpsTable as table;
-ghost use Rattle.hevc_types_b.specs.Vps.{plain_vps};
+ghost use Rattle.hevc_video_set.specs.Vps.{plain_vps};
 
 use hevc_bits::NaluReader;
 use hevc_elements::ParseError;
 use hevc_elements::rows::{check, flag, ue};
 use hevc_spec::Row;
-use hevc_types_b::Vps;
+use hevc_video_set::Vps;
 
 /// Rows 8 to 13 of table 1.
 #[tactic(auto, unfolding(hevc_tables::specs::VpsTable::orderings, hevc_spec::specs::Rows::either))]

@@ -4,15 +4,15 @@ ghost use Rattle.std.specs.Prelude.{◌≡◌, ◌≤◌};
 ghost use Rattle.hevc_elements.specs.Words.{bits, IsAhead, read, Reads, FillsGrowing};
 ghost use Rattle.hevc_tables.specs.HrdTable.{hrd_parameters};
 ghost use Rattle.hevc_tables.specs.VpsTable as table;
-ghost use Rattle.hevc_types_b.specs.HrdParams.{plain_hrd_params};
-ghost use Rattle.hevc_types_b.specs.Vps.{plain_vps};
+ghost use Rattle.hevc_video_set.specs.HrdParams.{plain_hrd_params};
+ghost use Rattle.hevc_video_set.specs.Vps.{plain_vps};
 
 use hevc_bits::NaluReader;
 use hevc_elements::ParseError;
 use hevc_elements::rows::{bits_32, flag, flag_or, ue, ue_if, ue_u16};
 use hevc_hrd::read_hrd_parameters;
 use hevc_spec::Row;
-use hevc_types_b::{HrdParams, Vps};
+use hevc_video_set::{HrdParams, Vps};
 
 /// Rows 17 to 24 of table 1.
 #[tactic(auto, unfolding(hevc_tables::specs::VpsTable::timing_info, hevc_spec::specs::Rows::when))]

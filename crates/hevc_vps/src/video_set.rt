@@ -5,7 +5,7 @@ ghost use Rattle.hevc_bits.specs.FoundUnit.{bytes_of};
 ghost use Rattle.hevc_bits.specs.NaluType.{nalu_type_number};
 ghost use Rattle.hevc_elements.specs.Words.{bits, IsAhead, read, ReadsGrowing, ReadsSet, MeansSet, NamesNoSet};
 ghost use Rattle.hevc_tables.specs.VpsTable.{video_parameter_set};
-ghost use Rattle.hevc_types_b.specs.Vps.{plain_vps};
+ghost use Rattle.hevc_video_set.specs.Vps.{plain_vps};
 ghost use Rattle.hevc_bits.specs.declared.stream_limit.TheConstants.{STREAM_LIMIT};
 
 use crate::identity::{read_extension_flag, read_identity, read_layer_sets};
@@ -13,7 +13,7 @@ use crate::orderings::read_orderings;
 use crate::structures::read_timing_info;
 use hevc_bits::{Nalu, NaluHeader, NaluReader, NaluType};
 use hevc_elements::ParseError;
-use hevc_types_b::Vps;
+use hevc_video_set::Vps;
 use std::alloc::Global;
 
 /// Reads a video parameter set out of its unit, of a stream of less than 2^60 bytes, by table 1 (7.3.2.1).

@@ -1,13 +1,13 @@
 //! How pictures are shown (E.2.1, rows 1 to 14 of table 8).
 ghost use Rattle.hevc_elements.specs.Words.{Fills};
 ghost use Rattle.hevc_tables.specs.VuiTable as table;
-ghost use Rattle.hevc_types_b.specs.VuiParams.{plain_vui_params};
+ghost use Rattle.hevc_video_set.specs.VuiParams.{plain_vui_params};
 
 use hevc_bits::NaluReader;
 use hevc_elements::ParseError;
 use hevc_elements::rows::{bits_u32_if, flag, flag_if, ue, ue_if};
 use hevc_spec::Row;
-use hevc_types_b::VuiParams;
+use hevc_video_set::VuiParams;
 
 /// Rows 1 to 3 of table 8.
 #[tactic(auto, unfolding(hevc_tables::specs::VuiTable::aspect_ratio))]

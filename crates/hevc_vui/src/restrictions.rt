@@ -1,13 +1,13 @@
 //! Restrictions of the stream (E.2.1, rows 21 to 26 of table 8).
 ghost use Rattle.hevc_elements.specs.Words.{Fills};
 ghost use Rattle.hevc_tables.specs.VuiTable as table;
-ghost use Rattle.hevc_types_b.specs.VuiParams.{plain_vui_params};
+ghost use Rattle.hevc_video_set.specs.VuiParams.{plain_vui_params};
 
 use hevc_bits::NaluReader;
 use hevc_elements::ParseError;
 use hevc_elements::rows::{flag, ue};
 use hevc_spec::Row;
-use hevc_types_b::VuiParams;
+use hevc_video_set::VuiParams;
 
 /// Rows 21 to 26 of table 8.
 #[tactic(auto, unfolding(hevc_tables::specs::VuiTable::stream_restrictions, hevc_spec::specs::Rows::when))]

@@ -1,13 +1,13 @@
 //! The type of the video signal (E.2.1, rows 6 to 9 of table 8).
 ghost use Rattle.hevc_elements.specs.Words.{Fills};
 ghost use Rattle.hevc_tables.specs.VuiTable as table;
-ghost use Rattle.hevc_types_b.specs.VuiParams.{plain_vui_params};
+ghost use Rattle.hevc_video_set.specs.VuiParams.{plain_vui_params};
 
 use hevc_bits::NaluReader;
 use hevc_elements::ParseError;
 use hevc_elements::rows::{bits_u8, bits_u32, flag};
 use hevc_spec::Row;
-use hevc_types_b::VuiParams;
+use hevc_video_set::VuiParams;
 
 /// Rows 6 to 9 of table 8.
 #[tactic(auto, unfolding(hevc_tables::specs::VuiTable::signal_type, hevc_spec::specs::Rows::when))]

@@ -2,14 +2,14 @@
 ghost use Rattle.std.specs.Prelude.{◌≤◌};
 ghost use Rattle.hevc_elements.specs.Words.{Fills};
 ghost use Rattle.hevc_tables.specs.VuiTable as table;
-ghost use Rattle.hevc_types_b.specs.VuiParams.{plain_vui_params};
+ghost use Rattle.hevc_video_set.specs.VuiParams.{plain_vui_params};
 
 use hevc_bits::NaluReader;
 use hevc_elements::ParseError;
 use hevc_elements::rows::{bits_32, flag, ue_if};
 use hevc_hrd::read_hrd_parameters;
 use hevc_spec::Row;
-use hevc_types_b::{HrdParams, VuiParams};
+use hevc_video_set::{HrdParams, VuiParams};
 
 /// Rows 15 to 20 of table 8.
 #[tactic(auto, unfolding(hevc_tables::specs::VuiTable::timing_info, hevc_spec::specs::Rows::when))]

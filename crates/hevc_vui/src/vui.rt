@@ -2,7 +2,7 @@
 ghost use Rattle.std.specs.Prelude.{◌≤◌};
 ghost use Rattle.hevc_elements.specs.Words.{bits, IsAhead, IsReached, read, Reads, Means};
 ghost use Rattle.hevc_tables.specs.VuiTable.{vui_parameters};
-ghost use Rattle.hevc_types_b.specs.VuiParams.{plain_vui_params};
+ghost use Rattle.hevc_video_set.specs.VuiParams.{plain_vui_params};
 
 use crate::appearance::{read_aspect_ratio, read_chroma_places, read_display, read_overscan};
 use crate::restrictions::read_stream_restrictions;
@@ -10,7 +10,7 @@ use crate::signal::read_signal_type;
 use crate::timing::read_timing_info;
 use hevc_bits::NaluReader;
 use hevc_elements::ParseError;
-use hevc_types_b::VuiParams;
+use hevc_video_set::VuiParams;
 
 /// Reads video usability information of a set whose highest sub-layer is `max_sub_layers_minus1`, by table 8 (E.2.1).
 ///

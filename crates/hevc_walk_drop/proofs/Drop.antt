@@ -6,7 +6,7 @@ use Rattle.hevc_walk.specs.Walk.{Event, Called, Output, at_unit}
 use Rattle.hevc_walk.specs.Refusals.{Cause, Refusal}
 use Rattle.hevc_walk.specs.Results.{OutputPicture, calls_in, outputs_in, calls, outputs, verdict}
 use Rattle.hevc_walk_units.specs.Units.{Standing, at_first, unit_part, refusal_at, is_full_at, is_full_now, closing_part, events_from, verdict_from, refused_at, full_or_cause}
-use Rattle.hevc_walk_joined.proofs.Joined.{events-same, verdict-same}
+use Rattle.hevc_walk_agree.proofs.Joined.{events-same, verdict-same}
 use Rattle.hevc_walk_drop.specs.Dropping.{with_flags, DropsOther, kept_before, renumbered_call, renumbered_output, renumbered_verdict}
 
 abbrev one : Bool → ℕ

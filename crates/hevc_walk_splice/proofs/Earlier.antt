@@ -9,7 +9,7 @@ use Rattle.hevc_walk.specs.Buffer.{Entry, Buffer, LongTerm, bumping, draining, n
 use Rattle.hevc_walk.specs.ReferenceSets.{RefPicSet, reference_set, unmarked, references_before, names, long_term_if, with_long_term, long_term_entry, all_members, marked_if, with_marks}
 use Rattle.hevc_walk.specs.Walk.{Event, output_of, Part, ◌>>=◌, nothing, call, Store, output_by, finish, store_picture, is_accepted, open_sequence, change_format, is_decoded, needed_entries, make_room, start_decoding, begin_picture, slice_call, at_unit, SubmitPicture}
 use Rattle.hevc_walk_units.specs.Units.{Current, NoPicture, SkippedPicture, OpenPicture, Standing, open_head, current_of, context_behind, finish_current, decode_current, decode_slice, first_slice, refusal_of_later, later_slice, begins_picture, whole_part, sequence_part, unit_part}
-use Rattle.hevc_walk_joined.proofs.Joined.{decode-next}
+use Rattle.hevc_walk_agree.proofs.Joined.{decode-next}
 use Rattle.hevc_walk_splice.proofs.Later.{for_event, events_for}
 
 abbrev pub AllUnder : ℕ → List Entry → Type 0

@@ -10,7 +10,7 @@ use Rattle.hevc_walk.specs.Pictures.{Head, Picture, Stream, context, head, new_p
 use Rattle.hevc_walk.specs.Premises.{IsMeaning, AreMeanings}
 use Rattle.hevc_walk.specs.Results.{verdict}
 use Rattle.hevc_walk_fates.proofs.Numbers.{numbered-length, stream-numbered}
-use Rattle.hevc_walk_joined.proofs.Joined.{next-place}
+use Rattle.hevc_walk_agree.proofs.Joined.{next-place}
 use Rattle.hevc_walk_splice.specs.Splicing.{IsOfSet, IsPoint, spliced}
 use Rattle.hevc_walk_splice.proofs.Splice.{begins_after, IsStart, Whole, both-lists}
 

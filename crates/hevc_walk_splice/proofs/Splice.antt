@@ -11,8 +11,8 @@ use Rattle.hevc_walk.specs.Refusals.{Cause, Refusal, refusal_of_picture}
 use Rattle.hevc_walk.specs.Results.{verdict, events}
 use Rattle.hevc_walk_fates.proofs.Numbers.{numbered-length, stream-numbered}
 use Rattle.hevc_walk_units.specs.Units.{OpenPicture, Standing, at_first, context_behind, finish_current, begin_by, begins_picture, unit_part, refusal_at, is_full_at, events_from, verdict_from}
-use Rattle.hevc_walk_joined.specs.Standings.{standing, current_by, Takes}
-use Rattle.hevc_walk_joined.proofs.Joined.{Outcome, outcome, begins-current, same_number, refusal-same, next-place, at-append, events-same, verdict-same}
+use Rattle.hevc_walk_agree.specs.Standings.{standing, current_by, Takes}
+use Rattle.hevc_walk_agree.proofs.Joined.{Outcome, outcome, begins-current, same_number, refusal-same, next-place, at-append, events-same, verdict-same}
 use Rattle.hevc_walk_splice.specs.Splicing.{IsOfSet}
 use Rattle.hevc_walk_splice.proofs.Raise.{raise_set, raise_head, set-raised}
 use Rattle.hevc_walk_splice.proofs.Parts.{raise_event}

@@ -8,7 +8,7 @@ use Rattle.hevc_walk.specs.ReferenceSets.{RefPicSet, reference_set}
 use Rattle.hevc_walk.specs.Walk.{Event, Called, Part, ◌>>=◌, nothing, call, Store, finish, change_format, begin_picture, is_decoded, slice_call, is_full, closing}
 use Rattle.hevc_walk.specs.Refusals.{Cause, refusal_of_picture}
 use Rattle.hevc_walk_units.specs.Units.{Current, NoPicture, SkippedPicture, OpenPicture, Standing, open_head, current_of, tid0_behind, finish_current, context_behind, decode_current, decode_slice, begin_by, begin_slice, first_slice, refusal_of_later, later_slice, begins_picture, slice_part, whole_part, sequence_part, unit_part, refusal_of_first, refusal_of_whole, refusal_at, is_full_now, fills_by, is_full_at, closing_part}
-use Rattle.hevc_walk_joined.proofs.Joined.{decode-next}
+use Rattle.hevc_walk_agree.proofs.Joined.{decode-next}
 use Rattle.hevc_walk_splice.proofs.Raise.{cond-over, raise_set, raise_head, set-raised}
 use Rattle.hevc_walk_splice.proofs.Parts.{raise_event, raise_store, raise_option, finish-raised, change-raised, begin-raised, slice-raised, full-raised, closing-raised}
 

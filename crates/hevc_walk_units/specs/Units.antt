@@ -1,5 +1,5 @@
 -- What each unit does where the units before it have led. The parts are those of the walk over
--- pictures; that both forms ask for the same is proved in hevc_walk_joined.
+-- pictures; that both forms ask for the same is proved in hevc_walk_agree.
 use Rattle.std.specs.Prelude.{ℕ, ℤ, ◌+◌, Bool, true, false, ◌&&◌, List, [], ◌∷◌, ◌++◌, if◌then◌else◌, Option, Some, None, is_some, Result, Ok, Err}
 use Rattle.hevc_walk.specs.Meanings.{Format, Slice, Meaning, SequenceSet, CodedSlice, EndOfSequence, EndOfBitstream, Other, Refused, same_format}
 use Rattle.hevc_walk.specs.DependentSlices.{KeptHeader, whole_slice, kept_header}

@@ -9,8 +9,8 @@ use Rattle.std.proofs.lemmas.List.Elements.{All-cons, All-nil, All-head, All-tai
 use Rattle.hevc_spec.specs.UnitHeader.{UnitHeader, HeaderFault, temporal_id_zero, unspecified_type, nal_unit_type, unit_header}
 use Rattle.hevc_spec.specs.UnitTypes.{is_end}
 use Rattle.hevc_spec.specs.Units.{NalUnit, begins_with_start_code, before_start_code, is_empty, without_trailing_zeros, units_at, units_from, kept_bytes}
-use Rattle.hevc_joined_units.specs.Pieces.{IsPiece, IsWholePiece}
-use Rattle.hevc_joined_units.proofs.Cut.{headed_units}
+use Rattle.hevc_stream_pieces.specs.Pieces.{IsPiece, IsWholePiece}
+use Rattle.hevc_stream_pieces.proofs.Cut.{headed_units}
 use Rattle.hevc_write.proofs.Whole.{before_whole, front_whole}
 use Rattle.hevc_write.specs.Rewriting.{completed}
 use Rattle.hevc_write_units.proofs.Trimmed.{trimmed_cons}

@@ -4,8 +4,8 @@ use Rattle.std.specs.Prelude.{All}
 use Rattle.std.proofs.lemmas.List.Elements.{All-cons, All-nil}
 use Rattle.hevc_spec.specs.Units.{NalUnit, units}
 use Rattle.hevc_bit_writer.specs.WrittenUnits.{started, stream_of}
-use Rattle.hevc_joined_units.specs.Pieces.{IsPiece, units_of_pieces}
-use Rattle.hevc_joined_units.proofs.Found.{pieces_found}
+use Rattle.hevc_stream_pieces.specs.Pieces.{IsPiece, units_of_pieces}
+use Rattle.hevc_stream_pieces.proofs.Found.{pieces_found}
 use Rattle.hevc_rewrite_laws.specs.Replaced.{StandFor}
 use Rattle.hevc_rewrite_laws.proofs.AllSubLayers.{same_by_default}
 use Rattle.hevc_walk.specs.Results.{calls, outputs, verdict}

@@ -17,8 +17,8 @@ use Rattle.hevc_records.specs.SliceHeader.{PlainSliceSegmentHeader}
 use Rattle.hevc_records.specs.Sps.{PlainSps}
 use Rattle.hevc_slice_header.specs.Answers.{ReadsSlice}
 use Rattle.hevc_tables.specs.SliceHeaderTable.{ActiveSets, active_sets, with_named_sequence_set, elements, slice_segment_header, with_sizes}
-use Rattle.hevc_types_d.specs.declared.slice_header.SliceHeader.{SliceHeader}
-use Rattle.hevc_types_d.specs.SliceHeader.{plain_slice_header}
+use Rattle.hevc_picture_slice.specs.declared.slice_header.SliceHeader.{SliceHeader}
+use Rattle.hevc_picture_slice.specs.SliceHeader.{plain_slice_header}
 use Rattle.hevc_writing.specs.Choices.{AreChosen, set_flags}
 use Rattle.hevc_writing.proofs.Counting.{same_set}
 use Rattle.hevc_write_units.specs.Payloads.{AddsPayload, with_trailing_bits}

@@ -17,7 +17,7 @@ use Rattle.hevc_reading_laws.proofs.TableLaws.{spelled_from_read}
 use Rattle.hevc_bits.specs.declared.header.UnitError.{UnitError}
 use Rattle.hevc_bits.specs.ParsedHeader.{answer_of, parsed_header}
 use Rattle.hevc_bit_writer.specs.WrittenUnits.{started}
-use Rattle.hevc_joined_units.specs.Pieces.{IsPiece, IsWholePiece}
+use Rattle.hevc_stream_pieces.specs.Pieces.{IsPiece, IsWholePiece}
 use Rattle.hevc_records.specs.Pps.{PlainPps}
 use Rattle.hevc_records.specs.Sps.{PlainSps}
 use Rattle.hevc_records.specs.Vps.{PlainVps}

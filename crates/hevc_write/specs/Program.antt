@@ -1,6 +1,6 @@
 -- What the program writes of a stream.
 use Rattle.std.specs.Prelude.{◌≡◌, ◌⊎◌, ℕ, List, [], ◌∷◌, Option, Some, None, IfSome}
-use Rattle.hevc_runs.specs.Answers.{Answers, Ends, Moment, Program}
+use Rattle.hevc_program_answers.specs.Answers.{Answers, Ends, Moment, Program}
 use Rattle.hevc_write.specs.Rewriting.{IsRewriting}
 
 -- there are no words

@@ -4,7 +4,7 @@ use Rattle.hevc_spec.specs.Table.{Reading, Fault, gives, refuses}
 use Rattle.hevc_spec.specs.Units.{NalUnit, kept_bytes, units_from}
 use Rattle.hevc_records.specs.Sps.{PlainSps}
 use Rattle.hevc_bit_writer.specs.WrittenUnits.{started}
-use Rattle.hevc_joined_units.specs.Pieces.{IsPiece}
+use Rattle.hevc_stream_pieces.specs.Pieces.{IsPiece}
 use Rattle.hevc_rewrite_laws.specs.Replaced.{MeansTheSame}
 use Rattle.hevc_stream.specs.Kept.{Kept}
 use Rattle.hevc_stream.specs.Options.{default_options}

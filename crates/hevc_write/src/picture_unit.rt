@@ -3,8 +3,8 @@ ghost use Rattle.std.specs.Prelude.{◌≡◌, ◌-◌, ◌==◌, ◌&&◌, ◌�
 ghost use Rattle.hevc_records.specs.SetsById.{sets_by_id};
 ghost use Rattle.hevc_stream.specs.Slices.{temporal_id};
 ghost use Rattle.hevc_tables.specs.PpsTable.{picture_parameter_set};
-ghost use Rattle.hevc_types_c.specs.Sps.{plain_sps};
-ghost use Rattle.hevc_types_d.specs.Pps.{plain_pps};
+ghost use Rattle.hevc_sequence_set.specs.Sps.{plain_sps};
+ghost use Rattle.hevc_picture_slice.specs.Pps.{plain_pps};
 ghost use Rattle.hevc_write_units.specs.Trials.{IsReadAs, IsWhole, WritesWhole};
 ghost use Rattle.hevc_write_units.specs.Values.{only_sequence_set};
 
@@ -13,10 +13,10 @@ use crate::unit_type::is_of_type;
 use hevc_bit_writer::BitWriter;
 use hevc_bits::{NaluHeader, NaluType};
 use hevc_elements::ParseError;
+use hevc_picture_slice::Pps;
+use hevc_picture_slice::comparisons::pps_eq;
 use hevc_pps::read_pps;
-use hevc_types_c::Sps;
-use hevc_types_d::Pps;
-use hevc_types_d::comparisons::pps_eq;
+use hevc_sequence_set::Sps;
 use hevc_write_pps::write_pps;
 use hevc_write_units::{WriteError, trial_stream, trial_unit};
 use std::alloc::{AllocError, Global};

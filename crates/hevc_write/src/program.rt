@@ -1,7 +1,7 @@
 //! The top call: from the words of the command line to the status.
 ghost use Rattle.std.specs.Prelude.{◌≡◌, ◌≤◌, ◌<◌, ℕ, List, length, IfOk, IfSome, IsErrOf};
 ghost use Rattle.std.specs.Io.KnownBytes.{IsAtEnd};
-ghost use Rattle.hevc_faults.specs.Faults.{Rose};
+ghost use Rattle.hevc_fault_counts.specs.Faults.{Rose};
 ghost use Rattle.hevc_write.specs.Program.{AnswersRewritten};
 ghost use Rattle.hevc_write.specs.Rewriting.{IsRewriting};
 

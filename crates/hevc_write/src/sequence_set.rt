@@ -1,7 +1,7 @@
 //! Sequence parameter sets (7.3.2.2).
 ghost use Rattle.std.specs.Prelude.{◌≡◌, ◌==◌, ◌↔◌, IfOk, IsTrue};
 ghost use Rattle.hevc_tables.specs.SpsTable.{sequence_parameter_set};
-ghost use Rattle.hevc_types_c.specs.Sps.{plain_sps};
+ghost use Rattle.hevc_sequence_set.specs.Sps.{plain_sps};
 ghost use Rattle.hevc_write_units.specs.Trials.{IsReadAs, IsWhole, WritesWhole};
 
 use crate::syntax::Syntax;
@@ -9,9 +9,9 @@ use crate::unit_type::is_of_type;
 use hevc_bit_writer::BitWriter;
 use hevc_bits::{NaluHeader, NaluType};
 use hevc_elements::ParseError;
+use hevc_sequence_set::Sps;
+use hevc_sequence_set::comparisons::sps_eq;
 use hevc_sps::read_sps;
-use hevc_types_c::Sps;
-use hevc_types_c::comparisons::sps_eq;
 use hevc_write_sps::write_sps;
 use hevc_write_units::{WriteError, trial_stream, trial_unit};
 use std::alloc::{AllocError, Global};

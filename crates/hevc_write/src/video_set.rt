@@ -1,7 +1,7 @@
 //! Video parameter sets (7.3.2.1).
 ghost use Rattle.std.specs.Prelude.{◌≡◌, ◌==◌, ◌↔◌, IfOk, IsTrue};
 ghost use Rattle.hevc_tables.specs.VpsTable.{video_parameter_set};
-ghost use Rattle.hevc_types_b.specs.Vps.{plain_vps};
+ghost use Rattle.hevc_video_set.specs.Vps.{plain_vps};
 ghost use Rattle.hevc_write_units.specs.Trials.{IsReadAs, IsWhole, WritesWhole};
 
 use crate::syntax::Syntax;
@@ -9,8 +9,8 @@ use crate::unit_type::is_of_type;
 use hevc_bit_writer::BitWriter;
 use hevc_bits::{NaluHeader, NaluType};
 use hevc_elements::ParseError;
-use hevc_types_b::Vps;
-use hevc_types_b::comparisons::vps_eq;
+use hevc_video_set::Vps;
+use hevc_video_set::comparisons::vps_eq;
 use hevc_vps::read_vps;
 use hevc_write_units::{WriteError, trial_stream, trial_unit};
 use hevc_write_vps::write_vps;

@@ -2,13 +2,13 @@
 ghost use Rattle.std.specs.Prelude.{◌≤◌, OnOk};
 ghost use Rattle.hevc_records.specs.HrdParams.{PlainHrdParams};
 ghost use Rattle.hevc_tables.specs.HrdTable as table;
-ghost use Rattle.hevc_types_b.specs.HrdParams.{plain_hrd_params};
+ghost use Rattle.hevc_video_set.specs.HrdParams.{plain_hrd_params};
 ghost use Rattle.hevc_writing.specs.Filling.{WritesTable};
 
 use crate::hrd_common::write_common_if;
 use crate::hrd_sub_layers::write_sub_layers;
 use hevc_bit_writer::BitWriter;
-use hevc_types_b::HrdParams;
+use hevc_video_set::HrdParams;
 use std::alloc::AllocError;
 
 /// Table 3, for sub-layers from 0 to `max_sub_layers_minus1`, with what they have in common where `common`.

@@ -1,12 +1,12 @@
 //! What all sub-layers have in common (E.2.2, rows 1 to 9 of table 3).
 ghost use Rattle.std.specs.Prelude.{◌≡◌, ◌||◌, OnOk};
 ghost use Rattle.hevc_tables.specs.HrdTable as table;
-ghost use Rattle.hevc_types_b.specs.HrdParams.{plain_hrd_params};
+ghost use Rattle.hevc_video_set.specs.HrdParams.{plain_hrd_params};
 ghost use Rattle.hevc_write_parts.specs.HrdParts as own;
 ghost use Rattle.hevc_writing.specs.Filling.{Writes, WritesIf};
 
 use hevc_bit_writer::BitWriter;
-use hevc_types_b::HrdParams;
+use hevc_video_set::HrdParams;
 use hevc_writing::rows::{bits_u8, bits_u8_if, flag};
 use std::alloc::AllocError;
 

@@ -1,12 +1,12 @@
 //! The schedules of delivery of a sub-layer (E.2.3, table 4).
 ghost use Rattle.std.specs.Prelude.{◌≤◌, ◌<◌, OnOk};
 ghost use Rattle.hevc_tables.specs.HrdTable as table;
-ghost use Rattle.hevc_types_b.specs.SublayerHrdParameters.{plain_sublayer_hrd_parameters};
+ghost use Rattle.hevc_video_set.specs.SublayerHrdParameters.{plain_sublayer_hrd_parameters};
 ghost use Rattle.hevc_write_parts.specs.HrdParts.{same_schedules};
 ghost use Rattle.hevc_writing.specs.Filling.{WritesIf, WritesTable, WritesTurn};
 
 use hevc_bit_writer::BitWriter;
-use hevc_types_b::SublayerHrdParameters;
+use hevc_video_set::SublayerHrdParameters;
 use hevc_writing::rows::{flag, ue, ue_if};
 use std::alloc::AllocError;
 

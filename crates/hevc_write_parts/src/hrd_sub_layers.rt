@@ -1,13 +1,13 @@
 //! What is said of each sub-layer (E.2.2, rows 10 to 16 of table 3).
 ghost use Rattle.std.specs.Prelude.{◌≤◌, ◌<◌, OnOk};
 ghost use Rattle.hevc_tables.specs.HrdTable as table;
-ghost use Rattle.hevc_types_b.specs.HrdParams.{plain_hrd_params};
+ghost use Rattle.hevc_video_set.specs.HrdParams.{plain_hrd_params};
 ghost use Rattle.hevc_write_parts.specs.HrdParts as own;
 ghost use Rattle.hevc_writing.specs.Filling.{Writes, WritesTurn};
 
 use crate::hrd_schedules::write_schedules_if;
 use hevc_bit_writer::BitWriter;
-use hevc_types_b::HrdParams;
+use hevc_video_set::HrdParams;
 use hevc_writing::rows::{flag, flag_if, ue_if};
 use std::alloc::AllocError;
 

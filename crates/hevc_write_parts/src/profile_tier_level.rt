@@ -1,7 +1,7 @@
 //! Profile, tier and level (7.3.3, table 2).
 ghost use Rattle.std.specs.Prelude.{◌≤◌, ◌-◌, ◌*◌, nat_lt, OnOk};
 ghost use Rattle.hevc_tables.specs.ProfileTierLevelTable as table;
-ghost use Rattle.hevc_types_a.specs.ProfileTierLevel.{plain_profile_tier_level};
+ghost use Rattle.hevc_set_parts.specs.ProfileTierLevel.{plain_profile_tier_level};
 ghost use Rattle.hevc_write_parts.specs.ProfileParts as own;
 ghost use Rattle.hevc_writing.specs.Filling.{Writes, WritesIf, WritesTable, WritesZeros};
 
@@ -9,7 +9,7 @@ use crate::layer::write_layer_profile;
 use crate::layer_profile::LayerProfile;
 use crate::sub_layers::{write_presence, write_sub_layers};
 use hevc_bit_writer::BitWriter;
-use hevc_types_a::ProfileTierLevel;
+use hevc_set_parts::ProfileTierLevel;
 use hevc_writing::rows::{bits_u8, zeros_if};
 use std::alloc::AllocError;
 

@@ -1,14 +1,14 @@
 //! What is told of each sub-layer below the highest (7.3.3, rows 28, 30 and 31 of table 2).
 ghost use Rattle.std.specs.Prelude.{◌≤◌, ◌<◌, OnOk};
 ghost use Rattle.hevc_tables.specs.ProfileTierLevelTable as table;
-ghost use Rattle.hevc_types_a.specs.ProfileTierLevel.{plain_profile_tier_level};
+ghost use Rattle.hevc_set_parts.specs.ProfileTierLevel.{plain_profile_tier_level};
 ghost use Rattle.hevc_write_parts.specs.ProfileParts as own;
 ghost use Rattle.hevc_writing.specs.Filling.{Writes, WritesIf, WritesTurn};
 
 use crate::layer::write_layer_profile;
 use crate::layer_profile::LayerProfile;
 use hevc_bit_writer::BitWriter;
-use hevc_types_a::ProfileTierLevel;
+use hevc_set_parts::ProfileTierLevel;
 use hevc_writing::rows::{bits_u8, flag};
 use std::alloc::AllocError;
 

@@ -1,13 +1,13 @@
 //! Video usability information (E.2.1, table 8).
 ghost use Rattle.std.specs.Prelude.{◌≤◌, OnOk};
 ghost use Rattle.hevc_tables.specs.VuiTable as table;
-ghost use Rattle.hevc_types_b.specs.VuiParams.{plain_vui_params};
+ghost use Rattle.hevc_video_set.specs.VuiParams.{plain_vui_params};
 ghost use Rattle.hevc_write_parts.specs.VuiParts as own;
 ghost use Rattle.hevc_writing.specs.Filling.{Writes, WritesIf, WritesTable};
 
 use crate::hrd::write_hrd_parameters;
 use hevc_bit_writer::BitWriter;
-use hevc_types_b::VuiParams;
+use hevc_video_set::VuiParams;
 use hevc_writing::rows::{bits, bits_if, bits_u8, flag, flag_if, ue, ue_if};
 use std::alloc::AllocError;
 

@@ -2,14 +2,14 @@
 ghost use Rattle.std.specs.Prelude.{OnOk};
 ghost use Rattle.hevc_records.specs.Sps.{PlainSps};
 ghost use Rattle.hevc_tables.specs.PpsTable as table;
-ghost use Rattle.hevc_types_c.specs.Sps.{plain_sps};
-ghost use Rattle.hevc_types_d.specs.Pps.{plain_pps};
+ghost use Rattle.hevc_sequence_set.specs.Sps.{plain_sps};
+ghost use Rattle.hevc_picture_slice.specs.Pps.{plain_pps};
 ghost use Rattle.hevc_write_pps.specs.PpsParts as own;
 ghost use Rattle.hevc_writing.specs.Filling.{Writes, WritesIf};
 
 use hevc_bit_writer::BitWriter;
-use hevc_types_c::Sps;
-use hevc_types_d::Pps;
+use hevc_picture_slice::Pps;
+use hevc_sequence_set::Sps;
 use hevc_write_sets::{write_pps_range_extension, write_pps_scc_extension};
 use hevc_writing::rows::{flag, zeros};
 use std::alloc::AllocError;

@@ -1,12 +1,12 @@
 //! Filters (7.3.2.3.1, rows 20 to 23 of table 11).
 ghost use Rattle.std.specs.Prelude.{OnOk};
 ghost use Rattle.hevc_tables.specs.PpsTable as table;
-ghost use Rattle.hevc_types_d.specs.Pps.{plain_pps};
+ghost use Rattle.hevc_picture_slice.specs.Pps.{plain_pps};
 ghost use Rattle.hevc_write_pps.specs.PpsParts as own;
 ghost use Rattle.hevc_writing.specs.Filling.{Writes, WritesIf};
 
 use hevc_bit_writer::BitWriter;
-use hevc_types_d::Pps;
+use hevc_picture_slice::Pps;
 use hevc_writing::rows::{flag, se_i8};
 use std::alloc::AllocError;
 

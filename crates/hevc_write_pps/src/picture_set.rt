@@ -2,8 +2,8 @@
 ghost use Rattle.std.specs.Prelude.{◌≡◌, ℕ, Option, Some, OnOk};
 ghost use Rattle.hevc_records.specs.Sps.{PlainSps};
 ghost use Rattle.hevc_tables.specs.PpsTable as table;
-ghost use Rattle.hevc_types_c.specs.Sps.{plain_sps};
-ghost use Rattle.hevc_types_d.specs.Pps.{plain_pps};
+ghost use Rattle.hevc_sequence_set.specs.Sps.{plain_sps};
+ghost use Rattle.hevc_picture_slice.specs.Pps.{plain_pps};
 ghost use Rattle.hevc_write_pps.specs.PpsParts as own;
 ghost use Rattle.hevc_writing.specs.Filling.{Writes, WritesTable};
 
@@ -11,8 +11,8 @@ use crate::coding::{write_coding, write_merging, write_scaling};
 use crate::extensions::write_extensions;
 use crate::filters::write_filters;
 use hevc_bit_writer::BitWriter;
-use hevc_types_c::Sps;
-use hevc_types_d::Pps;
+use hevc_picture_slice::Pps;
+use hevc_sequence_set::Sps;
 use hevc_writing::rows::ue_u8;
 use std::alloc::AllocError;
 

@@ -3,13 +3,13 @@ ghost use Rattle.std.specs.Prelude.{◌≡◌, ◌<◌, ℕ, None, length, OnOk}
 ghost use Rattle.hevc_spec.specs.declared.Row.{Row};
 ghost use Rattle.hevc_records.specs.Sps.{PlainSps};
 ghost use Rattle.hevc_tables.specs.PpsTable as table;
-ghost use Rattle.hevc_types_d.specs.Pps.{plain_pps};
+ghost use Rattle.hevc_picture_slice.specs.Pps.{plain_pps};
 ghost use Rattle.hevc_write_pps.specs.PpsParts as own;
 ghost use Rattle.hevc_writing.specs.Choices.{chosen_value};
 ghost use Rattle.hevc_writing.specs.Filling.{Writes, WritesIf, WritesTable};
 
 use hevc_bit_writer::BitWriter;
-use hevc_types_d::Pps;
+use hevc_picture_slice::Pps;
 use hevc_writing::rows::{flag, ue, ue_u8};
 use std::alloc::AllocError;
 

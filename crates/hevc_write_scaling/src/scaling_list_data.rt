@@ -1,12 +1,12 @@
 //! Scaling lists (7.3.4, table 6).
 ghost use Rattle.std.specs.Prelude.{OnOk};
 ghost use Rattle.hevc_tables.specs.ScalingListTable.{scaling_list_data};
-ghost use Rattle.hevc_types_a.specs.ScalingLists.{plain_scaling_lists};
+ghost use Rattle.hevc_set_parts.specs.ScalingLists.{plain_scaling_lists};
 ghost use Rattle.hevc_writing.specs.Filling.{WritesTable};
 
 use crate::matrices::write_matrices;
 use hevc_bit_writer::BitWriter;
-use hevc_types_a::ScalingLists;
+use hevc_set_parts::ScalingLists;
 use std::alloc::AllocError;
 
 /// Table 6: each list with its own entries (scaling_list_pred_mode_flag is 1).

@@ -2,9 +2,9 @@
 ghost use Rattle.std.specs.Prelude.{◌≡◌, ◌≤◌};
 ghost use Rattle.hevc_tables.specs.SpsSccExtensionTable.{bit_depth as bit_depth_of};
 ghost use Rattle.hevc_tables.specs.SpsTable.{sample_format};
-ghost use Rattle.hevc_types_c.specs.Sps.{plain_sps};
+ghost use Rattle.hevc_sequence_set.specs.Sps.{plain_sps};
 
-use hevc_types_c::Sps;
+use hevc_sequence_set::Sps;
 
 /// The bits of a sample of a component.
 pub(crate) fn bit_depth(sps: &Sps, component: usize) -> u32

@@ -2,12 +2,12 @@
 ghost use Rattle.std.specs.Prelude.{◌≤◌, ◌<◌, OnOk};
 ghost use Rattle.hevc_records.specs.Sps.{PlainSps};
 ghost use Rattle.hevc_tables.specs.PpsRangeExtensionTable as table;
-ghost use Rattle.hevc_types_a.specs.PpsRangeExtension.{plain_pps_range_extension};
+ghost use Rattle.hevc_set_parts.specs.PpsRangeExtension.{plain_pps_range_extension};
 ghost use Rattle.hevc_write_sets.specs.PpsRangeExtensionParts.{offset_lists, offset_pairs, same_pairs};
 ghost use Rattle.hevc_writing.specs.Filling.{Writes, WritesIf, WritesTable, WritesTurn};
 
 use hevc_bit_writer::BitWriter;
-use hevc_types_a::PpsRangeExtension;
+use hevc_set_parts::PpsRangeExtension;
 use hevc_writing::rows::{flag, se, ue, ue_if};
 use std::alloc::AllocError;
 

@@ -3,15 +3,15 @@ ghost use Rattle.std.specs.Prelude.{◌≡◌, ◌≤◌, ◌<◌, ◌&&◌, ◌
 ghost use Rattle.hevc_tables.specs.PpsSccExtensionTable as table;
 ghost use Rattle.hevc_tables.specs.PpsTable.{max_palette_predictors as most_predictors};
 ghost use Rattle.hevc_tables.specs.SpsTable.{sample_format};
-ghost use Rattle.hevc_types_a.specs.PpsSccExtension.{plain_pps_scc_extension};
-ghost use Rattle.hevc_types_c.specs.Sps.{plain_sps};
+ghost use Rattle.hevc_set_parts.specs.PpsSccExtension.{plain_pps_scc_extension};
+ghost use Rattle.hevc_sequence_set.specs.Sps.{plain_sps};
 ghost use Rattle.hevc_write_sets.specs.PpsSccExtensionParts as own;
 ghost use Rattle.hevc_writing.specs.Filling.{Writes, WritesBits, WritesIf, WritesTable};
 
 use crate::bit_depth::bit_depth;
 use hevc_bit_writer::BitWriter;
-use hevc_types_a::PpsSccExtension;
-use hevc_types_c::Sps;
+use hevc_sequence_set::Sps;
+use hevc_set_parts::PpsSccExtension;
 use hevc_writing::rows::{bits, flag, se_i8, ue_u8, ue_u8_if};
 use std::alloc::AllocError;
 

@@ -1,11 +1,11 @@
 //! The range extension (7.3.2.2.2, table 9).
 ghost use Rattle.std.specs.Prelude.{OnOk};
 ghost use Rattle.hevc_tables.specs.SpsRangeExtensionTable.{sps_range_extension};
-ghost use Rattle.hevc_types_c.specs.SpsRangeExtension.{plain_sps_range_extension};
+ghost use Rattle.hevc_sequence_set.specs.SpsRangeExtension.{plain_sps_range_extension};
 ghost use Rattle.hevc_writing.specs.Filling.{WritesTable};
 
 use hevc_bit_writer::BitWriter;
-use hevc_types_c::SpsRangeExtension;
+use hevc_sequence_set::SpsRangeExtension;
 use hevc_writing::rows::flag;
 use std::alloc::AllocError;
 

@@ -2,14 +2,14 @@
 ghost use Rattle.std.specs.Prelude.{◌≡◌, ◌≤◌, ◌<◌, length, slice_index, OnOk};
 ghost use Rattle.hevc_tables.specs.SpsSccExtensionTable as table;
 ghost use Rattle.hevc_tables.specs.SpsTable.{sample_format};
-ghost use Rattle.hevc_types_c.specs.Sps.{plain_sps};
-ghost use Rattle.hevc_types_c.specs.SpsSccExtension.{plain_sps_scc_extension};
+ghost use Rattle.hevc_sequence_set.specs.Sps.{plain_sps};
+ghost use Rattle.hevc_sequence_set.specs.SpsSccExtension.{plain_sps_scc_extension};
 ghost use Rattle.hevc_write_sets.specs.SpsSccExtensionParts as own;
 ghost use Rattle.hevc_writing.specs.Filling.{Writes, WritesBits, WritesIf, WritesTable};
 
 use crate::bit_depth::bit_depth;
 use hevc_bit_writer::BitWriter;
-use hevc_types_c::{Sps, SpsSccExtension};
+use hevc_sequence_set::{Sps, SpsSccExtension};
 use hevc_writing::rows::{bits, bits_u8, flag, ue_u8};
 use std::alloc::AllocError;
 

@@ -1,14 +1,14 @@
 //! Sets whose members are written out (7.3.7, rows 7 to 12 of table 7).
 ghost use Rattle.std.specs.Prelude.{◌≡◌, ◌+◌, ◌<◌, ◌^◌, ◌-ℤ◌, ℕ, pos, OnOk};
 ghost use Rattle.hevc_tables.specs.ShortTermTable as table;
-ghost use Rattle.hevc_types_a.specs.ShortTermRefPicSet.{plain_short_term_ref_pic_set};
+ghost use Rattle.hevc_set_parts.specs.ShortTermRefPicSet.{plain_short_term_ref_pic_set};
 ghost use Rattle.hevc_write_short_term.specs.Members as own;
 ghost use Rattle.hevc_writing.specs.Filling.{Writes, WritesTable};
 
 use crate::members::{members_after, members_before};
 use hevc_bit_writer::BitWriter;
+use hevc_set_parts::ShortTermRefPicSet;
 use hevc_tables::ShortTermMember;
-use hevc_types_a::ShortTermRefPicSet;
 use hevc_writing::rows::{flag, ue, ue_u8};
 use std::alloc::AllocError;
 

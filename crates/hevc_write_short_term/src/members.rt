@@ -1,11 +1,11 @@
 //! The members of a set.
 ghost use Rattle.std.specs.Prelude.{◌≡◌, ◌+◌, ◌≤◌, ◌++◌, length, take};
-ghost use Rattle.hevc_types_a.specs.ShortTermRefPicSet.{plain_short_term_ref_pic_set};
+ghost use Rattle.hevc_set_parts.specs.ShortTermRefPicSet.{plain_short_term_ref_pic_set};
 ghost use Rattle.hevc_write_short_term.specs.Members as own;
 
 use arrayvec::ArrayVec;
+use hevc_set_parts::ShortTermRefPicSet;
 use hevc_tables::ShortTermMember;
-use hevc_types_a::ShortTermRefPicSet;
 
 /// The members before the current picture, nearest first.
 pub(crate) fn members_before(x: &ShortTermRefPicSet) -> ArrayVec<ShortTermMember, 16>

@@ -1,14 +1,14 @@
 //! Short-term reference picture sets (7.3.7, table 7).
 ghost use Rattle.std.specs.Prelude.{◌≡◌, ℕ, true, map, not, ◌==◌, OnOk};
 ghost use Rattle.hevc_tables.specs.ShortTermTable as table;
-ghost use Rattle.hevc_types_a.specs.ShortTermRefPicSet.{plain_short_term_ref_pic_set};
+ghost use Rattle.hevc_set_parts.specs.ShortTermRefPicSet.{plain_short_term_ref_pic_set};
 ghost use Rattle.hevc_write_short_term.specs.Members as own;
 ghost use Rattle.hevc_writing.specs.Filling.{Writes, WritesEither, WritesTable};
 
 use crate::listed::write_listed_set;
 use crate::predicted::write_predicted_set;
 use hevc_bit_writer::BitWriter;
-use hevc_types_a::ShortTermRefPicSet;
+use hevc_set_parts::ShortTermRefPicSet;
 use hevc_writing::rows::flag_if;
 use std::alloc::AllocError;
 

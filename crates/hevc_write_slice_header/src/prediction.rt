@@ -2,20 +2,20 @@
 ghost use Rattle.std.specs.Prelude.{OnOk};
 ghost use Rattle.hevc_tables.specs.SliceTypes.{is_b as is_b_of};
 ghost use Rattle.hevc_tables.specs.WeightedPredictionTable.{pred_weight_table};
-ghost use Rattle.hevc_types_a.specs.SliceType.{slice_type_number};
-ghost use Rattle.hevc_types_b.specs.PredWeightTable.{plain_pred_weight_table};
+ghost use Rattle.hevc_set_parts.specs.SliceType.{slice_type_number};
+ghost use Rattle.hevc_video_set.specs.PredWeightTable.{plain_pred_weight_table};
 ghost use Rattle.hevc_tables.specs.SliceHeaderTable as table;
-ghost use Rattle.hevc_types_c.specs.Sps.{plain_sps};
-ghost use Rattle.hevc_types_d.specs.Pps.{plain_pps};
-ghost use Rattle.hevc_types_d.specs.SliceHeader.{plain_slice_header};
+ghost use Rattle.hevc_sequence_set.specs.Sps.{plain_sps};
+ghost use Rattle.hevc_picture_slice.specs.Pps.{plain_pps};
+ghost use Rattle.hevc_picture_slice.specs.SliceHeader.{plain_slice_header};
 ghost use Rattle.hevc_write_slice_header.specs.HeaderParts as own;
 ghost use Rattle.hevc_writing.specs.Filling.{Writes, WritesIf, WritesTable};
 
 use crate::lists::write_reference_lists;
 use crate::rows::{has_chroma, has_collocated_index, has_collocated_list, is_b, is_weighted};
 use hevc_bit_writer::BitWriter;
-use hevc_types_c::Sps;
-use hevc_types_d::{Pps, SliceHeader};
+use hevc_picture_slice::{Pps, SliceHeader};
+use hevc_sequence_set::Sps;
 use hevc_write_slices::write_pred_weight_table;
 use hevc_writing::rows::{flag_if, ue_u8, ue_u8_if};
 use std::alloc::AllocError;

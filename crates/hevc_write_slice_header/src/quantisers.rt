@@ -1,13 +1,13 @@
 //! What a slice adds to the picture set's quantisers (7.3.6.1, rows 35 to 42 of table 14).
 ghost use Rattle.std.specs.Prelude.{OnOk};
 ghost use Rattle.hevc_tables.specs.SliceHeaderTable as table;
-ghost use Rattle.hevc_types_d.specs.Pps.{plain_pps};
-ghost use Rattle.hevc_types_d.specs.SliceHeader.{plain_slice_header};
+ghost use Rattle.hevc_picture_slice.specs.Pps.{plain_pps};
+ghost use Rattle.hevc_picture_slice.specs.SliceHeader.{plain_slice_header};
 ghost use Rattle.hevc_write_slice_header.specs.HeaderParts as own;
 ghost use Rattle.hevc_writing.specs.Filling.{Writes, WritesIf};
 
 use hevc_bit_writer::BitWriter;
-use hevc_types_d::{Pps, SliceHeader};
+use hevc_picture_slice::{Pps, SliceHeader};
 use hevc_writing::rows::{flag_if, se_i8};
 use std::alloc::AllocError;
 

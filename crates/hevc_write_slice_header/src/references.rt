@@ -1,18 +1,18 @@
 //! The order count and the reference pictures (7.3.6.1, rows 10 to 21 of table 14).
 ghost use Rattle.std.specs.Prelude.{◌≡◌, ℕ, OnOk};
 ghost use Rattle.hevc_tables.specs.ShortTermTable.{short_term_ref_pic_set};
-ghost use Rattle.hevc_types_a.specs.ShortTermRefPicSet.{plain_short_term_ref_pic_set};
+ghost use Rattle.hevc_set_parts.specs.ShortTermRefPicSet.{plain_short_term_ref_pic_set};
 ghost use Rattle.hevc_tables.specs.SliceHeaderTable as table;
-ghost use Rattle.hevc_types_c.specs.Sps.{plain_sps};
-ghost use Rattle.hevc_types_d.specs.SliceHeader.{plain_slice_header};
+ghost use Rattle.hevc_sequence_set.specs.Sps.{plain_sps};
+ghost use Rattle.hevc_picture_slice.specs.SliceHeader.{plain_slice_header};
 ghost use Rattle.hevc_write_slice_header.specs.HeaderParts as own;
 ghost use Rattle.hevc_writing.specs.Filling.{Writes, WritesEither, WritesIf, WritesTable};
 
 use crate::long_term::write_long_term_if;
 use crate::rows::{index_if, order_count};
 use hevc_bit_writer::BitWriter;
-use hevc_types_c::Sps;
-use hevc_types_d::SliceHeader;
+use hevc_picture_slice::SliceHeader;
+use hevc_sequence_set::Sps;
 use hevc_write_short_term::write_short_term_ref_pic_set;
 use hevc_writing::rows::{flag, flag_if};
 use std::alloc::AllocError;

@@ -4,17 +4,17 @@ ghost use Rattle.hevc_tables.specs.MathFunctions.{ceil_log2 as logarithm};
 ghost use Rattle.hevc_tables.specs.SliceHeaderTable as table;
 ghost use Rattle.hevc_tables.specs.SliceTypes as types;
 ghost use Rattle.hevc_tables.specs.WeightedPredictionTable.{has_chroma as has_chroma_of};
-ghost use Rattle.hevc_types_a.specs.SliceType.{slice_type_number};
-ghost use Rattle.hevc_types_c.specs.Sps.{plain_sps};
-ghost use Rattle.hevc_types_d.specs.Pps.{plain_pps};
-ghost use Rattle.hevc_types_d.specs.SliceHeader.{plain_slice_header};
+ghost use Rattle.hevc_set_parts.specs.SliceType.{slice_type_number};
+ghost use Rattle.hevc_sequence_set.specs.Sps.{plain_sps};
+ghost use Rattle.hevc_picture_slice.specs.Pps.{plain_pps};
+ghost use Rattle.hevc_picture_slice.specs.SliceHeader.{plain_slice_header};
 ghost use Rattle.hevc_writing.specs.Filling.{WritesBits, WritesIf, WritesUe, WritesZeros};
 
 use hevc_bit_writer::BitWriter;
+use hevc_picture_slice::{Pps, SliceHeader};
+use hevc_sequence_set::Sps;
+use hevc_set_parts::SliceType;
 use hevc_slice_parts::ceil_log2;
-use hevc_types_a::SliceType;
-use hevc_types_c::Sps;
-use hevc_types_d::{Pps, SliceHeader};
 use hevc_writing::rows::{bits, ue, zeros};
 use std::alloc::AllocError;
 

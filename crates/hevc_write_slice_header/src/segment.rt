@@ -2,9 +2,9 @@
 ghost use Rattle.std.specs.Prelude.{OnOk};
 ghost use Rattle.hevc_bits.specs.NaluType.{nalu_type_number};
 ghost use Rattle.hevc_tables.specs.SliceHeaderTable as table;
-ghost use Rattle.hevc_types_c.specs.Sps.{plain_sps};
-ghost use Rattle.hevc_types_d.specs.Pps.{plain_pps};
-ghost use Rattle.hevc_types_d.specs.SliceHeader.{plain_slice_header};
+ghost use Rattle.hevc_sequence_set.specs.Sps.{plain_sps};
+ghost use Rattle.hevc_picture_slice.specs.Pps.{plain_pps};
+ghost use Rattle.hevc_picture_slice.specs.SliceHeader.{plain_slice_header};
 ghost use Rattle.hevc_write_slice_header.specs.HeaderParts as own;
 ghost use Rattle.hevc_writing.specs.Filling.{Writes, WritesIf};
 
@@ -15,8 +15,8 @@ use crate::references::write_reference_pictures_if;
 use crate::rows::{index, is_i, slice_type, zeros_u8};
 use hevc_bit_writer::BitWriter;
 use hevc_bits::NaluType;
-use hevc_types_c::Sps;
-use hevc_types_d::{Pps, SliceHeader};
+use hevc_picture_slice::{Pps, SliceHeader};
+use hevc_sequence_set::Sps;
 use hevc_writing::rows::{bits_u8_if, flag, flag_if, ue_u8};
 use std::alloc::AllocError;
 

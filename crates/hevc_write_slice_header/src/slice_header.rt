@@ -4,9 +4,9 @@ ghost use Rattle.std.specs.declared.option.Option.{Option};
 ghost use Rattle.std.specs.declared.option.Option.TheVariants.{Some};
 ghost use Rattle.hevc_bits.specs.NaluType.{nalu_type_number};
 ghost use Rattle.hevc_tables.specs.SliceHeaderTable as table;
-ghost use Rattle.hevc_types_c.specs.Sps.{plain_sps};
-ghost use Rattle.hevc_types_d.specs.Pps.{plain_pps};
-ghost use Rattle.hevc_types_d.specs.SliceHeader.{plain_slice_header};
+ghost use Rattle.hevc_sequence_set.specs.Sps.{plain_sps};
+ghost use Rattle.hevc_picture_slice.specs.Pps.{plain_pps};
+ghost use Rattle.hevc_picture_slice.specs.SliceHeader.{plain_slice_header};
 ghost use Rattle.hevc_write_slice_header.specs.HeaderParts as own;
 ghost use Rattle.hevc_write_units.specs.Slices.{WritesSized};
 ghost use Rattle.hevc_writing.specs.Filling.{Writes, WritesIf};
@@ -15,8 +15,8 @@ use crate::ending::write_ending;
 use crate::segment::{write_beginning, write_independent_segment_if, write_later_segment_if};
 use hevc_bit_writer::BitWriter;
 use hevc_bits::{NaluHeader, NaluType};
-use hevc_types_c::Sps;
-use hevc_types_d::{Pps, SliceHeader};
+use hevc_picture_slice::{Pps, SliceHeader};
+use hevc_sequence_set::Sps;
 use std::alloc::AllocError;
 
 /// Table 14 without its alignment, of a header in a unit with this unit header, with the sets that

@@ -2,14 +2,14 @@
 ghost use Rattle.std.specs.Prelude.{◌≡◌, ◌<◌, ◌^◌, ℕ, None, length, OnOk};
 ghost use Rattle.hevc_spec.specs.declared.Row.{Row};
 ghost use Rattle.hevc_tables.specs.RefPicListModificationTable as table;
-ghost use Rattle.hevc_types_a.specs.RefPicListModification.{plain_ref_pic_list_modification};
+ghost use Rattle.hevc_set_parts.specs.RefPicListModification.{plain_ref_pic_list_modification};
 ghost use Rattle.hevc_write_slices.specs.ListParts as own;
 ghost use Rattle.hevc_writing.specs.Choices.{chosen_value};
 ghost use Rattle.hevc_writing.specs.Filling.{Writes, WritesIf, WritesTable};
 
 use hevc_bit_writer::BitWriter;
+use hevc_set_parts::RefPicListModification;
 use hevc_slice_parts::ceil_log2;
-use hevc_types_a::RefPicListModification;
 use hevc_writing::rows::{bits, flag};
 use std::alloc::AllocError;
 

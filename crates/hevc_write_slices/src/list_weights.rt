@@ -2,12 +2,12 @@
 ghost use Rattle.std.specs.Prelude.{◌≡◌, ◌<◌, ◌≤◌, ℕ, length, OnOk};
 ghost use Rattle.hevc_records.specs.Sps.{PlainSps};
 ghost use Rattle.hevc_tables.specs.WeightedPredictionTable as table;
-ghost use Rattle.hevc_types_b.specs.PredWeightTable.{plain_pred_weight_table};
+ghost use Rattle.hevc_video_set.specs.PredWeightTable.{plain_pred_weight_table};
 ghost use Rattle.hevc_write_slices.specs.WeightParts as own;
 ghost use Rattle.hevc_writing.specs.Filling.{Writes, WritesIf, WritesTable, WritesTurn};
 
 use hevc_bit_writer::BitWriter;
-use hevc_types_b::PredWeightTable;
+use hevc_video_set::PredWeightTable;
 use hevc_writing::rows::{flag, se_i8, se_i16};
 use std::alloc::AllocError;
 

@@ -2,13 +2,13 @@
 ghost use Rattle.std.specs.Prelude.{◌≡◌, ◌≤◌, OnOk};
 ghost use Rattle.hevc_records.specs.Sps.{PlainSps};
 ghost use Rattle.hevc_tables.specs.WeightedPredictionTable as table;
-ghost use Rattle.hevc_types_b.specs.PredWeightTable.{plain_pred_weight_table};
+ghost use Rattle.hevc_video_set.specs.PredWeightTable.{plain_pred_weight_table};
 ghost use Rattle.hevc_write_slices.specs.WeightParts as own;
 ghost use Rattle.hevc_writing.specs.Filling.{Writes, WritesTable};
 
 use crate::list_weights::{ListWeights, write_list_weights, write_list_weights_if};
 use hevc_bit_writer::BitWriter;
-use hevc_types_b::PredWeightTable;
+use hevc_video_set::PredWeightTable;
 use hevc_writing::rows::{se_i8_if, ue_u8};
 use std::alloc::AllocError;
 

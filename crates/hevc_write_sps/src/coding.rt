@@ -1,12 +1,12 @@
 //! How pictures are coded (7.3.2.2.1, rows 25 to 34, 41 and 42 of table 5).
 ghost use Rattle.std.specs.Prelude.{OnOk};
 ghost use Rattle.hevc_tables.specs.SpsTable as table;
-ghost use Rattle.hevc_types_c.specs.Sps.{plain_sps};
+ghost use Rattle.hevc_sequence_set.specs.Sps.{plain_sps};
 ghost use Rattle.hevc_write_sps.specs.SpsParts as own;
 ghost use Rattle.hevc_writing.specs.Filling.{Writes, WritesIf};
 
 use hevc_bit_writer::BitWriter;
-use hevc_types_c::Sps;
+use hevc_sequence_set::Sps;
 use hevc_write_parts::write_vui_parameters;
 use hevc_write_scaling::write_scaling_list_data;
 use hevc_writing::rows::{bits_u8, flag, flag_if, ue_u8};

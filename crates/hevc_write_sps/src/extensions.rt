@@ -1,12 +1,12 @@
 //! Extensions (7.3.2.2.1, rows 43 to 50 of table 5).
 ghost use Rattle.std.specs.Prelude.{OnOk};
 ghost use Rattle.hevc_tables.specs.SpsTable as table;
-ghost use Rattle.hevc_types_c.specs.Sps.{plain_sps};
+ghost use Rattle.hevc_sequence_set.specs.Sps.{plain_sps};
 ghost use Rattle.hevc_write_sps.specs.SpsParts as own;
 ghost use Rattle.hevc_writing.specs.Filling.{Writes, WritesIf};
 
 use hevc_bit_writer::BitWriter;
-use hevc_types_c::Sps;
+use hevc_sequence_set::Sps;
 use hevc_write_sets::{write_sps_range_extension, write_sps_scc_extension};
 use hevc_writing::rows::{flag, zeros};
 use std::alloc::AllocError;

@@ -1,12 +1,12 @@
 //! The format of pictures (7.3.2.2.1, rows 1 to 24 of table 5).
 ghost use Rattle.std.specs.Prelude.{OnOk};
 ghost use Rattle.hevc_tables.specs.SpsTable as table;
-ghost use Rattle.hevc_types_c.specs.Sps.{plain_sps};
+ghost use Rattle.hevc_sequence_set.specs.Sps.{plain_sps};
 ghost use Rattle.hevc_write_sps.specs.SpsParts as own;
 ghost use Rattle.hevc_writing.specs.Filling.{Writes, WritesIf};
 
 use hevc_bit_writer::BitWriter;
-use hevc_types_c::Sps;
+use hevc_sequence_set::Sps;
 use hevc_write_parts::write_profile_tier_level;
 use hevc_writing::rows::{bits_u8, flag, flag_if, ue, ue_u8, ue_u16};
 use std::alloc::AllocError;

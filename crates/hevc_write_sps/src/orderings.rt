@@ -1,12 +1,12 @@
 //! The numbers of buffering, reordering and latency (7.3.2.2.1, rows 16 to 19 of table 5).
 ghost use Rattle.std.specs.Prelude.{◌<◌, length, slice_index, OnOk};
 ghost use Rattle.hevc_tables.specs.SpsTable as table;
-ghost use Rattle.hevc_types_c.specs.Sps.{plain_sps};
+ghost use Rattle.hevc_sequence_set.specs.Sps.{plain_sps};
 ghost use Rattle.hevc_write_sps.specs.SpsParts as own;
 ghost use Rattle.hevc_writing.specs.Filling.{Writes, WritesEither, WritesTurn, WritesUe};
 
 use hevc_bit_writer::BitWriter;
-use hevc_types_c::Sps;
+use hevc_sequence_set::Sps;
 use hevc_writing::rows::{flag, ue_u8};
 use std::alloc::AllocError;
 

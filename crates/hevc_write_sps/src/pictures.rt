@@ -1,12 +1,12 @@
 //! Reference picture sets, and long-term pictures (7.3.2.2.1, rows 35 to 40 of table 5).
 ghost use Rattle.std.specs.Prelude.{◌≤◌, ◌<◌, ℕ, false, length, slice_index, slice_index_or, OnOk};
 ghost use Rattle.hevc_tables.specs.SpsTable as table;
-ghost use Rattle.hevc_types_c.specs.Sps.{plain_sps};
+ghost use Rattle.hevc_sequence_set.specs.Sps.{plain_sps};
 ghost use Rattle.hevc_write_sps.specs.SpsParts as own;
 ghost use Rattle.hevc_writing.specs.Filling.{Writes, WritesBits, WritesFlag, WritesTable, WritesTurn};
 
 use hevc_bit_writer::BitWriter;
-use hevc_types_c::Sps;
+use hevc_sequence_set::Sps;
 use hevc_write_short_term::write_short_term_ref_pic_set;
 use hevc_writing::rows::{bits, flag, ue_u8, ue_u8_if};
 use std::alloc::AllocError;

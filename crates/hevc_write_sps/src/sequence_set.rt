@@ -1,7 +1,7 @@
 //! Sequence parameter sets (7.3.2.2.1, table 5).
 ghost use Rattle.std.specs.Prelude.{OnOk};
 ghost use Rattle.hevc_tables.specs.SpsTable as table;
-ghost use Rattle.hevc_types_c.specs.Sps.{plain_sps};
+ghost use Rattle.hevc_sequence_set.specs.Sps.{plain_sps};
 ghost use Rattle.hevc_write_sps.specs.SpsParts as own;
 ghost use Rattle.hevc_writing.specs.Filling.{Writes, WritesTable};
 
@@ -11,7 +11,7 @@ use crate::format::{write_blocks, write_depths, write_framing, write_identity};
 use crate::orderings::write_orderings;
 use crate::pictures::{write_long_term, write_short_term};
 use hevc_bit_writer::BitWriter;
-use hevc_types_c::Sps;
+use hevc_sequence_set::Sps;
 use std::alloc::AllocError;
 
 /// Table 5.

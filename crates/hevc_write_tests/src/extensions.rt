@@ -2,8 +2,8 @@
 use crate::expect::ok;
 use crate::written::assert_written;
 use hevc_bit_writer::BitWriter;
-use hevc_types_a::{PpsRangeExtension, PpsSccExtension};
-use hevc_types_c::{Sps, SpsRangeExtension, SpsSccExtension};
+use hevc_sequence_set::{Sps, SpsRangeExtension, SpsSccExtension};
+use hevc_set_parts::{PpsRangeExtension, PpsSccExtension};
 use hevc_write_sets::{
     write_pps_range_extension, write_pps_scc_extension, write_sps_range_extension,
     write_sps_scc_extension,

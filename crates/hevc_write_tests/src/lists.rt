@@ -3,8 +3,8 @@ use crate::expect::{expect, expect_eq, expect_fewer, ok};
 use crate::written::assert_written;
 use hevc_bit_writer::BitWriter;
 use hevc_bits::NaluReader;
-use hevc_sets::{default_scaling_lists, read_scaling_list_data, read_short_term_set};
-use hevc_types_a::ShortTermRefPicSet;
+use hevc_readers::{default_scaling_lists, read_scaling_list_data, read_short_term_set};
+use hevc_set_parts::ShortTermRefPicSet;
 use hevc_write_scaling::write_scaling_list_data;
 use hevc_write_short_term::write_short_term_ref_pic_set;
 

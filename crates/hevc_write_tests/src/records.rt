@@ -6,12 +6,12 @@
 //! set is as in a new record.
 use crate::expect::{expect, expect_eq, expect_fewer, ok};
 use hevc_bits::{Nalu, NaluHeader, NaluType};
-use hevc_sets::{default_scaling_lists, read_pps, read_sps, read_vps};
+use hevc_picture_slice::{Pps, SliceHeader};
+use hevc_readers::{default_scaling_lists, read_pps, read_sps, read_vps};
+use hevc_sequence_set::Sps;
+use hevc_set_parts::{Items, Level, ProfileTierLevel, ShortTermRefPicSet, SliceType};
 use hevc_slice_header::read_slice_header;
-use hevc_types_a::{Items, Level, ProfileTierLevel, ShortTermRefPicSet, SliceType};
-use hevc_types_b::{PredWeightTable, Vps, VuiParams};
-use hevc_types_c::Sps;
-use hevc_types_d::{Pps, SliceHeader};
+use hevc_video_set::{PredWeightTable, Vps, VuiParams};
 use hevc_write::{PictureUnit, SliceUnit, Syntax, WriteError, write_unit};
 use std::alloc::Global;
 use std::collections::BTreeMap;

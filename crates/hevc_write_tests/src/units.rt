@@ -1,9 +1,9 @@
 //! Slices, and their refusals, as units (7.3.1.1).
 use crate::expect::{expect, expect_eq, expect_fewer, ok};
 use hevc_bits::{Nalu, NaluHeader};
+use hevc_picture_slice::{Pps, SliceHeader};
+use hevc_sequence_set::Sps;
 use hevc_slice_header::read_slice_header;
-use hevc_types_c::Sps;
-use hevc_types_d::{Pps, SliceHeader};
 use hevc_write::{PictureUnit, SliceUnit, Syntax, WriteError, write_unit};
 use std::alloc::Global;
 use std::collections::BTreeMap;

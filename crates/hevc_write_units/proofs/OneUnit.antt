@@ -15,8 +15,8 @@ use Rattle.hevc_spec.specs.Units.{NalUnit, units, kept_bytes, without_trailing_z
 use Rattle.hevc_bit_writer.specs.WrittenUnits.{IsUnit, escaped, started}
 use Rattle.hevc_bit_writer.proofs.Escapes.{payload_back, stays_whole_escaped}
 use Rattle.hevc_bit_writer.proofs.Found.{all_found}
-use Rattle.hevc_joined_units.specs.Pieces.{IsWholePiece}
-use Rattle.hevc_joined_units.proofs.Cut.{headed_units}
+use Rattle.hevc_stream_pieces.specs.Pieces.{IsWholePiece}
+use Rattle.hevc_stream_pieces.proofs.Cut.{headed_units}
 use Rattle.hevc_write_units.specs.Added.{AddsUnit, AreHeaderBytes}
 use Rattle.hevc_write_units.specs.Payloads.{IsPayload, with_trailing_bits}
 use Rattle.hevc_write_units.proofs.Trimmed.{packed_trimmed, payload_trimmed}

@@ -1,12 +1,12 @@
 //! The numbers of buffering, reordering and latency (7.3.2.1, rows 8 to 13 of table 1).
 ghost use Rattle.std.specs.Prelude.{◌<◌, length, slice_index, OnOk};
 ghost use Rattle.hevc_tables.specs.VpsTable as table;
-ghost use Rattle.hevc_types_b.specs.Vps.{plain_vps};
+ghost use Rattle.hevc_video_set.specs.Vps.{plain_vps};
 ghost use Rattle.hevc_write_vps.specs.VpsParts as own;
 ghost use Rattle.hevc_writing.specs.Filling.{Writes, WritesEither, WritesTurn, WritesUe};
 
 use hevc_bit_writer::BitWriter;
-use hevc_types_b::Vps;
+use hevc_video_set::Vps;
 use hevc_writing::rows::{flag, ue};
 use std::alloc::AllocError;
 

@@ -1,12 +1,12 @@
 //! The clock, and the parameters of hypothetical reference decoders (7.3.2.1, rows 17 to 24 of table 1).
 ghost use Rattle.std.specs.Prelude.{◌≡◌, ◌<◌, false, true, ◌==◌, if◌then◌else◌, length, slice_index_or, OnOk};
 ghost use Rattle.hevc_tables.specs.VpsTable as table;
-ghost use Rattle.hevc_types_b.specs.Vps.{plain_vps};
+ghost use Rattle.hevc_video_set.specs.Vps.{plain_vps};
 ghost use Rattle.hevc_write_vps.specs.VpsParts as own;
 ghost use Rattle.hevc_writing.specs.Filling.{Writes, WritesIf, WritesTurn};
 
 use hevc_bit_writer::BitWriter;
-use hevc_types_b::Vps;
+use hevc_video_set::Vps;
 use hevc_write_parts::write_hrd_parameters;
 use hevc_writing::rows::{bits, flag, flag_if, ue, ue_if, ue_u16};
 use std::alloc::AllocError;

@@ -1,14 +1,14 @@
 //! Video parameter sets (7.3.2.1, table 1).
 ghost use Rattle.std.specs.Prelude.{◌≡◌, ◌≤◌, ◌+◌, ◌*◌, OnOk};
 ghost use Rattle.hevc_tables.specs.VpsTable as table;
-ghost use Rattle.hevc_types_b.specs.Vps.{plain_vps};
+ghost use Rattle.hevc_video_set.specs.Vps.{plain_vps};
 ghost use Rattle.hevc_write_vps.specs.VpsParts as own;
 ghost use Rattle.hevc_writing.specs.Filling.{Writes, WritesTable};
 
 use crate::orderings::write_orderings;
 use crate::timing::write_timing_info;
 use hevc_bit_writer::BitWriter;
-use hevc_types_b::Vps;
+use hevc_video_set::Vps;
 use hevc_write_parts::write_profile_tier_level;
 use hevc_writing::rows::{bits, bits_u8, flag, ue, zeros};
 use std::alloc::AllocError;

@@ -2,7 +2,7 @@
 use Rattle.fezhalum.proofs.Steps.{ℕ, List, [], ◌∷◌, ◌++◌, refl, w32, proved, full_share, id⊢, ftrue, flft, flent, fex, named, fact, tables, ‵, raw, ◌⊛◌, some, later, prop, ◌$◌, ◌∵◌, !, qed, done, move, keep, use1, use2, use3, split, join, fsplit, fpack, pick, await, regoal, suffices, group, enter, of_opd, addr, stop, no_more, and_then, returns, alloc_all, pass_all, free_all, look_at, get, through, sets, lands_as, Body, lft_new, lft_end, u32, yes, Is, shows, lends_ref, ref_back, lends_again, comes_back, LentAgain, part_at, mem, uint_Lawful, Ptr, RawPtr, block_ptr, lies_at, in_a_block, rawptr_vals, rawptr_Tells, MutRef, mut_vals, mut_Tells, plain, nothing, heard, peeks, calls_at, lasts, triple_of, framed, Stays, walk_of, stay_dropped, Goes-dropped, ends_at, WpFn, MutBor}
 use denote.Triple.Walked.{stay_ref, Goes-ref}
 use Rattle.hevc_pull.specs.Calls.{TakesNext}
-use Rattle.hevc_c_parts.specs.contracts.event.Event.{the_row as Q}
+use Rattle.hevc_events.specs.contracts.event.Event.{the_row as Q}
 use Rattle.hevc_pull.specs.contracts.decoder.PullDecoder.{the_row as R}
 use Rattle.fezhalum.specs.contracts.fezhalum_next as f
 use Rattle.fezhalum.proofs.fezhalum_next.Statement.{statement}

@@ -1,9 +1,9 @@
 //! A caller over any backend.
 use hevc_backend::{BackendError, StatelessH265DecoderBackend};
 use hevc_dpb::{Dpb, PictureData};
+use hevc_picture_slice::{Pps, Slice};
 use hevc_refs::{RefPicSet, ReferencePicLists};
-use hevc_types_c::Sps;
-use hevc_types_d::{Pps, Slice};
+use hevc_sequence_set::Sps;
 use std::alloc::Global;
 
 /// What a picture begins with.

@@ -4,9 +4,9 @@ ghost use Rattle.hevc_backend.specs.Trait.{CountsFaults, counts_of};
 
 use hevc_backend::{BackendError, Resolution, StatelessH265DecoderBackend, StreamInfo};
 use hevc_dpb::{Dpb, PictureData};
+use hevc_picture_slice::{Pps, Slice};
 use hevc_refs::{RefPicList, RefPicSet};
-use hevc_types_c::Sps;
-use hevc_types_d::{Pps, Slice};
+use hevc_sequence_set::Sps;
 
 /// A device with frames of its own. Each call says whether it succeeded.
 pub(crate) trait Device: Drop {

@@ -1,7 +1,7 @@
 //! What a backend is handed with the calls of a stream.
 use crate::expect::{expect, expect_eq};
 use hevc_decoder::decode_stream;
-use hevc_telling::{Came, KeptSegment, TellingBackend};
+use hevc_test_backend::{Came, KeptSegment, TellingBackend};
 
 /// A sequence set of 16 by 16 luma samples, a picture set with `dependent_slice_segments_enabled_flag`, an IDR picture whose
 /// slice has `slice_qp_delta` 1, and a dependent slice segment of it, every unit after a start code.

@@ -6,8 +6,8 @@ ghost use Rattle.hevc_driver.specs.Sound.{IsSound};
 
 use hevc_bits::{Nalu, NaluHeader};
 use hevc_driver::{DecodeError, Driver, Options, StatelessH265DecoderBackend};
-use hevc_types_c::Sps;
-use hevc_types_d::{Pps, Slice, SliceHeader};
+use hevc_picture_slice::{Pps, Slice, SliceHeader};
+use hevc_sequence_set::Sps;
 use std::alloc::Global;
 
 /// A slice of an IDR picture after its start code.

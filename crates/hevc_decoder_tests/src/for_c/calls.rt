@@ -1,11 +1,11 @@
 //! A stream that is decoded by the calls for C.
 use super::{check, check_all, pull_decoder};
 use crate::expect::ok;
-use hevc_c_parts::{Event, event_of_picture};
-use hevc_made::make_stream;
+use hevc_events::{Event, event_of_picture};
 use hevc_pull::{
     DecodeCall, PullDecoder, UnitCall, accept_format, decode, flush, next_event, next_unit,
 };
+use hevc_stream_maker::make_stream;
 use std::alloc::Global;
 use std::process::Abort;
 

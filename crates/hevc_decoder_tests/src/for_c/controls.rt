@@ -1,11 +1,11 @@
 //! The structs of Linux's stateless decoders over a decoder.
 use super::{check, check_all, pull_decoder};
 use crate::expect::ok;
-use hevc_made::make_stream;
 use hevc_pull::{
     DecodeCall, PullDecoder, accept_format, decode, picture_controls, slice_control, want_controls,
 };
 use hevc_queue::PictureControls;
+use hevc_stream_maker::make_stream;
 use hevc_v4l2::V4l2CtrlHevcSliceParams;
 use std::process::Abort;
 

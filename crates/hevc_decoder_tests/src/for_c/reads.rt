@@ -1,12 +1,12 @@
 //! Sets and headers that are read without a decoder.
 use super::check_all;
 use crate::expect::ok;
-use hevc_made::make_stream;
+use hevc_parser::Parser;
+use hevc_picture_slice::{Pps, SliceHeader};
 use hevc_pull::{UnitCall, UnitRead, pps_fields, read_unit, slice_fields, sps_fields, vps_fields};
-use hevc_slice::Parser;
-use hevc_types_b::Vps;
-use hevc_types_c::Sps;
-use hevc_types_d::{Pps, SliceHeader};
+use hevc_sequence_set::Sps;
+use hevc_stream_maker::make_stream;
+use hevc_video_set::Vps;
 use std::alloc::Global;
 use std::process::Abort;
 

@@ -3,9 +3,9 @@ use super::check_all;
 use crate::expect::ok;
 use hevc_bits::{Nalu, NaluHeader};
 use hevc_dpb::{Dpb, PictureData};
+use hevc_picture_slice::{Pps, Slice, SliceHeader};
 use hevc_refs::{RefPicSet, ReferencePicLists};
-use hevc_types_c::Sps;
-use hevc_types_d::{Pps, Slice, SliceHeader};
+use hevc_sequence_set::Sps;
 use hevc_v4l2::{
     ControlError, V4l2CtrlHevcDecodeParams, V4l2CtrlHevcScalingMatrix, V4l2CtrlHevcSliceParams,
     decode_control, pps_control, scaling_control, slice_control, sps_control,

@@ -1,7 +1,7 @@
 -- The fields of a picture parameter set.
 use Rattle.std.specs.Prelude.{ℕ, [], ◌∷◌}
 use Rattle.hevc_records.specs.Pps.{PlainPps}
-use Rattle.hevc_c_parts.specs.Flags.{flags_of}
+use Rattle.hevc_events.specs.Flags.{flags_of}
 use Rattle.hevc_pull.specs.declared.fields.pps.PpsFields.{PpsFields}
 
 -- the first at bit 0

@@ -1,7 +1,7 @@
 -- The fields of a profile, tier and level.
 use Rattle.std.specs.Prelude.{ℕ, [], ◌∷◌}
 use Rattle.hevc_records.specs.ProfileTierLevel.{PlainProfileTierLevel}
-use Rattle.hevc_c_parts.specs.Flags.{flags_of}
+use Rattle.hevc_events.specs.Flags.{flags_of}
 use Rattle.hevc_pull.specs.declared.fields.profile.ProfileFields.{ProfileFields}
 
 -- the first at bit 0

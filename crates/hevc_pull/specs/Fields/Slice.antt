@@ -1,7 +1,7 @@
 -- The fields of a slice segment header.
 use Rattle.std.specs.Prelude.{ℕ, [], ◌∷◌}
 use Rattle.hevc_records.specs.SliceHeader.{PlainSliceSegmentHeader}
-use Rattle.hevc_c_parts.specs.Flags.{flags_of}
+use Rattle.hevc_events.specs.Flags.{flags_of}
 use Rattle.hevc_pull.specs.declared.fields.slice.SliceFields.{SliceFields}
 
 -- the first at bit 0

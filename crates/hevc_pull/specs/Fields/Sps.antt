@@ -1,7 +1,7 @@
 -- The fields of a sequence parameter set.
 use Rattle.std.specs.Prelude.{ℕ, [], ◌∷◌}
 use Rattle.hevc_records.specs.Sps.{PlainSps}
-use Rattle.hevc_c_parts.specs.Flags.{flags_of}
+use Rattle.hevc_events.specs.Flags.{flags_of}
 use Rattle.hevc_pull.specs.declared.fields.sps.SpsFields.{SpsFields}
 use Rattle.hevc_pull.specs.Fields.Profile.{fields_of_profile}
 use Rattle.hevc_pull.specs.Fields.Vui.{fields_of_vui}

@@ -1,7 +1,7 @@
 -- The fields of a video parameter set.
 use Rattle.std.specs.Prelude.{ℕ, [], ◌∷◌}
 use Rattle.hevc_records.specs.Vps.{PlainVps}
-use Rattle.hevc_c_parts.specs.Flags.{flags_of}
+use Rattle.hevc_events.specs.Flags.{flags_of}
 use Rattle.hevc_pull.specs.declared.fields.vps.VpsFields.{VpsFields}
 use Rattle.hevc_pull.specs.Fields.Profile.{fields_of_profile}
 

@@ -1,7 +1,7 @@
 -- The fields of video usability information.
 use Rattle.std.specs.Prelude.{ℕ, [], ◌∷◌}
 use Rattle.hevc_records.specs.VuiParams.{PlainVuiParams}
-use Rattle.hevc_c_parts.specs.Flags.{flags_of}
+use Rattle.hevc_events.specs.Flags.{flags_of}
 use Rattle.hevc_pull.specs.declared.fields.vui.VuiFields.{VuiFields}
 
 -- the first at bit 0

@@ -1,10 +1,10 @@
 //! The picture parameter set.
 ghost use Rattle.std.specs.Prelude.{◌≡◌};
-ghost use Rattle.hevc_types_d.specs.Pps.{plain_pps};
+ghost use Rattle.hevc_picture_slice.specs.Pps.{plain_pps};
 ghost use Rattle.hevc_pull.specs.Fields.Pps.{fields_of_pps, pps_flags};
 
-use hevc_c_parts::flag_bits;
-use hevc_types_d::Pps;
+use hevc_events::flag_bits;
+use hevc_picture_slice::Pps;
 
 /// The elements of a picture parameter set (7.3.2.3.1), by their names in H.265.
 #[repr(C)]

@@ -1,10 +1,10 @@
 //! Profile, tier and level.
 ghost use Rattle.std.specs.Prelude.{◌≡◌};
-ghost use Rattle.hevc_types_a.specs.ProfileTierLevel.{plain_profile_tier_level};
+ghost use Rattle.hevc_set_parts.specs.ProfileTierLevel.{plain_profile_tier_level};
 ghost use Rattle.hevc_pull.specs.Fields.Profile.{fields_of_profile, profile_flags};
 
-use hevc_c_parts::flag_bits;
-use hevc_types_a::ProfileTierLevel;
+use hevc_events::flag_bits;
+use hevc_set_parts::ProfileTierLevel;
 
 /// Profile, tier and level of the highest sub-layer (7.3.3), by their names in H.265.
 #[repr(C)]

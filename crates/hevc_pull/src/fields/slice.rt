@@ -1,10 +1,10 @@
 //! The slice segment header.
 ghost use Rattle.std.specs.Prelude.{◌≡◌};
-ghost use Rattle.hevc_types_d.specs.SliceHeader.{plain_slice_header};
+ghost use Rattle.hevc_picture_slice.specs.SliceHeader.{plain_slice_header};
 ghost use Rattle.hevc_pull.specs.Fields.Slice.{fields_of_slice, slice_flags};
 
-use hevc_c_parts::flag_bits;
-use hevc_types_d::SliceHeader;
+use hevc_events::flag_bits;
+use hevc_picture_slice::SliceHeader;
 
 /// The elements of a slice segment header (7.3.6.1), by their names in H.265: those of a dependent slice segment are its own alone.
 #[repr(C)]

@@ -1,12 +1,12 @@
 //! The sequence parameter set.
 ghost use Rattle.std.specs.Prelude.{◌≡◌};
-ghost use Rattle.hevc_types_c.specs.Sps.{plain_sps};
+ghost use Rattle.hevc_sequence_set.specs.Sps.{plain_sps};
 ghost use Rattle.hevc_pull.specs.Fields.Sps.{fields_of_sps, sps_flags};
 
 use crate::fields::profile::{ProfileFields, profile_fields};
 use crate::fields::vui::{VuiFields, vui_fields};
-use hevc_c_parts::flag_bits;
-use hevc_types_c::Sps;
+use hevc_events::flag_bits;
+use hevc_sequence_set::Sps;
 
 /// The elements of a sequence parameter set (7.3.2.2.1), by their names in H.265.
 #[repr(C)]

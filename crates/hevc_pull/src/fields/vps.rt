@@ -1,11 +1,11 @@
 //! The video parameter set.
 ghost use Rattle.std.specs.Prelude.{◌≡◌};
-ghost use Rattle.hevc_types_b.specs.Vps.{plain_vps};
+ghost use Rattle.hevc_video_set.specs.Vps.{plain_vps};
 ghost use Rattle.hevc_pull.specs.Fields.Vps.{fields_of_vps, vps_flags};
 
 use crate::fields::profile::{ProfileFields, profile_fields};
-use hevc_c_parts::flag_bits;
-use hevc_types_b::Vps;
+use hevc_events::flag_bits;
+use hevc_video_set::Vps;
 
 /// The elements of a video parameter set (7.3.2.1), by their names in H.265.
 #[repr(C)]

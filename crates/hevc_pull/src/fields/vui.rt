@@ -1,10 +1,10 @@
 //! Video usability information.
 ghost use Rattle.std.specs.Prelude.{◌≡◌};
-ghost use Rattle.hevc_types_b.specs.VuiParams.{plain_vui_params};
+ghost use Rattle.hevc_video_set.specs.VuiParams.{plain_vui_params};
 ghost use Rattle.hevc_pull.specs.Fields.Vui.{fields_of_vui, vui_flags};
 
-use hevc_c_parts::flag_bits;
-use hevc_types_b::VuiParams;
+use hevc_events::flag_bits;
+use hevc_video_set::VuiParams;
 
 /// Video usability information (E.2.1), by the names of H.265. What is absent has the value that H.265 infers, or 0.
 #[repr(C)]

@@ -10,9 +10,9 @@ use super::line::{push_picture, push_sequence, push_slice, push_submission};
 use hevc_backend::{BackendError, Call, NegotiationInfo, StatelessH265DecoderBackend, StreamInfo};
 use hevc_dpb::{Dpb, PictureData};
 use hevc_history::History;
+use hevc_picture_slice::{Pps, Slice};
 use hevc_refs::{RefPicList, RefPicSet};
-use hevc_types_c::Sps;
-use hevc_types_d::{Pps, Slice};
+use hevc_sequence_set::Sps;
 use std::alloc::{AllocError, Global};
 use std::marker::Model;
 

@@ -6,8 +6,8 @@ use crate::streams::{IDR, P4, PPS, SPS, UPPER_P2, stream};
 use crate::words::words_of;
 use hevc_extract::extract;
 use hevc_io::{MemorySink, MemorySource};
-use hevc_made::make_stream;
 use hevc_report::run;
+use hevc_stream_maker::make_stream;
 use std::alloc::Global;
 use std::process::Abort;
 

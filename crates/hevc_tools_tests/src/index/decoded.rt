@@ -8,7 +8,7 @@ use hevc_backend::SilentBackend;
 use hevc_bits::{Nalu, NaluHeader, STREAM_LIMIT};
 use hevc_decoder::{Decoded, Shown, decode_stream};
 use hevc_index::{Point, index, splice};
-use hevc_made::make_stream;
+use hevc_stream_maker::make_stream;
 use std::alloc::Global;
 use std::process::Abort;
 

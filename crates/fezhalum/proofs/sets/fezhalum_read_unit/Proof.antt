@@ -3,7 +3,7 @@ use Rattle.fezhalum.proofs.Steps.{ℕ, List, [], ◌∷◌, ◌++◌, refl, w32,
 use Rattle.hevc_pull.specs.Reads.{Reads}
 use denote.Builtin.{SliceRefOf}
 use denote.Triple.Walked.{stay_ref, Goes-ref}
-use Rattle.hevc_slice.specs.contracts.parser.Parser.{the_row as R}
+use Rattle.hevc_parser.specs.contracts.parser.Parser.{the_row as R}
 use Rattle.hevc_pull.specs.contracts.reads.UnitRead.{the_row as Q}
 use Rattle.fezhalum.specs.contracts.sets.fezhalum_read_unit as f
 use Rattle.fezhalum.proofs.sets.fezhalum_read_unit.Statement.{statement}

@@ -3,8 +3,8 @@ use Rattle.fezhalum.proofs.Steps.{[], ◌∷◌, refl, ap, proved, full_share, i
 use mir.Syntax.{Ty}
 use denote.Memory.{lone}
 use denote.Triple.Clauses.{Lasts}
-use Rattle.hevc_slice.specs.contracts.parser.Parser.{the_row as R}
-use Rattle.hevc_slice.proofs.parser.Parser.TheLaws.{the_row_laws}
+use Rattle.hevc_parser.specs.contracts.parser.Parser.{the_row as R}
+use Rattle.hevc_parser.proofs.parser.Parser.TheLaws.{the_row_laws}
 use Rattle.fezhalum.specs.contracts.sets.fezhalum_sets_end as f
 use Rattle.fezhalum.proofs.sets.fezhalum_sets_end.Statement.{statement}
 use Rattle.fezhalum.proofs.sets.fezhalum_sets_end.Code as code

@@ -1,14 +1,14 @@
 -- `fezhalum_sets_init` writes sets of which none is kept into the room at the pointer.
 use Rattle.fezhalum.proofs.Steps.{[], ◌∷◌, ◌++◌, refl, proved, full_share, id⊢, ftrue, fex, vunit, fact, tables, ‵, raw, ◌⊛◌, some, later, prop, ◌$◌, ◌∵◌, !, qed, done, move, keep, drop, use1, use2, split, join, fpack, feq_i, pick, await, regoal, suffices, group, enter, of_opd, unit_lit, assigns, init, stop, no_more, and_then, returns, alloc_all, pass_all, free_all, look_at, get, through, sets, lands_as, yes, Is, shows, part_at, part_in, Ptr, RawPtr, block_ptr, room_at, in_a_block, rawptr_vals, rawptr_Tells, plain, nothing, heard, peeks, calls_at, lasts, triple_of, framed, Stays, walk_of, stay_dropped, Goes-dropped, ends_at, WpFn, heap_val, heap_Tells}
 use Rattle.std.specs.contracts.alloc.Global.{the_row as P}
-use Rattle.hevc_slice.specs.contracts.parser.Parser.{the_row as R}
-use Rattle.hevc_slice.proofs.parser.Parser.TheLaws.{the_row_laws}
+use Rattle.hevc_parser.specs.contracts.parser.Parser.{the_row as R}
+use Rattle.hevc_parser.proofs.parser.Parser.TheLaws.{the_row_laws}
 use Rattle.fezhalum.specs.contracts.sets.fezhalum_sets_init as f
 use Rattle.fezhalum.proofs.sets.fezhalum_sets_init.Statement.{statement}
 use Rattle.fezhalum.proofs.sets.fezhalum_sets_init.Code as code
 use Rattle.std.proofs.Common.{◌≡◌}
 use Rattle.hevc_stream.specs.Kept.{none_kept}
-use Rattle.hevc_slice.specs.Kept.{kept_by}
+use Rattle.hevc_parser.specs.Kept.{kept_by}
 use Rattle.fezhalum.specs.contracts.sets.no_sets as g
 use Rattle.fezhalum.proofs.sets.no_sets.Met.{met}
 

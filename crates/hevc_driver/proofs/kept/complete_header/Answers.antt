@@ -1,6 +1,6 @@
 use Rattle.std.proofs.Common.{◌≡◌, refl, ap, sym, ◌∙◌, true}
 use Rattle.std.specs.Prelude.{option_map, Option}
-use Rattle.hevc_types_d.specs.declared.slice_header.SliceHeader.{SliceHeader}
+use Rattle.hevc_picture_slice.specs.declared.slice_header.SliceHeader.{SliceHeader}
 use Rattle.hevc_walk.specs.DependentSlices.{whole_slice}
 use Rattle.hevc_driver.specs.Slices.{slice_of, kept_of}
 use Rattle.hevc_driver.proofs.SliceViews.{completes_as}

@@ -3,7 +3,7 @@ use Rattle.hevc_spec.specs.Payload.{bits, IsAhead}
 use Rattle.hevc_spec.specs.Table.{read}
 use Rattle.hevc_spec.specs.Rows.{repeat}
 use Rattle.hevc_tables.specs.HrdTable.{schedule, sub_layer_hrd_parameters}
-use Rattle.hevc_types_b.specs.SublayerHrdParameters.{plain_sublayer_hrd_parameters}
+use Rattle.hevc_video_set.specs.SublayerHrdParameters.{plain_sublayer_hrd_parameters}
 use Rattle.hevc_hrd.proofs.schedules.read_schedules.Given as goal
 
 abbrev pub invariant-loop-i : goal.invariant-loop-i

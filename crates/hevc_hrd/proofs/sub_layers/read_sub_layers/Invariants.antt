@@ -3,7 +3,7 @@ use Rattle.hevc_spec.specs.Payload.{bits, IsAhead}
 use Rattle.hevc_spec.specs.Table.{read}
 use Rattle.hevc_spec.specs.Rows.{repeat}
 use Rattle.hevc_tables.specs.HrdTable.{sub_layer, sub_layers}
-use Rattle.hevc_types_b.specs.HrdParams.{plain_hrd_params}
+use Rattle.hevc_video_set.specs.HrdParams.{plain_hrd_params}
 use Rattle.hevc_hrd.proofs.sub_layers.read_sub_layers.Given as goal
 
 abbrev pub invariant-loop-i : goal.invariant-loop-i

@@ -1,5 +1,5 @@
 use Rattle.std.proofs.Common.{ap}
-use Rattle.hevc_types_d.specs.Pps.{plain_pps}
+use Rattle.hevc_picture_slice.specs.Pps.{plain_pps}
 use Rattle.hevc_stream.specs.Kept.{with_picture_set}
 use Rattle.hevc_stream.specs.Contents.{picture_set_read}
 use Rattle.hevc_kept_sets.proofs.Sets.{kept_where_ok}

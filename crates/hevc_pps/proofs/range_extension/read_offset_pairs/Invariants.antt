@@ -3,7 +3,7 @@ use Rattle.hevc_spec.specs.Payload.{bits, IsAhead}
 use Rattle.hevc_spec.specs.Table.{read}
 use Rattle.hevc_spec.specs.Rows.{repeat}
 use Rattle.hevc_tables.specs.PpsRangeExtensionTable.{offset_pair, offset_pairs}
-use Rattle.hevc_types_a.specs.PpsRangeExtension.{plain_pps_range_extension}
+use Rattle.hevc_set_parts.specs.PpsRangeExtension.{plain_pps_range_extension}
 use Rattle.hevc_pps.proofs.range_extension.read_offset_pairs.Given as goal
 
 abbrev pub invariant-loop-i : goal.invariant-loop-i

@@ -4,8 +4,8 @@ use Rattle.hevc_spec.specs.Table.{read}
 use Rattle.hevc_spec.specs.Rows.{repeat}
 use Rattle.hevc_tables.specs.PpsSccExtensionTable.{component_predictors, predictors}
 use Rattle.hevc_tables.specs.SpsTable.{sample_format}
-use Rattle.hevc_types_a.specs.PpsSccExtension.{plain_pps_scc_extension}
-use Rattle.hevc_types_c.specs.Sps.{plain_sps}
+use Rattle.hevc_set_parts.specs.PpsSccExtension.{plain_pps_scc_extension}
+use Rattle.hevc_sequence_set.specs.Sps.{plain_sps}
 use Rattle.hevc_pps.proofs.scc_extension.read_predictors.Given as goal
 
 abbrev pub invariant-loop-component : goal.invariant-loop-component

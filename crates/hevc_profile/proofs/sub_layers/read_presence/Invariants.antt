@@ -3,7 +3,7 @@ use Rattle.hevc_spec.specs.Payload.{bits, IsAhead}
 use Rattle.hevc_spec.specs.Table.{read}
 use Rattle.hevc_spec.specs.Rows.{repeat}
 use Rattle.hevc_tables.specs.ProfileTierLevelTable.{next_presence, presence}
-use Rattle.hevc_types_a.specs.ProfileTierLevel.{plain_profile_tier_level}
+use Rattle.hevc_set_parts.specs.ProfileTierLevel.{plain_profile_tier_level}
 use Rattle.hevc_profile.proofs.sub_layers.read_presence.Given as goal
 
 abbrev pub invariant-loop-i : goal.invariant-loop-i

@@ -2,7 +2,7 @@ use Rattle.std.proofs.Common.{◌≡◌, pos, List, ◌++◌, not, to_z, of_z, w
 use Rattle.std.proofs.lemmas.Int.{ints, to_z-of_z}
 use Rattle.hevc_walk.specs.Meanings.{LongTermMember}
 use Rattle.hevc_walk_inputs.specs.Headers.{short_term_set_of}
-use Rattle.hevc_types_a.specs.ShortTermRefPicSet.{plain_short_term_ref_pic_set}
+use Rattle.hevc_set_parts.specs.ShortTermRefPicSet.{plain_short_term_ref_pic_set}
 use Rattle.hevc_walk.specs.ReferenceSets.{short_term_set, long_term_entry, is_curr_short_term, is_curr_long_term, with_long_term, marked_if, all_members}
 use Rattle.hevc_dpb.specs.Views.{buffer_of}
 use Rattle.hevc_refs.specs.Sets.{plain_set}

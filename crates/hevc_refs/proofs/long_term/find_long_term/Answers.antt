@@ -1,7 +1,7 @@
 use Rattle.std.proofs.Common.{◌≡◌, ◌+◌, [], w32, refl, ap, ◌∙◌, arith, map, filter, not}
 use Rattle.std.proofs.lemmas.Int.{to_z-of_z}
 use Rattle.hevc_walk_inputs.specs.Headers.{long_term_member}
-use Rattle.hevc_types_d.specs.SliceHeader.{plain_slice_header}
+use Rattle.hevc_picture_slice.specs.SliceHeader.{plain_slice_header}
 use Rattle.hevc_walk.specs.ReferenceSets.{long_term_entry, is_curr_long_term}
 use Rattle.hevc_walk.specs.ReferenceLists.{numbers_below}
 use Rattle.hevc_dpb.specs.Views.{buffer_of}

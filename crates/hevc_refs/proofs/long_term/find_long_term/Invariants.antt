@@ -1,7 +1,7 @@
 use Rattle.std.proofs.Common.{◌≡◌, ◌≤◌, pos, map, filter, not}
 use Rattle.arrayvec.specs.ArrayVec.{array_vec_len}
 use Rattle.hevc_walk_inputs.specs.Headers.{long_term_member}
-use Rattle.hevc_types_d.specs.SliceHeader.{plain_slice_header}
+use Rattle.hevc_picture_slice.specs.SliceHeader.{plain_slice_header}
 use Rattle.hevc_walk.specs.Meanings.{Slice}
 use Rattle.hevc_walk.specs.Pictures.{Head}
 use Rattle.hevc_walk.specs.ReferenceSets.{long_term_entry, is_curr_long_term}

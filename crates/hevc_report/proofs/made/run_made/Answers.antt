@@ -1,4 +1,4 @@
-use Rattle.hevc_made.specs.Made.{made}
+use Rattle.hevc_stream_maker.specs.Made.{made}
 use Rattle.hevc_report.specs.Summary.{summary_of}
 use Rattle.hevc_io.proofs.Written.{nothing_written}
 use Rattle.hevc_report.proofs.Joined.{some_summary}

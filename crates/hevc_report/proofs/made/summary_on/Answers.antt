@@ -1,6 +1,6 @@
 use Rattle.std.proofs.Common.{◌≡◌, List, ℕ, length, ap, ◌∙◌, subst, arith}
 use Rattle.std.specs.Prelude.{IfOk, is_ok}
-use Rattle.hevc_made.proofs.Sizes.{short}
+use Rattle.hevc_stream_maker.proofs.Sizes.{short}
 use Rattle.hevc_stream.specs.Options.{default_options}
 use Rattle.hevc_report.specs.Report.{ending_of}
 use Rattle.hevc_report.specs.Summary.{summary_of}

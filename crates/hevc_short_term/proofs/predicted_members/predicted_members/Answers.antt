@@ -2,7 +2,7 @@ use Rattle.std.proofs.Common.{◌≡◌, pos, ◌+◌, false, ◌++◌, take, dr
 use Rattle.std.proofs.lemmas.Int.{to_z-of_z}
 use Rattle.std.proofs.lemmas.List.{take_rest}
 use Rattle.hevc_tables.specs.ShortTermTable.{shifted, shifted_one}
-use Rattle.hevc_types_a.specs.ShortTermRefPicSet.{plain_short_term_ref_pic_set}
+use Rattle.hevc_set_parts.specs.ShortTermRefPicSet.{plain_short_term_ref_pic_set}
 use Rattle.hevc_short_term_laws.proofs.LinedUp.{predicted_is, predicted_rises}
 use Rattle.hevc_short_term.proofs.predicted_members.predicted_members.Goals as goal
 

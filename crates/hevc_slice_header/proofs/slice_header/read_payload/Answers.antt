@@ -5,7 +5,7 @@ use Rattle.hevc_spec.specs.Payload.{Place, bits, IsReached}
 use Rattle.hevc_spec.specs.Table.{gives}
 use Rattle.hevc_spec.proofs.PlaceLaws.{is_reached}
 use Rattle.hevc_tables.specs.SliceHeaderTable.{with_sizes}
-use Rattle.hevc_types_d.specs.SliceHeader.{plain_slice_header}
+use Rattle.hevc_picture_slice.specs.SliceHeader.{plain_slice_header}
 use Rattle.hevc_slice_header.specs.Kept.{kept_active_sets}
 use Rattle.hevc_slice_header.proofs.CurrentSets.{sized_current}
 use Rattle.hevc_slice_header.proofs.Dropped.{few_between, sized}

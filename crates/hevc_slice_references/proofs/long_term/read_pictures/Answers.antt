@@ -3,8 +3,8 @@ use Rattle.hevc_spec.specs.Payload.{bits}
 use Rattle.hevc_spec.specs.Table.{read}
 use Rattle.hevc_spec.proofs.Repeats.{repeat_more, repeat_done}
 use Rattle.hevc_tables.specs.SliceHeaderTable.{long_term_picture, long_term_pictures}
-use Rattle.hevc_types_c.specs.Sps.{plain_sps}
-use Rattle.hevc_types_d.specs.SliceHeader.{plain_slice_header}
+use Rattle.hevc_sequence_set.specs.Sps.{plain_sps}
+use Rattle.hevc_picture_slice.specs.SliceHeader.{plain_slice_header}
 use Rattle.hevc_slice_references.proofs.Cycles.{cycles_fit}
 use Rattle.hevc_slice_references.proofs.long_term.read_pictures.Goals as goal
 

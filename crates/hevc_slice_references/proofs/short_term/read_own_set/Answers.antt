@@ -1,5 +1,5 @@
 use Rattle.hevc_spec.specs.Payload.{bits}
-use Rattle.hevc_types_a.specs.ShortTermRefPicSet.{plain_short_term_ref_pic_set}
+use Rattle.hevc_set_parts.specs.ShortTermRefPicSet.{plain_short_term_ref_pic_set}
 use Rattle.hevc_slice_references.proofs.SetSize.{set_size}
 use Rattle.hevc_slice_references.proofs.short_term.read_own_set.Goals as goal
 

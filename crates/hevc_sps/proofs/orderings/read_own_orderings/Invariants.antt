@@ -3,7 +3,7 @@ use Rattle.hevc_spec.specs.Payload.{bits, IsAhead}
 use Rattle.hevc_spec.specs.Table.{read}
 use Rattle.hevc_spec.specs.Rows.{repeat}
 use Rattle.hevc_tables.specs.SpsTable.{own_ordering, own_orderings}
-use Rattle.hevc_types_c.specs.Sps.{plain_sps}
+use Rattle.hevc_sequence_set.specs.Sps.{plain_sps}
 use Rattle.hevc_sps.proofs.orderings.read_own_orderings.Given as goal
 
 abbrev pub invariant-loop-i : goal.invariant-loop-i

@@ -3,7 +3,7 @@ use Rattle.hevc_spec.specs.Payload.{bits, IsAhead}
 use Rattle.hevc_spec.specs.Table.{read}
 use Rattle.hevc_spec.specs.Rows.{repeat}
 use Rattle.hevc_tables.specs.SpsSccExtensionTable.{predictor, component_predictors}
-use Rattle.hevc_types_c.specs.SpsSccExtension.{plain_sps_scc_extension}
+use Rattle.hevc_sequence_set.specs.SpsSccExtension.{plain_sps_scc_extension}
 use Rattle.hevc_sps.specs.Projections.{plain_format}
 use Rattle.hevc_sps.proofs.scc_extension.read_component.Given as goal
 

@@ -3,7 +3,7 @@ use Rattle.hevc_spec.specs.Payload.{bits, IsAhead}
 use Rattle.hevc_spec.specs.Table.{read}
 use Rattle.hevc_spec.specs.Rows.{repeat}
 use Rattle.hevc_tables.specs.SpsTable.{short_term_set, short_term_sets}
-use Rattle.hevc_types_a.specs.ShortTermRefPicSet.{plain_short_term_ref_pic_set}
+use Rattle.hevc_set_parts.specs.ShortTermRefPicSet.{plain_short_term_ref_pic_set}
 use Rattle.hevc_sps.proofs.short_term.read_sets.Given as goal
 
 abbrev pub invariant-loop-i : goal.invariant-loop-i

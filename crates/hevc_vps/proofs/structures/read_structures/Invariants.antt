@@ -3,7 +3,7 @@ use Rattle.hevc_spec.specs.Payload.{bits, IsAhead}
 use Rattle.hevc_spec.specs.Table.{read}
 use Rattle.hevc_spec.specs.Rows.{repeat}
 use Rattle.hevc_tables.specs.VpsTable.{structure, structures}
-use Rattle.hevc_types_b.specs.Vps.{plain_vps}
+use Rattle.hevc_video_set.specs.Vps.{plain_vps}
 use Rattle.hevc_vps.proofs.structures.read_structures.Given as goal
 
 abbrev pub invariant-loop-i : goal.invariant-loop-i

@@ -5,9 +5,9 @@ use Rattle.std.specs.Ordering.{nat_cmp}
 use Rattle.std.specs.Prelude.{option_map}
 use Rattle.hevc_records.specs.Sps.{PlainSps}
 use Rattle.hevc_stream.specs.Kept.{with_set}
-use Rattle.hevc_slice.proofs.Keeping.{kept_behind}
-use Rattle.hevc_types_c.specs.declared.sps.Sps.{Sps}
-use Rattle.hevc_types_c.specs.Sps.{plain_sps}
+use Rattle.hevc_parser.proofs.Keeping.{kept_behind}
+use Rattle.hevc_sequence_set.specs.declared.sps.Sps.{Sps}
+use Rattle.hevc_sequence_set.specs.Sps.{plain_sps}
 use Rattle.hevc_write.proofs.picture_unit.alone.Goals as goal
 
 pub returns : goal.returns

@@ -5,10 +5,10 @@ use Rattle.hevc_spec.specs.Payload.{payload}
 use Rattle.hevc_spec.specs.Table.{read}
 use Rattle.hevc_spec.specs.UnitHeader.{UnitHeader}
 use Rattle.hevc_stream.specs.Slices.{temporal_id}
-use Rattle.hevc_types_c.specs.Sps.{plain_sps}
+use Rattle.hevc_sequence_set.specs.Sps.{plain_sps}
 use Rattle.hevc_write_units.specs.Values.{only_sequence_set}
 use Rattle.hevc_tables.specs.PpsTable.{picture_parameter_set}
-use Rattle.hevc_types_d.specs.Pps.{plain_pps}
+use Rattle.hevc_picture_slice.specs.Pps.{plain_pps}
 use Rattle.hevc_record_laws.proofs.Values.{pps}
 use Rattle.hevc_write_units.specs.Trials.{IsTrial}
 use Rattle.hevc_write.proofs.ReadBack.{same_read, trial_read}

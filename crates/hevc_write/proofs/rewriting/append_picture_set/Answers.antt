@@ -3,7 +3,7 @@ use Rattle.std.specs.Prelude.{option_map}
 use Rattle.hevc_bits.specs.FoundUnit.{bytes_of, unit_of}
 use Rattle.hevc_bit_writer.specs.WrittenUnits.{started}
 use Rattle.hevc_records.specs.Sps.{PlainSps}
-use Rattle.hevc_slice.specs.Kept.{kept_by}
+use Rattle.hevc_parser.specs.Kept.{kept_by}
 use Rattle.hevc_spec.specs.Payload.{payload}
 use Rattle.hevc_spec.specs.Table.{gives, refuses, read}
 use Rattle.hevc_spec.specs.UnitHeader.{UnitHeader}
@@ -11,9 +11,9 @@ use Rattle.hevc_stream.specs.Contents.{picture_set}
 use Rattle.hevc_stream.specs.Options.{default_options}
 use Rattle.hevc_stream.specs.Slices.{temporal_id}
 use Rattle.hevc_tables.specs.PpsTable.{picture_parameter_set}
-use Rattle.hevc_types_c.specs.Sps.{plain_sps}
-use Rattle.hevc_types_d.specs.declared.pps.Pps.{Pps}
-use Rattle.hevc_types_d.specs.Pps.{plain_pps}
+use Rattle.hevc_sequence_set.specs.Sps.{plain_sps}
+use Rattle.hevc_picture_slice.specs.declared.pps.Pps.{Pps}
+use Rattle.hevc_picture_slice.specs.Pps.{plain_pps}
 use Rattle.hevc_write_units.specs.Values.{PictureSetLines, MeansPictureSet}
 use Rattle.hevc_write.specs.Steps.{ReadsOne}
 use Rattle.hevc_write.proofs.PictureSteps.{at_some, lines_of_one, names, picture_lines, some_mapped}

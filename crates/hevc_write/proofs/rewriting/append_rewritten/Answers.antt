@@ -1,6 +1,6 @@
 use Rattle.std.proofs.Common.{◌++◌, ℕ, List, [], ap, sym, subst, ◌∙◌, arith, append-nil, append_assoc, Option}
 use Rattle.hevc_spec.specs.Units.{NalUnit, kept_bytes, units_from}
-use Rattle.hevc_slice.specs.Kept.{kept_by}
+use Rattle.hevc_parser.specs.Kept.{kept_by}
 use Rattle.hevc_stream.specs.Kept.{Kept}
 use Rattle.hevc_write.specs.Steps.{IsNext}
 use Rattle.hevc_write.proofs.Rewritten.{Left, begins, ends, takes}

@@ -1,6 +1,6 @@
 use Rattle.std.proofs.Common.{◌≡◌, ◌≤◌, ◌-◌, ◌++◌, ℕ, List, length}
 use Rattle.hevc_spec.specs.Units.{units_from, kept_bytes}
-use Rattle.hevc_slice.specs.Kept.{kept_by}
+use Rattle.hevc_parser.specs.Kept.{kept_by}
 use Rattle.hevc_write.proofs.Rewritten.{Left}
 use Rattle.hevc_write.proofs.rewriting.append_rewritten.Given as goal
 

@@ -4,12 +4,12 @@ use Rattle.hevc_bit_writer.specs.WrittenUnits.{started}
 use Rattle.hevc_spec.specs.Payload.{payload}
 use Rattle.hevc_spec.specs.Table.{read}
 use Rattle.hevc_spec.specs.UnitHeader.{UnitHeader}
-use Rattle.hevc_slice.specs.Kept.{kept_by}
+use Rattle.hevc_parser.specs.Kept.{kept_by}
 use Rattle.hevc_stream.specs.Contents.{sequence_set}
 use Rattle.hevc_stream.specs.Kept.{Kept, with_set}
 use Rattle.hevc_stream.specs.Options.{default_options}
 use Rattle.hevc_tables.specs.SpsTable.{sequence_parameter_set}
-use Rattle.hevc_types_c.specs.Sps.{plain_sps}
+use Rattle.hevc_sequence_set.specs.Sps.{plain_sps}
 use Rattle.hevc_write_units.specs.Values.{SetLines, MeansSequenceSet}
 use Rattle.hevc_write.proofs.Taking.{anew, copied, header_is, on_ok, own_sequences, refuses_set, sequence_is, sequence_unread, wanted}
 use Rattle.hevc_write.proofs.rewriting.append_sequence_set.Goals as goal

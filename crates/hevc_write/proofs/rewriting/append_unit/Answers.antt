@@ -1,7 +1,7 @@
 use Rattle.std.proofs.Common.{◌++◌, ◌∙◌, ℕ, List, false, ap, refl}
 use Rattle.hevc_bits.specs.FoundUnit.{bytes_of, unit_of}
 use Rattle.hevc_bit_writer.specs.WrittenUnits.{started}
-use Rattle.hevc_slice.specs.Kept.{kept_by}
+use Rattle.hevc_parser.specs.Kept.{kept_by}
 use Rattle.hevc_write.proofs.ReadBack.{not_true}
 use Rattle.hevc_write.proofs.Taking.{copied, header_is, on_ok, other_type}
 use Rattle.hevc_write.proofs.rewriting.append_unit.Goals as goal

@@ -4,11 +4,11 @@ use Rattle.hevc_bit_writer.specs.WrittenUnits.{started}
 use Rattle.hevc_spec.specs.Payload.{payload}
 use Rattle.hevc_spec.specs.Table.{read}
 use Rattle.hevc_spec.specs.UnitHeader.{UnitHeader}
-use Rattle.hevc_slice.specs.Kept.{kept_by}
+use Rattle.hevc_parser.specs.Kept.{kept_by}
 use Rattle.hevc_stream.specs.Contents.{video_set}
 use Rattle.hevc_stream.specs.Options.{default_options}
 use Rattle.hevc_tables.specs.VpsTable.{video_parameter_set}
-use Rattle.hevc_types_b.specs.Vps.{plain_vps}
+use Rattle.hevc_video_set.specs.Vps.{plain_vps}
 use Rattle.hevc_write_units.specs.Values.{SetLines, MeansVideoSet}
 use Rattle.hevc_write.proofs.Taking.{anew, copied, header_is, on_ok, other_sequences, refuses_set, video_is, video_unread, wanted}
 use Rattle.hevc_write.proofs.rewriting.append_video_set.Goals as goal

@@ -7,9 +7,9 @@ use Rattle.hevc_tables.specs.SliceHeaderTable.{elements}
 use Rattle.hevc_write_units.specs.Payloads.{with_trailing_bits}
 use Rattle.hevc_write_units.specs.Slices.{IsSameButSizes, only_sets}
 use Rattle.hevc_slice_header.specs.Kept.{kept_active_sets}
-use Rattle.hevc_types_c.specs.Sps.{plain_sps}
-use Rattle.hevc_types_d.specs.Pps.{plain_pps}
-use Rattle.hevc_types_d.specs.SliceHeader.{plain_slice_header}
+use Rattle.hevc_sequence_set.specs.Sps.{plain_sps}
+use Rattle.hevc_picture_slice.specs.Pps.{plain_pps}
+use Rattle.hevc_picture_slice.specs.SliceHeader.{plain_slice_header}
 use Rattle.hevc_write_units.specs.Trials.{IsTrial}
 use Rattle.hevc_records.specs.SetsById.{sets_by_id}
 use Rattle.hevc_write.proofs.SlicesBack.{if_ok, one_active, slice_found, slice_not_refused, slice_read}

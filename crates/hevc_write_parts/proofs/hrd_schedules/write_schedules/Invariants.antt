@@ -1,5 +1,5 @@
 use Rattle.hevc_tables.specs.HrdTable.{schedule}
-use Rattle.hevc_types_b.specs.SublayerHrdParameters.{plain_sublayer_hrd_parameters}
+use Rattle.hevc_video_set.specs.SublayerHrdParameters.{plain_sublayer_hrd_parameters}
 use Rattle.hevc_write_parts.specs.HrdParts.{same_schedules}
 use Rattle.hevc_writing.specs.Filling.{WritesTurns}
 use Rattle.hevc_write_parts.proofs.hrd_schedules.write_schedules.Given as goal

@@ -3,9 +3,9 @@ use Rattle.std.specs.Prelude.{not}
 use Rattle.hevc_records.specs.HrdParams.{PlainHrdParams}
 use Rattle.hevc_records.specs.SublayerHrdParameters.{default_sublayer_hrd_parameters}
 use Rattle.hevc_tables.specs.HrdTable.{sub_layer, sub_layer_hrd_parameters}
-use Rattle.hevc_types_b.specs.HrdParams.{plain_hrd_params}
+use Rattle.hevc_video_set.specs.HrdParams.{plain_hrd_params}
 use Rattle.std.proofs.lemmas.List.{length-map, get_or-map}
-use Rattle.hevc_types_b.specs.SublayerHrdParameters.{plain_sublayer_hrd_parameters}
+use Rattle.hevc_video_set.specs.SublayerHrdParameters.{plain_sublayer_hrd_parameters}
 use Rattle.hevc_writing.proofs.Fillings.{then_filled}
 use Rattle.hevc_writing.proofs.Steps.{flag_then, flag_if_then, ue_if_then, one_table_if_written, pairs, flags, numbers, done_filled}
 use Rattle.hevc_writing.proofs.Loops.{one_less}

@@ -1,5 +1,5 @@
 use Rattle.hevc_tables.specs.HrdTable.{sub_layer}
-use Rattle.hevc_types_b.specs.HrdParams.{plain_hrd_params}
+use Rattle.hevc_video_set.specs.HrdParams.{plain_hrd_params}
 use Rattle.hevc_write_parts.specs.HrdParts.{same_sub_layers}
 use Rattle.hevc_writing.specs.Filling.{WritesTurns}
 use Rattle.hevc_write_parts.proofs.hrd_sub_layers.write_sub_layers.Given as goal

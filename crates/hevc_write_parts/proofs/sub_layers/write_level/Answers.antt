@@ -2,8 +2,8 @@ use Rattle.std.proofs.Common.{◌<◌, length, refl, sym, ◌∙◌, arith}
 use Rattle.std.proofs.lemmas.List.{length-map, get_or-map}
 use Rattle.hevc_records.specs.ProfileConformance.{is_level}
 use Rattle.hevc_tables.specs.ProfileTierLevelTable.{sub_layer_level, level}
-use Rattle.hevc_types_a.specs.Level.{level_number}
-use Rattle.hevc_types_a.specs.ProfileTierLevel.{plain_profile_tier_level}
+use Rattle.hevc_set_parts.specs.Level.{level_number}
+use Rattle.hevc_set_parts.specs.ProfileTierLevel.{plain_profile_tier_level}
 use Rattle.hevc_writing.proofs.Steps.{number_then, done_filled}
 use Rattle.hevc_writing.proofs.Loops.{one_less}
 use Rattle.hevc_write_parts.proofs.sub_layers.write_level.Goals as goal

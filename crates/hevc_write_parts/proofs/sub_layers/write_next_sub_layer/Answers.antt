@@ -2,7 +2,7 @@ use Rattle.std.proofs.Common.{false, get_or, ap, ◌∙◌}
 use Rattle.std.specs.Prelude.{Bool, List}
 use Rattle.std.proofs.lemmas.Option.{unwrap_or-slice_get}
 use Rattle.hevc_tables.specs.ProfileTierLevelTable.{next_sub_layer, sub_layer_profile, sub_layer_level}
-use Rattle.hevc_types_a.specs.ProfileTierLevel.{plain_profile_tier_level}
+use Rattle.hevc_set_parts.specs.ProfileTierLevel.{plain_profile_tier_level}
 use Rattle.hevc_writing.proofs.Steps.{then_filled}
 use Rattle.hevc_writing.proofs.Loops.{when_turn_written, fewer_same}
 use Rattle.hevc_write_parts.specs.ProfileParts as own

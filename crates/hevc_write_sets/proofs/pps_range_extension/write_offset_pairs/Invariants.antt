@@ -1,5 +1,5 @@
 use Rattle.hevc_tables.specs.PpsRangeExtensionTable.{offset_pair}
-use Rattle.hevc_types_a.specs.PpsRangeExtension.{plain_pps_range_extension}
+use Rattle.hevc_set_parts.specs.PpsRangeExtension.{plain_pps_range_extension}
 use Rattle.hevc_write_sets.specs.PpsRangeExtensionParts.{same_pairs}
 use Rattle.hevc_writing.specs.Filling.{WritesTurns}
 use Rattle.hevc_write_sets.proofs.pps_range_extension.write_offset_pairs.Given as goal

@@ -1,6 +1,6 @@
 use Rattle.std.proofs.Common.{[], arith}
 use Rattle.std.proofs.lemmas.Option.{unwrap_or-slice_get}
-use Rattle.hevc_types_a.specs.PpsSccExtension.{plain_pps_scc_extension}
+use Rattle.hevc_set_parts.specs.PpsSccExtension.{plain_pps_scc_extension}
 use Rattle.hevc_write_sets.proofs.PpsSccExtensionKeeps.{component_written, predictor_written}
 use Rattle.hevc_writing.proofs.Loops.{no_turns, one_more_turn}
 use Rattle.hevc_write_sets.proofs.pps_scc_extension.write_component.Goals as goal

@@ -1,7 +1,7 @@
 use Rattle.hevc_tables.specs.PpsSccExtensionTable.{predictor}
 use Rattle.hevc_tables.specs.SpsTable.{sample_format}
-use Rattle.hevc_types_a.specs.PpsSccExtension.{plain_pps_scc_extension}
-use Rattle.hevc_types_c.specs.Sps.{plain_sps}
+use Rattle.hevc_set_parts.specs.PpsSccExtension.{plain_pps_scc_extension}
+use Rattle.hevc_sequence_set.specs.Sps.{plain_sps}
 use Rattle.hevc_write_sets.specs.PpsSccExtensionParts as own
 use Rattle.hevc_writing.specs.Filling.{WritesTurns}
 use Rattle.hevc_write_sets.proofs.pps_scc_extension.write_component.Given as goal

@@ -1,5 +1,5 @@
 use Rattle.std.proofs.Common.{◌≡◌, ◌∙◌, arith}
-use Rattle.hevc_types_a.specs.PpsSccExtension.{plain_pps_scc_extension}
+use Rattle.hevc_set_parts.specs.PpsSccExtension.{plain_pps_scc_extension}
 use Rattle.hevc_writing.proofs.Loops.{no_turns}
 use Rattle.hevc_write_sets.proofs.PpsSccExtensionKeeps.{predictors_written, one_more_component}
 use Rattle.hevc_write_sets.proofs.pps_scc_extension.write_predictors.Goals as goal

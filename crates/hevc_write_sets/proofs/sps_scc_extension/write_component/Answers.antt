@@ -1,6 +1,6 @@
 use Rattle.std.proofs.Common.{[], arith}
 use Rattle.std.proofs.lemmas.Option.{unwrap_or-slice_get}
-use Rattle.hevc_types_c.specs.SpsSccExtension.{plain_sps_scc_extension}
+use Rattle.hevc_sequence_set.specs.SpsSccExtension.{plain_sps_scc_extension}
 use Rattle.hevc_write_sets.proofs.SpsSccExtensionKeeps.{component_written, predictor_written}
 use Rattle.hevc_writing.proofs.Loops.{no_turns, one_more_turn}
 use Rattle.hevc_write_sets.proofs.sps_scc_extension.write_component.Goals as goal

@@ -1,7 +1,7 @@
 use Rattle.hevc_tables.specs.SpsSccExtensionTable.{predictor}
 use Rattle.hevc_tables.specs.SpsTable.{sample_format}
-use Rattle.hevc_types_c.specs.SpsSccExtension.{plain_sps_scc_extension}
-use Rattle.hevc_types_c.specs.Sps.{plain_sps}
+use Rattle.hevc_sequence_set.specs.SpsSccExtension.{plain_sps_scc_extension}
+use Rattle.hevc_sequence_set.specs.Sps.{plain_sps}
 use Rattle.hevc_write_sets.specs.SpsSccExtensionParts as own
 use Rattle.hevc_writing.specs.Filling.{WritesTurns}
 use Rattle.hevc_write_sets.proofs.sps_scc_extension.write_component.Given as goal

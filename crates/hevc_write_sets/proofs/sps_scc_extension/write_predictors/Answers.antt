@@ -1,5 +1,5 @@
 use Rattle.std.proofs.Common.{◌≡◌, ◌∙◌, arith}
-use Rattle.hevc_types_c.specs.SpsSccExtension.{plain_sps_scc_extension}
+use Rattle.hevc_sequence_set.specs.SpsSccExtension.{plain_sps_scc_extension}
 use Rattle.hevc_writing.proofs.Loops.{no_turns}
 use Rattle.hevc_write_sets.proofs.SpsSccExtensionKeeps.{predictors_written, one_more_component}
 use Rattle.hevc_write_sets.proofs.sps_scc_extension.write_predictors.Goals as goal

@@ -1,7 +1,7 @@
 use Rattle.std.proofs.Common.{◌≡◌, [], ◌∷◌, List, take, pos, ℤ, rules, w32, SFits, to_z, of_z, subst, ◌∙◌}
 use Rattle.std.proofs.lemmas.Int.{to_z-of_z}
 use Rattle.hevc_tables.specs.declared.short_term_member.ShortTermMember.{ShortTermMember}
-use Rattle.hevc_types_a.specs.ShortTermRefPicSet.{plain_short_term_ref_pic_set}
+use Rattle.hevc_set_parts.specs.ShortTermRefPicSet.{plain_short_term_ref_pic_set}
 use Rattle.hevc_tables.specs.ShortTermTable.{differences, shift_of}
 use Rattle.hevc_write_short_term.specs.Members.{members_of, chosen_flags, WritesFlags}
 use Rattle.hevc_write_short_term.proofs.MemberLists.{three_written}

@@ -1,5 +1,5 @@
 use Rattle.std.proofs.Common.{◌++◌, [], ◌∷◌, pos, subst, map, refl, sym, ◌∙◌, arith}
-use Rattle.hevc_types_a.specs.ShortTermRefPicSet.{plain_short_term_ref_pic_set}
+use Rattle.hevc_set_parts.specs.ShortTermRefPicSet.{plain_short_term_ref_pic_set}
 use Rattle.hevc_tables.specs.ShortTermTable.{differences, shift_of, predicted_set, prediction, predicted_members}
 use Rattle.hevc_records.specs.ShortTermRefPicSet.{PlainShortTermRefPicSet}
 use Rattle.hevc_write_short_term.specs.Members.{chosen_flags, members_of, WritesFlags}

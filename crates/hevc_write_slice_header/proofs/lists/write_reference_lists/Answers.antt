@@ -1,7 +1,7 @@
 use Rattle.std.proofs.Common.{refl, sym, ◌∙◌}
 use Rattle.hevc_tables.specs.SliceHeaderTable.{active_counts, has_list_modification, list_modification, reference_lists, with_pictures}
-use Rattle.hevc_types_c.specs.Sps.{plain_sps}
-use Rattle.hevc_types_d.specs.Pps.{plain_pps}
+use Rattle.hevc_sequence_set.specs.Sps.{plain_sps}
+use Rattle.hevc_picture_slice.specs.Pps.{plain_pps}
 use Rattle.hevc_write_slice_header.specs.HeaderParts as own
 use Rattle.hevc_write_slice_header.proofs.HeaderKeeps.{active_counts_keeps, list_modification_keeps}
 use Rattle.hevc_writing.proofs.Steps.{by, part_then, when_part_written}

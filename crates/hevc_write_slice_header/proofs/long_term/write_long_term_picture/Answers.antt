@@ -1,5 +1,5 @@
-use Rattle.hevc_types_c.specs.Sps.{plain_sps}
-use Rattle.hevc_types_d.specs.SliceHeader.{plain_slice_header}
+use Rattle.hevc_sequence_set.specs.Sps.{plain_sps}
+use Rattle.hevc_picture_slice.specs.SliceHeader.{plain_slice_header}
 use Rattle.hevc_write_slice_header.proofs.LongTerm.{picture_written}
 use Rattle.hevc_write_slice_header.proofs.long_term.write_long_term_picture.Goals as goal
 

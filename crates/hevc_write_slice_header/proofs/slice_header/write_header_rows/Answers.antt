@@ -2,8 +2,8 @@ use Rattle.std.proofs.Common.{refl}
 use Rattle.std.specs.Prelude.{not}
 use Rattle.hevc_tables.specs.SliceHeaderTable.{ending, later_segment}
 use Rattle.hevc_bits.specs.NaluType.{nalu_type_number}
-use Rattle.hevc_types_c.specs.Sps.{plain_sps}
-use Rattle.hevc_types_d.specs.Pps.{plain_pps}
+use Rattle.hevc_sequence_set.specs.Sps.{plain_sps}
+use Rattle.hevc_picture_slice.specs.Pps.{plain_pps}
 use Rattle.hevc_write_slice_header.specs.HeaderParts as own
 use Rattle.hevc_write_slice_header.proofs.HeaderKeeps.{ending_keeps, independent_segment_keeps, later_segment_keeps}
 use Rattle.hevc_writing.proofs.Steps.{by, part_if_then, part_written}

@@ -2,9 +2,9 @@ use Rattle.std.proofs.Common.{◌≡◌, ℕ, List, Bool, refl, ap, subst}
 use Rattle.std.specs.Prelude.{Option, Some}
 use Rattle.hevc_records.specs.SliceHeader.{PlainSliceSegmentHeader, default_slice_header}
 use Rattle.hevc_tables.specs.SliceHeaderTable.{ActiveSets, beginning, elements}
-use Rattle.hevc_types_c.specs.Sps.{plain_sps}
-use Rattle.hevc_types_d.specs.Pps.{plain_pps}
-use Rattle.hevc_types_d.specs.SliceHeader.{plain_slice_header}
+use Rattle.hevc_sequence_set.specs.Sps.{plain_sps}
+use Rattle.hevc_picture_slice.specs.Pps.{plain_pps}
+use Rattle.hevc_picture_slice.specs.SliceHeader.{plain_slice_header}
 use Rattle.hevc_write_pps.proofs.Named.{named_then, named_part_written}
 use Rattle.hevc_write_units.specs.Slices.{WritesSized, with_sizes_of}
 use Rattle.hevc_writing.specs.Filling.{Writes}

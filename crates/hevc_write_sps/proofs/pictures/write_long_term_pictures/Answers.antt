@@ -1,5 +1,5 @@
 use Rattle.std.proofs.Common.{arith}
-use Rattle.hevc_types_c.specs.Sps.{plain_sps}
+use Rattle.hevc_sequence_set.specs.Sps.{plain_sps}
 use Rattle.hevc_write_sps.proofs.SpsKeeps.{pictures_written}
 use Rattle.hevc_write_sps.proofs.pictures.write_long_term_pictures.Goals as goal
 

@@ -1,6 +1,6 @@
 use Rattle.std.proofs.Common.{ℕ, map}
 use Rattle.hevc_tables.specs.SpsTable.{short_term_set}
-use Rattle.hevc_types_a.specs.ShortTermRefPicSet.{plain_short_term_ref_pic_set}
+use Rattle.hevc_set_parts.specs.ShortTermRefPicSet.{plain_short_term_ref_pic_set}
 use Rattle.hevc_writing.specs.Filling.{WritesTurns, are_first}
 use Rattle.hevc_write_sps.proofs.pictures.write_short_term_sets.Given as goal
 

@@ -1,5 +1,5 @@
 use Rattle.std.proofs.Common.{arith}
-use Rattle.hevc_types_b.specs.Vps.{plain_vps}
+use Rattle.hevc_video_set.specs.Vps.{plain_vps}
 use Rattle.hevc_write_vps.proofs.VpsKeeps.{orderings_written}
 use Rattle.hevc_write_vps.proofs.orderings.write_own_orderings.Goals as goal
 

@@ -5,9 +5,9 @@ use Rattle.hevc_spec.specs.Rows.{row, flag_row}
 use Rattle.hevc_records.specs.HrdParams.{default_hrd_params}
 use Rattle.hevc_tables.specs.HrdTable.{hrd_parameters}
 use Rattle.hevc_tables.specs.VpsTable.{structure, last_structure}
-use Rattle.hevc_types_b.specs.Vps.{plain_vps}
-use Rattle.hevc_types_b.specs.declared.hrd_params.HrdParams.{HrdParams}
-use Rattle.hevc_types_b.specs.HrdParams.{plain_hrd_params}
+use Rattle.hevc_video_set.specs.Vps.{plain_vps}
+use Rattle.hevc_video_set.specs.declared.hrd_params.HrdParams.{HrdParams}
+use Rattle.hevc_video_set.specs.HrdParams.{plain_hrd_params}
 use Rattle.hevc_writing.proofs.Fillings.{weakened, beside}
 use Rattle.hevc_writing.proofs.Steps.{done_filled, then_filled, ue_then, when_written, where_present, flag_table, flag_fillable, one_table_written, pairs, flags, numbers}
 use Rattle.hevc_write_parts.proofs.HrdKeeps.{hrd_fillable}

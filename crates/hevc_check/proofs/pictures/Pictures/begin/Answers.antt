@@ -1,6 +1,6 @@
 use Rattle.std.proofs.Common.{not, ◌&&◌, ◌+◌, ◌≡◌, ap, sym, ◌∙◌, Option}
 use Rattle.std.specs.Prelude.{length}
-use Rattle.hevc_types_c.specs.Sps.{plain_sps}
+use Rattle.hevc_sequence_set.specs.Sps.{plain_sps}
 use Rattle.hevc_walk.specs.Pictures as walk
 use Rattle.hevc_walk.specs.Pictures.{head, order_count_in_range}
 use Rattle.hevc_walk.specs.ReferenceSets.{with_marks}

@@ -1,6 +1,6 @@
 use Rattle.std.proofs.Common.{[], ap, sym, ◌∙◌, refl, Some}
 use Rattle.std.specs.Prelude.{option_map}
-use Rattle.hevc_types_c.specs.Sps.{plain_sps}
+use Rattle.hevc_sequence_set.specs.Sps.{plain_sps}
 use Rattle.hevc_walk.specs.Meanings.{Format}
 use Rattle.hevc_walk.specs.Walk.{Store, is_accepted}
 use Rattle.hevc_walk_inputs.specs.Sequences.{format_of_set}

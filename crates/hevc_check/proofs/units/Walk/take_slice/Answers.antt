@@ -1,13 +1,13 @@
 use Rattle.std.proofs.Common.{◌∙◌, ap, sym, refl, subst, Some, Ok, Err}
 use Rattle.hevc_bits.specs.FoundUnit.{bytes_of}
 use Rattle.hevc_walk.specs.Meanings.{Meaning, CodedSlice, Refused}
-use Rattle.hevc_types_c.specs.Sps.{plain_sps}
-use Rattle.hevc_types_d.specs.Pps.{plain_pps}
-use Rattle.hevc_types_d.specs.SliceHeader.{plain_slice_header}
+use Rattle.hevc_sequence_set.specs.Sps.{plain_sps}
+use Rattle.hevc_picture_slice.specs.Pps.{plain_pps}
+use Rattle.hevc_picture_slice.specs.SliceHeader.{plain_slice_header}
 use Rattle.hevc_stream.specs.Kept.{Kept}
 use Rattle.hevc_stream.specs.Stream.{meaning}
 use Rattle.hevc_slice_header.specs.declared.active_sets.ActiveSets.{ActiveSets}
-use Rattle.hevc_slice.specs.Kept.{kept_by}
+use Rattle.hevc_parser.specs.Kept.{kept_by}
 use Rattle.hevc_kept_sets.specs.Kept.{kept_of, options_in}
 use Rattle.hevc_check.specs.Places.{Takes}
 use Rattle.hevc_check.proofs.Meant.{of_unit, coded_of, segment_means, segment_refused, idle_takes}

@@ -1,6 +1,6 @@
 use Rattle.std.proofs.Common.{refl, ap, sym, ◌∙◌, subst, Ok, false, Option, Some}
 use Rattle.std.specs.Prelude.{option_map}
-use Rattle.hevc_types_c.specs.Sps.{plain_sps}
+use Rattle.hevc_sequence_set.specs.Sps.{plain_sps}
 use Rattle.hevc_walk_inputs.specs.Sequences.{format_of_set}
 use Rattle.hevc_walk.specs.Meanings.{Format}
 use Rattle.hevc_walk_units.specs.Units.{Current, NoPicture, SkippedPicture, changed_by}

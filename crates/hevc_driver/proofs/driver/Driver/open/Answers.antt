@@ -1,6 +1,6 @@
 use Rattle.std.proofs.Common.{ap, arith, ◌∙◌, Option}
 use Rattle.std.specs.Prelude.{option_map}
-use Rattle.hevc_types_c.specs.Sps.{plain_sps}
+use Rattle.hevc_sequence_set.specs.Sps.{plain_sps}
 use Rattle.hevc_walk_inputs.specs.Sequences.{format_of_set}
 use Rattle.hevc_walk.specs.Walk.{is_accepted}
 use Rattle.hevc_backend.specs.declared.negotiation.NegotiationInfo.{NegotiationInfo}

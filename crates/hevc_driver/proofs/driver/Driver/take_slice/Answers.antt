@@ -1,5 +1,5 @@
 use Rattle.std.proofs.Common.{refl, ap, sym, ◌∙◌, subst, Option, Some, None, Bool, if◌then◌else◌}
-use Rattle.hevc_types_d.specs.SliceHeader.{plain_slice_header}
+use Rattle.hevc_picture_slice.specs.SliceHeader.{plain_slice_header}
 use Rattle.hevc_walk.specs.DependentSlices.{KeptHeader}
 use Rattle.hevc_walk.specs.Meanings.{CodedSlice}
 use Rattle.hevc_backend.specs.Handed.{segment_of}

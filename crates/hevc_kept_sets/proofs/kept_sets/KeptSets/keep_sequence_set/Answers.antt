@@ -1,6 +1,6 @@
 use Rattle.std.proofs.Common.{◌∙◌, ap, sym}
 use Rattle.hevc_bits.specs.FoundUnit.{bytes_of}
-use Rattle.hevc_slice.specs.Kept.{kept_by}
+use Rattle.hevc_parser.specs.Kept.{kept_by}
 use Rattle.hevc_kept_sets.specs.Kept.{options_in}
 use Rattle.hevc_kept_sets.proofs.CutAgain.{has_header}
 use Rattle.hevc_kept_sets.specs.ReadUnits.{set_read}

@@ -3,11 +3,11 @@ use Rattle.std.specs.Prelude.{IfSome}
 use Rattle.std.specs.List.{list_all}
 use Rattle.hevc_spec.specs.Payload.{payload}
 use Rattle.hevc_bits.specs.FoundUnit.{bytes_of}
-use Rattle.hevc_types_c.specs.Sps.{plain_sps}
+use Rattle.hevc_sequence_set.specs.Sps.{plain_sps}
 use Rattle.std.specs.Prelude.{option_map}
 use Rattle.hevc_options.specs.Options.{options_of}
 use Rattle.hevc_stream.specs.Kept.{Kept}
-use Rattle.hevc_slice.specs.Kept.{kept_by, sequence_set_by}
+use Rattle.hevc_parser.specs.Kept.{kept_by, sequence_set_by}
 use Rattle.hevc_kept_sets.specs.Kept.{options_in}
 use Rattle.hevc_kept_sets.specs.Settled.{is_settled}
 use Rattle.hevc_kept_sets.proofs.Again.{settled_behind_set, settled_again}

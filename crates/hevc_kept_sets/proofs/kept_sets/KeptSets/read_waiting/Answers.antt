@@ -2,7 +2,7 @@ use Rattle.std.proofs.Common.{◌≡◌, true, refl, sym, subst}
 use Rattle.std.specs.List.{list_all}
 use Rattle.hevc_stream.specs.Options.{Options}
 use Rattle.hevc_kept_sets.specs.Kept.{kept_of, options_in}
-use Rattle.hevc_slice.specs.Kept.{kept_by}
+use Rattle.hevc_parser.specs.Kept.{kept_by}
 use Rattle.hevc_kept_sets.specs.Settled.{is_settled}
 use Rattle.hevc_kept_sets.proofs.Again.{settled_by_sets, settled_apart, all_stay_where_none_changed, all_settled, covered_by_names}
 use Rattle.hevc_kept_sets.proofs.kept_sets.KeptSets.read_waiting.Goals as goal

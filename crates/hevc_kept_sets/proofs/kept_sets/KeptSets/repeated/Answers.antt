@@ -1,6 +1,6 @@
 use Rattle.std.proofs.Common.{◌≡◌, Some, refl, ap, sym, ◌∙◌, rules}
-use Rattle.hevc_types_c.specs.Sps.{plain_sps}
-use Rattle.hevc_slice.specs.Kept.{kept_by}
+use Rattle.hevc_sequence_set.specs.Sps.{plain_sps}
+use Rattle.hevc_parser.specs.Kept.{kept_by}
 use Rattle.hevc_kept_sets.specs.ReadUnits.{set_read}
 use Rattle.hevc_kept_sets.proofs.ReadUnits.{read_last}
 use Rattle.hevc_kept_sets.proofs.kept_sets.KeptSets.repeated.Goals as goal

@@ -1,8 +1,8 @@
 use Rattle.std.proofs.Common.{◌≡◌, Err, ap, sym, rules}
 use Rattle.hevc_bits.specs.FoundUnit.{bytes_of}
-use Rattle.hevc_types_b.specs.Vps.{plain_vps}
+use Rattle.hevc_video_set.specs.Vps.{plain_vps}
 use Rattle.hevc_stream.specs.Kept.{with_video_set}
-use Rattle.hevc_slice.specs.Kept.{kept_by}
+use Rattle.hevc_parser.specs.Kept.{kept_by}
 use Rattle.hevc_kept_sets.specs.Kept.{options_in}
 use Rattle.hevc_stream.specs.Kept.{Kept}
 use Rattle.hevc_options.specs.Options.{options_of}

@@ -1,6 +1,6 @@
 use Rattle.std.proofs.Common.{◌≡◌, ℕ, List, false, ap, subst, ◌∙◌, rules}
 use Rattle.std.specs.declared.alloc.AllocError.{AllocError}
-use Rattle.hevc_slice.specs.Kept.{kept_by}
+use Rattle.hevc_parser.specs.Kept.{kept_by}
 use Rattle.hevc_kept_sets.specs.Kept.{options_in}
 use Rattle.hevc_kept_sets.specs.Settled.{named_set, is_among}
 use Rattle.hevc_kept_sets.specs.Takes.{ReadsPictureSet}

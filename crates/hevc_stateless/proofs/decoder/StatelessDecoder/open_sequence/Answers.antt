@@ -1,6 +1,6 @@
 use Rattle.std.proofs.Common.{◌∙◌, ap, subst}
 use Rattle.hevc_records.specs.Sps.{PlainSps}
-use Rattle.hevc_types_c.specs.Sps.{plain_sps}
+use Rattle.hevc_sequence_set.specs.Sps.{plain_sps}
 use Rattle.hevc_walk_inputs.specs.Sequences.{format_of_set}
 use Rattle.hevc_stream.specs.Kept.{Kept}
 use Rattle.hevc_walk.specs.Meanings.{SequenceSet}

@@ -6,12 +6,12 @@ use Rattle.hevc_spec.specs.UnitHeader.{UnitHeader}
 use Rattle.hevc_bits.specs.NaluType.{nalu_type_number}
 use Rattle.hevc_bits.specs.FoundUnit.{FoundUnit, bytes_of}
 use Rattle.hevc_walk.specs.Meanings.{Meaning, CodedSlice}
-use Rattle.hevc_types_c.specs.Sps.{plain_sps}
-use Rattle.hevc_types_d.specs.Pps.{plain_pps}
-use Rattle.hevc_types_d.specs.SliceHeader.{plain_slice_header}
+use Rattle.hevc_sequence_set.specs.Sps.{plain_sps}
+use Rattle.hevc_picture_slice.specs.Pps.{plain_pps}
+use Rattle.hevc_picture_slice.specs.SliceHeader.{plain_slice_header}
 use Rattle.hevc_stream.specs.Kept.{Kept}
 use Rattle.hevc_slice_header.specs.declared.active_sets.ActiveSets.{ActiveSets}
-use Rattle.hevc_slice.specs.Kept.{kept_by}
+use Rattle.hevc_parser.specs.Kept.{kept_by}
 use Rattle.hevc_kept_sets.specs.Kept.{kept_of, options_in}
 use Rattle.hevc_driver.specs.Slices.{slice_of}
 use Rattle.hevc_stateless.specs.Refusals.{refusal_of}

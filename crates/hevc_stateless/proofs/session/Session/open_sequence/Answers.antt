@@ -1,5 +1,5 @@
 use Rattle.std.proofs.Common.{refl, ap, sym, subst, arith}
-use Rattle.hevc_types_c.specs.Sps.{plain_sps}
+use Rattle.hevc_sequence_set.specs.Sps.{plain_sps}
 use Rattle.hevc_walk_inputs.specs.Sequences.{format_of_set}
 use Rattle.hevc_walk_units.specs.Units.{Standing}
 use Rattle.hevc_stateless.specs.Views.{View, IsIdleBefore, traces_of}

@@ -1,6 +1,6 @@
 use Rattle.std.proofs.Common.{refl, sym}
-use Rattle.hevc_types_c.specs.Sps.{plain_sps}
-use Rattle.hevc_types_d.specs.Pps.{plain_pps}
+use Rattle.hevc_sequence_set.specs.Sps.{plain_sps}
+use Rattle.hevc_picture_slice.specs.Pps.{plain_pps}
 use Rattle.hevc_write.proofs.ReadBack.{no_picture_written, not_true, picture_added}
 use Rattle.hevc_write.proofs.picture_unit.PictureUnitSyntax.write_payload.Goals as goal
 

@@ -1,6 +1,6 @@
 use Rattle.std.proofs.Common.{refl}
 use Rattle.hevc_tables.specs.SpsTable.{sequence_parameter_set}
-use Rattle.hevc_types_c.specs.Sps.{plain_sps}
+use Rattle.hevc_sequence_set.specs.Sps.{plain_sps}
 use Rattle.hevc_write.proofs.ReadBack.{none_written, not_true, set_added}
 use Rattle.hevc_write.proofs.sequence_set.SpsSyntax.write_payload.Goals as goal
 

@@ -1,7 +1,7 @@
 use Rattle.std.proofs.Common.{refl, sym}
-use Rattle.hevc_types_c.specs.Sps.{plain_sps}
-use Rattle.hevc_types_d.specs.Pps.{plain_pps}
-use Rattle.hevc_types_d.specs.SliceHeader.{plain_slice_header}
+use Rattle.hevc_sequence_set.specs.Sps.{plain_sps}
+use Rattle.hevc_picture_slice.specs.Pps.{plain_pps}
+use Rattle.hevc_picture_slice.specs.SliceHeader.{plain_slice_header}
 use Rattle.hevc_write.proofs.ReadBack.{both_equal, not_true}
 use Rattle.hevc_write.proofs.SlicesBack.{none_sliced, slice_added, slice_lines}
 use Rattle.hevc_write.proofs.slice_unit.SliceUnitSyntax.write_payload.Goals as goal

@@ -1,6 +1,6 @@
 use Rattle.std.proofs.Common.{refl}
 use Rattle.hevc_tables.specs.VpsTable.{video_parameter_set}
-use Rattle.hevc_types_b.specs.Vps.{plain_vps}
+use Rattle.hevc_video_set.specs.Vps.{plain_vps}
 use Rattle.hevc_write.proofs.ReadBack.{none_written, not_true, set_added}
 use Rattle.hevc_write.proofs.video_set.VpsSyntax.write_payload.Goals as goal
 

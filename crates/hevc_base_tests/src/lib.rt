@@ -1,0 +1,23 @@
+//! Tests of units and their bits, of the streams that are made of them, of input and output, of records, and of elements.
+#![tactic(auto)]
+
+#[cfg(test)]
+mod bit_writer;
+#[cfg(test)]
+mod bits;
+#[cfg(test)]
+mod elements;
+#[cfg(test)]
+mod expect;
+#[cfg(test)]
+mod io;
+#[cfg(test)]
+mod made;
+#[cfg(test)]
+mod picture_slice;
+#[cfg(test)]
+mod sequence_set;
+#[cfg(test)]
+mod set_parts;
+#[cfg(test)]
+mod video_set;

@@ -1,5 +1,0 @@
-use Rattle.std.proofs.Common.{rules}
-use Rattle.hevc_c_parts.proofs.event.event_of_picture.Goals as goal
-
-pub returns : goal.returns
-returns c = search rules

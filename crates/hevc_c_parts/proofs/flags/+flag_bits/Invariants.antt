@@ -1,5 +1,0 @@
-use Rattle.std.proofs.Common.{length}
-use Rattle.hevc_c_parts.proofs.flags.+flag_bits.Given as goal
-
-abbrev pub decreases-flag_bits : goal.decreases-flag_bits
-decreases-flag_bits l = length l.flags.now

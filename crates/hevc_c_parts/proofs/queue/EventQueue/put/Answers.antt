@@ -1,5 +1,0 @@
-use Rattle.std.proofs.Common.{rules}
-use Rattle.hevc_c_parts.proofs.queue.EventQueue.put.Goals as goal
-
-pub returns-clause-put : goal.returns-clause-put
-returns-clause-put c = search rules

@@ -1,0 +1,20 @@
+use Rattle.std.proofs.Common.{refl}
+use Rattle.hevc_spec.specs.Payload.{payload}
+use Rattle.hevc_spec.specs.Table.{read}
+use Rattle.hevc_bits.specs.FoundUnit.{bytes_of}
+use Rattle.hevc_tables.specs.SpsTable.{sequence_parameter_set}
+use Rattle.hevc_sequence_set.specs.Sps.{plain_sps}
+use Rattle.hevc_parser.proofs.Lent.{lent_reads, lent_type, lent_names, means_by}
+use Rattle.hevc_parser.proofs.parser.Parser.parse_sps.Goals as goal
+
+pub returns : goal.returns
+returns c = (
+  (refl, (λ _. tt), c.lend_sequence_set.follows.holds-at-none),
+  record {
+    keeps = tt;
+    wrong_type = lent_type c.in_ok-set.set c.lend_sequence_set.result c.lend_sequence_set.ensures.refused c.in_ok-set.ensures.wrong_type;
+    read = λ is. lent_reads plain_sps c.in_ok-set.set c.lend_sequence_set.result (read sequence_parameter_set (payload (bytes_of c.args.nalu.now))) c.lend_sequence_set.ensures.same c.lend_sequence_set.ensures.refused (c.in_ok-set.ensures.read is);
+    means = λ is. means_by _ sequence_parameter_set (payload (bytes_of c.args.nalu.now)) c.lend_sequence_set.result (lent_reads plain_sps c.in_ok-set.set c.lend_sequence_set.result (read sequence_parameter_set (payload (bytes_of c.args.nalu.now))) c.lend_sequence_set.ensures.same c.lend_sequence_set.ensures.refused (c.in_ok-set.ensures.read is));
+    names_no_set = lent_names c.lend_sequence_set.result c.lend_sequence_set.ensures.refused;
+  },
+)

@@ -1,0 +1,101 @@
+-- The derived `==` of each record: true exactly at equal records.
+use Rattle.hevc_set_parts.proofs.Equality.{IsEquality, bool, nat, list, field, last, struct}
+use Rattle.hevc_set_parts.proofs.RecordEquality.{profile_tier_level, scaling_lists, short_term_ref_pic_set}
+use Rattle.hevc_video_set.proofs.RecordEquality.{vui_params}
+use Rattle.hevc_sequence_set.specs.contracts.sps_range_extension.SpsRangeExtension as sps_range_extension_record
+use Rattle.hevc_sequence_set.specs.contracts.sps_range_extension.SpsRangeExtensionPartialEq.TheImpl as sps_range_extension_eq
+use Rattle.hevc_sequence_set.specs.contracts.sps_scc_extension.SpsSccExtension as sps_scc_extension_record
+use Rattle.hevc_sequence_set.specs.contracts.sps_scc_extension.SpsSccExtensionPartialEq.TheImpl as sps_scc_extension_eq
+use Rattle.hevc_sequence_set.specs.contracts.sps.Sps as sps_record
+use Rattle.hevc_sequence_set.specs.contracts.sps.SpsPartialEq.TheImpl as sps_eq
+
+pub sps_range_extension : IsEquality sps_range_extension_eq.ghosts.eq
+sps_range_extension a b = struct sps_range_extension_record.the_type
+    (field (bool _ _)
+    (field (bool _ _)
+    (field (bool _ _)
+    (field (bool _ _)
+    (field (bool _ _)
+    (field (bool _ _)
+    (field (bool _ _)
+    (field (bool _ _)
+    (last (bool _ _))))))))))
+
+pub sps_scc_extension : IsEquality sps_scc_extension_eq.ghosts.eq
+sps_scc_extension a b = struct sps_scc_extension_record.the_type
+    (field (bool _ _)
+    (field (bool _ _)
+    (field (nat _ _)
+    (field (nat _ _)
+    (field (bool _ _)
+    (field (nat _ _)
+    (field (list (list nat) _ _)
+    (field (nat _ _)
+    (last (bool _ _))))))))))
+
+pub sps : IsEquality sps_eq.ghosts.eq
+sps a b = struct sps_record.the_type
+    (field (nat _ _)
+    (field (nat _ _)
+    (field (bool _ _)
+    (field (profile_tier_level _ _)
+    (field (nat _ _)
+    (field (nat _ _)
+    (field (bool _ _)
+    (field (nat _ _)
+    (field (nat _ _)
+    (field (bool _ _)
+    (field (nat _ _)
+    (field (nat _ _)
+    (field (nat _ _)
+    (field (nat _ _)
+    (field (nat _ _)
+    (field (nat _ _)
+    (field (nat _ _)
+    (field (bool _ _)
+    (field (list nat _ _)
+    (field (list nat _ _)
+    (field (list nat _ _)
+    (field (nat _ _)
+    (field (nat _ _)
+    (field (nat _ _)
+    (field (nat _ _)
+    (field (nat _ _)
+    (field (nat _ _)
+    (field (bool _ _)
+    (field (bool _ _)
+    (field (scaling_lists _ _)
+    (field (bool _ _)
+    (field (bool _ _)
+    (field (bool _ _)
+    (field (nat _ _)
+    (field (nat _ _)
+    (field (nat _ _)
+    (field (nat _ _)
+    (field (bool _ _)
+    (field (nat _ _)
+    (field (list short_term_ref_pic_set _ _)
+    (field (bool _ _)
+    (field (nat _ _)
+    (field (list nat _ _)
+    (field (list bool _ _)
+    (field (bool _ _)
+    (field (bool _ _)
+    (field (bool _ _)
+    (field (vui_params _ _)
+    (field (bool _ _)
+    (field (bool _ _)
+    (field (bool _ _)
+    (field (sps_range_extension _ _)
+    (field (sps_scc_extension _ _)
+    (field (nat _ _)
+    (field (nat _ _)
+    (field (nat _ _)
+    (field (nat _ _)
+    (field (nat _ _)
+    (field (nat _ _)
+    (field (nat _ _)
+    (field (nat _ _)
+    (field (nat _ _)
+    (field (nat _ _)
+    (last (nat _ _)))))))))))))))))))))))))))))))))))))))))))))))))))))))))))))))))

@@ -1,0 +1,6 @@
+use Rattle.std.proofs.lemmas.Bool.Decides.{Decides-at}
+use Rattle.hevc_sequence_set.proofs.RecordEquality.{sps_range_extension}
+use Rattle.hevc_sequence_set.proofs.comparisons.sps_range_extension_eq.Goals as goal
+
+pub returns : goal.returns
+returns c = Decides-at _ _ c.eq.ensures (sps_range_extension _ _)

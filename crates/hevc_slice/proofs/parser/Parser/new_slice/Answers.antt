@@ -1,5 +1,0 @@
-use Rattle.std.proofs.Common.{rules}
-use Rattle.hevc_slice.proofs.parser.Parser.new_slice.Goals as goal
-
-pub returns-clause-header : goal.returns-clause-header
-returns-clause-header c = search rules

@@ -1,5 +1,0 @@
-use Rattle.hevc_slice.proofs.Active.{are_active}
-use Rattle.hevc_slice.proofs.parser.Parser.read_slice.Goals as goal
-
-pub returns-clause-sets : goal.returns-clause-sets
-returns-clause-sets c = are_active c.args.self.now _ c.read_slice_header.result c.read_slice_header.ensures.sets

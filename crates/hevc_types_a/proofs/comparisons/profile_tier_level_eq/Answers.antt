@@ -1,6 +1,0 @@
-use Rattle.std.proofs.lemmas.Bool.Decides.{Decides-at}
-use Rattle.hevc_types_a.proofs.RecordEquality.{profile_tier_level}
-use Rattle.hevc_types_a.proofs.comparisons.profile_tier_level_eq.Goals as goal
-
-pub returns : goal.returns
-returns c = Decides-at _ _ c.eq.ensures (profile_tier_level _ _)

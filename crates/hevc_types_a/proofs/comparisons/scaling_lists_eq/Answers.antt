@@ -1,6 +1,0 @@
-use Rattle.std.proofs.lemmas.Bool.Decides.{Decides-at}
-use Rattle.hevc_types_a.proofs.RecordEquality.{scaling_lists}
-use Rattle.hevc_types_a.proofs.comparisons.scaling_lists_eq.Goals as goal
-
-pub returns : goal.returns
-returns c = Decides-at _ _ c.eq.ensures (scaling_lists _ _)

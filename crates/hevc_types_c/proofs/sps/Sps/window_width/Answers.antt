@@ -1,5 +1,0 @@
-use Rattle.std.proofs.Common.{rules}
-use Rattle.hevc_types_c.proofs.sps.Sps.window_width.Goals as goal
-
-pub returns-then-self : goal.returns-then-self
-returns-then-self c = search rules

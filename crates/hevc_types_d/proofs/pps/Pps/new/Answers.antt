@@ -1,5 +1,0 @@
-use Rattle.std.proofs.Common.{rules}
-use Rattle.hevc_types_d.proofs.pps.Pps.new.Goals as goal
-
-pub returns : goal.returns
-returns c = search rules
