@@ -12,13 +12,16 @@ use Rattle.hevc_picture_slice.specs.declared.pps.Pps.{Pps}
 use Rattle.hevc_picture_slice.specs.Pps.{plain_pps}
 use Rattle.hevc_picture_slice.specs.declared.slice.Slice as code
 use Rattle.hevc_picture_slice.specs.SliceHeader.{plain_slice_header}
-use Rattle.hevc_walk.specs.Buffer.{Mark, Unused}
+use Rattle.hevc_walk.specs.Buffer.{Buffer, Mark, Unused}
 use Rattle.hevc_walk.specs.Meanings.{Slice}
 use Rattle.hevc_walk.specs.Pictures.{Context, head, no_rasl_output}
+use Rattle.hevc_walk.specs.Walk.{Store, accepted_size}
 use Rattle.hevc_pictures.specs.declared.picture_data.PictureData.{PictureData}
 use Rattle.hevc_pictures.specs.Marks.{mark_of, reference_of}
 use Rattle.hevc_dpb.specs.declared.entry.DpbEntry.{DpbEntry}
+use Rattle.hevc_dpb.specs.declared.dpb.Dpb.{Dpb}
 use Rattle.hevc_dpb.specs.Entries.{IsPartOf}
+use Rattle.hevc_dpb.specs.Views.{buffer_of, max_num_pics_of}
 
 -- A slice segment: the parameter sets that are active for it (7.4.2.4.2), and its header, that of a
 -- dependent one completed (7.4.7.1).
@@ -109,14 +112,36 @@ no_picture = record {
   mark = Unused;
 }
 
+-- The decoded picture buffer (C.5.2): its entries in the order in which they were stored, and how
+-- many it may hold (A.4.2).
+pub record PlainDpb : Type 0 where
+  pub entries : Buffer
+  pub max_num_pics : ℕ
+
+abbrev pub plain_dpb : {T : Type 0} → Dpb T → PlainDpb
+plain_dpb dpb = record { entries = buffer_of dpb; max_num_pics = max_num_pics_of dpb }
+
+-- as the walk has it
+abbrev pub dpb_of : Store → PlainDpb
+dpb_of store = record {
+  entries = store.buffer;
+  max_num_pics = accepted_size store.accepted;
+}
+
+-- one that holds nothing
+abbrev pub no_dpb : PlainDpb
+no_dpb = record { entries = []; max_num_pics = 0 }
+
 -- What came with one call.
 pub data Handed : Type 0 where
+  -- the sequence parameter set whose format is negotiated
+  Sequence : (set : PlainSps) → Handed
   -- a picture that begins
   Announced : (number : ℕ) → (picture : PlainPicture) → Handed
-  -- the same picture, with its first slice segment
-  Begun : (number : ℕ) → (picture : PlainPicture) → (segment : Segment) → Handed
-  -- a slice segment of a picture
-  Decoded : (number : ℕ) → (segment : Segment) → Handed
+  -- the same picture, with what is stored as it is decoded, and its first slice segment
+  Begun : (number : ℕ) → (picture : PlainPicture) → (dpb : PlainDpb) → (segment : Segment) → Handed
+  -- a slice segment of a picture, with the same
+  Decoded : (number : ℕ) → (dpb : PlainDpb) → (segment : Segment) → Handed
 
 -- the latest that came is this picture, which begins
 abbrev pub EndsWithPicture : (number : ℕ) → PlainPicture → List Handed → Type 0
@@ -140,9 +165,10 @@ numbered number p = (number, unstored (plain_picture p))
 
 -- the pictures that were announced, with their numbers
 abbrev pub announced_in : Handed → List (ℕ × PlainPicture)
+announced_in (Sequence set) = []
 announced_in (Announced number picture) = (number, unstored picture) ∷ []
-announced_in (Begun number picture segment) = []
-announced_in (Decoded number segment) = []
+announced_in (Begun number picture dpb segment) = []
+announced_in (Decoded number dpb segment) = []
 
 abbrev pub announced : List Handed → List (ℕ × PlainPicture)
 announced hs = flat_map announced_in hs

@@ -8,7 +8,7 @@ use Rattle.hevc_backend.specs.declared.error.BackendError.TheVariants.{Failed, N
 use Rattle.hevc_backend.specs.declared.stream_info.StreamInfo.{StreamInfo}
 use Rattle.hevc_backend.specs.declared.call.Call.{Call}
 use Rattle.hevc_backend.specs.Negotiation.{stream_info_of_set}
-use Rattle.hevc_backend.specs.Trait.{Counts, counts_of}
+use Rattle.hevc_backend.specs.Trait.{Counts, counts_of, one_more, Frames, with_question, with_frame_taken}
 
 pub record Recording : Type 0 where
   pub log : List (Call ℕ)
@@ -19,7 +19,7 @@ pub record Recording : Type 0 where
   -- the next numbers of free frames; 16 after them
   pub free : List ℕ
   pub counts : Counts
-  pub room : Bool
+  pub frames : Frames
   pub info : Option StreamInfo
 
 -- nothing was recorded
@@ -30,13 +30,9 @@ planned failing free = record {
   made = 0;
   free = free;
   counts = counts_of 0 0;
-  room = false;
+  frames = record { asked = Some 0; found = false };
   info = None;
 }
-
--- one more, up to 2 ^ 64 - 1
-abbrev pub one_more : ℕ → ℕ
-one_more n = if nat_lt n (2 ^ 64 - 1) then n + 1 else n
 
 -- the next call has a number, and is to fail
 abbrev pub fails_next : Recording → Bool
@@ -63,7 +59,7 @@ with_info sps (Err error) r = r
 
 -- a picture that begins takes the frame
 abbrev pub with_room_taken : {T : Type 0} → Result T BackendError → Recording → Recording
-with_room_taken (Ok value) r = record r { room = false }
+with_room_taken (Ok value) r = record r { frames = with_frame_taken r.frames }
 with_room_taken (Err error) r = r
 
 abbrev pub is_failed : {T : Type 0} → Result T BackendError → Bool
@@ -84,7 +80,7 @@ with_answer frames counts =
 abbrev pub asked : Recording → Recording
 asked r = record r {
   free = drop 1 r.free;
-  room = not (next_free r.free == 0);
+  frames = with_question (next_free r.free) r.frames;
   counts = with_answer (next_free r.free) r.counts;
 }
 

@@ -1,7 +1,8 @@
 -- A backend that keeps nothing.
-use Rattle.std.specs.Prelude.{Bool}
+use Rattle.std.specs.Prelude.{None}
 use Rattle.hevc_backend.specs.declared.silent.SilentBackend.{SilentBackend}
+use Rattle.hevc_backend.specs.Trait.{Frames}
 
--- it was asked for frames, and no picture has begun since
-abbrev pub has_room : SilentBackend → Bool
-has_room backend = backend.room
+-- it doesn't count the questions for frames
+abbrev pub frames_of : SilentBackend → Frames
+frames_of backend = record { asked = None; found = backend.room }

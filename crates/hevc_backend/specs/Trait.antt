@@ -1,5 +1,5 @@
 -- What a call of a backend leaves in its log and in its counts.
-use Rattle.std.specs.Prelude.{ℕ, zero, suc, ◌≤◌, ◌≡◌, ◌≢◌, List, [], ◌∷◌, ◌++◌, Option, Some, None, Result, Ok, Err}
+use Rattle.std.specs.Prelude.{ℕ, zero, suc, ◌≤◌, ◌≡◌, ◌≢◌, ◌==◌, ◌+◌, ◌-◌, ◌^◌, nat_lt, Bool, false, not, if◌then◌else◌, List, [], ◌∷◌, ◌++◌, Option, Some, None, option_map, Result, Ok, Err}
 use Rattle.hevc_fault_counts.specs.Faults.{Rose}
 use Rattle.hevc_backend.specs.declared.error.BackendError.{BackendError}
 use Rattle.hevc_backend.specs.declared.error.BackendError.TheVariants.{Failed, NoMemory}
@@ -10,11 +10,36 @@ pub record Counts : Type 0 where
   pub empty_answers : ℕ
   -- after how many calls its owner set something of it, if ever: no call changes this
   pub set_after : Option ℕ
+  -- of how many calls its owner was told: no call changes this
+  pub taken : ℕ
 
--- those of a backend of which its owner sets nothing
+-- those of a backend of which its owner sets nothing, and is told nothing
 abbrev pub counts_of : (faults empty_answers : ℕ) → Counts
 counts_of faults empty_answers =
-    record { faults = faults; empty_answers = empty_answers; set_after = None }
+    record { faults = faults; empty_answers = empty_answers; set_after = None; taken = 0 }
+
+-- one more, up to 2 ^ 64 - 1
+abbrev pub one_more : ℕ → ℕ
+one_more n = if nat_lt n (2 ^ 64 - 1) then n + 1 else n
+
+-- The questions for free frames.
+pub record Frames : Type 0 where
+  -- how many there were, up to 2 ^ 64 - 1, where that is exposed
+  pub asked : Option ℕ
+  -- the last one found a free frame, and no picture has begun since
+  pub found : Bool
+
+abbrev pub asked_more : Option ℕ → Option ℕ
+asked_more asked = option_map one_more asked
+
+-- after one more, with this answer
+abbrev pub with_question : (answer : ℕ) → Frames → Frames
+with_question answer frames =
+    record { asked = asked_more frames.asked; found = not (answer == 0) }
+
+-- a picture that begins takes the frame
+abbrev pub with_frame_taken : Frames → Frames
+with_frame_taken frames = record frames { found = false }
 
 -- the log after some more calls, where it is exposed
 abbrev pub logged : {X : Type 0} → Option (List X) → List X → Option (List X)

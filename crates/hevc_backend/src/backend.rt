@@ -1,5 +1,5 @@
 //! What the decoder asks of a backend.
-ghost use Rattle.std.specs.Prelude.{◌≡◌, ◌==◌, not, IsTrue, Bool, List, OnOk, OnErr};
+ghost use Rattle.std.specs.Prelude.{◌≡◌, IsTrue, List, OnOk, OnErr};
 ghost use Rattle.std.specs.Option.{option_copied};
 ghost use Rattle.std.specs.declared.option.Option.{Option};
 ghost use Rattle.hevc_sequence_set.specs.Sps.{plain_sps};
@@ -10,9 +10,9 @@ ghost use Rattle.hevc_backend.specs.declared.call.Call.{Call};
 ghost use Rattle.hevc_backend.specs.declared.call.Call.TheVariants.{SubmitPicture};
 ghost use Rattle.hevc_backend.specs.declared.stream_info.StreamInfo.{StreamInfo};
 ghost use Rattle.hevc_backend.specs.Named.{SetNamesAmong, ListNamesAmong};
-ghost use Rattle.hevc_backend.specs.Trait.{Counts, Logs, CountsFaults, CountsEmptyAnswers, StaysFaultless, StaysWithFrames};
+ghost use Rattle.hevc_backend.specs.Trait.{Counts, Frames, Logs, CountsFaults, CountsEmptyAnswers, StaysFaultless, StaysWithFrames, with_frame_taken, with_question};
 ghost use Rattle.hevc_backend.specs.Calls.{new_sequence_call, new_picture_call, begin_picture_call, decode_slice_call};
-ghost use Rattle.hevc_backend.specs.Handed.{Handed, Announced, Begun, Decoded, AreAnnounced, IsAnnounced, plain_picture, segment_of};
+ghost use Rattle.hevc_backend.specs.Handed.{Handed, Sequence, Announced, Begun, Decoded, AreAnnounced, IsAnnounced, plain_dpb, plain_picture, segment_of};
 ghost use Rattle.hevc_backend.specs.Told.{WhereTold, IsTold, IsBegun, begun_picture};
 
 use crate::error::BackendError;
@@ -37,15 +37,18 @@ pub trait StatelessH265DecoderBackend {
     /// The calls that succeeded, in order, where the backend exposes them.
     ghost log: { Self → Option (List (Call Self.Handle)) };
 
-    /// What came with these calls, in order, where the backend exposes it: each picture, parameter set and header, whole.
+    /// What came with these calls, in order, where the backend exposes it: each picture, parameter set, header and decoded picture
+    /// buffer, whole.
     ghost handed: { Self → Option (List Handed) };
 
     /// How many calls failed, and how many questions for free frames were answered by 0, so far. Neither count falls, and
-    /// both stay at 2^64 - 1. And after how many calls its owner set something of it, which no call changes.
+    /// both stay at 2^64 - 1. And after how many calls its owner set something of it, and of how many it was told, which no call
+    /// changes.
     ghost counts: { Self → Counts };
 
-    /// The last question for free frames found one, and no picture has begun since.
-    ghost room: { Self → Bool };
+    /// How often it was asked for free frames, where it exposes that; and whether the last question found one and no picture has
+    /// begun since.
+    ghost frames: { Self → Frames };
 
     /// What it tells of the sequence.
     ghost info: { Self → Option StreamInfo };
@@ -53,13 +56,15 @@ pub trait StatelessH265DecoderBackend {
     /// No call fails from here on, and there is always a free frame.
     ghost is_faultless: { Self → Type 0 };
 
-    /// A sequence of the format of this set begins.
+    /// A sequence begins: this is the sequence parameter set whose format is negotiated, the first one, or that of the slice that
+    /// names another format than the accepted one.
     fn new_sequence(&mut self, sps: &Sps) -> Result<(), BackendError>
         ensures log { Logs (log self.old) (log self.new) result (λ _. new_sequence_call sps.now) }
-        ensures handed { handed self.new ≡ handed self.old }
+        ensures handed { Logs (handed self.old) (handed self.new) result
+            (λ _. Sequence (plain_sps sps.now)) }
         ensures cause { CountsFaults (counts self.old) (counts self.new) result }
         ensures faultless { StaysFaultless (is_faultless self.old) (is_faultless self.new) result }
-        ensures room { room self.new ≡ room self.old };
+        ensures frames { frames self.new ≡ frames self.old };
 
     /// A picture begins, and takes a free frame. `picture` has the type of its first slice (Table 7-1), its order count
     /// PicOrderCntVal (8.3.1) and its PicOutputFlag (8.1.3).
@@ -69,19 +74,19 @@ pub trait StatelessH265DecoderBackend {
         picture: &PictureData,
         timestamp: u64,
     ) -> Result<Self::Picture, BackendError>
-        requires { IsTrue (room self.old) }
+        requires { IsTrue (frames self.old).found }
         ensures log { Logs (log self.old) (log self.new) result
             (λ _. new_picture_call number picture.now timestamp) }
         ensures handed { Logs (handed self.old) (handed self.new) result
             (λ _. Announced number (plain_picture picture.now)) }
         ensures cause { CountsFaults (counts self.old) (counts self.new) result }
         ensures faultless { StaysFaultless (is_faultless self.old) (is_faultless self.new) result }
-        ensures taken { OnOk result (IsTrue (not (room self.new))) }
-        ensures not_taken { OnErr result (room self.new ≡ room self.old) }
+        ensures taken { OnOk result (frames self.new ≡ with_frame_taken (frames self.old)) }
+        ensures not_taken { OnErr result (frames self.new ≡ frames self.old) }
         ensures info { info self.new ≡ info self.old };
 
-    /// The slices of a picture come; `slice` is the first of them. `dpb` has the pictures that it may refer to, and `rps` is
-    /// its reference picture set over them (8.3.2).
+    /// The slices of a picture come; `slice` is the first of them. `dpb` has what is stored while the picture is decoded
+    /// (C.5.2.2), with its marks, and `rps` is its reference picture set over that (8.3.2).
     fn begin_picture(
         &mut self,
         number: u64,
@@ -107,11 +112,11 @@ pub trait StatelessH265DecoderBackend {
         ensures log { Logs (log self.old) (log self.new) result
             (λ _. begin_picture_call number rps.now) }
         ensures handed { Logs (handed self.old) (handed self.new) result
-            (λ _. Begun number (plain_picture picture_data.now)
+            (λ _. Begun number (plain_picture picture_data.now) (plain_dpb dpb.now)
             (segment_of slice.now sps.now pps.now)) }
         ensures cause { CountsFaults (counts self.old) (counts self.new) result }
         ensures faultless { StaysFaultless (is_faultless self.old) (is_faultless self.new) result }
-        ensures room { room self.new ≡ room self.old }
+        ensures frames { frames self.new ≡ frames self.old }
         ensures info { info self.new ≡ info self.old };
 
     /// A slice of a picture, with its two reference picture lists over `dpb` (8.3.4).
@@ -136,10 +141,10 @@ pub trait StatelessH265DecoderBackend {
         ensures log { Logs (log self.old) (log self.new) result
             (λ _. decode_slice_call number slice.now ref_pic_list0.now ref_pic_list1.now) }
         ensures handed { Logs (handed self.old) (handed self.new) result
-            (λ _. Decoded number (segment_of slice.now sps.now pps.now)) }
+            (λ _. Decoded number (plain_dpb dpb.now) (segment_of slice.now sps.now pps.now)) }
         ensures cause { CountsFaults (counts self.old) (counts self.new) result }
         ensures faultless { StaysFaultless (is_faultless self.old) (is_faultless self.new) result }
-        ensures room { room self.new ≡ room self.old }
+        ensures frames { frames self.new ≡ frames self.old }
         ensures info { info self.new ≡ info self.old };
 
     /// A picture is whole. Its handle names it from here on.
@@ -153,7 +158,7 @@ pub trait StatelessH265DecoderBackend {
         ensures handed { handed self.new ≡ handed self.old }
         ensures cause { CountsFaults (counts self.old) (counts self.new) result }
         ensures faultless { StaysFaultless (is_faultless self.old) (is_faultless self.new) result }
-        ensures room { room self.new ≡ room self.old }
+        ensures frames { frames self.new ≡ frames self.old }
         ensures info { info self.new ≡ info self.old };
 
     /// How many frames are free.
@@ -162,7 +167,7 @@ pub trait StatelessH265DecoderBackend {
         ensures handed { handed self.new ≡ handed self.old }
         ensures cause { CountsEmptyAnswers (counts self.old) (counts self.new) result }
         ensures faultless { StaysWithFrames (is_faultless self.old) (is_faultless self.new) result }
-        ensures room { room self.new ≡ not (result == 0) }
+        ensures frames { frames self.new ≡ with_question result (frames self.old) }
         ensures info { info self.new ≡ info self.old };
 
     /// What the backend tells of the sequence, None where it tells nothing.

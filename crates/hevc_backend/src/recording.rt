@@ -39,11 +39,13 @@ pub struct Backend {
     faults: u64,
     empty_answers: u64,
     room: bool,
+    /// How often it was asked for free frames, up to 2^64 - 1.
+    questions: u64,
     info: Option<StreamInfo>,
 }
 
 impl Model for Backend {
-    ghost use Rattle.std.specs.Prelude.{◌≡◌, ◌≤◌, length, drop};
+    ghost use Rattle.std.specs.Prelude.{◌≡◌, ◌≤◌, length, drop, Some};
     ghost use Rattle.std.specs.List.{range_with_len};
     ghost use Rattle.hevc_backend.specs.Handles.{handles};
     ghost use Rattle.hevc_backend.specs.Recording.{Recording};
@@ -57,7 +59,7 @@ impl Model for Backend {
       made = b.made;
       free = drop b.asked b.free.items;
       counts = counts_of b.faults b.empty_answers;
-      room = b.room;
+      frames = record { asked = Some b.questions; found = b.room };
       info = b.info;
     } };
 
@@ -89,6 +91,7 @@ impl Backend {
             faults: 0,
             empty_answers: 0,
             room: false,
+            questions: 0,
             info: None,
         }
     }
@@ -146,7 +149,7 @@ impl StatelessH265DecoderBackend for Backend {
 
     ghost counts = { λ b. b.counts };
 
-    ghost room = { λ b. b.room };
+    ghost frames = { λ b. b.frames };
 
     ghost info = { λ b. b.info };
 
@@ -281,6 +284,7 @@ impl StatelessH265DecoderBackend for Backend {
             self.empty_answers = self.empty_answers.saturating_add(1);
         }
         self.room = frames != 0;
+        self.questions = self.questions.saturating_add(1);
         frames
     }
 

@@ -1,6 +1,6 @@
 //! A backend that decodes nothing and keeps nothing.
 ghost use Rattle.std.specs.Prelude.{◌≡◌, false, None};
-ghost use Rattle.hevc_backend.specs.Silent.{has_room};
+ghost use Rattle.hevc_backend.specs.Silent.{frames_of};
 ghost use Rattle.hevc_backend.specs.Trait.{counts_of};
 
 use crate::backend::StatelessH265DecoderBackend;
@@ -20,7 +20,7 @@ pub struct SilentBackend {
 impl SilentBackend {
     /// A backend that wasn't asked for frames.
     pub fn new() -> SilentBackend
-        ensures { has_room result ≡ false }
+        ensures { (frames_of result).found ≡ false }
     {
         SilentBackend { room: false }
     }
@@ -37,7 +37,7 @@ impl StatelessH265DecoderBackend for SilentBackend {
 
     ghost counts = { λ _. counts_of 0 0 };
 
-    ghost room = { has_room };
+    ghost frames = { frames_of };
 
     ghost info = { λ _. None };
 

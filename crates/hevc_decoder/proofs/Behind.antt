@@ -17,7 +17,7 @@ use Rattle.hevc_driver.specs.Does.{Does}
 use Rattle.hevc_driver.specs.Moments.{opening}
 use Rattle.hevc_stateless_laws.specs.Stands.{given_next}
 use Rattle.hevc_stateless_laws.proofs.Given.{given_first, given_second}
-use Rattle.hevc_driver.specs.Takes.{Opens}
+use Rattle.hevc_driver.specs.Takes.{Opens, asking}
 use Rattle.hevc_stateless.specs.declared.state.State.{State}
 use Rattle.hevc_stateless.specs.declared.state.State.TheVariants.{Decoding}
 use Rattle.hevc_stateless.specs.States.{unit_at, later_meaning, meaning_in, is_awaited}
@@ -27,7 +27,7 @@ use Rattle.hevc_stateless_laws.specs.Stands.{state_by, meant, standing_after, St
 use Rattle.hevc_stateless_laws.proofs.Standing.{took, going_by}
 use Rattle.hevc_stateless_laws.proofs.Means.{Means, means, later_part}
 use Rattle.hevc_stateless_laws.proofs.Opening.{opens, opened}
-use Rattle.hevc_stateless_laws.proofs.Again.{first_full, tw, meant_is, took_again}
+use Rattle.hevc_stateless_laws.proofs.Again.{first_full, tw, meant_is, took_again, set_is}
 use Rattle.hevc_stateless_laws.proofs.Twice.{TwiceBy}
 use Rattle.hevc_decoder.specs.Scenes.{Scene, trail_of, with_queue, accepting}
 use Rattle.hevc_decoder.specs.Gives.{Delivered, Unmade, DecodesUnit, Gives, is_check_events, GivesWhole}
@@ -81,15 +81,15 @@ module _ {B H : Type 0} (at : ℕ → Given) (o : Options) (us : List NalUnit) (
     given_once {T} r isnt few (inr z) = unmade at r k old new y S z
     given_once {T} r isnt few (inl d) =
         let step = step_of r d in
-        let takes = subst (λ (s : Standing). TakesOrStays (at k) r (traces_of old.seen.log old.seen.handed old.seen.view) (traces_of new.seen.log new.seen.handed (with_queue d.out new.seen).view) (meaning_in (state_by a) (unit_at o old.seen.kept h u.bytes)) s new.seen.view.standing) after.stands
-        (subst (λ (x : State). TakesOrStays (at k) r (traces_of old.seen.log old.seen.handed old.seen.view) (traces_of new.seen.log new.seen.handed (with_queue d.out new.seen).view) (meaning_in x (unit_at o old.seen.kept h u.bytes)) old.seen.view.standing new.seen.view.standing) after.state_is (part_of (at k) r o h u.bytes old.seen (with_queue d.out new.seen) (subst (λ (g : Given). Step r g o h u.bytes old.seen (with_queue d.out new.seen)) here step))) in
+        let takes = subst (λ (s : Standing). TakesOrStays (at k) r (traces_of old.seen.log old.seen.handed old.seen.asked old.seen.view) (traces_of new.seen.log new.seen.handed new.seen.asked (with_queue d.out new.seen).view) (meaning_in (state_by a) (unit_at o old.seen.kept h u.bytes)) s new.seen.view.standing) after.stands
+        (subst (λ (x : State). TakesOrStays (at k) r (traces_of old.seen.log old.seen.handed old.seen.asked old.seen.view) (traces_of new.seen.log new.seen.handed new.seen.asked (with_queue d.out new.seen).view) (meaning_in x (unit_at o old.seen.kept h u.bytes)) old.seen.view.standing new.seen.view.standing) after.state_is (part_of (at k) r o h u.bytes old.seen (with_queue d.out new.seen) (subst (λ (g : Given). Step r g o h u.bytes old.seen (with_queue d.out new.seen)) here step))) in
         take_once at k untimed old new d.out (meaning_in (state_by a) (unit_at o old.seen.kept h u.bytes)) y S new.seen.view.standing same empty d.shown r (isnt_check r isnt) few takes
 
     pub stands_once : {T : Type 0} (v : T) → Gives (Ok v) k o h u.bytes old new → StandsAfter o (us ++ u ∷ []) new.seen
     stands_once {T} v (inr z) = absurd (cc z.told)
     stands_once {T} v (inl d) =
         let step = step_of (Ok v) d in
-        stands_with o (us ++ u ∷ []) new.seen d.out (took 0 o us u h old.seen (with_queue d.out new.seen) 0 after parsed (record { takes = record { part = step.takes.part; state = step.takes.state }; kept = step.kept; latest = step.latest })).stands
+        stands_with o (us ++ u ∷ []) new.seen d.out (took 0 o us u h old.seen (with_queue d.out new.seen) 0 after parsed (record { takes = record { part = step.takes.part; state = step.takes.state; latest = step.takes.latest }; kept = step.kept })).stands
 
   -- ---- the second call goes on
 
@@ -98,9 +98,9 @@ module _ {B H : Type 0} (at : ℕ → Given) (o : Options) (us : List NalUnit) (
     q = opening (meant_next o us u) S
 
     first : Step {T = ℕ} (Err errors.CheckEvents) (given_next 0 o us u) o h u.bytes old.seen (with_queue d.out mid.seen)
-    first = let step = step_of mid (Err errors.CheckEvents) d in record { takes = record { part = step.takes.part; state = step.takes.state }; kept = step.kept; latest = step.latest }
+    first = let step = step_of mid (Err errors.CheckEvents) d in record { takes = record { part = step.takes.part; state = step.takes.state; latest = step.takes.latest }; kept = step.kept }
 
-    opens_it : Opens (given_next 0 o us u) (traces_of old.seen.log old.seen.handed old.seen.view) (traces_of mid.seen.log mid.seen.handed (with_queue d.out mid.seen).view) (meant_next o us u) S mid.seen.view.standing
+    opens_it : Opens (given_next 0 o us u) (traces_of old.seen.log old.seen.handed old.seen.asked old.seen.view) (traces_of mid.seen.log mid.seen.handed mid.seen.asked (with_queue d.out mid.seen).view) (meant_next o us u) S mid.seen.view.standing
     opens_it = opens 0 o us u h old.seen (with_queue d.out mid.seen) after parsed first
 
     between : StandsBetween o us u (accepting mid).seen
@@ -110,10 +110,10 @@ module _ {B H : Type 0} (at : ℕ → Given) (o : Options) (us : List NalUnit) (
     twice_by = tw o us u h (accepting mid).seen between parsed
 
     done : DoesAll at (trail_of old) (trail_of mid) (at_unit k q.events)
-    done = lifts at k untimed old mid d.out q.events empty d.shown (subst (λ (g : Given). Does g (traces_of old.seen.log old.seen.handed old.seen.view) (traces_of mid.seen.log mid.seen.handed (with_queue d.out mid.seen).view) q.events) here opens_it.completes.does)
+    done = lifts at k untimed old mid d.out q.events empty d.shown (subst (λ (g : Given). Does g (asking (meant_next o us u) S (traces_of old.seen.log old.seen.handed old.seen.asked old.seen.view)) (traces_of mid.seen.log mid.seen.handed mid.seen.asked (with_queue d.out mid.seen).view) q.events) here opens_it.completes.does)
 
     second : {T : Type 0} (new : Scene B H) (r : Result T DecodeError) (e : Delivered (DecodesUnit o h u.bytes) r k (accepting mid) new) → Step r (at k) o h u.bytes (accepting mid).seen (with_queue e.out new.seen)
-    second {T} new r e = subst (λ (g : Given). Step r g o h u.bytes (accepting mid).seen (with_queue e.out new.seen)) (given_second o us u h (accepting mid).seen between parsed (meant_is o us u h (accepting mid).seen between parsed) refl 0 ∙ here) (e.calls.taken refl)
+    second {T} new r e = subst (λ (g : Given). Step r g o h u.bytes (accepting mid).seen (with_queue e.out new.seen)) (given_second o us u h (accepting mid).seen between parsed (meant_is o us u h (accepting mid).seen between parsed) (set_is o us u h (accepting mid).seen between parsed) refl 0 ∙ here) (e.calls.taken refl)
 
     means_again : Means (later_meaning y) y q.next
     means_again = by q.next.store.accepted refl twice_by.accepted
@@ -126,14 +126,14 @@ module _ {B H : Type 0} (at : ℕ → Given) (o : Options) (us : List NalUnit) (
     room = sym (first_full a y S) ∙ opens_it.room
 
     module _ (new : Scene B H) (r : Result T DecodeError) where
-      takes : (e : Delivered (DecodesUnit o h u.bytes) r k (accepting mid) new) → TakesOrStays (at k) r (traces_of mid.seen.log mid.seen.handed (accepting mid).seen.view) (traces_of new.seen.log new.seen.handed (with_queue e.out new.seen).view) (later_meaning y) q.next new.seen.view.standing
-      takes e = subst (λ (m : Meaning). TakesOrStays (at k) r (traces_of mid.seen.log mid.seen.handed (accepting mid).seen.view) (traces_of new.seen.log new.seen.handed (with_queue e.out new.seen).view) (later_meaning m) q.next new.seen.view.standing) (meant_is o us u h (accepting mid).seen between parsed)
-          (subst (λ (s : Standing). TakesOrStays (at k) r (traces_of mid.seen.log mid.seen.handed (accepting mid).seen.view) (traces_of new.seen.log new.seen.handed (with_queue e.out new.seen).view) (meaning_in Decoding (unit_at o mid.seen.kept h u.bytes)) s new.seen.view.standing) between.stands (part_of (at k) r o h u.bytes (accepting mid).seen (with_queue e.out new.seen) (second new r e)))
+      takes : (e : Delivered (DecodesUnit o h u.bytes) r k (accepting mid) new) → TakesOrStays (at k) r (traces_of mid.seen.log mid.seen.handed mid.seen.asked (accepting mid).seen.view) (traces_of new.seen.log new.seen.handed new.seen.asked (with_queue e.out new.seen).view) (later_meaning y) q.next new.seen.view.standing
+      takes e = subst (λ (m : Meaning). TakesOrStays (at k) r (traces_of mid.seen.log mid.seen.handed mid.seen.asked (accepting mid).seen.view) (traces_of new.seen.log new.seen.handed new.seen.asked (with_queue e.out new.seen).view) (later_meaning m) q.next new.seen.view.standing) (meant_is o us u h (accepting mid).seen between parsed)
+          (subst (λ (s : Standing). TakesOrStays (at k) r (traces_of mid.seen.log mid.seen.handed mid.seen.asked (accepting mid).seen.view) (traces_of new.seen.log new.seen.handed new.seen.asked (with_queue e.out new.seen).view) (meaning_in Decoding (unit_at o mid.seen.kept h u.bytes)) s new.seen.view.standing) between.stands (part_of (at k) r o h u.bytes (accepting mid).seen (with_queue e.out new.seen) (second new r e)))
 
       -- once its format is accepted it opens no other
       no_more : (e : Delivered (DecodesUnit o h u.bytes) r k (accepting mid) new) → r ≡ Err errors.CheckEvents → ⊥
       no_more e is =
-          let opens_more = subst (λ (s : Result T DecodeError). TakesOrStays (at k) s (traces_of mid.seen.log mid.seen.handed (accepting mid).seen.view) (traces_of new.seen.log new.seen.handed (with_queue e.out new.seen).view) (later_meaning y) q.next new.seen.view.standing) is (takes e) in
+          let opens_more = subst (λ (s : Result T DecodeError). TakesOrStays (at k) s (traces_of mid.seen.log mid.seen.handed mid.seen.asked (accepting mid).seen.view) (traces_of new.seen.log new.seen.handed new.seen.asked (with_queue e.out new.seen).view) (later_meaning y) q.next new.seen.view.standing) is (takes e) in
           cc (sym twice_by.once ∙ opens_more.negotiates)
 
       pub given_again : q.next.next.number + 1 < 2 ^ 64 → Gives r k o h u.bytes (accepting mid) new → TakesUnit at r k (trail_of old) (trail_of new) y S
@@ -143,7 +143,7 @@ module _ {B H : Type 0} (at : ℕ → Given) (o : Options) (us : List NalUnit) (
     pub stands_again : (new : Scene B H) (v : T) → Gives (Ok v) k o h u.bytes (accepting mid) new → StandsAfter o (us ++ u ∷ []) new.seen
     stands_again new v (inr z) = absurd (cc z.told)
     stands_again new v (inl e) =
-        stands_with o (us ++ u ∷ []) new.seen e.out (took_again o us u h (accepting mid).seen between parsed 0 (with_queue e.out new.seen) 0 refl (let step = subst (λ (g : Given). Step (Ok v) g o h u.bytes (accepting mid).seen (with_queue e.out new.seen)) (sym here) (second new (Ok v) e) in record { takes = record { part = step.takes.part; state = step.takes.state }; kept = step.kept; latest = step.latest })).stands
+        stands_with o (us ++ u ∷ []) new.seen e.out (took_again o us u h (accepting mid).seen between parsed 0 (with_queue e.out new.seen) 0 refl (let step = subst (λ (g : Given). Step (Ok v) g o h u.bytes (accepting mid).seen (with_queue e.out new.seen)) (sym here) (second new (Ok v) e) in record { takes = record { part = step.takes.part; state = step.takes.state; latest = step.takes.latest }; kept = step.kept })).stands
 
   -- ---- a unit as a whole
 

@@ -12,7 +12,7 @@ use Rattle.hevc_driver.specs.declared.decode_error.DecodeError.{DecodeError}
 use Rattle.hevc_driver.specs.declared.decode_error.DecodeError.TheVariants as errors
 use Rattle.hevc_driver.specs.Given.{Given}
 use Rattle.hevc_stateless.specs.Flushes.{Flushes}
-use Rattle.hevc_stateless_laws.specs.Segments.{given_of, segments_of}
+use Rattle.hevc_stateless_laws.specs.Segments.{given_of, read_units_of}
 use Rattle.hevc_driver.specs.Does.{Traces, Stops}
 use Rattle.hevc_driver.specs.Moments.{closes, given_up}
 use Rattle.hevc_driver.specs.Takes.{Stays}
@@ -33,10 +33,10 @@ module _ {B H : Type 0} (at : ℕ → Given) (k : ℕ) (untimed : (at k).timesta
 
   module _ (out : List (Frame H)) (shown : new.shown ≡ old.shown ++ map (shown_at k) out) where
     abbrev a : Traces H
-    a = traces_of old.seen.log old.seen.handed old.seen.view
+    a = traces_of old.seen.log old.seen.handed old.seen.asked old.seen.view
 
     abbrev b : Traces H
-    b = traces_of new.seen.log new.seen.handed (with_queue out new.seen).view
+    b = traces_of new.seen.log new.seen.handed new.seen.asked (with_queue out new.seen).view
 
     plan_stops : (F : Type 0) (Left : walk.Call → Type 0) → Stops (at k) a b (closes before).events Left → StopsPlan at F k (trail_of old) (trail_of new) (closing_part before).events
     plan_stops F Left z = record { done = z.done; rest = Called z.call ∷ z.rest; whole = z.whole; does = lifts at k untimed old new out z.done empty shown z.does; next = λ f. record { call = z.call; later = z.rest; rest_is = refl } }
@@ -46,7 +46,7 @@ module _ {B H : Type 0} (at : ℕ → Given) (k : ℕ) (untimed : (at k).timesta
       done = [];
       rest = (closing_part before).events;
       whole = refl;
-      does = lifts at k untimed old new out [] empty shown (does_nothing (at k) a b (ap (λ (v : Traces H). v.log) z.traces) (ap (λ (v : Traces H). v.handed) z.traces) (ap (λ (v : Traces H). v.queue) z.traces) (keeps_all a.tickets b.tickets (ap (λ (v : Traces H). v.tickets) z.traces)));
+      does = lifts at k untimed old new out [] empty shown (does_nothing (at k) a b (ap (λ (v : Traces H). v.log) z.traces) (ap (λ (v : Traces H). v.handed) z.traces) (ap (λ (v : Traces H). v.asked) z.traces) (ap (λ (v : Traces H). v.queue) z.traces) (keeps_all a.tickets b.tickets (ap (λ (v : Traces H). v.tickets) z.traces)));
       next = λ f. absurd f;
     }
 
@@ -65,7 +65,7 @@ module _ {B H : Type 0} (at : ℕ → Given) (k : ℕ) (untimed : (at k).timesta
 
 module _ {B H : Type 0} (o : Options) (all : List NalUnit) (k : ℕ) (old mid : Scene B H) (new : Trail H) (x : Reached o all k old mid []) where
   abbrev at_all : ℕ → Given
-  at_all = given_of (meant o all) (segments_of o all)
+  at_all = given_of (meant o all) (read_units_of o all)
 
   abbrev s : Standing
   s = standing_after (meant o x.front)
@@ -73,7 +73,7 @@ module _ {B H : Type 0} (o : Options) (all : List NalUnit) (k : ℕ) (old mid : 
   plan_is : at_unit k (closing_part s).events ≡ at_unit k (closing_part s).events ++ []
   plan_is = sym (append-nil (at_unit k (closing_part s).events))
 
-  pub ended_whole : ClosesWhole at_all k (trail_of mid) new s → Ended (Ok mid.seen.view.standing.next.number) (meant o all) (segments_of o all) (trail_of old) new
+  pub ended_whole : ClosesWhole at_all k (trail_of mid) new s → Ended (Ok mid.seen.view.standing.next.number) (meant o all) (read_units_of o all) (trail_of old) new
   ended_whole y = record {
     done = walk_events (stream (meant o x.front)) ++ at_unit k (closing_part s).events;
     rest = [];
@@ -82,11 +82,11 @@ module _ {B H : Type 0} (o : Options) (all : List NalUnit) (k : ℕ) (old mid : 
     ends = (ap answer_of (verdict_is o all k old mid [] x ∙ ap (λ v. refused_at k (full_or_cause v None) (Ok s.next.number)) y.room) ∙ ap (λ (r : Standing). Ok r.next.number) (sym x.stands.stands), refl);
   }
 
-  cuts : (F : Type 0) → StopsPlan at_all F k (trail_of mid) new (closing_part s).events → Cut F (meant o all) (segments_of o all) k (trail_of old) new
+  cuts : (F : Type 0) → StopsPlan at_all F k (trail_of mid) new (closing_part s).events → Cut F (meant o all) (read_units_of o all) k (trail_of old) new
   cuts F y = cut_at o all k old mid [] x F new (closing_part s).events [] plan_is y
 
-  pub ended_at_end : (T : Type 0) (e : DecodeError) → EndsStream {T = T} at_all (Err e) k (trail_of mid) new s → Ended (Err (record { unit = k; error = e })) (meant o all) (segments_of o all) (trail_of old) new
-  ended_at_end T errors.Backend y = failed (meant o all) (segments_of o all) k (trail_of old) new (cuts (Unit {0}) y)
-  ended_at_end T errors.NoMemory y = wanted (meant o all) (segments_of o all) k (trail_of old) new (cuts ⊥ y)
+  pub ended_at_end : (T : Type 0) (e : DecodeError) → EndsStream {T = T} at_all (Err e) k (trail_of mid) new s → Ended (Err (record { unit = k; error = e })) (meant o all) (read_units_of o all) (trail_of old) new
+  ended_at_end T errors.Backend y = failed (meant o all) (read_units_of o all) k (trail_of old) new (cuts (Unit {0}) y)
+  ended_at_end T errors.NoMemory y = wanted (meant o all) (read_units_of o all) k (trail_of old) new (cuts ⊥ y)
   ended_at_end T errors.DpbFull y = filled o all k old mid [] x new (closing_part s).events [] plan_is (ap answer_of (verdict_is o all k old mid [] x ∙ ap (λ v. refused_at k (full_or_cause v None) (Ok s.next.number)) y.full)) y.fills
   ended_at_end T e y = absurd y

@@ -1,6 +1,6 @@
 -- What is done unit by unit.
 use Rattle.std.proofs.Common.{◌≡◌, ◌⊎◌, inl, inr, ℕ, List, [], ◌∷◌, ◌++◌, map, refl, sym, ◌∙◌, ap, subst, append_assoc}
-use Rattle.std.specs.Prelude.{Contains}
+use Rattle.std.specs.Prelude.{Contains, Option}
 use Rattle.std.proofs.lemmas.List.{map-append, append-nil}
 use Rattle.std.proofs.lemmas.Grind.{flat_map-append}
 use Rattle.hevc_walk.specs.Walk.{Event, at_unit}
@@ -36,8 +36,8 @@ handed_at_unit at k [] = refl
 handed_at_unit at k (e ∷ es) = ap (λ l. handed_in (at k) e ++ l) (handed_at_unit at k es)
 
 -- a call began with an empty queue, and what it output was moved
-pub lifts : {B H : Type 0} (at : ℕ → Given) (k : ℕ) (untimed : (at k).timestamp ≡ 0) (old new : Scene B H) (out : List (Frame H)) (done : List Event) → old.seen.view.queue ≡ [] → new.shown ≡ old.shown ++ map (shown_at k) out
-    → Does (at k) (traces_of old.seen.log old.seen.handed old.seen.view) (traces_of new.seen.log new.seen.handed (with_queue out new.seen).view) done → DoesAll at (trail_of old) (trail_of new) (at_unit k done)
+pub lifts : {B H : Type 0} {n m : Option ℕ} (at : ℕ → Given) (k : ℕ) (untimed : (at k).timestamp ≡ 0) (old new : Scene B H) (out : List (Frame H)) (done : List Event) → old.seen.view.queue ≡ [] → new.shown ≡ old.shown ++ map (shown_at k) out
+    → Does (at k) (traces_of old.seen.log old.seen.handed n old.seen.view) (traces_of new.seen.log new.seen.handed m (with_queue out new.seen).view) done → DoesAll at (trail_of old) (trail_of new) (at_unit k done)
 lifts {B} {H} at k untimed old new out done empty shown x =
     let same : out ≡ x.out = x.queue ∙ ap (λ (q : List (Frame H)). q ++ x.out) empty in
     record {

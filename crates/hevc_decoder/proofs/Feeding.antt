@@ -29,9 +29,9 @@ use Rattle.hevc_decoder.proofs.Windows.{EndsBehind, lead_without, lead_within}
 use Rattle.hevc_stream_pieces.proofs.Joined.{units_joined}
 use Rattle.hevc_decoder.proofs.Cutting.{units_moved}
 use Rattle.hevc_records.specs.SliceHeader.{PlainSliceSegmentHeader}
-use Rattle.hevc_backend.specs.Handed.{Segment}
-use Rattle.hevc_stateless_laws.specs.Segments.{given_of, latest_after, latest_from, segments, segments_from, segments_of}
-use Rattle.hevc_decoder.proofs.Comings.{given_over, segments_behind, segments_moved}
+use Rattle.hevc_stateless.specs.Segments.{ReadUnit}
+use Rattle.hevc_stateless_laws.specs.Segments.{given_of, latest_after, latest_from, read_units, read_units_from, read_units_of}
+use Rattle.hevc_decoder.proofs.Comings.{given_over, reads_behind, reads_moved}
 use Rattle.hevc_decoder.proofs.Doing.{does_all_as}
 use Rattle.hevc_decoder.proofs.Running.{below, events_are}
 use Rattle.hevc_decoder.proofs.Promises.{outputs_of}
@@ -73,56 +73,56 @@ window_parted o front xs ys later cut =
     cut_more (inr e) = inr (begins_more ys later e)
 
 -- the same of what they hand over
-segments_parted : (o : Options) (k : Kept) (l : Option PlainSliceSegmentHeader) (xs ys : List ℕ) → MayBeCut xs ys → segments_from o k l (units (xs ++ ys)) ≡ segments_from o k l (units xs ++ units ys)
+reads_parted : (o : Options) (k : Kept) (l : Option PlainSliceSegmentHeader) (xs ys : List ℕ) → MayBeCut xs ys → read_units_from o k l (units (xs ++ ys)) ≡ read_units_from o k l (units xs ++ units ys)
 unfolding units_from
-segments_parted o k l xs ys (inl none) = subst (λ (front : List ℕ). segments_from o k l (units_at kept_bytes 0 (front ++ ys)) ≡ segments_from o k l (units_at kept_bytes 0 front ++ units_at kept_bytes 0 ys)) (sym none) refl
-segments_parted o k l xs ys (inr e) =
+reads_parted o k l xs ys (inl none) = subst (λ (front : List ℕ). read_units_from o k l (units_at kept_bytes 0 (front ++ ys)) ≡ read_units_from o k l (units_at kept_bytes 0 front ++ units_at kept_bytes 0 ys)) (sym none) refl
+reads_parted o k l xs ys (inr e) =
     let front = units_at kept_bytes 0 xs in
-    ap (segments_from o k l) (units_joined 0 xs ys e)
-    ∙ segments_behind o k l front (units_at kept_bytes (0 + length xs) ys)
-    ∙ ap (λ ss. segments_from o k l front ++ ss) (segments_moved o (0 + length xs) 0 ys (kept_behind_all o k front) (latest_from o k l front))
-    ∙ sym (segments_behind o k l front (units_at kept_bytes 0 ys))
+    ap (read_units_from o k l) (units_joined 0 xs ys e)
+    ∙ reads_behind o k l front (units_at kept_bytes (0 + length xs) ys)
+    ∙ ap (λ ss. read_units_from o k l front ++ ss) (reads_moved o (0 + length xs) 0 ys (kept_behind_all o k front) (latest_from o k l front))
+    ∙ sym (reads_behind o k l front (units_at kept_bytes 0 ys))
 
 cut_more : (xs ys later : List ℕ) → MayBeCut xs ys → MayBeCut xs (ys ++ later)
 cut_more xs ys later (inl none) = inl none
 cut_more xs ys later (inr e) = inr (begins_more ys later e)
 
-window_segments : (o : Options) (front : List NalUnit) (xs ys later : List ℕ) → MayBeCut xs ys → segments_of o (front ++ units ((xs ++ ys) ++ later)) ≡ segments_of o (front ++ (units xs ++ units (ys ++ later)))
-window_segments o front xs ys later cut =
-    segments_behind o none_kept None front (units ((xs ++ ys) ++ later))
-    ∙ ap (λ ss. segments_of o front ++ ss) (ap (λ (bytes : List ℕ). segments_from o (kept_behind_all o none_kept front) (latest_after o front) (units bytes)) (append_assoc xs ys later) ∙ segments_parted o (kept_behind_all o none_kept front) (latest_after o front) xs (ys ++ later) (cut_more xs ys later cut))
-    ∙ sym (segments_behind o none_kept None front (units xs ++ units (ys ++ later)))
+window_reads : (o : Options) (front : List NalUnit) (xs ys later : List ℕ) → MayBeCut xs ys → read_units_of o (front ++ units ((xs ++ ys) ++ later)) ≡ read_units_of o (front ++ (units xs ++ units (ys ++ later)))
+window_reads o front xs ys later cut =
+    reads_behind o none_kept None front (units ((xs ++ ys) ++ later))
+    ∙ ap (λ ss. read_units_of o front ++ ss) (ap (λ (bytes : List ℕ). read_units_from o (kept_behind_all o none_kept front) (latest_after o front) (units bytes)) (append_assoc xs ys later) ∙ reads_parted o (kept_behind_all o none_kept front) (latest_after o front) xs (ys ++ later) (cut_more xs ys later cut))
+    ∙ sym (reads_behind o none_kept None front (units xs ++ units (ys ++ later)))
 
 -- ---- runs
 
 -- units that come after those that were taken
 reached_over : {B H : Type 0} (o : Options) (front more : List NalUnit) (k : ℕ) (begin now : Scene B H) → Reached o front k begin now [] → Reached o (front ++ more) k begin now more
-reached_over o front more k begin now x = record { front = x.front; whole = ap (λ us. us ++ more) (x.whole ∙ append-nil x.front); place = x.place; stands = x.stands; empty = x.empty; few = x.few; does = does_all_as (given_of (meant o front) (segments_of o front)) (given_of (meant o (front ++ more)) (segments_of o (front ++ more))) (trail_of begin) (trail_of now) (walk_events (stream (meant o x.front))) (given_over o front more k (walk_events (stream (meant o x.front))) (ap (λ (us : List NalUnit). length us) (x.whole ∙ append-nil x.front) ∙ x.place) (below o front k begin now [] x)) x.does }
+reached_over o front more k begin now x = record { front = x.front; whole = ap (λ us. us ++ more) (x.whole ∙ append-nil x.front); place = x.place; stands = x.stands; empty = x.empty; few = x.few; does = does_all_as (given_of (meant o front) (read_units_of o front)) (given_of (meant o (front ++ more)) (read_units_of o (front ++ more))) (trail_of begin) (trail_of now) (walk_events (stream (meant o x.front))) (given_over o front more k (walk_events (stream (meant o x.front))) (ap (λ (us : List NalUnit). length us) (x.whole ∙ append-nil x.front) ∙ x.place) (below o front k begin now [] x)) x.does }
 
 pub fed_first : {B H : Type 0} (o : Options) (now : Scene B H) (backend : B) → now.seen.view ≡ at_beginning backend → now.seen.kept ≡ none_kept → Fed o [] [] 0 now now
-fed_first o now backend view kept = record { front = []; reached = begins o [] now backend view kept; cut = λ later. refl; cut_segments = λ later. refl }
+fed_first o now backend view kept = record { front = []; reached = begins o [] now backend view kept; cut = λ later. refl; cut_read = λ later. refl }
 
 pub fed_more : {B H : Type 0} (o : Options) (given window got : List ℕ) (k : ℕ) (begin now : Scene B H) → Fed o given window k begin now → Fed o (given ++ got) (window ++ got) k begin now
 fed_more o given window got k begin now x = record {
   front = x.front;
   reached = x.reached;
   cut = λ later. ap (meanings o) (append_assoc given got later) ∙ x.cut (got ++ later) ∙ ap (λ (bytes : List ℕ). meant o (x.front ++ units bytes)) (sym (append_assoc window got later));
-  cut_segments = λ later. ap (segments o) (append_assoc given got later) ∙ x.cut_segments (got ++ later) ∙ ap (λ (bytes : List ℕ). segments_of o (x.front ++ units bytes)) (sym (append_assoc window got later));
+  cut_read = λ later. ap (read_units o) (append_assoc given got later) ∙ x.cut_read (got ++ later) ∙ ap (λ (bytes : List ℕ). read_units_of o (x.front ++ units bytes)) (sym (append_assoc window got later));
 }
 
 module _ {B H : Type 0} (o : Options) (given xs ys : List ℕ) (first : ℕ) (begin old new : Scene B H) (cut : MayBeCut xs ys) (x : Fed o given (xs ++ ys) first begin old) where
   means : (later : List ℕ) → meanings o (given ++ later) ≡ meant o (x.front ++ (units xs ++ units (ys ++ later)))
   means later = x.cut later ∙ window_parted o x.front xs ys later cut
 
-  hand : (later : List ℕ) → segments o (given ++ later) ≡ segments_of o (x.front ++ (units xs ++ units (ys ++ later)))
-  hand later = x.cut_segments later ∙ window_segments o x.front xs ys later cut
+  hand : (later : List ℕ) → read_units o (given ++ later) ≡ read_units_of o (x.front ++ (units xs ++ units (ys ++ later)))
+  hand later = x.cut_read later ∙ window_reads o x.front xs ys later cut
 
   taken : (next : ℕ) → TakesPiece (Ok next) o first (units xs) old new → Fed o given ys next begin new
   taken next takes = record {
     front = x.front ++ units xs;
     reached = takes begin (x.front ++ units xs) [] (subst (λ us. Reached o (x.front ++ units xs) first begin old us) (sym (append-nil (units xs))) (reached_over o x.front (units xs) first begin old x.reached));
     cut = λ later. means later ∙ ap (meant o) (sym (append_assoc x.front (units xs) (units (ys ++ later))));
-    cut_segments = λ later. hand later ∙ ap (segments_of o) (sym (append_assoc x.front (units xs) (units (ys ++ later))));
+    cut_read = λ later. hand later ∙ ap (read_units_of o) (sym (append_assoc x.front (units xs) (units (ys ++ later))));
   }
 
   -- all units, of which these are the later ones
@@ -131,12 +131,12 @@ module _ {B H : Type 0} (o : Options) (given xs ys : List ℕ) (first : ℕ) (be
 
   stopped : (refused : Refused) → TakesPiece (Err refused) o first (units xs) old new → Stopped o given refused begin new
   stopped refused takes = record {
-    ended = λ later. subst (λ (ss : List (Option Segment)). Ended (Err refused) (meanings o (given ++ later)) ss (trail_of begin) (trail_of new)) (sym (hand later))
-        (subst (λ (us : List Meaning). Ended (Err refused) us (segments_of o (all later)) (trail_of begin) (trail_of new)) (sym (means later)) (at later).0);
+    ended = λ later. subst (λ (ss : List ReadUnit). Ended (Err refused) (meanings o (given ++ later)) ss (trail_of begin) (trail_of new)) (sym (hand later))
+        (subst (λ (us : List Meaning). Ended (Err refused) us (read_units_of o (all later)) (trail_of begin) (trail_of new)) (sym (means later)) (at later).0);
     within = λ later. subst (λ (n : ℕ). refused.unit ≤ n) (sym (length_meant o none_kept (all later)) ∙ ap (λ (ms : List Meaning). length ms) (sym (means later)) ∙ length_meant o none_kept (units (given ++ later))) (at later).1;
   }
     where
-      at : (later : List ℕ) → Ended (Err refused) (meant o (all later)) (segments_of o (all later)) (trail_of begin) (trail_of new) × (refused.unit ≤ length (all later))
+      at : (later : List ℕ) → Ended (Err refused) (meant o (all later)) (read_units_of o (all later)) (trail_of begin) (trail_of new) × (refused.unit ≤ length (all later))
       at later = takes begin (all later) (units (ys ++ later)) (reached_over o x.front (units xs ++ units (ys ++ later)) first begin old x.reached)
 
   pub fed_on : (r : Result ℕ Refused) → TakesPiece r o first (units xs) old new → FedTo r o given ys begin new
@@ -175,32 +175,32 @@ module _ (o : Options) (window later : List ℕ) (one : NoneStands window 1 (len
       ∙ ap (λ ms. meant o front ++ ms) (units_moved o lead 0 kept_on (kept_behind_all o none_kept front))
       ∙ sym (meant_behind o none_kept front (units_at kept_bytes 0 kept_on))
 
-  lead_segments : (front : List NalUnit) → segments_of o (front ++ units (window ++ later)) ≡ segments_of o (front ++ units kept_on)
+  lead_reads : (front : List NalUnit) → read_units_of o (front ++ units (window ++ later)) ≡ read_units_of o (front ++ units kept_on)
   unfolding units_from
-  lead_segments front =
-      ap (λ us. segments_of o (front ++ us)) units_behind
-      ∙ segments_behind o none_kept None front (units_at kept_bytes lead kept_on)
-      ∙ ap (λ ss. segments_of o front ++ ss) (segments_moved o lead 0 kept_on (kept_behind_all o none_kept front) (latest_after o front))
-      ∙ sym (segments_behind o none_kept None front (units_at kept_bytes 0 kept_on))
+  lead_reads front =
+      ap (λ us. read_units_of o (front ++ us)) units_behind
+      ∙ reads_behind o none_kept None front (units_at kept_bytes lead kept_on)
+      ∙ ap (λ ss. read_units_of o front ++ ss) (reads_moved o lead 0 kept_on (kept_behind_all o none_kept front) (latest_after o front))
+      ∙ sym (reads_behind o none_kept None front (units_at kept_bytes 0 kept_on))
 
 pub lead_fed : {B H : Type 0} (o : Options) (given window : List ℕ) (k : ℕ) (begin now : Scene B H) → NoneStands window 1 (length window) → Fed o given window k begin now → Fed o given (drop (lead_length window) window) k begin now
 lead_fed o given window k begin now one x = record {
   front = x.front;
   reached = x.reached;
   cut = λ later. x.cut later ∙ lead_means o window later one x.front;
-  cut_segments = λ later. x.cut_segments later ∙ lead_segments o window later one x.front;
+  cut_read = λ later. x.cut_read later ∙ lead_reads o window later one x.front;
 }
 
 -- the last units
 pub fed_whole : {B H : Type 0} (o : Options) (given window : List ℕ) (first : ℕ) (begin old new : Scene B H) (r : Result ℕ Refused) → Fed o given window first begin old → EndsRun r o first (units window) old new
-    → Ended r (meanings o given) (segments o given) (trail_of begin) (trail_of new) × IfErr r (λ refused. refused.unit ≤ length (units given))
+    → Ended r (meanings o given) (read_units o given) (trail_of begin) (trail_of new) × IfErr r (λ refused. refused.unit ≤ length (units given))
 fed_whole {B} {H} o given window first begin old new r x ends =
     let all = x.front ++ units window in
     let y = ends begin all (reached_over o x.front (units window) first begin old x.reached) in
     let means : meanings o given ≡ meant o all = ap (meanings o) (sym (append-nil given)) ∙ x.cut [] ∙ ap (λ (bytes : List ℕ). meant o (x.front ++ units bytes)) (append-nil window) in
     let size : length all ≡ length (units given) = sym (length_meant o none_kept all) ∙ ap (λ (ms : List Meaning). length ms) (sym means) ∙ length_meant o none_kept (units given) in
-    let hand : segments o given ≡ segments_of o all = ap (segments o) (sym (append-nil given)) ∙ x.cut_segments [] ∙ ap (λ (bytes : List ℕ). segments_of o (x.front ++ units bytes)) (append-nil window) in
-    (subst (λ (ss : List (Option Segment)). Ended r (meanings o given) ss (trail_of begin) (trail_of new)) (sym hand) (subst (λ (us : List Meaning). Ended r us (segments_of o all) (trail_of begin) (trail_of new)) (sym means) y.0), subst (λ (n : ℕ). IfErr r (λ refused. refused.unit ≤ n)) size y.1)
+    let hand : read_units o given ≡ read_units_of o all = ap (read_units o) (sym (append-nil given)) ∙ x.cut_read [] ∙ ap (λ (bytes : List ℕ). read_units_of o (x.front ++ units bytes)) (append-nil window) in
+    (subst (λ (ss : List ReadUnit). Ended r (meanings o given) ss (trail_of begin) (trail_of new)) (sym hand) (subst (λ (us : List Meaning). Ended r us (read_units_of o all) (trail_of begin) (trail_of new)) (sym means) y.0), subst (λ (n : ℕ). IfErr r (λ refused. refused.unit ≤ n)) size y.1)
 
 -- ---- what was output so far
 
@@ -227,7 +227,7 @@ pub stopped_front : {B H : Type 0} (o : Options) (given : List ℕ) (refused : R
 stopped_front o given refused begin now None b x gave = tt
 stopped_front o given refused begin now (Some s) None x gave = absurd gave
 stopped_front o given refused begin now (Some s) (Some later) x gave =
-    subst (λ (bytes : List ℕ). Appended begin.shown now.shown (λ out. IsFront (map output_picture out) (outputs (meanings o bytes)))) (sym gave) (outputs_of (meanings o (given ++ later)) (segments o (given ++ later)) (Err refused) (trail_of begin) (trail_of now) (x.ended later))
+    subst (λ (bytes : List ℕ). Appended begin.shown now.shown (λ out. IsFront (map output_picture out) (outputs (meanings o bytes)))) (sym gave) (outputs_of (meanings o (given ++ later)) (read_units o (given ++ later)) (Err refused) (trail_of begin) (trail_of now) (x.ended later))
 
 -- ---- at the end of the source
 

@@ -13,9 +13,9 @@ use Rattle.hevc_bumping.specs.declared.frame.Frame.{Frame}
 use Rattle.hevc_driver.specs.declared.decode_error.DecodeError.{DecodeError}
 use Rattle.hevc_driver.specs.declared.decode_error.DecodeError.TheVariants as errors
 use Rattle.hevc_driver.specs.Given.{Given}
-use Rattle.hevc_driver.specs.Does.{Traces, Does, Stops}
+use Rattle.hevc_driver.specs.Does.{Traces, questioned_if, Does, Stops}
 use Rattle.hevc_driver.specs.Moments.{with_kept, begins_at, begins_by, negotiates, step_part, kept_behind}
-use Rattle.hevc_driver.specs.Takes.{Goes, Fills, Halts, Refuses, Stays, LeftAt, Takes}
+use Rattle.hevc_driver.specs.Takes.{asking, Goes, Fills, Halts, Refuses, Stays, LeftAt, Takes}
 use Rattle.hevc_driver.proofs.Doing.{does_nothing, keeps_all}
 use Rattle.hevc_spec.specs.UnitHeader.{UnitHeader}
 use Rattle.hevc_stream.specs.Options.{Options}
@@ -33,7 +33,7 @@ abbrev pub TakesOrStays : {H T : Type 0} → Given → Result T DecodeError → 
 TakesOrStays {H} {T} g (Err errors.NoMemory) a b x s st = Stays a b s st ⊎ Takes {T = T} (Err errors.NoMemory) g a b x s st
 TakesOrStays g r a b x s st = Takes r g a b x s st
 
-pub part_of : {B H T : Type 0} (g : Given) (r : Result T DecodeError) (o : Options) (h : UnitHeader) (bytes : List ℕ) (old new : Seen B H) → Step r g o h bytes old new → TakesOrStays g r (traces_of old.log old.handed old.view) (traces_of new.log new.handed new.view) (meaning_in old.view.state (unit_at o old.kept h bytes)) old.view.standing new.view.standing
+pub part_of : {B H T : Type 0} (g : Given) (r : Result T DecodeError) (o : Options) (h : UnitHeader) (bytes : List ℕ) (old new : Seen B H) → Step r g o h bytes old new → TakesOrStays g r (traces_of old.log old.handed old.asked old.view) (traces_of new.log new.handed new.asked new.view) (meaning_in old.view.state (unit_at o old.kept h bytes)) old.view.standing new.view.standing
 part_of g (Ok v) o h bytes old new step = step.takes.part
 part_of {H = H} g (Err errors.NoMemory) o h bytes old new step = ⊎_elim (λ same. inl (record { traces = ap (λ (m : Moment H). m.traces) same; left = ap (λ (m : Moment H). m.standing) same })) (λ acts. inr acts.part) step.takes
 part_of g (Err e) o h bytes old new step = step.takes.part
@@ -82,10 +82,10 @@ last_true false q n h = absurd (cc h)
 
 module _ {B H : Type 0} (at : ℕ → Given) (k : ℕ) (untimed : (at k).timestamp ≡ 0) (old new : Scene B H) (out : List (Frame H)) (x y : Meaning) (s st : Standing) (m : Means x y s) (empty : old.seen.view.queue ≡ []) (shown : new.shown ≡ old.shown ++ map (shown_at k) out) where
   abbrev a : Traces H
-  a = traces_of old.seen.log old.seen.handed old.seen.view
+  a = traces_of old.seen.log old.seen.handed old.seen.asked old.seen.view
 
   abbrev b : Traces H
-  b = traces_of new.seen.log new.seen.handed (with_queue out new.seen).view
+  b = traces_of new.seen.log new.seen.handed new.seen.asked (with_queue out new.seen).view
 
   whole_events : (step_part x s).events ≡ (unit_part y s).events
   whole_events = ap (λ (q : Part Standing). q.events) m.part
@@ -94,11 +94,11 @@ module _ {B H : Type 0} (at : ℕ → Given) (k : ℕ) (untimed : (at k).timesta
   once_ok g = record {
     goes_on = sym m.refusal ∙ g.goes_on;
     room = sym m.full ∙ g.room;
-    does = lifts at k untimed old new out (unit_part y s).events empty shown (subst (Does (at k) a b) whole_events g.completes.does);
+    does = lifts at k untimed old new out (unit_part y s).events empty shown (subst (Does (at k) (asking x s a) b) whole_events g.completes.does);
   }
 
-  once_stops : (F : Type 0) (Left : walk.Call → Type 0) → Stops (at k) a b (step_part x s).events Left → StopsPlan at F k (trail_of old) (trail_of new) (unit_part y s).events
-  once_stops F Left z = record { done = z.done; rest = Called z.call ∷ z.rest; whole = sym whole_events ∙ z.whole; does = lifts at k untimed old new out z.done empty shown z.does; next = λ f. record { call = z.call; later = z.rest; rest_is = refl } }
+  once_stops : (F : Type 0) (asked : Bool) (Left : walk.Call → Type 0) → Stops (at k) (questioned_if asked a) b (step_part x s).events Left → StopsPlan at F k (trail_of old) (trail_of new) (unit_part y s).events
+  once_stops F asked Left z = record { done = z.done; rest = Called z.call ∷ z.rest; whole = sym whole_events ∙ z.whole; does = lifts at k untimed old new out z.done empty shown z.does; next = λ f. record { call = z.call; later = z.rest; rest_is = refl } }
 
   once_fills : (before : Standing) → (is_full_at x s ≡ true) × Fills (at k) a b (step_part x s).events before st → FillsUnit at k (trail_of old) (trail_of new) y s
   once_fills before z = record { full = sym m.full ∙ z.0; fills = record { number = z.1.number; rest = z.1.rest; whole = sym whole_events ∙ z.1.whole; does = lifts at k untimed old new out (Called (walk.SubmitPicture z.1.number) ∷ []) empty shown z.1.does } }
@@ -119,22 +119,22 @@ module _ {B H : Type 0} (at : ℕ → Given) (k : ℕ) (untimed : (at k).timesta
       }
 
   once_refuses : (e : DecodeError) → Refuses e (at k) a b x s st → RefusesUnit at e k (trail_of old) (trail_of new) y s
-  once_refuses e z = record { room = sym m.full ∙ z.room; cause = z.cause; refused = sym m.refusal ∙ z.refused; named = z.named; does = lifts at k untimed old new out (unit_part y s).events empty shown (subst (Does (at k) a b) whole_events z.does) }
+  once_refuses e z = record { room = sym m.full ∙ z.room; cause = z.cause; refused = sym m.refusal ∙ z.refused; named = z.named; does = lifts at k untimed old new out (unit_part y s).events empty shown (subst (Does (at k) (asking x s a) b) whole_events z.does) }
 
   once_stays : Stays a b s st → StopsPlan at ⊥ k (trail_of old) (trail_of new) (unit_part y s).events
   once_stays z = record {
     done = [];
     rest = (unit_part y s).events;
     whole = refl;
-    does = lifts at k untimed old new out [] empty shown (does_nothing (at k) a b (ap (λ (v : Traces H). v.log) z.traces) (ap (λ (v : Traces H). v.handed) z.traces) (ap (λ (v : Traces H). v.queue) z.traces) (keeps_all a.tickets b.tickets (ap (λ (v : Traces H). v.tickets) z.traces)));
+    does = lifts at k untimed old new out [] empty shown (does_nothing (at k) a b (ap (λ (v : Traces H). v.log) z.traces) (ap (λ (v : Traces H). v.handed) z.traces) (ap (λ (v : Traces H). v.asked) z.traces) (ap (λ (v : Traces H). v.queue) z.traces) (keeps_all a.tickets b.tickets (ap (λ (v : Traces H). v.tickets) z.traces)));
     next = λ f. absurd f;
   }
 
   pub take_once : {T : Type 0} (r : Result T DecodeError) → (r ≡ Err errors.CheckEvents → ⊥) → s.next.number + 1 < 2 ^ 64 → TakesOrStays (at k) r a b x s st → TakesUnit at r k (trail_of old) (trail_of new) y s
   take_once (Ok v) isnt few z = once_ok z
-  take_once (Err errors.Backend) isnt few z = once_stops (Unit {0}) (λ c. LeftAt c x s st) z
+  take_once (Err errors.Backend) isnt few z = once_stops (Unit {0}) z.asked (λ c. LeftAt c z.asked x s st) z.stops
   take_once (Err errors.NoMemory) isnt few (inl z) = once_stays z
-  take_once (Err errors.NoMemory) isnt few (inr z) = once_stops ⊥ (λ c. LeftAt c x s st) z
+  take_once (Err errors.NoMemory) isnt few (inr z) = once_stops ⊥ z.asked (λ c. LeftAt c z.asked x s st) z.stops
   take_once (Err errors.DpbFull) isnt few z = once_fills (kept_behind x s) z
   take_once (Err (errors.NotEnoughOutputBuffers frames)) isnt few z = once_halts frames z
   take_once (Err errors.NoNal) isnt few z = absurd (no_nal z.cause z.named)

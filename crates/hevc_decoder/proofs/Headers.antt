@@ -19,7 +19,7 @@ use Rattle.hevc_driver.specs.Answers.{CountsError, IsOfBackend}
 use Rattle.hevc_driver.specs.Errors.{unit_error, cause_error}
 use Rattle.hevc_stateless_laws.specs.Stands.{meant, standing_after, kept_after}
 use Rattle.hevc_driver.specs.Given.{Given}
-use Rattle.hevc_stateless_laws.specs.Segments.{given_of, segments_of}
+use Rattle.hevc_stateless_laws.specs.Segments.{given_of, read_units_of}
 use Rattle.hevc_decoder.specs.Scenes.{Scene, Trail, trail_of}
 use Rattle.hevc_decoder.specs.Takes.{DoesAll, RefusesUnit, TakesUnit}
 use Rattle.hevc_decoder.specs.Runs.{Reached, Ended}
@@ -67,7 +67,7 @@ module _ {H : Type 0} (at : ℕ → Given) (o : Options) (kept : Kept) (bytes : 
       subst (λ (x : UnitError). TakesUnit {T = Unit {0}} at (Err (unit_error x)) k t t (meaning o kept bytes) s) told (taken_by fault parsed)
 
 pub header_ended : {B H : Type 0} (o : Options) (all later others : List NalUnit) (u : NalUnit) (k : ℕ) (old mid : Scene B H) (e : UnitError) → Reached o all k old mid later → later ≡ u ∷ others → parsed_header u.bytes ≡ Err e
-    → Ended (Err (record { unit = k; error = unit_error e })) (meant o all) (segments_of o all) (trail_of old) (trail_of mid)
+    → Ended (Err (record { unit = k; error = unit_error e })) (meant o all) (read_units_of o all) (trail_of old) (trail_of mid)
 header_ended o all later others u k old mid e x is refused =
     let at : Reached o all k old mid (u ∷ others) = subst (λ (us : List NalUnit). Reached o all k old mid us) is x in
-    ended_refused o all k old mid u others at (Unit {0}) (unit_error e) (trail_of mid) (header_taken (given_of (meant o all) (segments_of o all)) o (kept_after o at.front) u.bytes k (trail_of mid) (standing_after (meant o at.front)) e (unit_header u.bytes) refl refused)
+    ended_refused o all k old mid u others at (Unit {0}) (unit_error e) (trail_of mid) (header_taken (given_of (meant o all) (read_units_of o all)) o (kept_after o at.front) u.bytes k (trail_of mid) (standing_after (meant o at.front)) e (unit_header u.bytes) refl refused)

@@ -2,19 +2,19 @@
 use Rattle.std.proofs.Common.{◌≡◌, ℕ, ◌+◌, ◌<◌, ◌≤◌, ◌^◌, List, [], ◌∷◌, ◌++◌, length, refl, sym, ap, ap₂, subst, ◌∙◌, append-nil, Option, Some, None, Result, Ok, Err}
 use Rattle.std.specs.Prelude.{IfErr}
 use Rattle.hevc_spec.specs.Units.{NalUnit}
-use Rattle.hevc_spec.specs.UnitHeader.{UnitHeader, unit_header}
+use Rattle.hevc_spec.specs.UnitHeader.{UnitHeader, HeaderFault, unit_header}
 use Rattle.hevc_stream.specs.Options.{Options}
 use Rattle.hevc_bits.specs.declared.header.UnitError.{UnitError}
-use Rattle.hevc_bits.specs.ParsedHeader.{parsed_header}
+use Rattle.hevc_bits.specs.ParsedHeader.{answer_of, parsed_header}
 use Rattle.hevc_driver.specs.Errors.{unit_error}
 use Rattle.hevc_driver.specs.declared.decode_error.DecodeError.{DecodeError}
 use Rattle.hevc_stateless.specs.Steps.{Seen}
-use Rattle.hevc_stateless_laws.specs.Segments.{segments_of}
+use Rattle.hevc_stateless_laws.specs.Segments.{read_units_of}
 use Rattle.hevc_stateless_laws.specs.Stands.{meant}
 use Rattle.hevc_decoder.specs.declared.decoded.Shown.{Shown}
 use Rattle.hevc_decoder.specs.declared.decoded.Refused.{Refused}
 use Rattle.hevc_decoder.specs.Scenes.{Scene, trail_of}
-use Rattle.hevc_decoder.specs.Gives.{GivesWhole, Closes}
+use Rattle.hevc_decoder.specs.Gives.{GivesWhole, LeavesUnit, LeavesNext, Closes}
 use Rattle.hevc_decoder.specs.Runs.{Reached, Ended, EndsHere, EndsRun, TakesNext}
 use Rattle.hevc_decoder.proofs.Gone.{Adds, adds_whole, adds_closed}
 use Rattle.hevc_decoder.proofs.Headers.{header_ended}
@@ -58,8 +58,8 @@ module _ {B H : Type 0} where
     out = [];
     shown = sym (append-nil now.shown);
     steps = λ begin all later gone x. (
-      subst (λ (l : List (Shown H)). Ended (Err (record { unit = k; error = named })) (meant o all) (segments_of o all) (trail_of begin) (trail_of (at now l))) (sym (append-nil gone))
-          (subst (λ (d : DecodeError). Ended (Err (record { unit = k; error = d })) (meant o all) (segments_of o all) (trail_of begin) (trail_of (at now gone))) (sym same)
+      subst (λ (l : List (Shown H)). Ended (Err (record { unit = k; error = named })) (meant o all) (read_units_of o all) (trail_of begin) (trail_of (at now l))) (sym (append-nil gone))
+          (subst (λ (d : DecodeError). Ended (Err (record { unit = k; error = d })) (meant o all) (read_units_of o all) (trail_of begin) (trail_of (at now gone))) (sym same)
           (header_ended o all (before ++ later) (others ++ later) u k begin (at now gone) e x (ap (λ (us : List NalUnit). us ++ later) is) refused)),
       reached_within o all k begin (at now gone) (before ++ later) x,
     );
@@ -68,6 +68,25 @@ module _ {B H : Type 0} where
   -- there is none
   pub none_next : {U : Type 0} (o : Options) (k : ℕ) (before after : List NalUnit) (now : Scene B H) → before ≡ [] → TakesNext {T = U} (Ok None) o k before after now now
   none_next o k before after now none = record { out = []; shown = sym (append-nil now.shown); steps = (none, refl, refl) }
+
+  -- ---- what is left after a unit
+
+  module _ (o : Options) (k : ℕ) (u : NalUnit) (before others : List NalUnit) (old new : Scene B H) (r : Result (Unit {0}) DecodeError) where
+    -- it was given
+    pub leaves_given : (h : UnitHeader) → before ≡ u ∷ others → unit_header u.bytes ≡ Ok h → GivesWhole r k o h u.bytes old new → LeavesNext r o k before old new
+    leaves_given h is parsed gives = subst (λ (us : List NalUnit). LeavesNext r o k us old new) (sym is)
+        (subst (λ (x : Result UnitHeader HeaderFault). LeavesUnit x r k o u.bytes old new) (sym parsed) gives)
+
+    -- its header was refused
+    pub leaves_refused : (e : UnitError) → before ≡ u ∷ others → parsed_header u.bytes ≡ Err e → new ≡ old → LeavesNext r o k before old new
+    leaves_refused e is refused same = subst (λ (us : List NalUnit). LeavesNext r o k us old new) (sym is) (by (unit_header u.bytes) refused)
+      where
+        by : (x : Result UnitHeader HeaderFault) → answer_of x ≡ Err e → LeavesUnit x r k o u.bytes old new
+        by (Ok h) is = absurd (cc is)
+        by (Err fault) is = same
+
+  pub leaves_none : (o : Options) (k : ℕ) (before : List NalUnit) (now : Scene B H) (r : Result (Unit {0}) DecodeError) → before ≡ [] → LeavesNext r o k before now now
+  leaves_none o k before now r none = subst (λ (us : List NalUnit). LeavesNext r o k us now now) (sym none) refl
 
   -- ---- the end
 
@@ -78,7 +97,7 @@ module _ {B H : Type 0} where
         out = a.out;
         shown = a.shown;
         ends = λ begin all gone x. (
-          subst (λ (m : ℕ). Ended (Ok m) (meant o all) (segments_of o all) (trail_of begin) (trail_of (at new (gone ++ a.out)))) (sym number)
+          subst (λ (m : ℕ). Ended (Ok m) (meant o all) (read_units_of o all) (trail_of begin) (trail_of (at new (gone ++ a.out)))) (sym number)
               (ends_whole o all [] k begin (at old gone) (at new (gone ++ a.out)) x refl v (a.holds gone)),
           tt,
         );
@@ -117,11 +136,11 @@ module _ {B H : Type 0} where
 
   -- it was refused
   pub piece_refused : {U : Type 0} (o : Options) (k : ℕ) (before after : List NalUnit) (old new : Scene B H) (r : Refused) → TakesNext {T = U} (Err r) o k before after old new → (begin : Scene B H) (all later : List NalUnit) → Reached o all k begin old (before ++ later)
-      → Ended (Err r) (meant o all) (segments_of o all) (trail_of begin) (trail_of new) × (r.unit ≤ length all)
+      → Ended (Err r) (meant o all) (read_units_of o all) (trail_of begin) (trail_of new) × (r.unit ≤ length all)
   piece_refused o k before after old new r x begin all later reached =
-      subst (λ (l : List (Shown H)). Ended (Err r) (meant o all) (segments_of o all) (trail_of begin) (trail_of (at new l)) × (r.unit ≤ length all)) (sym x.shown) (x.steps begin all later old.shown reached)
+      subst (λ (l : List (Shown H)). Ended (Err r) (meant o all) (read_units_of o all) (trail_of begin) (trail_of (at new l)) × (r.unit ≤ length all)) (sym x.shown) (x.steps begin all later old.shown reached)
 
   -- the end, as what was output before it stays
   pub ended_here : (o : Options) (k : ℕ) (r : Result ℕ Refused) (old new : Scene B H) → EndsHere r o k old new → EndsRun r o k [] old new
   ended_here o k r old new x begin all reached =
-      subst (λ (l : List (Shown H)). Ended r (meant o all) (segments_of o all) (trail_of begin) (trail_of (at new l)) × IfErr r (λ refused. refused.unit ≤ length all)) (sym x.shown) (x.ends begin all old.shown reached)
+      subst (λ (l : List (Shown H)). Ended r (meant o all) (read_units_of o all) (trail_of begin) (trail_of (at new l)) × IfErr r (λ refused. refused.unit ≤ length all)) (sym x.shown) (x.ends begin all old.shown reached)

@@ -25,15 +25,17 @@ use Rattle.hevc_stream.specs.Kept.{Kept, none_kept}
 use Rattle.hevc_stream.specs.Options.{Options}
 use Rattle.hevc_stream.specs.Slices.{coded_slice, slice_segment_meaning}
 use Rattle.hevc_stream.specs.Stream.{meaning, meaning_of, meanings_behind, kept_behind}
-use Rattle.hevc_backend.specs.Handed.{Segment}
-use Rattle.hevc_driver.specs.Given.{Given, HandingCall, handed_by, begun_with, decoded_with, call_with, handing_call}
+use Rattle.hevc_stateless.specs.Segments.{ReadUnit}
+use Rattle.hevc_driver.specs.Given.{Given, HandingCall, handed_by, begun_with, decoded_with, call_with, handing_call, sequence_with, set_of}
 use Rattle.hevc_driver.specs.Headers.{shared_header, whole_header}
-use Rattle.hevc_stateless.specs.Segments.{header_in, own_header, latest_at, with_sets, segment_with, segment_at, segment_if}
-use Rattle.hevc_stateless_laws.specs.Segments.{given_of, segments_of, handed_over, latest_after}
+use Rattle.hevc_stateless.specs.Segments.{header_in, own_header, latest_at, read_at, set_with, with_sets, segment_with, segment_at, segment_if}
+use Rattle.hevc_stateless_laws.specs.Segments.{given_of, read_units_of, handed_over, latest_after}
 use Rattle.hevc_stateless_laws.specs.Stands.{meant, kept_after, standing_after}
 use Rattle.hevc_stateless_laws.proofs.Given.{latest_last}
-use Rattle.hevc_stateless_laws.proofs.Keeping.{meant_last, kept_last, is_coded, none_coded}
+use Rattle.hevc_stateless_laws.proofs.Keeping.{meant_last, kept_last, is_coded, none_coded, sequence_read}
 use Rattle.hevc_decoder.proofs.Comings.{given_here}
+use Rattle.hevc_backend.specs.Handed.{Segment}
+use Rattle.hevc_records.specs.Sps.{PlainSps}
 
 -- ---- a call and what comes with it
 
@@ -44,14 +46,18 @@ abbrev FitsEvent : Given → Event → Type 0
 FitsEvent g (Called c) = Fits g c
 FitsEvent g (Output number order_count) = Unit {0}
 
+-- with its set a negotiation fits
+sequence_fits : (g : Given) (set : PlainSps) → g.set ≡ Some set → (f : Format) → Fits g (walk.NewSequence f)
+sequence_fits g set is f = ap (λ (x : Option PlainSps). map call_with (sequence_with x)) is
+
 -- with a segment all calls fit
-fits_segment : (g : Given) (s : Segment) → g.segment ≡ Some s → (e : Event) → FitsEvent g e
-fits_segment g s is (Called (walk.NewSequence info)) = refl
-fits_segment g s is (Called (walk.NewPicture number nal_unit_type order_count output timestamp)) = refl
-fits_segment g s is (Called (walk.BeginPicture number set)) = ap (λ (x : Option Segment). map call_with (begun_with number g.picture x)) is
-fits_segment g s is (Called (walk.DecodeSlice number address bytes list0 list1)) = ap (λ (x : Option Segment). map call_with (decoded_with number x)) is
-fits_segment g s is (Called (walk.SubmitPicture number)) = refl
-fits_segment g s is (Output number order_count) = tt
+fits_segment : (g : Given) (s : Segment) → g.set ≡ Some s.sps → g.segment ≡ Some s → (e : Event) → FitsEvent g e
+fits_segment g s set is (Called (walk.NewSequence info)) = sequence_fits g s.sps set info
+fits_segment g s set is (Called (walk.NewPicture number nal_unit_type order_count output timestamp)) = refl
+fits_segment g s set is (Called (walk.BeginPicture number refs)) = ap (λ (x : Option Segment). map call_with (begun_with number g.picture g.dpb x)) is
+fits_segment g s set is (Called (walk.DecodeSlice number address bytes list0 list1)) = ap (λ (x : Option Segment). map call_with (decoded_with number g.dpb x)) is
+fits_segment g s set is (Called (walk.SubmitPicture number)) = refl
+fits_segment g s set is (Output number order_count) = tt
 
 every : {X : Type 0} (P : X → Type 0) → ((x : X) → P x) → (xs : List X) → AllByRecursion P xs
 every P holds [] = tt
@@ -88,9 +94,9 @@ finish_fits g (Some q) s = by q.skipped
 closing_fits : (g : Given) (s : Standing) → AllByRecursion (FitsEvent g) (closing_part s).events
 closing_fits g s = both (FitsEvent g) (finish (open_head s.current) s.store).events _ (finish_fits g (open_head s.current) s.store) (outputs_fit g _)
 
-set_fits : (g : Given) (a : Option Format) (f : Format) (s : Standing) → AllByRecursion (FitsEvent g) (sequence_part a f s).events
-set_fits g None f s = (refl, tt)
-set_fits g (Some accepted) f s = tt
+set_fits : (g : Given) (a : Option Format) (f : Format) (s : Standing) (set : PlainSps) → g.set ≡ Some set → AllByRecursion (FitsEvent g) (sequence_part a f s).events
+set_fits g None f s set is = (sequence_fits g set is f, tt)
+set_fits g (Some accepted) f s set is = tt
 
 -- ---- the header of a slice segment
 
@@ -194,7 +200,7 @@ known_after_unit o k l bytes n v (Refused c) m some = some
 
 module _ (o : Options) (all : List NalUnit) where
   abbrev comes : ℕ → Given
-  comes = given_of (meant o all) (segments_of o all)
+  comes = given_of (meant o all) (read_units_of o all)
 
   abbrev FitsAt : ℕ × Event → Type 0
   FitsAt e = FitsEvent (comes e.0) e.1
@@ -220,6 +226,9 @@ module _ (o : Options) (all : List NalUnit) where
     abbrev g : Given
     g = comes (length front)
 
+    set_is : (m : Meaning) → y ≡ m → g.set ≡ set_with m (read_at o (kept_after o front) (latest_after o front) u.bytes)
+    set_is m is = ap (λ (x : Given). x.set) (sym (given_here o all front u later (length front) whole refl)) ∙ ap (λ (x : Meaning). set_with x (read_at o (kept_after o front) (latest_after o front) u.bytes)) is
+
     segment_is : (w : Slice) → y ≡ CodedSlice w → g.segment ≡ segment_at o (kept_after o front) (latest_after o front) u.bytes
     segment_is w is = ap (λ (x : Given). x.segment) (sym (given_here o all front u later (length front) whole refl)) ∙ ap (λ (m : Meaning). segment_if m (segment_at o (kept_after o front) (latest_after o front) u.bytes)) is
 
@@ -230,10 +239,10 @@ module _ (o : Options) (all : List NalUnit) where
         by None e = rw e tt
         by (Some x) e =
             let some = segment_whole o (kept_after o front) (latest_after o front) u.bytes s.kept w x is known e in
-            every (FitsEvent g) (fits_segment g some.0 (segment_is w is ∙ some.1)) _
+            every (FitsEvent g) (fits_segment g some.0 (set_is (CodedSlice w) is ∙ ap set_of some.1) (segment_is w is ∙ some.1)) _
 
     by_meaning : (m : Meaning) → y ≡ m → AllByRecursion (FitsEvent g) (unit_part m s).events
-    by_meaning (SequenceSet f) is = set_fits g s.store.accepted f s
+    by_meaning (SequenceSet f) is = let found = sequence_read o (kept_after o front) u.bytes f is in set_fits g s.store.accepted f s found.0 (set_is (SequenceSet f) is ∙ found.1)
     by_meaning (CodedSlice w) is = coded_fits w is
     by_meaning EndOfSequence is = tt
     by_meaning EndOfBitstream is = tt
@@ -291,12 +300,12 @@ module _ (o : Options) (all : List NalUnit) where
   all_fit : AllByRecursion FitsCall (calls (meant o all))
   all_fit = calls_fit (events (meant o all)) (subst (AllByRecursion FitsAt) (sym (events-cut [] (meant o all) refl)) (fits_from [] all refl refl refl))
 
-  paired : (cs : List (ℕ × walk.Call)) → AllByRecursion FitsCall cs → map call_with (handed_over (meant o all) (segments_of o all) cs) ≡ flat_map (λ c. handing_call c.1) cs
+  paired : (cs : List (ℕ × walk.Call)) → AllByRecursion FitsCall cs → map call_with (handed_over (meant o all) (read_units_of o all) cs) ≡ flat_map (λ c. handing_call c.1) cs
   paired [] a = refl
   paired (c ∷ cs) a =
-      map-append call_with (handed_by (comes c.0) c.1) (handed_over (meant o all) (segments_of o all) cs)
+      map-append call_with (handed_by (comes c.0) c.1) (handed_over (meant o all) (read_units_of o all) cs)
       ∙ ap₂ (λ (x y : List HandingCall). x ++ y) a.0 (paired cs a.1)
 
   -- What came with the first calls goes one to one with them.
-  pub one_to_one : (n : ℕ) → map call_with (handed_over (meant o all) (segments_of o all) (take n (calls (meant o all)))) ≡ flat_map (λ c. handing_call c.1) (take n (calls (meant o all)))
+  pub one_to_one : (n : ℕ) → map call_with (handed_over (meant o all) (read_units_of o all) (take n (calls (meant o all)))) ≡ flat_map (λ c. handing_call c.1) (take n (calls (meant o all)))
   one_to_one n = paired (take n (calls (meant o all))) (taken FitsCall n (calls (meant o all)) all_fit)

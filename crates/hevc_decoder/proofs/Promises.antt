@@ -40,39 +40,15 @@ use Rattle.std.specs.List.{flat_map}
 use Rattle.std.specs.Prelude.{take}
 use Rattle.std.proofs.Math.Seq.{take-append_seam}
 use Rattle.std.proofs.lemmas.List.{length-map}
-use Rattle.hevc_backend.specs.Handed.{Segment}
+use Rattle.hevc_stateless.specs.Segments.{ReadUnit}
 use Rattle.hevc_driver.specs.Given.{AreOneToOne, handed_by, call_with, handing_call}
-use Rattle.hevc_stateless_laws.specs.Segments.{given_of, handed_over, segments}
+use Rattle.hevc_stateless_laws.specs.Segments.{given_of, handed_over, read_units}
 use Rattle.hevc_decoder.specs.Takes.{handed_at}
 use Rattle.hevc_decoder.proofs.Pairing.{one_to_one}
 use Rattle.hevc_decoder.specs.Scenes.{Trail}
-use Rattle.hevc_decoder.specs.Runs.{CallFollows, UpTo, EndsAt, Ends, Ended}
-use Rattle.hevc_decoder.specs.Headline.{Grew, Appended, IsFront, all_asked, AnswersError, AnswersVerdict, CutsCalls, NextIs, EndsCallsAt, EndsCalls, CutsOutputs, EndsOutputsAt, EndsOutputs, WantsFrame, AllSubmitted, SubmittedOnce, shown_numbers, ComeOutOnce, AreForOutput}
-
-calls_up : (k : ℕ) (es : List (ℕ × Event)) → AllByRecursion (λ e. e.0 ≤ k) es → AllByRecursion (λ c. c.0 ≤ k) (calls_in es)
-calls_up k [] a = tt
-calls_up k ((j, Called c) ∷ es) (p, a) = (p, calls_up k es a)
-calls_up k ((j, Output number order_count) ∷ es) (p, a) = calls_up k es a
-
-calls_on : (k : ℕ) (es : List (ℕ × Event)) → AllByRecursion (λ e. k ≤ e.0) es → AllByRecursion (λ c. k ≤ c.0) (calls_in es)
-calls_on k [] a = tt
-calls_on k ((j, Called c) ∷ es) (p, a) = (p, calls_on k es a)
-calls_on k ((j, Output number order_count) ∷ es) (p, a) = calls_on k es a
-
-outputs_up : (k : ℕ) (es : List (ℕ × Event)) → AllByRecursion (λ e. e.0 ≤ k) es → AllByRecursion (λ o. o.unit ≤ k) (outputs_in es)
-outputs_up k [] a = tt
-outputs_up k ((j, Called c) ∷ es) (p, a) = outputs_up k es a
-outputs_up k ((j, Output number order_count) ∷ es) (p, a) = (p, outputs_up k es a)
-
-outputs_on : (k : ℕ) (es : List (ℕ × Event)) → AllByRecursion (λ e. k ≤ e.0) es → AllByRecursion (λ o. k ≤ o.unit) (outputs_in es)
-outputs_on k [] a = tt
-outputs_on k ((j, Called c) ∷ es) (p, a) = outputs_on k es a
-outputs_on k ((j, Output number order_count) ∷ es) (p, a) = (p, outputs_on k es a)
-
-next_call : (k : ℕ) (es : List (ℕ × Event)) → CallFollows k es → NextIs k (calls_in es)
-next_call k [] h = h
-next_call k ((j, Called c) ∷ es) h = h
-next_call k ((j, Output number order_count) ∷ es) h = absurd h
+use Rattle.hevc_decoder.specs.Cut.{EndsAt, Ends, IsCut}
+use Rattle.hevc_decoder.specs.Runs.{Ended}
+use Rattle.hevc_decoder.specs.Headline.{Grew, Appended, IsFront, all_asked, AnswersError, AnswersVerdict, WantsFrame, AllSubmitted, SubmittedOnce, shown_numbers, ComeOutOnce, AreForOutput}
 
 times_both : (n : ℕ) (xs ys : List ℕ) → times n (xs ++ ys) ≡ times n xs + times n ys
 times_both n [] ys = omega arith
@@ -122,7 +98,7 @@ full_refused None (Some r) n m e = absurd (cc e)
 full_refused None None n m e = refl
 
 -- the clauses of a run
-module _ {H : Type 0} (us : List Meaning) (ss : List (Option Segment)) (r : Result ℕ Refused) (old new : Trail H) (x : Ended r us ss old new) where
+module _ {H : Type 0} (us : List Meaning) (ss : List ReadUnit) (r : Result ℕ Refused) (old new : Trail H) (x : Ended r us ss old new) where
   calls_are : calls us ≡ calls_in x.done ++ calls_in x.rest
   calls_are = ap calls_in x.whole ∙ calls_in-append x.done x.rest
 
@@ -140,9 +116,6 @@ module _ {H : Type 0} (us : List Meaning) (ss : List (Option Segment)) (r : Resu
 
   pub outputs_of : Appended old.shown new.shown (λ o. IsFront (map output_picture o) (outputs us))
   outputs_of = (x.does.out, x.does.shown, (outputs_in x.rest, given_are))
-
-  all_made : x.rest ≡ [] → map call_of x.does.calls ≡ all_asked (calls us)
-  all_made none = sym (asked_are ∙ ap (λ es. map call_of x.does.calls ++ all_asked (calls_in es)) none ∙ append-nil (map call_of x.does.calls))
 
   all_given : x.rest ≡ [] → map output_picture x.does.out ≡ outputs us
   all_given none = sym (given_are ∙ ap (λ es. map output_picture x.does.out ++ outputs_in es) none ∙ append-nil (map output_picture x.does.out))
@@ -188,56 +161,15 @@ module _ {H : Type 0} (us : List Meaning) (ss : List (Option Segment)) (r : Resu
   pub frames_of : IfErr r (λ s. WantsFrame s.error s.unit us)
   frames_of = frames_by r x.ends
 
-  abbrev cuts_calls : (k : ℕ) → UpTo k x.done x.rest → CutsCalls k (map call_of x.does.calls) (calls us)
-  cuts_calls k y = record { made = calls_in x.done; unmade = calls_in x.rest; whole = calls_are; calls_are = x.does.made; made_before = calls_up k x.done y.done_before; unmade_behind = calls_on k x.rest y.rest_behind }
-
-  calls_at_end : (e : DecodeError) (s : Refused) → EndsAt e s us x.done x.rest → EndsCallsAt e s.unit (map call_of x.does.calls) (calls us)
-  calls_at_end errors.Backend s y = record { cut = cuts_calls s.unit y.0; next = next_call s.unit x.rest y.1 }
-  calls_at_end errors.NoMemory s y = cuts_calls s.unit y
-  calls_at_end (errors.NotEnoughOutputBuffers frames) s y = cuts_calls s.unit y.2
-  calls_at_end errors.DpbFull s y =
-      let f = y.1 in
-      let last : ℕ × walk.Call = (s.unit, walk.SubmitPicture f.number) in
-      let done : calls_in x.done ≡ calls_below s.unit (calls us) ++ last ∷ [] = ap calls_in f.done_is ∙ calls_in-append f.before ((s.unit, Called (walk.SubmitPicture f.number)) ∷ []) ∙ ap (λ l. l ++ last ∷ []) (sym f.calls) in
-      record {
-        number = f.number;
-        later = calls_in x.rest;
-        whole = calls_are ∙ ap (λ l. l ++ calls_in x.rest) done ∙ append_assoc (calls_below s.unit (calls us)) (last ∷ []) (calls_in x.rest);
-        calls_are = x.does.made ∙ ap all_asked done ∙ map-append asked (calls_below s.unit (calls us)) (last ∷ []);
-      }
-  calls_at_end errors.NoNal s y = absurd y
-  calls_at_end errors.CheckEvents s y = absurd y
-  calls_at_end errors.PictureNumbersSpent s y = absurd y
-  calls_at_end e s y = all_made y.1
-
-  calls_by : (q : Result ℕ Refused) → Ends q us x.done x.rest → EndsCalls q (map call_of x.does.calls) (calls us)
-  calls_by (Ok n) y = all_made y.1
-  calls_by (Err s) y = calls_at_end s.error s y
-
-  pub whole_calls_of : Grew old.log new.log (λ l. EndsCalls r (map call_of l) (calls us))
-  whole_calls_of = (x.does.calls, x.does.log, calls_by r x.ends)
-
-  cuts_outputs : (k : ℕ) → UpTo k x.done x.rest → CutsOutputs k (map output_picture x.does.out) (outputs us)
-  cuts_outputs k y = record { ungiven = outputs_in x.rest; whole = given_are; given_before = subst (AllByRecursion (λ o. o.unit ≤ k)) (sym x.does.given) (outputs_up k x.done y.done_before); ungiven_behind = outputs_on k x.rest y.rest_behind }
-
-  outputs_at_end : (e : DecodeError) (s : Refused) → EndsAt e s us x.done x.rest → EndsOutputsAt e s.unit (map output_picture x.does.out) (outputs us)
-  outputs_at_end errors.Backend s y = cuts_outputs s.unit y.0
-  outputs_at_end errors.NoMemory s y = cuts_outputs s.unit y
-  outputs_at_end (errors.NotEnoughOutputBuffers frames) s y = cuts_outputs s.unit y.2
-  outputs_at_end errors.DpbFull s y =
-      let f = y.1 in
-      x.does.given ∙ ap outputs_in f.done_is ∙ outputs_in-append f.before ((s.unit, Called (walk.SubmitPicture f.number)) ∷ []) ∙ append-nil (outputs_in f.before) ∙ sym f.outputs
-  outputs_at_end errors.NoNal s y = absurd y
-  outputs_at_end errors.CheckEvents s y = absurd y
-  outputs_at_end errors.PictureNumbersSpent s y = absurd y
-  outputs_at_end e s y = all_given y.1
-
-  outputs_by : (q : Result ℕ Refused) → Ends q us x.done x.rest → EndsOutputs q (map output_picture x.does.out) (outputs us)
-  outputs_by (Ok n) y = all_given y.1
-  outputs_by (Err s) y = outputs_at_end s.error s y
-
-  pub whole_outputs_of : Appended old.shown new.shown (λ o. EndsOutputs r (map output_picture o) (outputs us))
-  whole_outputs_of = (x.does.out, x.does.shown, outputs_by r x.ends)
+  pub cut_of : IsCut r us old.log new.log old.shown new.shown
+  cut_of = record {
+    done = x.done;
+    rest = x.rest;
+    whole = x.whole;
+    made = (x.does.calls, x.does.log, x.does.made);
+    given = (x.does.out, x.does.shown, x.does.given);
+    ends = x.ends;
+  }
 
   -- with these calls came what comes with their units
   handed_done : (es : List (ℕ × Event)) → flat_map (handed_at (given_of us ss)) es ≡ handed_over us ss (calls_in es)
@@ -395,7 +327,7 @@ module _ {H : Type 0} (before now : Told H) (r : Result ℕ Refused)
   abbrev last_trail : List (ℕ × H) → Trail H
   last_trail tickets = record { log = now.log; handed = now.handed; shown = now.shown; tickets = tickets }
 
-  pub honest_of : (us : List Meaning) (ss : List (Option Segment)) (tickets : List (ℕ × H)) → Ended r us ss first_trail (last_trail tickets) → IsHonest before now r
+  pub honest_of : (us : List Meaning) (ss : List ReadUnit) (tickets : List (ℕ × H)) → Ended r us ss first_trail (last_trail tickets) → IsHonest before now r
   honest_of us ss tickets x = record {
     answers_only = answers_only_of us ss r first_trail (last_trail tickets) x;
     handles = handles_of us ss r first_trail (last_trail tickets) x refl;
@@ -406,18 +338,17 @@ module _ {H : Type 0} (before now : Told H) (r : Result ℕ Refused)
     faultless = faultless;
   }
 
-  pub decodes_of : (o : Options) (s : List ℕ) (tickets : List (ℕ × H)) → Ended r (meanings o s) (segments o s) first_trail (last_trail tickets) → IfErr r (λ refused. refused.unit ≤ length (units s)) → Decodes o s before now r
+  pub decodes_of : (o : Options) (s : List ℕ) (tickets : List (ℕ × H)) → Ended r (meanings o s) (read_units o s) first_trail (last_trail tickets) → IfErr r (λ refused. refused.unit ≤ length (units s)) → Decodes o s before now r
   decodes_of o s tickets x within =
       let us = meanings o s in
-      let ss = segments o s in
+      let ss = read_units o s in
       let begin = first_trail in
       let end = last_trail tickets in
       record {
         calls = calls_of us ss r begin end x;
         outputs = outputs_of us ss r begin end x;
         answer = answer_is us ss r begin end x;
-        whole_calls = whole_calls_of us ss r begin end x;
-        whole_outputs = whole_outputs_of us ss r begin end x;
+        cut = cut_of us ss r begin end x;
         handed = handed_of us ss r begin end x;
         one_to_one = one_to_one_of us ss r begin end x (one_to_one o (units s));
         unit = within;

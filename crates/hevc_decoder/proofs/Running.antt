@@ -20,8 +20,8 @@ use Rattle.hevc_stream.specs.Stream.{meaning, kept_behind, meanings_behind}
 use Rattle.hevc_driver.specs.declared.decode_error.DecodeError.{DecodeError}
 use Rattle.hevc_driver.specs.declared.decode_error.DecodeError.TheVariants as errors
 use Rattle.hevc_driver.specs.Given.{Given}
-use Rattle.hevc_backend.specs.Handed.{Segment}
-use Rattle.hevc_stateless_laws.specs.Segments.{given_of, segments_of}
+use Rattle.hevc_stateless.specs.Segments.{ReadUnit}
+use Rattle.hevc_stateless_laws.specs.Segments.{given_of, read_units_of}
 use Rattle.hevc_driver.proofs.Doing.{all_both}
 use Rattle.hevc_stateless_laws.specs.Stands.{meant, standing_after, StandsAfter, kept_after}
 use Rattle.hevc_stateless_laws.proofs.Keeping.{meant_last, meant_behind, length_meant}
@@ -29,7 +29,8 @@ use Rattle.hevc_decoder.specs.Names.{answer_of}
 use Rattle.hevc_decoder.specs.Headline.{BeginsPicture}
 use Rattle.hevc_decoder.specs.Scenes.{Scene, Trail, trail_of}
 use Rattle.hevc_decoder.specs.Takes.{DoesAll, StopsPlan, FillsPlan, TakesWhole, RefusesUnit, FillsUnit, HaltsUnit, TakesUnit}
-use Rattle.hevc_decoder.specs.Runs.{Reached, CallFollows, UpTo, IsVerdict, Ended}
+use Rattle.hevc_decoder.specs.Cut.{CallFollows, UpTo, IsVerdict}
+use Rattle.hevc_decoder.specs.Runs.{Reached, Ended}
 use Rattle.hevc_decoder.proofs.Doing.{does_all_nothing, does_all_then}
 use Rattle.hevc_decoder.proofs.Numbers.{number_grows}
 use Rattle.hevc_decoder.proofs.Beginnings.{begins_picture_at}
@@ -58,19 +59,19 @@ follows_more k ((j, Called call) ∷ es) more h = h
 follows_more k ((j, Output number order_count) ∷ es) more h = absurd h
 
 -- a run that is stopped within what is asked at unit k
-pub record Cut {H : Type 0} (F : Type 0) (us : List Meaning) (segments : List (Option Segment)) (k : ℕ) (old new : Trail H) : Type 0 where
+pub record Cut {H : Type 0} (F : Type 0) (us : List Meaning) (read_units : List ReadUnit) (k : ℕ) (old new : Trail H) : Type 0 where
   pub done : List (ℕ × Event)
   pub rest : List (ℕ × Event)
   pub whole : events us ≡ done ++ rest
-  pub does : DoesAll (given_of us segments) old new done
+  pub does : DoesAll (given_of us read_units) old new done
   pub up : UpTo k done rest
   pub next : F → CallFollows k rest
 
-pub failed : {H : Type 0} (us : List Meaning) (segments : List (Option Segment)) (k : ℕ) (old new : Trail H) → Cut (Unit {0}) us segments k old new → Ended (Err (record { unit = k; error = errors.Backend })) us segments old new
-failed us segments k old new x = record { done = x.done; rest = x.rest; whole = x.whole; does = x.does; ends = (x.up, x.next tt) }
+pub failed : {H : Type 0} (us : List Meaning) (read_units : List ReadUnit) (k : ℕ) (old new : Trail H) → Cut (Unit {0}) us read_units k old new → Ended (Err (record { unit = k; error = errors.Backend })) us read_units old new
+failed us read_units k old new x = record { done = x.done; rest = x.rest; whole = x.whole; does = x.does; ends = (x.up, x.next tt) }
 
-pub wanted : {H : Type 0} (us : List Meaning) (segments : List (Option Segment)) (k : ℕ) (old new : Trail H) → Cut ⊥ us segments k old new → Ended (Err (record { unit = k; error = errors.NoMemory })) us segments old new
-wanted us segments k old new x = record { done = x.done; rest = x.rest; whole = x.whole; does = x.does; ends = x.up }
+pub wanted : {H : Type 0} (us : List Meaning) (read_units : List ReadUnit) (k : ℕ) (old new : Trail H) → Cut ⊥ us read_units k old new → Ended (Err (record { unit = k; error = errors.NoMemory })) us read_units old new
+wanted us read_units k old new x = record { done = x.done; rest = x.rest; whole = x.whole; does = x.does; ends = x.up }
 
 -- ---- after some units
 
@@ -89,7 +90,7 @@ module _ {B H : Type 0} (o : Options) (all : List NalUnit) (k : ℕ) (old mid : 
   us = meant o all
 
   abbrev at_all : ℕ → Given
-  at_all = given_of us (segments_of o all)
+  at_all = given_of us (read_units_of o all)
 
   pub meant_is : us ≡ ms ++ back
   meant_is = ap (meant o) x.whole ∙ meant_behind o none_kept x.front later
@@ -107,7 +108,7 @@ module _ {B H : Type 0} (o : Options) (all : List NalUnit) (k : ℕ) (old mid : 
   below = subst (λ (n : ℕ). AllBelow n (walk_events (stream ms))) (zero-add (length ms) ∙ place_is) (stream-below 0 nothing_yet ms x.stands.goes_on tt)
 
   -- stopped within a plan that comes next
-  pub cut_at : (F : Type 0) (new : Trail H) (plan : List Event) (more : List (ℕ × Event)) → events_from S k back ≡ at_unit k plan ++ more → StopsPlan at_all F k (trail_of mid) new plan → Cut F us (segments_of o all) k (trail_of old) new
+  pub cut_at : (F : Type 0) (new : Trail H) (plan : List Event) (more : List (ℕ × Event)) → events_from S k back ≡ at_unit k plan ++ more → StopsPlan at_all F k (trail_of mid) new plan → Cut F us (read_units_of o all) k (trail_of old) new
   cut_at F new plan more is y =
       let here : events_from S k back ≡ at_unit k y.done ++ (at_unit k y.rest ++ more) = is ∙ ap (λ es. at_unit k es ++ more) y.whole ∙ ap (λ es. es ++ more) (at-append k y.done y.rest) ∙ append_assoc (at_unit k y.done) (at_unit k y.rest) more in
       record {
@@ -123,7 +124,7 @@ module _ {B H : Type 0} (o : Options) (all : List NalUnit) (k : ℕ) (old mid : 
       }
 
   -- a picture finds the buffer full
-  pub filled : (new : Trail H) (plan : List Event) (more : List (ℕ × Event)) → events_from S k back ≡ at_unit k plan ++ more → answer_of (verdict us) ≡ Err (record { unit = k; error = errors.DpbFull }) → FillsPlan at_all k (trail_of mid) new plan → Ended (Err (record { unit = k; error = errors.DpbFull })) us (segments_of o all) (trail_of old) new
+  pub filled : (new : Trail H) (plan : List Event) (more : List (ℕ × Event)) → events_from S k back ≡ at_unit k plan ++ more → answer_of (verdict us) ≡ Err (record { unit = k; error = errors.DpbFull }) → FillsPlan at_all k (trail_of mid) new plan → Ended (Err (record { unit = k; error = errors.DpbFull })) us (read_units_of o all) (trail_of old) new
   filled new plan more is answer y = record {
     done = walk_events (stream ms) ++ (k, Called (walk.SubmitPicture y.number)) ∷ [];
     rest = at_unit k y.rest ++ more;
@@ -149,7 +150,7 @@ reached_within o all k old mid later x = let whole = ap (λ (l : List NalUnit). 
 
 module _ {B H : Type 0} (o : Options) (all : List NalUnit) (k : ℕ) (old mid : Scene B H) (u : NalUnit) (later : List NalUnit) (x : Reached o all k old mid (u ∷ later)) where
   abbrev at_here : ℕ → Given
-  at_here = given_of (meant o all) (segments_of o all)
+  at_here = given_of (meant o all) (read_units_of o all)
 
   abbrev front_meant : List Meaning
   front_meant = meant o x.front
@@ -191,16 +192,16 @@ module _ {B H : Type 0} (o : Options) (all : List NalUnit) (k : ℕ) (old mid : 
       length_last [] = refl
       length_last (v ∷ vs) = let more = length_last vs in omega (arith, more)
 
-  stopped : (F : Type 0) (new : Trail H) → StopsPlan at_here F k (trail_of mid) new (unit_part y s).events → Cut F (meant o all) (segments_of o all) k (trail_of old) new
+  stopped : (F : Type 0) (new : Trail H) → StopsPlan at_here F k (trail_of mid) new (unit_part y s).events → Cut F (meant o all) (read_units_of o all) k (trail_of old) new
   stopped F new t = cut_at o all k old mid (u ∷ later) x F new (unit_part y s).events (rest_of (refusal_at y s)) refl t
 
-  halted : (frames : ℕ) (new : Trail H) → HaltsUnit at_here frames k (trail_of mid) new y s → Ended (Err (record { unit = k; error = errors.NotEnoughOutputBuffers frames })) (meant o all) (segments_of o all) (trail_of old) new
+  halted : (frames : ℕ) (new : Trail H) → HaltsUnit at_here frames k (trail_of mid) new y s → Ended (Err (record { unit = k; error = errors.NotEnoughOutputBuffers frames })) (meant o all) (read_units_of o all) (trail_of old) new
   halted frames new t =
       let c = stopped ⊥ new t.stops in
       let begun = subst (BeginsPicture k) (sym (meant_is o all k old mid (u ∷ later) x)) (subst (λ (n : ℕ). BeginsPicture n (front_meant ++ y ∷ ys)) (place_is o all k old mid (u ∷ later) x) (begins_picture_at front_meant y ys t.begins)) in
       record { done = c.done; rest = c.rest; whole = c.whole; does = c.does; ends = (t.told, begun, c.up) }
 
-  full_unit : (new : Trail H) → FillsUnit at_here k (trail_of mid) new y s → Ended (Err (record { unit = k; error = errors.DpbFull })) (meant o all) (segments_of o all) (trail_of old) new
+  full_unit : (new : Trail H) → FillsUnit at_here k (trail_of mid) new y s → Ended (Err (record { unit = k; error = errors.DpbFull })) (meant o all) (read_units_of o all) (trail_of old) new
   full_unit new t = filled o all k old mid (u ∷ later) x new (unit_part y s).events (rest_of (refusal_at y s)) refl (ap answer_of (verdict_by true (refusal_at y s) t.full refl)) t.fills
 
   refused_by : (e : DecodeError) (new : Trail H) (t : RefusesUnit at_here e k (trail_of mid) new y s) → IsVerdict (record { unit = k; error = e }) (meant o all) × (events (meant o all) ≡ (walk_events (stream front_meant) ++ at_unit k (unit_part y s).events) ++ [])
@@ -210,9 +211,9 @@ module _ {B H : Type 0} (o : Options) (all : List NalUnit) (k : ℕ) (old mid : 
         ∙ sym (append-nil (walk_events (stream front_meant) ++ at_unit k (unit_part y s).events)),
   )
 
-  pub ended_refused : (T : Type 0) (e : DecodeError) (new : Trail H) → TakesUnit {T = T} at_here (Err e) k (trail_of mid) new y s → Ended (Err (record { unit = k; error = e })) (meant o all) (segments_of o all) (trail_of old) new
-  ended_refused T errors.Backend new t = failed (meant o all) (segments_of o all) k (trail_of old) new (stopped (Unit {0}) new t)
-  ended_refused T errors.NoMemory new t = wanted (meant o all) (segments_of o all) k (trail_of old) new (stopped ⊥ new t)
+  pub ended_refused : (T : Type 0) (e : DecodeError) (new : Trail H) → TakesUnit {T = T} at_here (Err e) k (trail_of mid) new y s → Ended (Err (record { unit = k; error = e })) (meant o all) (read_units_of o all) (trail_of old) new
+  ended_refused T errors.Backend new t = failed (meant o all) (read_units_of o all) k (trail_of old) new (stopped (Unit {0}) new t)
+  ended_refused T errors.NoMemory new t = wanted (meant o all) (read_units_of o all) k (trail_of old) new (stopped ⊥ new t)
   ended_refused T errors.DpbFull new t = full_unit new t
   ended_refused T (errors.NotEnoughOutputBuffers frames) new t = halted frames new t
   ended_refused T errors.NoNal new t = absurd t
@@ -228,4 +229,4 @@ module _ {B H : Type 0} (o : Options) (all : List NalUnit) (k : ℕ) (old mid : 
 
 -- at the beginning
 pub reached_first : {B H : Type 0} (o : Options) (all : List NalUnit) (now : Scene B H) → StandsAfter o [] now.seen → now.seen.view.queue ≡ [] → now.seen.view.standing.next.number ≡ 0 → Reached o all 0 now now all
-reached_first o all now stands empty none = record { front = []; whole = refl; place = refl; stands = stands; empty = empty; few = omega (arith, none); does = does_all_nothing (given_of (meant o all) (segments_of o all)) (trail_of now) (trail_of now) refl }
+reached_first o all now stands empty none = record { front = []; whole = refl; place = refl; stands = stands; empty = empty; few = omega (arith, none); does = does_all_nothing (given_of (meant o all) (read_units_of o all)) (trail_of now) (trail_of now) refl }

@@ -9,6 +9,11 @@ abbrev pub without_unit : {T : Type 0} → Result T Refused → Result T DecodeE
 without_unit (Ok value) = Ok value
 without_unit (Err refused) = Err refused.error
 
+-- whether there is one, and which error there is
+abbrev pub outcome : {T : Type 0} → Result T Refused → Result (Unit {0}) DecodeError
+outcome (Ok value) = Ok tt
+outcome (Err refused) = Err refused.error
+
 -- A stream has no unit that isn't there, a format is accepted as it is negotiated, and numbers
 -- suffice for less than 2^60 units. One frame is asked for at a time.
 abbrev pub IsAnswer : DecodeError → Type 0

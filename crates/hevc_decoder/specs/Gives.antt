@@ -1,6 +1,7 @@
 -- What a unit of a stream, and the end of it, do as a decoder is called and its outputs are moved.
-use Rattle.std.specs.Prelude.{◌≡◌, ◌⊎◌, ℕ, Bool, true, false, List, [], ◌++◌, map, Result, Err}
-use Rattle.hevc_spec.specs.UnitHeader.{UnitHeader}
+use Rattle.std.specs.Prelude.{◌≡◌, ◌⊎◌, ℕ, Bool, true, false, List, [], ◌∷◌, ◌++◌, map, Result, Ok, Err}
+use Rattle.hevc_spec.specs.Units.{NalUnit}
+use Rattle.hevc_spec.specs.UnitHeader.{UnitHeader, HeaderFault, unit_header}
 use Rattle.hevc_stream.specs.Options.{Options}
 use Rattle.hevc_bumping.specs.declared.frame.Frame.{Frame}
 use Rattle.hevc_driver.specs.declared.decode_error.DecodeError.{DecodeError}
@@ -60,9 +61,24 @@ GivesWhole result k options header bytes old new =
 abbrev pub Flushed : {B H T : Type 0} → Result T DecodeError → Seen B H → Seen B H → Type 0
 Flushed result old new =
     (given : Given)
-    → Flushes result given (traces_of old.log old.handed old.view)
-    (traces_of new.log new.handed new.view) old.view.state old.view.standing new.view.standing
+    → Flushes result given (traces_of old.log old.handed old.asked old.view)
+    (traces_of new.log new.handed new.asked new.view) old.view.state old.view.standing new.view.standing
 
 -- the stream ended, after k units
 abbrev pub Closes : {B H T : Type 0} → Result T DecodeError → ℕ → Scene B H → Scene B H → Type 0
 Closes result k old new = Delivered Flushed result k old new ⊎ Unmade result old new
+
+-- What is left after the next unit, the k-th, was asked for. None is left, or the header of the
+-- first is refused: all stays. Else it was given.
+abbrev pub LeavesUnit : {B H : Type 0} → Result UnitHeader HeaderFault
+    → Result (Unit {0}) DecodeError → ℕ
+    → Options → List ℕ → Scene B H → Scene B H → Type 0
+LeavesUnit (Ok header) result k options bytes old new =
+    GivesWhole result k options header bytes old new
+LeavesUnit (Err fault) result k options bytes old new = new ≡ old
+
+abbrev pub LeavesNext : {B H : Type 0} → Result (Unit {0}) DecodeError → Options → ℕ
+    → List NalUnit → Scene B H → Scene B H → Type 0
+LeavesNext result options k [] old new = new ≡ old
+LeavesNext result options k (u ∷ us) old new =
+    LeavesUnit (unit_header u.bytes) result k options u.bytes old new

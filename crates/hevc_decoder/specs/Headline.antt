@@ -6,7 +6,6 @@ use Rattle.hevc_walk.specs.Meanings.{Meaning}
 use Rattle.hevc_walk.specs.Pictures.{Picture, pictures, stream}
 use Rattle.hevc_walk.specs.Walk as walk
 use Rattle.hevc_walk.specs.Refusals.{Refusal}
-use Rattle.hevc_walk.specs.Results.{OutputPicture, calls_below, outputs_below}
 use Rattle.hevc_walk.specs.Fates.{times, numbers_for_output, discarded_numbers}
 use Rattle.hevc_walk_bound.specs.Stores.{StoresFew}
 use Rattle.hevc_dpb.specs.Entries.{IsPartOf}
@@ -47,68 +46,6 @@ AnswersError error r verdict = answer_of verdict ≡ Err r
 abbrev pub AnswersVerdict : Result ℕ Refused → Result ℕ Refusal → Type 0
 AnswersVerdict (Ok n) verdict = answer_of verdict ≡ Ok n
 AnswersVerdict (Err r) verdict = AnswersError r.error r verdict
-
--- ---- calls
-
--- the calls made are all those of units before k, and none of units after it
-pub record CutsCalls (k : ℕ) (calls : List walk.Call) (all : List (ℕ × walk.Call)) : Type 0 where
-  pub made : List (ℕ × walk.Call)
-  pub unmade : List (ℕ × walk.Call)
-  pub whole : all ≡ made ++ unmade
-  pub calls_are : calls ≡ all_asked made
-  pub made_before : AllByRecursion (λ c. c.0 ≤ k) made
-  pub unmade_behind : AllByRecursion (λ c. k ≤ c.0) unmade
-
--- the next call is one of unit k
-abbrev pub NextIs : ℕ → List (ℕ × walk.Call) → Type 0
-NextIs k [] = ⊥
-NextIs k (c ∷ cs) = c.0 ≡ k
-
--- and the next call, which failed, is one of unit k
-pub record FailsInUnit (k : ℕ) (calls : List walk.Call) (all : List (ℕ × walk.Call)) : Type 0 where
-  pub cut : CutsCalls k calls all
-  pub next : NextIs k cut.unmade
-
--- the calls made are those of units before k,
--- and the submission of the picture that finds the buffer full (C.5.2.3)
-pub record SubmitsLast (k : ℕ) (calls : List walk.Call) (all : List (ℕ × walk.Call)) : Type 0 where
-  pub number : ℕ
-  pub later : List (ℕ × walk.Call)
-  pub whole : all ≡ calls_below k all ++ (k, walk.SubmitPicture number) ∷ later
-  pub calls_are : calls ≡ all_asked (calls_below k all) ++ walk.SubmitPicture number ∷ []
-
-abbrev pub EndsCallsAt : DecodeError → ℕ → List walk.Call → List (ℕ × walk.Call) → Type 0
-EndsCallsAt errors.Backend k calls all = FailsInUnit k calls all
-EndsCallsAt (errors.NotEnoughOutputBuffers frames) k calls all = CutsCalls k calls all
-EndsCallsAt errors.NoMemory k calls all = CutsCalls k calls all
-EndsCallsAt errors.DpbFull k calls all = SubmitsLast k calls all
-EndsCallsAt error k calls all = calls ≡ all_asked all
-
--- which calls were made, by the answer
-abbrev pub EndsCalls : Result ℕ Refused → List walk.Call → List (ℕ × walk.Call) → Type 0
-EndsCalls (Ok n) calls all = calls ≡ all_asked all
-EndsCalls (Err r) calls all = EndsCallsAt r.error r.unit calls all
-
--- ---- outputs
-
--- the pictures that were output are all those of units before k, and none of units after it
-pub record CutsOutputs (k : ℕ) (given all : List OutputPicture) : Type 0 where
-  pub ungiven : List OutputPicture
-  pub whole : all ≡ given ++ ungiven
-  pub given_before : AllByRecursion (λ o. o.unit ≤ k) given
-  pub ungiven_behind : AllByRecursion (λ o. k ≤ o.unit) ungiven
-
-abbrev pub EndsOutputsAt : DecodeError → ℕ → List OutputPicture → List OutputPicture → Type 0
-EndsOutputsAt errors.Backend k given all = CutsOutputs k given all
-EndsOutputsAt (errors.NotEnoughOutputBuffers frames) k given all = CutsOutputs k given all
-EndsOutputsAt errors.NoMemory k given all = CutsOutputs k given all
-EndsOutputsAt errors.DpbFull k given all = given ≡ outputs_below k all
-EndsOutputsAt error k given all = given ≡ all
-
--- which pictures were output, by the answer
-abbrev pub EndsOutputs : Result ℕ Refused → List OutputPicture → List OutputPicture → Type 0
-EndsOutputs (Ok n) given all = given ≡ all
-EndsOutputs (Err r) given all = EndsOutputsAt r.error r.unit given all
 
 -- ---- frames
 

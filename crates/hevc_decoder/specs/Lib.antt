@@ -4,6 +4,7 @@ pub mod Headline
 pub mod Scenes
 pub mod Gives
 pub mod Takes
+pub mod Cut
 pub mod Runs
 pub mod Sources
 pub mod Windows

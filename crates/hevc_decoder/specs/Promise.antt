@@ -13,11 +13,12 @@ use Rattle.hevc_backend.specs.Trait.{Counts}
 use Rattle.hevc_driver.specs.Answers.{CountsErrors, KeepsFaultless}
 use Rattle.hevc_driver.specs.Calls.{call_of, IsTimed}
 use Rattle.hevc_driver.specs.Given.{AreOneToOne}
-use Rattle.hevc_stateless_laws.specs.Segments.{handed_over, segments}
+use Rattle.hevc_stateless_laws.specs.Segments.{handed_over, read_units}
 use Rattle.hevc_decoder.specs.declared.decoded.Refused.{Refused}
 use Rattle.hevc_decoder.specs.declared.decoded.Shown.{Shown}
 use Rattle.hevc_decoder.specs.Answers.{AnswersOnly, FindsRoom, IsOkOrNoMemory, without_unit}
-use Rattle.hevc_decoder.specs.Headline.{Grew, Appended, IsFront, all_asked, AnswersVerdict, EndsCalls, EndsOutputs, WantsFrame, AllSubmitted, SubmittedOnce, ComeOutOnce, AreForOutput, NeverStoreMore}
+use Rattle.hevc_decoder.specs.Cut.{IsCut}
+use Rattle.hevc_decoder.specs.Headline.{Grew, Appended, IsFront, all_asked, AnswersVerdict, WantsFrame, AllSubmitted, SubmittedOnce, ComeOutOnce, AreForOutput, NeverStoreMore}
 use Rattle.hevc_decoder.specs.Names.{output_picture}
 
 -- What is told at a moment: of a backend its log and what it was handed, if it exposes them, its
@@ -75,16 +76,14 @@ pub record Decodes {H : Type 0} (options : Options) (stream : List ℕ) (before 
       (λ o. IsFront (map output_picture o) (walk.outputs (meanings options stream)))
   -- any answer but a failed backend, one without a frame, and no memory is the verdict on the units
   pub answer : AnswersVerdict result (walk.verdict (meanings options stream))
-  -- On a verdict all calls are made, or those up to the picture that finds the buffer full; else,
-  -- at unit k, all of units before k and none of units after it.
-  pub whole_calls : Grew before.log now.log
-      (λ l. EndsCalls result (map call_of l) (walk.calls (meanings options stream)))
-  pub whole_outputs : Appended before.shown now.shown
-      (λ o. EndsOutputs result (map output_picture o) (walk.outputs (meanings options stream)))
+  -- In the order of all events there is one cut, before which all calls were made and all pictures
+  -- output, and after it none: at the end on a verdict, or where the picture is submitted that finds
+  -- the buffer full; else, at unit k, after all of units before k and before all of units after it.
+  pub cut : IsCut result (meanings options stream) before.log now.log before.shown now.shown
   -- with each of these calls came exactly the picture, the parameter sets and the header of its
   -- unit: the sets that are kept there, and the header of a dependent slice segment completed
   pub handed : Grew before.handed now.handed (λ hs. Grew before.log now.log
-      (λ l. hs ≡ handed_over (meanings options stream) (segments options stream)
+      (λ l. hs ≡ handed_over (meanings options stream) (read_units options stream)
       (take (length l) (walk.calls (meanings options stream)))))
   -- one to one, in order: a picture with each NewPicture, a picture and its first slice segment
   -- with each BeginPicture, a slice segment with each DecodeSlice

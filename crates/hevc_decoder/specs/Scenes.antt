@@ -2,6 +2,7 @@
 use Rattle.std.specs.Prelude.{ℕ, List, Option}
 use Rattle.hevc_backend.specs.declared.call.Call.{Call}
 use Rattle.hevc_backend.specs.Handed.{Handed}
+use Rattle.hevc_backend.specs.Trait.{Frames}
 use Rattle.hevc_bumping.specs.declared.frame.Frame.{Frame}
 use Rattle.hevc_stateless.specs.declared.decoder.StatelessDecoder.{StatelessDecoder}
 use Rattle.hevc_stateless.specs.declared.state.State.TheVariants.{Decoding}
@@ -16,8 +17,8 @@ pub record Scene (B H : Type 0) : Type 0 where
 
 -- where backends expose these logs, and this as what they were handed
 abbrev pub scene : {B H P : Type 0} → (log : B → Option (List (Call H)))
-    → (handed : B → Option (List Handed)) → StatelessDecoder B H P → List (Shown H) → Scene B H
-scene log handed decoder shown = record { seen = seen_by log handed decoder; shown = shown }
+    → (handed : B → Option (List Handed)) → (frames : B → Frames) → StatelessDecoder B H P → List (Shown H) → Scene B H
+scene log handed frames decoder shown = record { seen = seen_by log handed frames decoder; shown = shown }
 
 -- with these pictures in the queue
 abbrev pub with_queue : {B H : Type 0} → List (Frame H) → Seen B H → Seen B H

@@ -5,7 +5,7 @@ use Rattle.hevc_spec.specs.Units.{NalUnit, units}
 use Rattle.hevc_walk.specs.Results.{outputs}
 use Rattle.hevc_stream.specs.Options.{Options}
 use Rattle.hevc_stream.specs.Stream.{meanings}
-use Rattle.hevc_stateless_laws.specs.Segments.{segments, segments_of}
+use Rattle.hevc_stateless_laws.specs.Segments.{read_units, read_units_of}
 use Rattle.hevc_stateless_laws.specs.Stands.{meant}
 use Rattle.hevc_decoder.specs.declared.decoded.Shown.{Shown}
 use Rattle.hevc_decoder.specs.declared.decoded.Refused.{Refused}
@@ -34,14 +34,14 @@ pub record Fed {B H : Type 0} (options : Options) (given window : List ℕ) (uni
   pub reached : Reached options front unit begin now []
   pub cut : (later : List ℕ)
       → meanings options (given ++ later) ≡ meant options (front ++ units (window ++ later))
-  pub cut_segments : (later : List ℕ)
-      → segments options (given ++ later) ≡ segments_of options (front ++ units (window ++ later))
+  pub cut_read : (later : List ℕ)
+      → read_units options (given ++ later) ≡ read_units_of options (front ++ units (window ++ later))
 
 -- The run ended at a unit of these bytes, whatever comes after them.
 pub record Stopped {B H : Type 0} (options : Options) (given : List ℕ) (refused : Refused)
     (begin now : Scene B H) : Type 0 where
   pub ended : (later : List ℕ)
-      → Ended (Err refused) (meanings options (given ++ later)) (segments options (given ++ later))
+      → Ended (Err refused) (meanings options (given ++ later)) (read_units options (given ++ later))
       (trail_of begin) (trail_of now)
   pub within : (later : List ℕ) → refused.unit ≤ length (units (given ++ later))
 
@@ -64,5 +64,5 @@ pub record Drained {H : Type 0} (options : Options) (limit : ℕ) (left rest : O
   pub stream : List ℕ
   pub gave : Consumes left rest stream
   pub short : length stream ≤ limit
-  pub ended : Ended answer (meanings options stream) (segments options stream) begin now
+  pub ended : Ended answer (meanings options stream) (read_units options stream) begin now
   pub within : IfErr answer (λ refused. refused.unit ≤ length (units stream))

@@ -5,7 +5,7 @@ use Rattle.hevc_bits.specs.FoundUnit.{FoundUnit, unit_of}
 use Rattle.hevc_stream.specs.Options.{Options}
 use Rattle.hevc_backend.specs.declared.call.Call.{Call}
 use Rattle.hevc_backend.specs.Handed.{Handed}
-use Rattle.hevc_backend.specs.Trait.{Counts}
+use Rattle.hevc_backend.specs.Trait.{Counts, Frames}
 use Rattle.hevc_stateless.specs.declared.decoder.StatelessDecoder.{StatelessDecoder}
 use Rattle.hevc_stateless.specs.Decoders.{view_of, set_for}
 use Rattle.hevc_decoder.specs.declared.decoded.Refused.{Refused}
@@ -19,6 +19,12 @@ abbrev pub IsNextUnit : {U : Type 0} → Option (FoundUnit U) → (before after 
 IsNextUnit None before after = before ≡ []
 IsNextUnit (Some found) before after = before ≡ unit_of found ∷ after
 
+-- a position stays where no unit was taken
+abbrev pub StaysUnlessTaken : {T : Type 0} → Result (Option T) Refused → (old new : ℕ) → Type 0
+StaysUnlessTaken (Ok (Some taken)) old new = Unit {0}
+StaysUnlessTaken (Ok None) old new = new ≡ old
+StaysUnlessTaken (Err refused) old new = new ≡ old
+
 -- before a decoder is given a unit
 abbrev pub first_trail : {H : Type 0} → Option (List (Call H)) → Option (List Handed) → Trail H
 first_trail log handed = record { log = log; handed = handed; shown = []; tickets = [] }
@@ -27,12 +33,12 @@ first_trail log handed = record { log = log; handed = handed; shown = []; ticket
 -- to unit k; these are left. None was refused, all that they ask for was done, and these pictures
 -- were output.
 pub record StandsIn {B H P : Type 0} (log : B → Option (List (Call H)))
-    (handed : B → Option (List Handed)) (counts : B → Counts) (is_faultless : B → Type 0)
+    (handed : B → Option (List Handed)) (frames : B → Frames) (counts : B → Counts) (is_faultless : B → Type 0)
     (options : Options) (stream : List ℕ) (k : ℕ) (left : List NalUnit) (backend : B)
     (shown : List (Shown H)) (decoder : StatelessDecoder B H P) : Type 0 where
   pub begin : Scene B H
   pub begins : trail_of begin ≡ first_trail (log backend) (handed backend)
-  pub reached : Reached options (units stream) k begin (scene log handed decoder shown) left
+  pub reached : Reached options (units stream) k begin (scene log handed frames decoder shown) left
   pub counted : counts (view_of decoder).backend ≡ counts backend
   pub faultless : is_faultless backend → is_faultless (view_of decoder).backend
   pub set : set_for decoder ≡ options
@@ -40,16 +46,16 @@ pub record StandsIn {B H P : Type 0} (log : B → Option (List (Call H)))
 -- Unit k was taken, and `after` are left; or there is none; or it is refused, and with it the
 -- stream.
 abbrev pub GoesOn : {B H P T : Type 0} → (log : B → Option (List (Call H)))
-    → (handed : B → Option (List Handed)) → (counts : B → Counts) → (is_faultless : B → Type 0)
+    → (handed : B → Option (List Handed)) → (frames : B → Frames) → (counts : B → Counts) → (is_faultless : B → Type 0)
     → Result (Option T) Refused → Options → List ℕ → (k : ℕ) → (before after : List NalUnit) → B
     → List (Shown H) → StatelessDecoder B H P → Type 0
-GoesOn log handed counts is_faultless (Ok (Some taken)) options stream k before after backend shown
+GoesOn log handed frames counts is_faultless (Ok (Some taken)) options stream k before after backend shown
     new =
-    StandsIn log handed counts is_faultless options stream (k + 1) after backend shown new
-GoesOn log handed counts is_faultless (Ok None) options stream k before after backend shown new =
+    StandsIn log handed frames counts is_faultless options stream (k + 1) after backend shown new
+GoesOn log handed frames counts is_faultless (Ok None) options stream k before after backend shown new =
     (before ≡ [])
-    × StandsIn log handed counts is_faultless options stream k [] backend shown new
-GoesOn log handed counts is_faultless (Err refused) options stream k before after backend shown
+    × StandsIn log handed frames counts is_faultless options stream k [] backend shown new
+GoesOn log handed frames counts is_faultless (Err refused) options stream k before after backend shown
     new =
     Decodes options stream (told log handed counts is_faultless backend [])
     (told log handed counts is_faultless (view_of new).backend shown) (Err refused)
@@ -57,33 +63,33 @@ GoesOn log handed counts is_faultless (Err refused) options stream k before afte
 -- The next unit was taken of a stream, of which `before` were left: so much more was output, and
 -- the stream goes on.
 pub record DecodesNext {B H P T : Type 0} (log : B → Option (List (Call H)))
-    (handed : B → Option (List Handed)) (counts : B → Counts) (is_faultless : B → Type 0)
+    (handed : B → Option (List Handed)) (frames : B → Frames) (counts : B → Counts) (is_faultless : B → Type 0)
     (result : Result (Option T) Refused) (stream : List ℕ) (k : ℕ) (before after : List NalUnit)
     (old new : StatelessDecoder B H P) (old_shown new_shown : List (Shown H)) : Type 0 where
   pub out : List (Shown H)
   pub shown : new_shown ≡ old_shown ++ out
   pub goes_on : (options : Options) (backend : B) (gone : List (Shown H))
-      → StandsIn log handed counts is_faultless options stream k before backend gone old
-      → GoesOn log handed counts is_faultless result options stream k before after backend
+      → StandsIn log handed frames counts is_faultless options stream k before backend gone old
+      → GoesOn log handed frames counts is_faultless result options stream k before after backend
       (gone ++ out) new
 
 -- All units of a stream had been taken, k of them: so much more was output at its end, and the
 -- stream is decoded.
 pub record DecodesEnd {B H P : Type 0} (log : B → Option (List (Call H)))
-    (handed : B → Option (List Handed)) (counts : B → Counts) (is_faultless : B → Type 0)
+    (handed : B → Option (List Handed)) (frames : B → Frames) (counts : B → Counts) (is_faultless : B → Type 0)
     (result : Result ℕ Refused) (k : ℕ) (old new : StatelessDecoder B H P)
     (old_shown new_shown : List (Shown H)) : Type 0 where
   pub out : List (Shown H)
   pub shown : new_shown ≡ old_shown ++ out
   pub decodes : (options : Options) (stream : List ℕ) (backend : B) (gone : List (Shown H))
-      → StandsIn log handed counts is_faultless options stream k [] backend gone old
+      → StandsIn log handed frames counts is_faultless options stream k [] backend gone old
       → Decodes options stream (told log handed counts is_faultless backend [])
       (told log handed counts is_faultless (view_of new).backend (gone ++ out)) result
 
 -- All units of a stream were taken from its beginning on, and the stream was decoded: these
 -- pictures were output.
 pub record ComesOut {B H P : Type 0} (log : B → Option (List (Call H)))
-    (handed : B → Option (List Handed)) (counts : B → Counts) (is_faultless : B → Type 0)
+    (handed : B → Option (List Handed)) (frames : B → Frames) (counts : B → Counts) (is_faultless : B → Type 0)
     (result : Result ℕ Refused) (options : Options) (stream : List ℕ) (backend : B)
     (new : StatelessDecoder B H P) : Type 0 where
   pub shown : List (Shown H)
@@ -91,9 +97,9 @@ pub record ComesOut {B H P : Type 0} (log : B → Option (List (Call H)))
       (told log handed counts is_faultless (view_of new).backend shown) result
 
 abbrev pub JudgesUnits : {B H P : Type 0} → (log : B → Option (List (Call H)))
-    → (handed : B → Option (List Handed)) → (counts : B → Counts) → (is_faultless : B → Type 0)
+    → (handed : B → Option (List Handed)) → (frames : B → Frames) → (counts : B → Counts) → (is_faultless : B → Type 0)
     → Result ℕ Refused → List ℕ → (old new : StatelessDecoder B H P) → Type 0
-JudgesUnits {B} log handed counts is_faultless result stream old new =
+JudgesUnits {B} log handed frames counts is_faultless result stream old new =
     (options : Options) (backend : B)
-    → StandsIn log handed counts is_faultless options stream 0 (units stream) backend [] old
-    → ComesOut log handed counts is_faultless result options stream backend new
+    → StandsIn log handed frames counts is_faultless options stream 0 (units stream) backend [] old
+    → ComesOut log handed frames counts is_faultless result options stream backend new

@@ -36,8 +36,8 @@ fn take_whole<B: StatelessH265DecoderBackend>(
     ensures blames { BlamesFairly B.counts B.is_faultless (view_of decoder.old).backend
         (view_of decoder.new).backend (without_unit result) }
     ensures feeds { FeedsOn result (set_for decoder.old) unit window.old window.new
-        (scene B.log B.handed decoder.old shown.old.items)
-        (scene B.log B.handed decoder.new shown.new.items) }
+        (scene B.log B.handed B.frames decoder.old shown.old.items)
+        (scene B.log B.handed B.frames decoder.new shown.new.items) }
     ensures left { OnOk result (NoneStands window.new 1 (length window.new)) }
     ensures options { set_for decoder.new ≡ set_for decoder.old }
 {
@@ -66,8 +66,8 @@ fn feed<B: StatelessH265DecoderBackend, S: Source>(
         × Consumes (S.left source.old) (S.left source.new) given
         × (length given + left.new ≡ left.old)
         × FedTo fed (set_for decoder.old) given window.new
-        (scene B.log B.handed decoder.old shown.old.items)
-        (scene B.log B.handed decoder.new shown.new.items)) }
+        (scene B.log B.handed B.frames decoder.old shown.old.items)
+        (scene B.log B.handed B.frames decoder.new shown.new.items)) }
     ensures outputs { OnErr result (ComeOutFirst (set_for decoder.old) (S.left source.old)
         shown.old.items shown.new.items) }
     ensures end { IfOk result (λ fed. OnOk fed (IsAtEnd (S.left source.new))) }
@@ -119,8 +119,8 @@ pub(crate) fn take_source<B: StatelessH265DecoderBackend, S: Source>(
     requires nothing { kept_in decoder.old ≡ none_kept }
     ensures drained { IfOk result (λ answer. Drained (set_for decoder.old) limit
         (S.left source.old) (S.left source.new) answer
-        (trail_of (scene B.log B.handed decoder.old shown.old.items))
-        (trail_of (scene B.log B.handed decoder.new shown.new.items))) }
+        (trail_of (scene B.log B.handed B.frames decoder.old shown.old.items))
+        (trail_of (scene B.log B.handed B.frames decoder.new shown.new.items))) }
     ensures outputs { OnErr result (ComeOutFirst (set_for decoder.old) (S.left source.old)
         shown.old.items shown.new.items) }
     ensures end { OnOk result (IsAtEnd (S.left source.new)) }

@@ -1,9 +1,12 @@
 //! A stream that is decoded unit by unit.
-ghost use Rattle.std.specs.Prelude.{◌≡◌, ◌≤◌, ◌<◌, [], ℕ, List, length, IfOk, OnOk, OnSome};
+ghost use Rattle.std.specs.Prelude.{◌≡◌, ◌≤◌, ◌<◌, [], ℕ, List, length, IfOk, OnSome};
 ghost use Rattle.hevc_spec.specs.Units.{kept_bytes, units, units_from};
 ghost use Rattle.hevc_options.specs.Options.{options_of};
-ghost use Rattle.hevc_stateless.specs.Decoders.{view_of};
-ghost use Rattle.hevc_decoder.specs.Stepping.{DecodesEnd, DecodesNext, IsNextUnit, StandsIn};
+ghost use Rattle.hevc_stateless.specs.Decoders.{set_for, view_of};
+ghost use Rattle.hevc_decoder.specs.Stepping.{DecodesEnd, DecodesNext, IsNextUnit, StandsIn, StaysUnlessTaken};
+ghost use Rattle.hevc_decoder.specs.Answers.{outcome};
+ghost use Rattle.hevc_decoder.specs.Gives.{Closes, LeavesNext};
+ghost use Rattle.hevc_decoder.specs.Scenes.{scene};
 ghost use Rattle.hevc_bits.specs.declared.stream_limit.TheConstants.{STREAM_LIMIT};
 
 use crate::decoded::{Refused, Shown};
@@ -19,7 +22,7 @@ pub fn begin_stream<B: StatelessH265DecoderBackend>(
     options: Options,
 ) -> StatelessDecoder<B>
     ensures empty { (view_of result).queue ≡ [] }
-    ensures stands { (stream : List ℕ) → StandsIn B.log B.handed B.counts B.is_faultless
+    ensures stands { (stream : List ℕ) → StandsIn B.log B.handed B.frames B.counts B.is_faultless
         (options_of options) stream 0 (units stream) backend [] result }
 {
     StatelessDecoder::new_with(alloc, backend, options)
@@ -27,7 +30,7 @@ pub fn begin_stream<B: StatelessH265DecoderBackend>(
 
 /// Takes the next unit of a byte stream (Annex B) of less than 2^60 bytes, from a position on, as unit `unit`; a format is accepted as it
 /// is negotiated. Pictures that are output are added to `shown`, and the position moves to the place after the unit. `None` where no unit
-/// is left. A refusal is that of the whole stream.
+/// is left. A refusal is that of the whole stream. The position stays then, and where no unit is left.
 pub fn decode_next_unit<'a, B: StatelessH265DecoderBackend>(
     decoder: &mut StatelessDecoder<B>,
     stream: &'a [u8],
@@ -39,16 +42,22 @@ pub fn decode_next_unit<'a, B: StatelessH265DecoderBackend>(
     requires few { unit < STREAM_LIMIT }
     requires within { position.old ≤ length stream.now }
     requires empty { (view_of decoder.old).queue ≡ [] }
-    ensures empty { OnOk result ((view_of decoder.new).queue ≡ []) }
+    ensures empty { (view_of decoder.new).queue ≡ [] }
     ensures next { IfOk result (λ found. IsNextUnit found
         (units_from kept_bytes position.old stream.now)
         (units_from kept_bytes position.new stream.now)) }
     ensures moves { IfOk result (λ found. OnSome found (position.old < position.new)) }
+    ensures stays { StaysUnlessTaken result position.old position.new }
     ensures within { position.new ≤ length stream.now }
-    ensures decodes { DecodesNext B.log B.handed B.counts B.is_faultless result stream.now unit
+    ensures decodes { DecodesNext B.log B.handed B.frames B.counts B.is_faultless result stream.now unit
         (units_from kept_bytes position.old stream.now)
         (units_from kept_bytes position.new stream.now)
         decoder.old decoder.new shown.old.items shown.new.items }
+    ensures leaves { LeavesNext (outcome result) (set_for decoder.old) unit
+        (units_from kept_bytes position.old stream.now)
+        (scene B.log B.handed B.frames decoder.old shown.old.items)
+        (scene B.log B.handed B.frames decoder.new shown.new.items) }
+    ensures options { set_for decoder.new ≡ set_for decoder.old }
 {
     take_next(decoder, stream, position, unit, shown)
 }
@@ -61,7 +70,12 @@ pub fn end_stream<B: StatelessH265DecoderBackend>(
     shown: &mut Vec<Shown<B::Handle>>,
 ) -> Result<u64, Refused>
     requires empty { (view_of decoder.old).queue ≡ [] }
-    ensures decodes { DecodesEnd B.log B.handed B.counts B.is_faultless result unit
+    ensures empty { (view_of decoder.new).queue ≡ [] }
+    ensures leaves { Closes (outcome result) unit
+        (scene B.log B.handed B.frames decoder.old shown.old.items)
+        (scene B.log B.handed B.frames decoder.new shown.new.items) }
+    ensures options { set_for decoder.new ≡ set_for decoder.old }
+    ensures decodes { DecodesEnd B.log B.handed B.frames B.counts B.is_faultless result unit
         decoder.old decoder.new shown.old.items shown.new.items }
 {
     finish(decoder, unit, shown)

@@ -88,7 +88,7 @@ fn judge_units<B: StatelessH265DecoderBackend>(
 ) -> Result<u64, Refused>
     requires short { length stream.now < STREAM_LIMIT }
     requires empty { (view_of decoder.old).queue ≡ [] }
-    ensures { JudgesUnits B.log B.handed B.counts B.is_faultless result stream.now
+    ensures { JudgesUnits B.log B.handed B.frames B.counts B.is_faultless result stream.now
         decoder.old decoder.new }
 {
     let mut shown = Vec::new(alloc);

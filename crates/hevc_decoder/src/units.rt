@@ -4,15 +4,15 @@ ghost use Rattle.hevc_spec.specs.Units.{kept_bytes, units, units_from};
 ghost use Rattle.hevc_bits.specs.FoundUnit.{bytes_of};
 ghost use Rattle.hevc_stream.specs.Kept.{none_kept};
 ghost use Rattle.hevc_stream.specs.Stream.{meanings};
-ghost use Rattle.hevc_stateless_laws.specs.Segments.{segments};
+ghost use Rattle.hevc_stateless_laws.specs.Segments.{read_units};
 ghost use Rattle.hevc_driver.specs.Answers.{BlamesFairly};
 ghost use Rattle.hevc_stateless.specs.Decoders.{view_of, kept_in, set_for};
 ghost use Rattle.hevc_stateless.specs.Views.{at_beginning};
-ghost use Rattle.hevc_decoder.specs.Answers.{without_unit};
+ghost use Rattle.hevc_decoder.specs.Answers.{outcome, without_unit};
 ghost use Rattle.hevc_decoder.specs.Names.{shown_at};
-ghost use Rattle.hevc_decoder.specs.Stepping.{IsNextUnit};
+ghost use Rattle.hevc_decoder.specs.Stepping.{IsNextUnit, StaysUnlessTaken};
 ghost use Rattle.hevc_decoder.specs.Scenes.{scene, trail_of};
-ghost use Rattle.hevc_decoder.specs.Gives.{Gives, GivesWhole, Closes, is_check_events};
+ghost use Rattle.hevc_decoder.specs.Gives.{Gives, GivesWhole, LeavesNext, Closes, is_check_events};
 ghost use Rattle.hevc_decoder.specs.Runs.{TakesNext, TakesPiece, EndsHere, EndsRun, Ended};
 ghost use Rattle.hevc_bits.specs.declared.stream_limit.TheConstants.{STREAM_LIMIT};
 
@@ -54,8 +54,8 @@ fn give<B: StatelessH265DecoderBackend>(
     ensures blames { BlamesFairly B.counts B.is_faultless (view_of decoder.old).backend
         (view_of decoder.new).backend result }
     ensures gives { Gives result unit (set_for decoder.old) nalu.now.header (bytes_of nalu.now)
-        (scene B.log B.handed decoder.old shown.old.items)
-        (scene B.log B.handed decoder.new shown.new.items) }
+        (scene B.log B.handed B.frames decoder.old shown.old.items)
+        (scene B.log B.handed B.frames decoder.new shown.new.items) }
     ensures options { set_for decoder.new ≡ set_for decoder.old }
 {
     shown.reserve(MAX_OUTPUTS_OF_UNIT)?;
@@ -85,8 +85,8 @@ fn take_unit<B: StatelessH265DecoderBackend>(
         (view_of decoder.new).backend result }
     ensures gives { GivesWhole result unit (set_for decoder.old) nalu.now.header
         (bytes_of nalu.now)
-        (scene B.log B.handed decoder.old shown.old.items)
-        (scene B.log B.handed decoder.new shown.new.items) }
+        (scene B.log B.handed B.frames decoder.old shown.old.items)
+        (scene B.log B.handed B.frames decoder.new shown.new.items) }
     ensures options { set_for decoder.new ≡ set_for decoder.old }
 {
     let taken = give(decoder, nalu, unit, shown);
@@ -104,11 +104,13 @@ fn close<B: StatelessH265DecoderBackend>(
     shown: &mut Vec<Shown<B::Handle>>,
 ) -> Result<(), DecodeError>
     requires empty { (view_of decoder.old).queue ≡ [] }
+    ensures empty { (view_of decoder.new).queue ≡ [] }
+    ensures options { set_for decoder.new ≡ set_for decoder.old }
     ensures blames { BlamesFairly B.counts B.is_faultless (view_of decoder.old).backend
         (view_of decoder.new).backend result }
     ensures closes { Closes result unit
-        (scene B.log B.handed decoder.old shown.old.items)
-        (scene B.log B.handed decoder.new shown.new.items) }
+        (scene B.log B.handed B.frames decoder.old shown.old.items)
+        (scene B.log B.handed B.frames decoder.new shown.new.items) }
 {
     shown.reserve(MAX_OUTPUTS_OF_UNIT)?;
     let flushed = decoder.flush();
@@ -117,7 +119,7 @@ fn close<B: StatelessH265DecoderBackend>(
 }
 
 /// Takes the next unit of a piece of a stream from a position on, as unit `unit`, and moves the position to the place after it. `None`
-/// where no unit is left.
+/// where no unit is left; the position stays then, and after a refusal.
 pub(crate) fn take_next<'a, B: StatelessH265DecoderBackend>(
     decoder: &mut StatelessDecoder<B>,
     piece: &'a [u8],
@@ -129,22 +131,28 @@ pub(crate) fn take_next<'a, B: StatelessH265DecoderBackend>(
     requires few { unit < STREAM_LIMIT }
     requires within { position.old ≤ length piece.now }
     requires empty { (view_of decoder.old).queue ≡ [] }
-    ensures empty { OnOk result ((view_of decoder.new).queue ≡ []) }
+    ensures empty { (view_of decoder.new).queue ≡ [] }
     ensures next { IfOk result (λ found. IsNextUnit found
         (units_from kept_bytes position.old piece.now)
         (units_from kept_bytes position.new piece.now)) }
     ensures moves { IfOk result (λ found. OnSome found (position.old < position.new)) }
+    ensures stays { StaysUnlessTaken result position.old position.new }
     ensures within { position.new ≤ length piece.now }
     ensures blames { BlamesFairly B.counts B.is_faultless (view_of decoder.old).backend
         (view_of decoder.new).backend (without_unit result) }
     ensures takes { TakesNext result (set_for decoder.old) unit
         (units_from kept_bytes position.old piece.now)
         (units_from kept_bytes position.new piece.now)
-        (scene B.log B.handed decoder.old shown.old.items)
-        (scene B.log B.handed decoder.new shown.new.items) }
+        (scene B.log B.handed B.frames decoder.old shown.old.items)
+        (scene B.log B.handed B.frames decoder.new shown.new.items) }
+    ensures leaves { LeavesNext (outcome result) (set_for decoder.old) unit
+        (units_from kept_bytes position.old piece.now)
+        (scene B.log B.handed B.frames decoder.old shown.old.items)
+        (scene B.log B.handed B.frames decoder.new shown.new.items) }
     ensures options { set_for decoder.new ≡ set_for decoder.old }
 {
-    let nalu = match Nalu::next(piece, position) {
+    let mut next = *position;
+    let nalu = match Nalu::next(piece, &mut next) {
         Ok(nalu) => nalu,
         Err(error) => match error {
             UnitError::NoNal => return Ok(None),
@@ -176,8 +184,8 @@ pub(crate) fn take_piece<B: StatelessH265DecoderBackend>(
     ensures blames { BlamesFairly B.counts B.is_faultless (view_of decoder.old).backend
         (view_of decoder.new).backend (without_unit result) }
     ensures takes { TakesPiece result (set_for decoder.old) first (units piece.now)
-        (scene B.log B.handed decoder.old shown.old.items)
-        (scene B.log B.handed decoder.new shown.new.items) }
+        (scene B.log B.handed B.frames decoder.old shown.old.items)
+        (scene B.log B.handed B.frames decoder.new shown.new.items) }
     ensures options { set_for decoder.new ≡ set_for decoder.old }
 {
     let mut position = 0;
@@ -197,9 +205,14 @@ pub(crate) fn finish<B: StatelessH265DecoderBackend>(
     requires empty { (view_of decoder.old).queue ≡ [] }
     ensures blames { BlamesFairly B.counts B.is_faultless (view_of decoder.old).backend
         (view_of decoder.new).backend (without_unit result) }
+    ensures empty { (view_of decoder.new).queue ≡ [] }
+    ensures options { set_for decoder.new ≡ set_for decoder.old }
+    ensures leaves { Closes (outcome result) unit
+        (scene B.log B.handed B.frames decoder.old shown.old.items)
+        (scene B.log B.handed B.frames decoder.new shown.new.items) }
     ensures ends { EndsHere result (set_for decoder.old) unit
-        (scene B.log B.handed decoder.old shown.old.items)
-        (scene B.log B.handed decoder.new shown.new.items) }
+        (scene B.log B.handed B.frames decoder.old shown.old.items)
+        (scene B.log B.handed B.frames decoder.new shown.new.items) }
 {
     let pictures = decoder.num_pictures();
     match close(decoder, unit, shown) {
@@ -220,8 +233,8 @@ pub(crate) fn take_last<B: StatelessH265DecoderBackend>(
     ensures blames { BlamesFairly B.counts B.is_faultless (view_of decoder.old).backend
         (view_of decoder.new).backend (without_unit result) }
     ensures ends { EndsRun result (set_for decoder.old) first (units piece.now)
-        (scene B.log B.handed decoder.old shown.old.items)
-        (scene B.log B.handed decoder.new shown.new.items) }
+        (scene B.log B.handed B.frames decoder.old shown.old.items)
+        (scene B.log B.handed B.frames decoder.new shown.new.items) }
 {
     let unit = take_piece(decoder, piece, first, shown)?;
     finish(decoder, unit, shown)
@@ -239,9 +252,9 @@ pub(crate) fn take_units<B: StatelessH265DecoderBackend>(
     ensures blames { BlamesFairly B.counts B.is_faultless (view_of decoder.old).backend
         (view_of decoder.new).backend (without_unit result) }
     ensures ended { Ended result (meanings (set_for decoder.old) stream.now)
-        (segments (set_for decoder.old) stream.now)
-        (trail_of (scene B.log B.handed decoder.old shown.old.items))
-        (trail_of (scene B.log B.handed decoder.new shown.new.items)) }
+        (read_units (set_for decoder.old) stream.now)
+        (trail_of (scene B.log B.handed B.frames decoder.old shown.old.items))
+        (trail_of (scene B.log B.handed B.frames decoder.new shown.new.items)) }
     ensures unit { IfErr result (λ refused. refused.unit ≤ length (units stream.now)) }
 {
     take_last(decoder, stream, 0, shown)

@@ -1,11 +1,17 @@
 //! Calls and outputs that break what decoding promises: each part of the promise refuses some.
 #![tactic(auto)]
 
+mod for_c;
+mod parts;
+
 ghost use Rattle.std.specs.Prelude.{[], ◌∷◌};
 ghost use Rattle.hevc_walk_examples.specs.Streams.{plain};
 ghost use Rattle.hevc_walk_examples.specs.Corners.{without_prior};
 ghost use Rattle.hevc_decoder.specs.Headline.{AllSubmitted, SubmittedOnce, ComeOutOnce, AreForOutput, NeverStoreMore};
 ghost use Rattle.hevc_decoder_examples.specs.Broken.{submitted, shown, overstored};
+
+pub use for_c::{decoded, filled, pulled, read};
+pub use parts::{answers, counts, cuts, frames, positions, what_comes};
 
 /// A picture that is discarded and output, and one that is to be output and isn't; one that is output twice.
 pub fn wrong_outputs()

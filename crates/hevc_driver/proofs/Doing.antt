@@ -10,7 +10,7 @@ use Rattle.std.specs.declared.collections.VecDeque.{VecDeque}
 use Rattle.hevc_backend.specs.declared.error.BackendError.{BackendError}
 use Rattle.hevc_backend.specs.declared.error.BackendError.TheVariants.{Failed, NoMemory}
 use Rattle.hevc_backend.specs.declared.call.Call.{Call}
-use Rattle.hevc_backend.specs.Trait.{logged}
+use Rattle.hevc_backend.specs.Trait.{logged, asked_more}
 use Rattle.hevc_dpb.specs.declared.dpb.Dpb.{Dpb}
 use Rattle.hevc_dpb.specs.Entries.{IsPartOf, tickets}
 use Rattle.hevc_dpb.specs.Views.{stored_entries}
@@ -25,14 +25,16 @@ use Rattle.hevc_driver.specs.declared.decode_error.DecodeError.{DecodeError}
 use Rattle.hevc_driver.specs.declared.decode_error.DecodeError.TheVariants as errors
 use Rattle.hevc_driver.specs.Errors.{backend_error}
 use Rattle.hevc_driver.specs.Calls.{call_of, IsTimed, submission, submissions}
-use Rattle.hevc_backend.specs.Handed.{no_picture}
-use Rattle.hevc_driver.specs.Given.{Given, handed_by, handed_in}
-use Rattle.hevc_driver.specs.Does.{Traces, call_in, output_in, Does, Stops, StopsBy, Completes, Runs}
+use Rattle.hevc_records.specs.Sps.{PlainSps}
+use Rattle.hevc_backend.specs.Handed.{Handed, Sequence, no_picture, dpb_of}
+use Rattle.hevc_walk_units.specs.Units.{at_first}
+use Rattle.hevc_driver.specs.Given.{Given, handed_by, handed_in, sequence_with}
+use Rattle.hevc_driver.specs.Does.{Traces, questioned, call_in, output_in, Does, Stops, StopsBy, Completes, Runs}
 use Rattle.hevc_driver.proofs.Members.{part_left, part_right, part_either}
 
 -- any
 abbrev pub no_given : Given
-no_given = record { timestamp = 0; picture = no_picture; segment = None }
+no_given = record { timestamp = 0; set = None; picture = no_picture; dpb = dpb_of at_first.store; segment = None }
 
 pub all_both : {X : Type 0} (P : X → Type 0) (xs ys : List X) → AllByRecursion P xs → AllByRecursion P ys → AllByRecursion P (xs ++ ys)
 all_both P [] ys a b = b
@@ -46,15 +48,20 @@ pub logged_none : {X : Type 0} (log : Option (List X)) → log ≡ logged log []
 logged_none None = refl
 logged_none (Some log) = ap Some (sym (append-nil log))
 
+-- a sequence parameter set was handed over
+pub sequence_handed : (t : Given) (a b : Option (List Handed)) (set : PlainSps) → t.set ≡ Some set → b ≡ logged a (Sequence set ∷ []) → b ≡ logged a (sequence_with t.set ++ [])
+sequence_handed t a b set is handed = handed ∙ ap (λ (s : Option PlainSps). logged a (sequence_with s ++ [])) (sym is)
+
 -- ---- what was done
 
-pub does_nothing : {H : Type 0} (t : Given) (old new : Traces H) → new.log ≡ old.log → new.handed ≡ old.handed → new.queue ≡ old.queue → IsPartOf new.tickets old.tickets → Does t old new []
-does_nothing {H} t old new log handed queue tickets = record {
+pub does_nothing : {H : Type 0} (t : Given) (old new : Traces H) → new.log ≡ old.log → new.handed ≡ old.handed → new.asked ≡ old.asked → new.queue ≡ old.queue → IsPartOf new.tickets old.tickets → Does t old new []
+does_nothing {H} t old new log handed asked queue tickets = record {
   calls = [];
   log = log ∙ logged_none old.log;
   made = refl;
   timed = tt;
   handed = handed ∙ logged_none old.handed;
+  asked = asked;
   out = [];
   queue = queue ∙ sym (append-nil old.queue);
   shown = refl;
@@ -65,14 +72,15 @@ pub keeps_all : {H : Type 0} (old new : List (ℕ × H)) → new ≡ old → IsP
 keeps_all {H} old new same = λ x h. subst (λ l. Contains l x) same h
 
 -- one call; its ticket, if it has one, may be kept
-pub does_call : {H : Type 0} (t : Given) (old new : Traces H) (call : Call H) → new.log ≡ logged old.log (call ∷ []) → new.handed ≡ logged old.handed (handed_by t (call_of call) ++ []) → new.queue ≡ old.queue → IsPartOf new.tickets (old.tickets ++ submissions (call ∷ [])) → IsTimed t.timestamp call
+pub does_call : {H : Type 0} (t : Given) (old new : Traces H) (call : Call H) → new.log ≡ logged old.log (call ∷ []) → new.handed ≡ logged old.handed (handed_by t (call_of call) ++ []) → new.asked ≡ old.asked → new.queue ≡ old.queue → IsPartOf new.tickets (old.tickets ++ submissions (call ∷ [])) → IsTimed t.timestamp call
     → Does t old new (Called (call_of call) ∷ [])
-does_call {H} t old new call log handed queue tickets timed = record {
+does_call {H} t old new call log handed asked queue tickets timed = record {
   calls = call ∷ [];
   log = log;
   made = refl;
   timed = (timed, tt);
   handed = handed;
+  asked = asked;
   out = [];
   queue = queue ∙ sym (append-nil old.queue);
   shown = refl;
@@ -95,14 +103,15 @@ all_outputs [] = refl
 all_outputs (e ∷ es) = ap (λ os. entry_output e ∷ os) (all_outputs es)
 
 -- entries are output
-pub does_bump : {H Z : Type 0} (t : Given) (old new : Traces H) (bumped : Bumped) (a b : Dpb H) (before now : VecDeque (Frame H) Z) → Bumps bumped a b before now → new.log ≡ old.log → new.handed ≡ old.handed → old.queue ≡ before.items → new.queue ≡ now.items → old.tickets ≡ tickets (stored_entries a) → new.tickets ≡ tickets (stored_entries b)
+pub does_bump : {H Z : Type 0} (t : Given) (old new : Traces H) (bumped : Bumped) (a b : Dpb H) (before now : VecDeque (Frame H) Z) → Bumps bumped a b before now → new.log ≡ old.log → new.handed ≡ old.handed → new.asked ≡ old.asked → old.queue ≡ before.items → new.queue ≡ now.items → old.tickets ≡ tickets (stored_entries a) → new.tickets ≡ tickets (stored_entries b)
     → Does t old new (map output_of bumped.outputs)
-does_bump {H} t old new bumped a b before now x log handed queue_before queue_now tickets_before tickets_now = record {
+does_bump {H} t old new bumped a b before now x log handed asked queue_before queue_now tickets_before tickets_now = record {
   calls = [];
   log = log ∙ logged_none old.log;
   made = sym (no_calls bumped.outputs);
   timed = tt;
   handed = handed ∙ logged_none old.handed ∙ ap (logged old.handed) (sym (none_handed t bumped.outputs));
+  asked = asked;
   out = x.out;
   queue = queue_now ∙ x.appended ∙ ap (λ l. l ++ x.out) (sym queue_before);
   shown = x.given ∙ sym (all_outputs bumped.outputs);
@@ -120,6 +129,7 @@ does_then {H} t a b c d e x y = record {
   made = map-append call_of x.calls y.calls ∙ ap (λ l. l ++ map call_of y.calls) x.made ∙ ap (λ l. flat_map call_in d ++ l) y.made ∙ sym (flat_map-append call_in d e);
   timed = all_both (IsTimed t.timestamp) x.calls y.calls x.timed y.timed;
   handed = y.handed ∙ ap (λ handed. logged handed (flat_map (handed_in t) e)) x.handed ∙ logged_more a.handed (flat_map (handed_in t) d) (flat_map (handed_in t) e) ∙ ap (logged a.handed) (sym (flat_map-append (handed_in t) d e));
+  asked = y.asked ∙ x.asked;
   out = x.out ++ y.out;
   queue = y.queue ∙ ap (λ q. q ++ y.out) x.queue ∙ append_assoc a.queue x.out y.out;
   shown = map-append frame_output x.out y.out ∙ ap (λ l. l ++ map frame_output y.out) x.shown ∙ ap (λ l. flat_map output_in d ++ l) y.shown ∙ sym (flat_map-append output_in d e);
@@ -143,12 +153,27 @@ does_then {H} t a b c d e x y = record {
     from z (inl h) = by_first z (part_left z (map frame_ticket x.out) b.tickets h)
     from z (inr h) = by_second z (part_either z b.tickets (submissions y.calls) (y.tied z h))
 
+-- the same after one more question for free frames
+pub does_questioned : {H : Type 0} (t : Given) (a b : Traces H) (es : List Event) → Does t a b es → Does t (questioned a) (questioned b) es
+does_questioned t a b es x = record {
+  calls = x.calls;
+  log = x.log;
+  made = x.made;
+  timed = x.timed;
+  handed = x.handed;
+  asked = ap asked_more x.asked;
+  out = x.out;
+  queue = x.queue;
+  shown = x.shown;
+  tied = x.tied;
+}
+
 -- ---- what stopped
 
 -- a part that stops at its first call
-pub stops_at : {H : Type 0} (t : Given) (old new : Traces H) (call : walk.Call) (rest : List Event) (Left : walk.Call → Type 0) → new.log ≡ old.log → new.handed ≡ old.handed → new.queue ≡ old.queue → IsPartOf new.tickets old.tickets → Left call
+pub stops_at : {H : Type 0} (t : Given) (old new : Traces H) (call : walk.Call) (rest : List Event) (Left : walk.Call → Type 0) → new.log ≡ old.log → new.handed ≡ old.handed → new.asked ≡ old.asked → new.queue ≡ old.queue → IsPartOf new.tickets old.tickets → Left call
     → Stops t old new (Called call ∷ rest) Left
-stops_at t old new call rest Left log handed queue tickets left = record { done = []; call = call; rest = rest; whole = refl; does = does_nothing t old new log handed queue tickets; left = left }
+stops_at t old new call rest Left log handed asked queue tickets left = record { done = []; call = call; rest = rest; whole = refl; does = does_nothing t old new log handed asked queue tickets; left = left }
 
 -- one that stops after another
 pub stops_then : {H : Type 0} (t : Given) (a b c : Traces H) (d plan : List Event) (Left : walk.Call → Type 0) → Does t a b d → Stops t b c plan Left → Stops t a c (d ++ plan) Left

@@ -21,8 +21,9 @@ use Rattle.hevc_walk_units.specs.Units.{Standing, Current, NoPicture, SkippedPic
 use Rattle.hevc_driver.specs.declared.decode_error.DecodeError.{DecodeError}
 use Rattle.hevc_driver.specs.declared.decode_error.DecodeError.TheVariants as errors
 use Rattle.hevc_driver.specs.Moments.{given_up, drained, renegotiates, starts, enters, hands_over, room_of, new_call, begin_call}
-use Rattle.hevc_driver.specs.Given.{Given}
-use Rattle.hevc_driver.specs.Does.{Traces, Stops, StopsBy, Completes, Runs}
+use Rattle.hevc_backend.specs.Handed.{PlainPicture, Segment, dpb_of}
+use Rattle.hevc_driver.specs.Given.{Given, given_first, given_slice, picture_from}
+use Rattle.hevc_driver.specs.Does.{Traces, questioned, Stops, StopsBy, Completes, Runs}
 use Rattle.hevc_driver.specs.Takes.{LeftStarted, Starts, IsNewSequence, LeftBegun, Begins}
 use Rattle.hevc_driver.proofs.Doing.{runs_behind, does_nothing, does_bump, does_then, stops_more, stops_as, keeps_all}
 use Rattle.hevc_driver.proofs.Storing.{not_skipped}
@@ -33,36 +34,36 @@ with_buffer es s = record s { store = record s.store { buffer = es } }
 
 -- ---- room is made
 
-pub clears : {H : Type 0} (t : Given) (a b : Traces H) (p : Head) (s : Standing) (d : Dpb H) → p.no_output_of_prior_pics ≡ true → buffer_of d ≡ [] → tickets (stored_entries d) ≡ [] → b.log ≡ a.log → b.handed ≡ a.handed → b.queue ≡ a.queue → b.tickets ≡ tickets (stored_entries d)
+pub clears : {H : Type 0} (t : Given) (a b : Traces H) (p : Head) (s : Standing) (d : Dpb H) → p.no_output_of_prior_pics ≡ true → buffer_of d ≡ [] → tickets (stored_entries d) ≡ [] → b.log ≡ a.log → b.handed ≡ a.handed → b.asked ≡ a.asked → b.queue ≡ a.queue → b.tickets ≡ tickets (stored_entries d)
     → Completes t a b (on_store (make_room p) s) (with_buffer (buffer_of d) s)
 unfolding make_room
-clears {H} t a b p s d discards left none log handed queue now = rw discards (record {
-  does = does_nothing t a b log handed queue (λ x h. absurd (let k = subst (λ (ts : List (ℕ × H)). Contains ts x) (now ∙ none) h in let l = k.1 in omega arith));
+clears {H} t a b p s d discards left none log handed asked queue now = rw discards (record {
+  does = does_nothing t a b log handed asked queue (λ x h. absurd (let k = subst (λ (ts : List (ℕ × H)). Contains ts x) (now ∙ none) h in let l = k.1 in omega arith));
   next = ap (λ es. with_buffer es s) left;
 })
 
 pub drains : {H Z : Type 0} (t : Given) (a b : Traces H) (p : Head) (s : Standing) (d e : Dpb H) (before now : VecDeque (Frame H) Z) → p.no_output_of_prior_pics ≡ false → p.starts_sequence ≡ true → s.store.buffer ≡ buffer_of d → Bumps (draining (buffer_of d)) d e before now
-    → b.log ≡ a.log → b.handed ≡ a.handed → a.queue ≡ before.items → b.queue ≡ now.items → a.tickets ≡ tickets (stored_entries d) → b.tickets ≡ tickets (stored_entries e) → Completes t a b (on_store (make_room p) s) (with_buffer (buffer_of e) s)
+    → b.log ≡ a.log → b.handed ≡ a.handed → b.asked ≡ a.asked → a.queue ≡ before.items → b.queue ≡ now.items → a.tickets ≡ tickets (stored_entries d) → b.tickets ≡ tickets (stored_entries e) → Completes t a b (on_store (make_room p) s) (with_buffer (buffer_of e) s)
 unfolding make_room
-drains t a b p s d e before now keeps begins same x log handed qa qb ta tb = rw (keeps, begins, same) (record { does = does_bump t a b (draining (buffer_of d)) d e before now x log handed qa qb ta tb; next = ap (λ es. with_buffer es s) x.left })
+drains t a b p s d e before now keeps begins same x log handed asked qa qb ta tb = rw (keeps, begins, same) (record { does = does_bump t a b (draining (buffer_of d)) d e before now x log handed asked qa qb ta tb; next = ap (λ es. with_buffer es s) x.left })
 
 pub bumps : {H Z : Type 0} (t : Given) (a b : Traces H) (p : Head) (s : Standing) (d e : Dpb H) (before now : VecDeque (Frame H) Z) → p.no_output_of_prior_pics ≡ false → p.starts_sequence ≡ false → buffer_of d ≡ needed_entries s.store.buffer → IsPartOf (tickets (stored_entries d)) a.tickets
-    → Bumps (bumping (needs_bumping p.limits) (buffer_of d)) d e before now → b.log ≡ a.log → b.handed ≡ a.handed → a.queue ≡ before.items → b.queue ≡ now.items → b.tickets ≡ tickets (stored_entries e) → Completes t a b (on_store (make_room p) s) (with_buffer (buffer_of e) s)
+    → Bumps (bumping (needs_bumping p.limits) (buffer_of d)) d e before now → b.log ≡ a.log → b.handed ≡ a.handed → b.asked ≡ a.asked → a.queue ≡ before.items → b.queue ≡ now.items → b.tickets ≡ tickets (stored_entries e) → Completes t a b (on_store (make_room p) s) (with_buffer (buffer_of e) s)
 unfolding make_room
-bumps {H} t a b p s d e before now keeps goes needed kept x log handed qa qb tb = rw (keeps, goes, sym needed) (record {
-  does = does_then t a mid b [] (map output_of (bumping (needs_bumping p.limits) (buffer_of d)).outputs) (does_nothing t a mid refl refl refl kept) (does_bump t mid b (bumping (needs_bumping p.limits) (buffer_of d)) d e before now x log handed qa qb refl tb);
+bumps {H} t a b p s d e before now keeps goes needed kept x log handed asked qa qb tb = rw (keeps, goes, sym needed) (record {
+  does = does_then t a mid b [] (map output_of (bumping (needs_bumping p.limits) (buffer_of d)).outputs) (does_nothing t a mid refl refl refl refl kept) (does_bump t mid b (bumping (needs_bumping p.limits) (buffer_of d)) d e before now x log handed asked qa qb refl tb);
   next = ap (λ es. with_buffer es s) x.left;
 })
   where
     mid : Traces H
-    mid = record { log = a.log; handed = a.handed; queue = a.queue; tickets = tickets (stored_entries d) }
+    mid = record { log = a.log; handed = a.handed; asked = a.asked; queue = a.queue; tickets = tickets (stored_entries d) }
 
 -- ---- a format is negotiated
 
 -- what is needed for output is output before
-pub drains_first : {H Z : Type 0} (t : Given) (a b : Traces H) (s : Standing) (d e : Dpb H) (before now : VecDeque (Frame H) Z) → s.store.buffer ≡ buffer_of d → Bumps (draining (buffer_of d)) d e before now → b.log ≡ a.log → b.handed ≡ a.handed → a.queue ≡ before.items → b.queue ≡ now.items → a.tickets ≡ tickets (stored_entries d) → b.tickets ≡ tickets (stored_entries e)
+pub drains_first : {H Z : Type 0} (t : Given) (a b : Traces H) (s : Standing) (d e : Dpb H) (before now : VecDeque (Frame H) Z) → s.store.buffer ≡ buffer_of d → Bumps (draining (buffer_of d)) d e before now → b.log ≡ a.log → b.handed ≡ a.handed → b.asked ≡ a.asked → a.queue ≡ before.items → b.queue ≡ now.items → a.tickets ≡ tickets (stored_entries d) → b.tickets ≡ tickets (stored_entries e)
     → Completes t a b (on_store (output_by draining) s) (with_buffer (buffer_of e) s)
-drains_first t a b s d e before now same x log handed qa qb ta tb = rw same (record { does = does_bump t a b (draining (buffer_of d)) d e before now x log handed qa qb ta tb; next = ap (λ es. with_buffer es s) x.left })
+drains_first t a b s d e before now same x log handed asked qa qb ta tb = rw same (record { does = does_bump t a b (draining (buffer_of d)) d e before now x log handed asked qa qb ta tb; next = ap (λ es. with_buffer es s) x.left })
 
 -- ---- a picture is decoded from here on
 
@@ -127,13 +128,13 @@ skips_is p w s e =
 in_range_head : (p : Head) → order_count_in_range p ≡ true → refusal_of_picture p ≡ None
 in_range_head p e = ap (λ (v : Bool). if v then None else Some PocOutOfRange) e
 
-pub skips_at : {H : Type 0} (t : Given) (a b : Traces H) (w : Slice) (s st : Standing) (p : Head) → s.next.number ≢ 2 ^ 64 - 1 → p ≡ head s.next w → order_count_in_range (head s.next w) ≡ true → p.skipped ≡ true → b.log ≡ a.log → b.handed ≡ a.handed → b.queue ≡ a.queue → b.tickets ≡ a.tickets → st ≡ record s { current = SkippedPicture; next = context_behind p s.next }
+pub skips_at : {H : Type 0} (t : Given) (a b : Traces H) (w : Slice) (s st : Standing) (p : Head) → s.next.number ≢ 2 ^ 64 - 1 → p ≡ head s.next w → order_count_in_range (head s.next w) ≡ true → p.skipped ≡ true → b.log ≡ a.log → b.handed ≡ a.handed → b.asked ≡ a.asked → b.queue ≡ a.queue → b.tickets ≡ a.tickets → st ≡ record s { current = SkippedPicture; next = context_behind p s.next }
     → (s.next.number ≢ 2 ^ 64 - 1) × (refusal_of_picture (head s.next w) ≡ None) × Completes t a b (starts (head s.next w) w s) st
-skips_at t a b w s st p numbered is ranges skipped log handed queue tickets next = (
+skips_at t a b w s st p numbered is ranges skipped log handed asked queue tickets next = (
   numbered,
   in_range_head (head s.next w) ranges,
   subst (λ (v : Head). Completes t a b (starts v w s) st) is
-      (subst (λ (q : Part Standing). Completes t a b q st) (sym (skips_is p w s skipped)) (record { does = does_nothing t a b log handed queue (keeps_all a.tickets b.tickets tickets); next = next })),
+      (subst (λ (q : Part Standing). Completes t a b q st) (sym (skips_is p w s skipped)) (record { does = does_nothing t a b log handed asked queue (keeps_all a.tickets b.tickets tickets); next = next })),
 )
 
 module _ {H T : Type 0} (r : Result T DecodeError) (t : Given) (a b : Traces H) (w : Slice) (s st : Standing) where
@@ -175,6 +176,14 @@ begin_is w s b e = ap (λ (f : Format). begins_by (head s.next w) w s (change_fo
 pub begin_accepted : (w : Slice) (s : Standing) → is_accepted w.format s.store.accepted ≡ true → begin_slice w s ≡ starts (head s.next w) w s
 begin_accepted w s e = begin_is w s true e
 
+-- what comes with a picture that is decoded
+pub begun_given : (timestamp : ℕ) (w : Slice) (segment : Segment) (s : Standing) (p : Head) (picture : PlainPicture) → picture ≡ picture_from w segment s → p ≡ head s.next w → is_decoded p ≡ true → is_accepted w.format s.store.accepted ≡ true
+    → given_slice timestamp picture (dpb_of (enters p w s).next.store) segment ≡ given_first timestamp w segment s
+begun_given timestamp w segment s p picture picture_is is decoded accepted =
+    ap (λ (v : PlainPicture). given_slice timestamp v (dpb_of (enters p w s).next.store) segment) picture_is
+    ∙ ap (λ (q : Part Standing). given_slice timestamp (picture_from w segment s) (dpb_of q.next.store) segment)
+    (sym (starts_is p w s decoded) ∙ ap (λ (v : Head). starts v w s) is ∙ sym (begin_accepted w s accepted))
+
 pub change_other : (w : Slice) (s : Standing) → is_accepted w.format s.store.accepted ≡ false → on_store (change_format w.format) s ≡ renegotiates w.format s
 change_other w s e = ap (λ (q : Part Store). record { events = q.events; next = record s { store = q.next } }) (change_is w.format s ∙ ap (changes_by w.format s) e)
 
@@ -192,17 +201,17 @@ negotiated_begun w s st (walk.NewPicture number t c o k) other h = absurd h.0
 negotiated_begun w s st (walk.BeginPicture number set) other h = absurd h.0
 negotiated_begun w s st (walk.DecodeSlice number address bytes l0 l1) other h = absurd h.0
 
-pub begins_accepted : {H T : Type 0} (r : Result T DecodeError) (t : Given) (a b : Traces H) (w : Slice) (s st : Standing) → is_accepted w.format s.store.accepted ≡ true → Starts r t a b w s st → Begins r t a b w s st
+pub begins_accepted : {H T : Type 0} (r : Result T DecodeError) (t : Given) (a b : Traces H) (w : Slice) (s st : Standing) → is_accepted w.format s.store.accepted ≡ true → Starts r t (questioned a) b w s st → Begins r t a b w s st
 begins_accepted {H} {T} r t a b w s st e x = by r x
   where
     left : s.next.number ≢ 2 ^ 64 - 1 → (c : walk.Call) → LeftStarted c × (st ≡ given_up (starts (head s.next w) w s).next) → LeftBegun c w s st
     left numbered c h = started_begun w s st c e numbered (h.0, h.1 ∙ ap (λ (q : Part Standing). given_up q.next) (sym (begin_accepted w s e)))
 
-    stops : (s.next.number ≢ 2 ^ 64 - 1) × Stops t a b (starts (head s.next w) w s).events (λ c. LeftStarted c × (st ≡ given_up (starts (head s.next w) w s).next)) → Stops t a b (begin_slice w s).events (λ c. LeftBegun c w s st)
-    stops x = stops_as t a b (starts (head s.next w) w s).events (begin_slice w s).events (λ c. LeftStarted c × (st ≡ given_up (starts (head s.next w) w s).next)) (λ c. LeftBegun c w s st) (ap (λ (q : Part Standing). q.events) (begin_accepted w s e)) (left x.0) x.1
+    stops : (s.next.number ≢ 2 ^ 64 - 1) × Stops t (questioned a) b (starts (head s.next w) w s).events (λ c. LeftStarted c × (st ≡ given_up (starts (head s.next w) w s).next)) → Stops t (questioned a) b (begin_slice w s).events (λ c. LeftBegun c w s st)
+    stops x = stops_as t (questioned a) b (starts (head s.next w) w s).events (begin_slice w s).events (λ c. LeftStarted c × (st ≡ given_up (starts (head s.next w) w s).next)) (λ c. LeftBegun c w s st) (ap (λ (q : Part Standing). q.events) (begin_accepted w s e)) (left x.0) x.1
 
-    by : (r : Result T DecodeError) → Starts r t a b w s st → Begins r t a b w s st
-    by (Ok v) x = (e, x.0, x.1, subst (λ (q : Part Standing). Completes t a b q st) (sym (begin_accepted w s e)) x.2)
+    by : (r : Result T DecodeError) → Starts r t (questioned a) b w s st → Begins r t a b w s st
+    by (Ok v) x = (e, x.0, x.1, subst (λ (q : Part Standing). Completes t (questioned a) b q st) (sym (begin_accepted w s e)) x.2)
     by (Err errors.PictureNumbersSpent) x = (e, x.0, x.1, x.2)
     by (Err errors.PocOutOfRange) x = (e, x.0, x.1, x.2, x.3)
     by (Err errors.Backend) x = stops x
@@ -210,18 +219,18 @@ begins_accepted {H} {T} r t a b w s st e x = by r x
     by (Err other) x = absurd x.1
 
 -- the format differs
-pub begins_negotiated : {H : Type 0} (t : Given) (a b : Traces H) (w : Slice) (s st : Standing) → is_accepted w.format s.store.accepted ≡ false → Completes t a b (renegotiates w.format s) st → (is_accepted w.format s.store.accepted ≡ false) × Completes t a b (on_store (change_format w.format) s) st
-begins_negotiated t a b w s st e x = (e, subst (λ (q : Part Standing). Completes t a b q st) (sym (change_other w s e)) x)
+pub begins_negotiated : {H : Type 0} (t : Given) (a b : Traces H) (w : Slice) (s st : Standing) → is_accepted w.format s.store.accepted ≡ false → Completes t (questioned a) b (renegotiates w.format s) st → (is_accepted w.format s.store.accepted ≡ false) × Completes t (questioned a) b (on_store (change_format w.format) s) st
+begins_negotiated t a b w s st e x = (e, subst (λ (q : Part Standing). Completes t (questioned a) b q st) (sym (change_other w s e)) x)
 
 pub begins_refused : {H T : Type 0} (r : Result T DecodeError) (e : DecodeError) (t : Given) (a b : Traces H) (w : Slice) (s st : Standing) → IsErrAnd r (λ y. y ≡ e) → is_accepted w.format s.store.accepted ≡ false
-    → StopsBy e t a b (renegotiates w.format s).events (λ c. IsNewSequence c × (st ≡ drained s)) → Begins r t a b w s st
+    → StopsBy e t (questioned a) b (renegotiates w.format s).events (λ c. IsNewSequence c × (st ≡ drained s)) → Begins r t a b w s st
 begins_refused {H} {T} r e t a b w s st is other x = let q = err_from_is_err_and r is in rw q.1 (rw q.2 (by e x))
   where
-    stops : Stops t a b (renegotiates w.format s).events (λ c. IsNewSequence c × (st ≡ drained s)) → Stops t a b (begin_slice w s).events (λ c. LeftBegun c w s st)
-    stops x = stops_as t a b _ (begin_slice w s).events (λ c. IsNewSequence c × (st ≡ drained s)) (λ c. LeftBegun c w s st) (ap (λ (q : Part Standing). q.events) (begin_is w s false other)) (λ c. negotiated_begun w s st c other)
-        (stops_more t a b _ _ (λ c. IsNewSequence c × (st ≡ drained s)) (stops_more t a b (renegotiates w.format s).events _ (λ c. IsNewSequence c × (st ≡ drained s)) x))
+    stops : Stops t (questioned a) b (renegotiates w.format s).events (λ c. IsNewSequence c × (st ≡ drained s)) → Stops t (questioned a) b (begin_slice w s).events (λ c. LeftBegun c w s st)
+    stops x = stops_as t (questioned a) b _ (begin_slice w s).events (λ c. IsNewSequence c × (st ≡ drained s)) (λ c. LeftBegun c w s st) (ap (λ (q : Part Standing). q.events) (begin_is w s false other)) (λ c. negotiated_begun w s st c other)
+        (stops_more t (questioned a) b _ _ (λ c. IsNewSequence c × (st ≡ drained s)) (stops_more t (questioned a) b (renegotiates w.format s).events _ (λ c. IsNewSequence c × (st ≡ drained s)) x))
 
-    by : (e : DecodeError) → StopsBy e t a b (renegotiates w.format s).events (λ c. IsNewSequence c × (st ≡ drained s)) → Begins {H = H} {T = T} (Err e) t a b w s st
+    by : (e : DecodeError) → StopsBy e t (questioned a) b (renegotiates w.format s).events (λ c. IsNewSequence c × (st ≡ drained s)) → Begins {H = H} {T = T} (Err e) t a b w s st
     by errors.Backend x = stops x
     by errors.NoMemory x = stops x
     by other x = absurd x

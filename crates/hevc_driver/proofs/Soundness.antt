@@ -27,18 +27,19 @@ use Rattle.hevc_dpb.specs.Views.{stored_entries, max_num_pics_of, buffer_of}
 use Rattle.hevc_backend.specs.declared.call.Call.{Call}
 use Rattle.hevc_backend.specs.declared.negotiation.NegotiationInfo.{NegotiationInfo}
 use Rattle.hevc_backend.specs.Negotiation.{format_of, info_of}
-use Rattle.hevc_backend.specs.Trait.{Counts, CountsEmptyAnswers}
+use Rattle.hevc_backend.specs.Trait.{Counts, CountsEmptyAnswers, Frames, with_question}
+use Rattle.hevc_driver.specs.Does.{questioned}
 use Rattle.hevc_backend.specs.Told.{Told, WhereTold, BegunPicture}
 use Rattle.hevc_backend.proofs.ToldLaws.{told_same}
 use Rattle.hevc_driver.specs.declared.current.Current.{Current}
 use Rattle.hevc_driver.specs.declared.current.Current.TheVariants.{NoPicture, SkippedPicture, OpenPicture}
 use Rattle.hevc_driver.specs.declared.standing.Standing as driver
-use Rattle.hevc_driver.specs.Standings.{current_of}
+use Rattle.hevc_driver.specs.Standings.{standing, traces, current_of}
 use Rattle.hevc_refs.specs.declared.ref_pic_set.RefPicSet.{RefPicSet}
 use Rattle.hevc_refs.specs.Sets.{plain_set}
 use Rattle.hevc_walk.specs.ReferenceSets.{names, all_members}
 use Rattle.hevc_backend.specs.Trait.{logged}
-use Rattle.hevc_backend.specs.Handed.{Handed, stored_pictures}
+use Rattle.hevc_backend.specs.Handed.{Handed, dpb_of, plain_dpb, stored_pictures}
 use Rattle.hevc_backend.proofs.HandedLaws.{announced_same, announced_more, among_more}
 use Rattle.hevc_driver.specs.Sound.{AsAnnounced, IsOpenAnnounced, AreBelow, IsAccepted, IsLatest, Fits, IsOpenNewest, IsSound, Leaves, Grows}
 
@@ -71,6 +72,10 @@ pub below_part : {H : Type 0} (n m : ℕ) (ts us : List (ℕ × H)) → AreBelow
 below_part n m ts us below more part = λ t k. let l = below t (part t k) in omega (arith, l, more)
 
 -- ---- pictures are output, and some leave
+
+-- the buffer is the walk's, sized by the accepted format
+pub sized_dpb : {H P : Type 0} (w : driver.Standing H P) → max_num_pics_of w.dpb ≡ accepted_size (option_map format_of w.accepted) → plain_dpb w.dpb ≡ dpb_of (standing w).store
+sized_dpb w sized = ap (λ (n : ℕ). record { entries = buffer_of w.dpb; max_num_pics = n }) sized
 
 pub left_sound : {H P : Type 0} (log : Option (List (Call H))) (handed : Option (List Handed)) (old new : driver.Standing H P) → IsSound log handed old → current_of old.set old.current ≡ units.NoPicture → Leaves old new → old.next.number ≤ new.next.number → IsSound log handed new
 left_sound log handed old new s none l more = record {
@@ -211,3 +216,10 @@ has_frames before now (suc n) is h = h
 
 pub same_grows : {H P : Type 0} (more : ℕ) (old new : driver.Standing H P) → new.queue ≡ old.queue → new.dpb ≡ old.dpb → Grows more old new
 same_grows more old new queue dpb = rw (queue, dpb) (record { few = omega arith; capacity = refl; stored = refl })
+
+-- a question for free frames is all that a backend was asked
+pub once_questioned : {H P : Type 0} (w : driver.Standing H P) (log now : Option (List (Call H))) (handed handed_now : Option (List Handed)) (frames after : Frames) (answer : ℕ) → now ≡ log → handed_now ≡ handed → after ≡ with_question answer frames → traces now handed_now after.asked w ≡ questioned (traces log handed frames.asked w)
+once_questioned w log now handed handed_now frames after answer log_is handed_is frames_is =
+    ap (λ l. traces l handed_now after.asked w) log_is
+    ∙ ap (λ h. traces log h after.asked w) handed_is
+    ∙ ap (λ (f : Frames). traces log handed f.asked w) frames_is

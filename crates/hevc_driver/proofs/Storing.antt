@@ -60,12 +60,12 @@ full_is p set s max v e size full = rw (e, sym size) full
 
 -- the submission is refused
 pub unsubmitted : {H T : Type 0} (r : Result T DecodeError) (e : BackendError) (t : Given) (a b : Traces H) (p : Head) (set : RefPicSet) (s st : Standing) → IsErrAnd r (λ y. y ≡ backend_error e) → p.skipped ≡ false
-    → b.log ≡ a.log → b.handed ≡ a.handed → b.queue ≡ a.queue → b.tickets ≡ a.tickets → st ≡ given_up s → Finishes r t a b (record s { current = OpenPicture p set }) st
-unsubmitted {H} {T} r e t a b p set s st is skipped log handed queue tickets left = let q = err_from_is_err_and r is in rw q.1 (rw q.2 (by e))
+    → b.log ≡ a.log → b.handed ≡ a.handed → b.asked ≡ a.asked → b.queue ≡ a.queue → b.tickets ≡ a.tickets → st ≡ given_up s → Finishes r t a b (record s { current = OpenPicture p set }) st
+unsubmitted {H} {T} r e t a b p set s st is skipped log handed asked queue tickets left = let q = err_from_is_err_and r is in rw q.1 (rw q.2 (by e))
   where
     stops : Stops t a b (finish_current (record s { current = OpenPicture p set })).events (λ call. LeftUnsubmitted call (record s { current = OpenPicture p set }) st)
     stops = subst (λ (q : Part Standing). Stops t a b q.events (λ call. LeftUnsubmitted call (record s { current = OpenPicture p set }) st)) (sym (over_is p set s skipped))
-        (stops_at t a b (walk.SubmitPicture p.number) (map output_of (bumping (needs_additional_bumping p.limits) (with_stored p s.store.buffer)).outputs) (λ call. LeftUnsubmitted call (record s { current = OpenPicture p set }) st) log handed queue (keeps_all a.tickets b.tickets tickets) left)
+        (stops_at t a b (walk.SubmitPicture p.number) (map output_of (bumping (needs_additional_bumping p.limits) (with_stored p s.store.buffer)).outputs) (λ call. LeftUnsubmitted call (record s { current = OpenPicture p set }) st) log handed asked queue (keeps_all a.tickets b.tickets tickets) left)
 
     by : (e : BackendError) → Finishes {H = H} {T = T} (Err (backend_error e)) t a b (record s { current = OpenPicture p set }) st
     by Failed = stops
@@ -73,48 +73,48 @@ unsubmitted {H} {T} r e t a b p set s st is skipped log handed queue tickets lef
 
 -- the buffer is full
 pub fills : {H T : Type 0} (r : Result T DecodeError) (t : Given) (a b : Traces H) (p : Head) (set : RefPicSet) (s st : Standing) (max : ℕ) (handle : H) → IsErrAnd r (λ y. y ≡ errors.DpbFull) → p.skipped ≡ false → max ≡ accepted_size s.store.accepted → nat_le max (length s.store.buffer) ≡ true
-    → b.log ≡ logged a.log (code.SubmitPicture p.number handle ∷ []) → b.handed ≡ a.handed → b.queue ≡ a.queue → b.tickets ≡ a.tickets → st ≡ record (over p s).next { store = s.store }
+    → b.log ≡ logged a.log (code.SubmitPicture p.number handle ∷ []) → b.handed ≡ a.handed → b.asked ≡ a.asked → b.queue ≡ a.queue → b.tickets ≡ a.tickets → st ≡ record (over p s).next { store = s.store }
     → Finishes r t a b (record s { current = OpenPicture p set }) st
-fills {H} r t a b p set s st max handle is skipped size full log handed queue tickets left = let q = err_from_is_err_and r is in rw q.1 (rw q.2 (
+fills {H} r t a b p set s st max handle is skipped size full log handed asked queue tickets left = let q = err_from_is_err_and r is in rw q.1 (rw q.2 (
   full_is p set s max true skipped size full,
   record {
     number = p.number;
     rest = map output_of (bumping (needs_additional_bumping p.limits) (with_stored p s.store.buffer)).outputs;
     whole = ap (λ (q : Part Standing). q.events) (over_is p set s skipped);
-    does = does_call t a b (code.SubmitPicture p.number handle) log (handed ∙ logged_none a.handed) queue (keeps_more a.tickets b.tickets ((p.number, handle) ∷ []) tickets) tt;
+    does = does_call t a b (code.SubmitPicture p.number handle) log (handed ∙ logged_none a.handed) asked queue (keeps_more a.tickets b.tickets ((p.number, handle) ∷ []) tickets) tt;
     left = left ∙ ap (λ (q : Part Standing). record q.next { store = s.store }) (sym (over_is p set s skipped));
   },
 ))
 
 -- it is stored
 pub stored : {H Z : Type 0} (t : Given) (a b : Traces H) (p : Head) (set : RefPicSet) (s st : Standing) (max : ℕ) (handle : H) (d e : Dpb H) (before now : VecDeque (Frame H) Z) → p.skipped ≡ false → max ≡ accepted_size s.store.accepted → nat_le max (length s.store.buffer) ≡ false
-    → b.log ≡ logged a.log (code.SubmitPicture p.number handle ∷ []) → b.handed ≡ a.handed → buffer_of d ≡ with_stored p s.store.buffer → tickets (stored_entries d) ≡ a.tickets ++ (p.number, handle) ∷ []
+    → b.log ≡ logged a.log (code.SubmitPicture p.number handle ∷ []) → b.handed ≡ a.handed → b.asked ≡ a.asked → buffer_of d ≡ with_stored p s.store.buffer → tickets (stored_entries d) ≡ a.tickets ++ (p.number, handle) ∷ []
     → Bumps (bumping (needs_additional_bumping p.limits) (buffer_of d)) d e before now → a.queue ≡ before.items → b.queue ≡ now.items → b.tickets ≡ tickets (stored_entries e)
     → st ≡ record (over p s).next { store = record s.store { buffer = buffer_of e } }
     → (is_full_now (record s { current = OpenPicture p set }) ≡ false) × Completes t a b (finish_current (record s { current = OpenPicture p set })) st
-stored {H} {Z} t a b p set s st max handle d e before now skipped size room log handed holds there bumps qa qb tb left = (
+stored {H} {Z} t a b p set s st max handle d e before now skipped size room log handed asked holds there bumps qa qb tb left = (
   full_is p set s max false skipped size room,
   subst (λ (q : Part Standing). Completes t a b q st) (sym (over_is p set s skipped)) (record {
     does = does_then t a mid b (Called (walk.SubmitPicture p.number) ∷ []) (map output_of (bumping (needs_additional_bumping p.limits) (with_stored p s.store.buffer)).outputs)
-        (does_call t a mid (code.SubmitPicture p.number handle) log (handed ∙ logged_none a.handed) refl (keeps_all (a.tickets ++ (p.number, handle) ∷ []) (tickets (stored_entries d)) there) tt)
-        (does_bump t mid b (bumping (needs_additional_bumping p.limits) (with_stored p s.store.buffer)) d e before now same refl refl qa qb refl tb);
+        (does_call t a mid (code.SubmitPicture p.number handle) log (handed ∙ logged_none a.handed) asked refl (keeps_all (a.tickets ++ (p.number, handle) ∷ []) (tickets (stored_entries d)) there) tt)
+        (does_bump t mid b (bumping (needs_additional_bumping p.limits) (with_stored p s.store.buffer)) d e before now same refl refl refl qa qb refl tb);
     next = left ∙ ap (λ (es : Buffer). record (over p s).next { store = record s.store { buffer = es } }) same.left;
   }),
 )
   where
     mid : Traces H
-    mid = record { log = b.log; handed = b.handed; queue = a.queue; tickets = tickets (stored_entries d) }
+    mid = record { log = b.log; handed = b.handed; asked = b.asked; queue = a.queue; tickets = tickets (stored_entries d) }
 
     same : Bumps (bumping (needs_additional_bumping p.limits) (with_stored p s.store.buffer)) d e before now
     same = subst (λ (es : Buffer). Bumps (bumping (needs_additional_bumping p.limits) es) d e before now) holds bumps
 
 -- no picture is open
-pub nothing_over : {H : Type 0} (t : Given) (a b : Traces H) (s st : Standing) (current : Current) → s.current ≡ current → open_head current ≡ None → b.log ≡ a.log → b.handed ≡ a.handed → b.queue ≡ a.queue → b.tickets ≡ a.tickets → st ≡ given_up s
+pub nothing_over : {H : Type 0} (t : Given) (a b : Traces H) (s st : Standing) (current : Current) → s.current ≡ current → open_head current ≡ None → b.log ≡ a.log → b.handed ≡ a.handed → b.asked ≡ a.asked → b.queue ≡ a.queue → b.tickets ≡ a.tickets → st ≡ given_up s
     → (is_full_now s ≡ false) × Completes t a b (finish_current s) st
 unfolding finish
-nothing_over t a b s st current is none log handed queue tickets left = let h : open_head s.current ≡ None = ap open_head is ∙ none in (
+nothing_over t a b s st current is none log handed asked queue tickets left = let h : open_head s.current ≡ None = ap open_head is ∙ none in (
   rw h refl,
-  rw h (record { does = does_nothing t a b log handed queue (keeps_all a.tickets b.tickets tickets); next = left }),
+  rw h (record { does = does_nothing t a b log handed asked queue (keeps_all a.tickets b.tickets tickets); next = left }),
 )
 
 -- ---- whether there is room

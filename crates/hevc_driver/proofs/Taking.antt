@@ -13,10 +13,10 @@ use Rattle.hevc_driver.specs.declared.decode_error.DecodeError.{DecodeError}
 use Rattle.hevc_driver.specs.declared.decode_error.DecodeError.TheVariants as errors
 use Rattle.hevc_backend.specs.Negotiation.{format_of}
 use Rattle.hevc_driver.specs.Given.{Given}
-use Rattle.hevc_driver.specs.Does.{Traces, Does, Stops, Completes}
+use Rattle.hevc_driver.specs.Does.{Traces, questioned, questioned_if, Does, Stops, Completes}
 use Rattle.hevc_driver.specs.Moments.{given_up, with_kept, begins_at, begins_by, negotiates, negotiates_by, spends, opening, opening_by, step_part}
-use Rattle.hevc_driver.specs.Takes.{Fills, Halts, Refuses, LeftAt, Takes, Follows, Changes, IsRefused, Finishes, Begins, LeftStarted, LeftBegun, LeftUnsubmitted, Changed}
-use Rattle.hevc_driver.proofs.Doing.{does_nothing, does_then, stops_as, stops_then, stops_more, keeps_all}
+use Rattle.hevc_driver.specs.Takes.{asking, StopsAt, Fills, Halts, Refuses, LeftAt, Takes, Follows, Changes, IsRefused, Finishes, Begins, LeftStarted, LeftBegun, LeftUnsubmitted, Changed}
+use Rattle.hevc_driver.proofs.Doing.{does_nothing, does_questioned, does_then, stops_as, stops_then, stops_more, keeps_all}
 use Rattle.hevc_driver.proofs.PictureBegins.{begin_accepted, starts_nothing}
 
 -- a slice of the current picture changes nothing
@@ -76,6 +76,13 @@ module _ {H : Type 0} (t : Given) (a b : Traces H) (x w : Slice) (s st : Standin
   part_is : (v : Bool) → begins_picture s.current w ≡ v → step_part u s ≡ (if v then first_slice w k else later_slice w k)
   part_is v e = ap (λ o. whole_part o k) whole ∙ ap (λ (c : Bool). if c then first_slice w k else later_slice w k) e
 
+  -- frames are asked for where a picture begins
+  unasked : (P : Traces H → Type 0) → begins_picture s.current w ≡ false → P a → P (asking u s a)
+  unasked P later y = subst (λ (v : Bool). P (questioned_if v a)) (sym (begins_is false later)) y
+
+  once_asked : (P : Traces H → Type 0) → begins_picture s.current w ≡ true → P (questioned a) → P (asking u s a)
+  once_asked P begins y = subst (λ (v : Bool). P (questioned_if v a)) (sym (begins_is true begins)) y
+
   -- ---- a later slice
 
   module _ (later : begins_picture s.current w ≡ false) where
@@ -85,15 +92,18 @@ module _ {H : Type 0} (t : Given) (a b : Traces H) (x w : Slice) (s st : Standin
     given_later : (c : walk.Call) → LeftStarted c × (st ≡ given_up k) → st ≡ given_up (step_part u s).next
     given_later c h = h.1 ∙ ap given_up (sym (ap (λ (q : Part Standing). q.next) (part_is false later) ∙ later_next w k))
 
-    left_later : (c : walk.Call) → LeftStarted c × (st ≡ given_up k) → LeftAt c u s st
+    left_later : (c : walk.Call) → LeftStarted c × (st ≡ given_up k) → LeftAt c false u s st
     left_later (walk.SubmitPicture number) h = absurd h.0
     left_later (walk.NewSequence info) h = absurd h.0
-    left_later (walk.NewPicture number nal c o i) h = (numbered_later, given_later (walk.NewPicture number nal c o i) h)
-    left_later (walk.BeginPicture number set) h = (numbered_later, given_later (walk.BeginPicture number set) h)
-    left_later (walk.DecodeSlice number address bytes l0 l1) h = (numbered_later, given_later (walk.DecodeSlice number address bytes l0 l1) h)
+    left_later (walk.NewPicture number nal c o i) h = (numbered_later, given_later (walk.NewPicture number nal c o i) h, sym (begins_is false later))
+    left_later (walk.BeginPicture number set) h = (numbered_later, given_later (walk.BeginPicture number set) h, sym (begins_is false later))
+    left_later (walk.DecodeSlice number address bytes l0 l1) h = (numbered_later, given_later (walk.DecodeSlice number address bytes l0 l1) h, sym (begins_is false later))
 
-    stops_later : Stops t a b (later_slice w k).events (λ c. LeftStarted c × (st ≡ given_up k)) → Stops t a b (step_part u s).events (λ c. LeftAt c u s st)
-    stops_later y = stops_as t a b (later_slice w k).events (step_part u s).events (λ c. LeftStarted c × (st ≡ given_up k)) (λ c. LeftAt c u s st) (ap (λ (q : Part Standing). q.events) (part_is false later)) left_later y
+    stops_later : Stops t a b (later_slice w k).events (λ c. LeftStarted c × (st ≡ given_up k)) → StopsAt t a b u s st
+    stops_later y = record {
+      asked = false;
+      stops = stops_as t a b (later_slice w k).events (step_part u s).events (λ c. LeftStarted c × (st ≡ given_up k)) (λ c. LeftAt c false u s st) (ap (λ (q : Part Standing). q.events) (part_is false later)) left_later y;
+    }
 
     refused_later : (e : DecodeError) → Changed e (refusal_of_later s.current w s.store.accepted) × (b ≡ a) × (st ≡ given_up k) → Refuses e t a b u s st
     refused_later e y = record {
@@ -103,13 +113,13 @@ module _ {H : Type 0} (t : Given) (a b : Traces H) (x w : Slice) (s st : Standin
       cause = ChangedMidPicture (format_of y.0.accepted) (format_of y.0.named);
       refused = refusal_is false later ∙ y.0.refused;
       named = sym y.0.told;
-      does = subst (Does t a b) (sym (ap (λ (q : Part Standing). q.events) (part_is false later) ∙ later_refused w k (ChangedMidPicture (format_of y.0.accepted) (format_of y.0.named)) y.0.refused))
-          (does_nothing t a b (ap (λ (v : Traces H). v.log) y.1) (ap (λ (v : Traces H). v.handed) y.1) (ap (λ (v : Traces H). v.queue) y.1) (keeps_all a.tickets b.tickets (ap (λ (v : Traces H). v.tickets) y.1)));
+      does = unasked (λ v. Does t v b (step_part u s).events) later (subst (Does t a b) (sym (ap (λ (q : Part Standing). q.events) (part_is false later) ∙ later_refused w k (ChangedMidPicture (format_of y.0.accepted) (format_of y.0.named)) y.0.refused))
+          (does_nothing t a b (ap (λ (v : Traces H). v.log) y.1) (ap (λ (v : Traces H). v.handed) y.1) (ap (λ (v : Traces H). v.asked) y.1) (ap (λ (v : Traces H). v.queue) y.1) (keeps_all a.tickets b.tickets (ap (λ (v : Traces H). v.tickets) y.1))));
       left = y.2;
     }
 
     pub takes_later : {T : Type 0} (r : Result T DecodeError) → Follows r t a b w k st → Takes r t a b u s st
-    takes_later (Ok v) y = record { accepted = negotiates_is false later; room = full_is false later; numbered = numbered_later; goes_on = refusal_is false later ∙ y.0; completes = subst (λ (q : Part Standing). Completes t a b q st) (sym (part_is false later)) y.1 }
+    takes_later (Ok v) y = record { accepted = negotiates_is false later; room = full_is false later; numbered = numbered_later; goes_on = refusal_is false later ∙ y.0; completes = unasked (λ v. Completes t v b (step_part u s) st) later (subst (λ (q : Part Standing). Completes t a b q st) (sym (part_is false later)) y.1) }
     takes_later (Err errors.Backend) y = stops_later y
     takes_later (Err errors.NoMemory) y = stops_later y
     takes_later (Err errors.CheckEvents) y = absurd (cc y.0.told)
@@ -146,16 +156,19 @@ module _ {H : Type 0} (t : Given) (a b : Traces H) (x w : Slice) (s st : Standin
     opening_is = ap (λ o. opening_by o k) whole
 
     -- stopped as the picture before was finished
-    left_unsubmitted : (c : walk.Call) → LeftUnsubmitted c k st → LeftAt c u s st
-    left_unsubmitted (walk.SubmitPicture number) h = (tt, h)
+    left_unsubmitted : (c : walk.Call) → LeftUnsubmitted c k st → LeftAt c false u s st
+    left_unsubmitted (walk.SubmitPicture number) h = (tt, h, refl)
     left_unsubmitted (walk.NewSequence info) h = absurd h
     left_unsubmitted (walk.NewPicture number nal c o i) h = absurd h
     left_unsubmitted (walk.BeginPicture number set) h = absurd h
     left_unsubmitted (walk.DecodeSlice number address bytes l0 l1) h = absurd h
 
-    stops_first : Stops t a b (finish_current k).events (λ c. LeftUnsubmitted c k st) → Stops t a b (step_part u s).events (λ c. LeftAt c u s st)
-    stops_first y = stops_as t a b ((finish_current k).events ++ (begin_slice w m).events) (step_part u s).events (λ c. LeftAt c u s st) (λ c. LeftAt c u s st) plan (λ c h. h)
-        (stops_more t a b (finish_current k).events (begin_slice w m).events (λ c. LeftAt c u s st) (stops_as t a b (finish_current k).events (finish_current k).events (λ c. LeftUnsubmitted c k st) (λ c. LeftAt c u s st) refl left_unsubmitted y))
+    stops_first : Stops t a b (finish_current k).events (λ c. LeftUnsubmitted c k st) → StopsAt t a b u s st
+    stops_first y = record {
+      asked = false;
+      stops = stops_as t a b ((finish_current k).events ++ (begin_slice w m).events) (step_part u s).events (λ c. LeftAt c false u s st) (λ c. LeftAt c false u s st) plan (λ c h. h)
+          (stops_more t a b (finish_current k).events (begin_slice w m).events (λ c. LeftAt c false u s st) (stops_as t a b (finish_current k).events (finish_current k).events (λ c. LeftUnsubmitted c k st) (λ c. LeftAt c false u s st) refl left_unsubmitted y));
+    }
 
     full_first : (is_full_now k ≡ true) × Fills t a b (finish_current k).events k st → (is_full_at u s ≡ true) × Fills t a b (step_part u s).events k st
     full_first y = (
@@ -172,26 +185,32 @@ module _ {H : Type 0} (t : Given) (a b : Traces H) (x w : Slice) (s st : Standin
 
     -- stopped after that
     module _ (mid : Traces H) (room : is_full_now k ≡ false) (finishes : Does t a mid (finish_current k).events) where
-      left_begun : (c : walk.Call) → LeftBegun c w m st → LeftAt c u s st
+      asked_first : Does t (questioned a) (questioned mid) (finish_current k).events
+      asked_first = does_questioned t a mid (finish_current k).events finishes
+
+      left_begun : (c : walk.Call) → LeftBegun c w m st → LeftAt c true u s st
       left_begun (walk.SubmitPicture number) h = absurd h
-      left_begun (walk.NewSequence info) h = (spends_by false h.0, h.1)
-      left_begun (walk.NewPicture number nal c o i) h = (is_numbered h.0 h.1, h.2 ∙ ap given_up (sym next_is))
-      left_begun (walk.BeginPicture number set) h = (is_numbered h.0 h.1, h.2 ∙ ap given_up (sym next_is))
-      left_begun (walk.DecodeSlice number address bytes l0 l1) h = (is_numbered h.0 h.1, h.2 ∙ ap given_up (sym next_is))
+      left_begun (walk.NewSequence info) h = (spends_by false h.0, h.1, sym (begins_is true begins))
+      left_begun (walk.NewPicture number nal c o i) h = (is_numbered h.0 h.1, h.2 ∙ ap given_up (sym next_is), sym (begins_is true begins))
+      left_begun (walk.BeginPicture number set) h = (is_numbered h.0 h.1, h.2 ∙ ap given_up (sym next_is), sym (begins_is true begins))
+      left_begun (walk.DecodeSlice number address bytes l0 l1) h = (is_numbered h.0 h.1, h.2 ∙ ap given_up (sym next_is), sym (begins_is true begins))
 
-      stops_behind : Stops t mid b (begin_slice w m).events (λ c. LeftBegun c w m st) → Stops t a b (step_part u s).events (λ c. LeftAt c u s st)
-      stops_behind y = stops_as t a b ((finish_current k).events ++ (begin_slice w m).events) (step_part u s).events (λ c. LeftBegun c w m st) (λ c. LeftAt c u s st) plan left_begun
-          (stops_then t a mid b (finish_current k).events (begin_slice w m).events (λ c. LeftBegun c w m st) finishes y)
+      stops_behind : Stops t (questioned mid) b (begin_slice w m).events (λ c. LeftBegun c w m st) → StopsAt t a b u s st
+      stops_behind y = record {
+        asked = true;
+        stops = stops_as t (questioned a) b ((finish_current k).events ++ (begin_slice w m).events) (step_part u s).events (λ c. LeftBegun c w m st) (λ c. LeftAt c true u s st) plan left_begun
+            (stops_then t (questioned a) (questioned mid) b (finish_current k).events (begin_slice w m).events (λ c. LeftBegun c w m st) asked_first y);
+      }
 
-      halts : b ≡ mid → st ≡ m → Halts t a b u s st
+      halts : b ≡ questioned mid → st ≡ m → Halts t a b u s st
       halts same left = record {
         begins = begins_is true begins;
         room = full_is true begins ∙ room;
-        does = subst (λ (v : Traces H). Does t a v (finish_current k).events) (sym same) finishes;
+        does = subst (λ (v : Traces H). Does t (questioned a) v (finish_current k).events) (sym same) asked_first;
         left = left;
       }
 
-      out_of_range : (is_accepted w.format m.store.accepted ≡ true) × (m.next.number ≢ 2 ^ 64 - 1) × (refusal_of_picture (head m.next w) ≡ Some PocOutOfRange) × (b ≡ mid) × (st ≡ m) → Refuses errors.PocOutOfRange t a b u s st
+      out_of_range : (is_accepted w.format m.store.accepted ≡ true) × (m.next.number ≢ 2 ^ 64 - 1) × (refusal_of_picture (head m.next w) ≡ Some PocOutOfRange) × (b ≡ questioned mid) × (st ≡ m) → Refuses errors.PocOutOfRange t a b u s st
       out_of_range y = record {
         accepted = opens true y.0;
         room = full_is true begins ∙ room;
@@ -199,8 +218,8 @@ module _ {H : Type 0} (t : Given) (a b : Traces H) (x w : Slice) (s st : Standin
         cause = PocOutOfRange;
         refused = refusal_is true begins ∙ y.2;
         named = refl;
-        does = subst (Does t a b) (sym (plan ∙ ap (λ es. (finish_current k).events ++ es) (ap (λ (q : Part Standing). q.events) (begin_accepted w m y.0) ∙ starts_nothing (head m.next w) w m y.2) ∙ append-nil (finish_current k).events))
-            (subst (λ (v : Traces H). Does t a v (finish_current k).events) (sym y.3) finishes);
+        does = once_asked (λ v. Does t v b (step_part u s).events) begins (subst (Does t (questioned a) b) (sym (plan ∙ ap (λ es. (finish_current k).events ++ es) (ap (λ (q : Part Standing). q.events) (begin_accepted w m y.0) ∙ starts_nothing (head m.next w) w m y.2) ∙ append-nil (finish_current k).events))
+            (subst (λ (v : Traces H). Does t (questioned a) v (finish_current k).events) (sym y.3) asked_first));
         left = y.4;
       }
 
@@ -210,12 +229,12 @@ module _ {H : Type 0} (t : Given) (a b : Traces H) (x w : Slice) (s st : Standin
         room = full_is true begins ∙ room;
         numbered = is_numbered y.0 y.1;
         goes_on = refusal_is true begins ∙ y.2;
-        completes = record { does = subst (Does t a b) (sym plan) (does_then t a mid b (finish_current k).events (begin_slice w m).events finishes y.3.does); next = y.3.next ∙ sym next_is };
+        completes = once_asked (λ v. Completes t v b (step_part u s) st) begins (record { does = subst (Does t (questioned a) b) (sym plan) (does_then t (questioned a) (questioned mid) b (finish_current k).events (begin_slice w m).events asked_first y.3.does); next = y.3.next ∙ sym next_is });
       }
       behind (Err errors.CheckEvents) y = record {
         negotiates = opens false y.0;
         room = full_is true begins ∙ room;
-        completes = subst (λ (q : Part Standing). Completes t a b q st) (sym opening_is) (record { does = does_then t a mid b (finish_current k).events (on_store (change_format w.format) m).events finishes y.1.does; next = y.1.next });
+        completes = once_asked (λ v. Completes t v b (opening u s) st) begins (subst (λ (q : Part Standing). Completes t (questioned a) b q st) (sym opening_is) (record { does = does_then t (questioned a) (questioned mid) b (finish_current k).events (on_store (change_format w.format) m).events asked_first y.1.does; next = y.1.next }));
       }
       behind (Err errors.Backend) y = stops_behind y
       behind (Err errors.NoMemory) y = stops_behind y
@@ -229,14 +248,14 @@ module _ {H : Type 0} (t : Given) (a b : Traces H) (x w : Slice) (s st : Standin
     takes_first r (inr (i, y)) = unfinished r i y
 
 -- a slice that lacks an independent one
-pub lacks : {H : Type 0} (t : Given) (a b : Traces H) (x : Slice) (s st : Standing) → whole_slice s.kept x ≡ None → b.log ≡ a.log → b.handed ≡ a.handed → b.queue ≡ a.queue → b.tickets ≡ a.tickets → st ≡ s → Refuses errors.NoIndependentSlice t a b (CodedSlice x) s st
-lacks t a b x s st none log handed queue tickets same = record {
+pub lacks : {H : Type 0} (t : Given) (a b : Traces H) (x : Slice) (s st : Standing) → whole_slice s.kept x ≡ None → b.log ≡ a.log → b.handed ≡ a.handed → b.asked ≡ a.asked → b.queue ≡ a.queue → b.tickets ≡ a.tickets → st ≡ s → Refuses errors.NoIndependentSlice t a b (CodedSlice x) s st
+lacks t a b x s st none log handed asked queue tickets same = record {
   accepted = ap (λ o. negotiates_by o s) none;
   room = ap (λ o. fills_by o s) none;
   numbered = ap (λ o. begins_by o s && not (negotiates (CodedSlice x) s) && (s.next.number == 2 ^ 64 - 1)) none;
   cause = NoIndependentSlice;
   refused = ap (λ o. refusal_of_whole o s) none;
   named = refl;
-  does = subst (Does t a b) (sym (ap (λ o. (whole_part o (with_kept x s)).events) none)) (does_nothing t a b log handed queue (keeps_all a.tickets b.tickets tickets));
+  does = subst (λ (v : Bool). Does t (questioned_if v a) b (step_part (CodedSlice x) s).events) (sym (ap (λ o. begins_by o s) none)) (subst (Does t a b) (sym (ap (λ o. (whole_part o (with_kept x s)).events) none)) (does_nothing t a b log handed asked queue (keeps_all a.tickets b.tickets tickets)));
   left = same;
 }

@@ -25,6 +25,7 @@ use Rattle.hevc_driver.specs.declared.current.Current.{Current}
 use Rattle.hevc_driver.specs.declared.current.Current.TheVariants.{NoPicture, SkippedPicture, OpenPicture}
 use Rattle.hevc_driver.specs.declared.head.Head.{Head}
 use Rattle.hevc_driver.specs.declared.standing.Standing as driver
+use Rattle.hevc_driver.specs.declared.driver.Driver.{Driver}
 use Rattle.hevc_driver.specs.Heads.{head_of}
 use Rattle.hevc_driver.specs.Standings.{current_of}
 
@@ -109,6 +110,16 @@ pub record StaysSound {H P : Type 0} (more : ℕ) (log : Option (List (Call H)))
   pub grows : Grows more old new
   -- the header of the latest independent slice segment stays
   pub kept : new.kept ≡ old.kept
+
+-- so it is of a driver whose backend exposes these logs
+abbrev pub IsSoundIn : {B H P : Type 0} → (log : B → Option (List (Call H)))
+    → (handed : B → Option (List Handed)) → Driver B H P → Type 0
+IsSoundIn log handed d = IsSound (log d.backend) (handed d.backend) d.standing
+
+abbrev pub StaysSoundIn : {B H P : Type 0} → (more : ℕ) → (log : B → Option (List (Call H)))
+    → (handed : B → Option (List Handed)) → Driver B H P → Driver B H P → Type 0
+StaysSoundIn more log handed old new =
+    StaysSound more (log new.backend) (handed new.backend) old.standing new.standing
 
 -- with this header of the latest independent slice segment
 abbrev pub with_header : {H P : Type 0} → Option SliceHeader → driver.Standing H P

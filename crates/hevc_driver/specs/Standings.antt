@@ -1,5 +1,5 @@
 -- The standing between two calls, as the walk over units has it.
-use Rattle.std.specs.Prelude.{List, option_map, Option}
+use Rattle.std.specs.Prelude.{ℕ, List, option_map, Option}
 use Rattle.hevc_walk_units.specs.Units as units
 use Rattle.hevc_walk_units.specs.Units.{Standing}
 use Rattle.hevc_dpb.specs.Entries.{tickets}
@@ -8,11 +8,13 @@ use Rattle.hevc_refs.specs.Sets.{plain_set}
 use Rattle.hevc_refs.specs.declared.ref_pic_set.RefPicSet.{RefPicSet}
 use Rattle.hevc_backend.specs.declared.call.Call.{Call}
 use Rattle.hevc_backend.specs.Handed.{Handed}
+use Rattle.hevc_backend.specs.Trait.{Frames}
 use Rattle.hevc_backend.specs.Negotiation.{format_of}
 use Rattle.hevc_driver.specs.declared.current.Current.{Current}
 use Rattle.hevc_driver.specs.declared.current.Current.TheVariants as code
 use Rattle.hevc_driver.specs.declared.current.Open.{Open}
 use Rattle.hevc_driver.specs.declared.standing.Standing as driver
+use Rattle.hevc_driver.specs.declared.driver.Driver.{Driver}
 use Rattle.hevc_driver.specs.Heads.{head_of, context_of}
 use Rattle.hevc_driver.specs.Slices.{kept_of}
 use Rattle.hevc_driver.specs.Does.{Traces}
@@ -33,13 +35,20 @@ standing w = record {
 }
 
 abbrev pub traces : {H P : Type 0} → Option (List (Call H)) → Option (List Handed)
-    → driver.Standing H P → Traces H
-traces log handed w = record {
+    → (asked : Option ℕ) → driver.Standing H P → Traces H
+traces log handed asked w = record {
   log = log;
   handed = handed;
+  asked = asked;
   queue = w.queue.items;
   tickets = tickets (stored_entries w.dpb);
 }
+
+-- those of a driver whose backend exposes these logs, and this of the questions for frames
+abbrev pub traces_in : {B H P : Type 0} → (log : B → Option (List (Call H)))
+    → (handed : B → Option (List Handed)) → (frames : B → Frames) → Driver B H P → Traces H
+traces_in log handed frames d =
+    traces (log d.backend) (handed d.backend) (frames d.backend).asked d.standing
 
 -- with this picture open, of this reference picture set
 abbrev pub with_open : {P : Type 0} → Open P → RefPicSet → Standing → Standing

@@ -1,5 +1,5 @@
 -- What the driver does with a unit, by its answer.
-use Rattle.std.specs.Prelude.{◌≡◌, ◌≢◌, ◌⊎◌, ℕ, ◌-◌, ◌^◌, true, false, List, [], ◌∷◌, Option, Some, None, Result, Ok, Err}
+use Rattle.std.specs.Prelude.{◌≡◌, ◌≢◌, ◌⊎◌, ℕ, ◌-◌, ◌^◌, Bool, true, false, List, [], ◌∷◌, Option, Some, None, Result, Ok, Err}
 use Rattle.hevc_walk.specs.Meanings.{Format, Slice, Meaning}
 use Rattle.hevc_walk.specs.Pictures.{head}
 use Rattle.hevc_walk.specs.Walk as walk
@@ -12,8 +12,12 @@ use Rattle.hevc_driver.specs.declared.decode_error.DecodeError.{DecodeError}
 use Rattle.hevc_driver.specs.declared.decode_error.DecodeError.TheVariants as errors
 use Rattle.hevc_driver.specs.Errors.{error_of}
 use Rattle.hevc_driver.specs.Given.{Given}
-use Rattle.hevc_driver.specs.Does.{Traces, Does, Stops, StopsBy, Completes, Runs}
+use Rattle.hevc_driver.specs.Does.{Traces, Does, Stops, StopsBy, Completes, Runs, questioned, questioned_if}
 use Rattle.hevc_driver.specs.Moments.{begins_at, negotiates, spends, opening, step_part, kept_behind, not_stored, left_at, left_by, given_up, drained, renegotiates, starts, closes}
+
+-- A unit that begins a picture asks once for free frames, before all that it asks for the picture.
+abbrev pub asking : {H : Type 0} → Meaning → Standing → Traces H → Traces H
+asking u before old = questioned_if (begins_at u before) old
 
 -- The unit was taken.
 pub record Goes {H : Type 0} (given : Given) (old new : Traces H) (u : Meaning)
@@ -22,14 +26,14 @@ pub record Goes {H : Type 0} (given : Given) (old new : Traces H) (u : Meaning)
   pub room : is_full_at u before ≡ false
   pub numbered : spends u before ≡ false
   pub goes_on : refusal_at u before ≡ None
-  pub completes : Completes given old new (step_part u before) standing
+  pub completes : Completes given (asking u before old) new (step_part u before) standing
 
 -- A format was negotiated, and is awaited. The unit is to be given once more.
 pub record Opens {H : Type 0} (given : Given) (old new : Traces H) (u : Meaning)
     (before standing : Standing) : Type 0 where
   pub negotiates : negotiates u before ≡ true
   pub room : is_full_at u before ≡ false
-  pub completes : Completes given old new (opening u before) standing
+  pub completes : Completes given (asking u before old) new (opening u before) standing
 
 -- The picture before was to be stored into a full buffer: it was submitted, and no more.
 pub record Fills {H : Type 0} (given : Given) (old new : Traces H) (plan : List Event)
@@ -40,12 +44,12 @@ pub record Fills {H : Type 0} (given : Given) (old new : Traces H) (plan : List 
   pub does : Does given old new (Called (walk.SubmitPicture number) ∷ [])
   pub left : standing ≡ not_stored before
 
--- A picture begins, and what was before it is over.
+-- A picture begins, what was before it is over, and frames were asked for.
 pub record Halts {H : Type 0} (given : Given) (old new : Traces H) (u : Meaning)
     (before standing : Standing) : Type 0 where
   pub begins : begins_at u before ≡ true
   pub room : is_full_at u before ≡ false
-  pub does : Does given old new (finish_current (kept_behind u before)).events
+  pub does : Does given (questioned old) new (finish_current (kept_behind u before)).events
   pub left : standing ≡ (finish_current (kept_behind u before)).next
 
 -- No number is left for a picture that begins.
@@ -63,7 +67,7 @@ pub record Refuses {H : Type 0} (error : DecodeError) (given : Given) (old new :
   pub cause : Cause
   pub refused : refusal_at u before ≡ Some cause
   pub named : error_of cause ≡ error
-  pub does : Does given old new (step_part u before).events
+  pub does : Does given (asking u before old) new (step_part u before).events
   pub left : standing ≡ left_by cause u before
 
 -- a number was left for the picture of a refused call; one that is submitted has its own
@@ -71,9 +75,25 @@ abbrev pub IsNumbered : walk.Call → Meaning → Standing → Type 0
 IsNumbered (walk.SubmitPicture number) u before = Unit {0}
 IsNumbered call u before = spends u before ≡ false
 
--- the standing after a call that the backend refused
-abbrev pub LeftAt : walk.Call → Meaning → Standing → Standing → Type 0
-LeftAt call u before standing = IsNumbered call u before × (standing ≡ left_at call u before)
+-- frames are asked for before the calls of a picture that begins, after the submission of the one
+-- before
+abbrev pub asks_before : walk.Call → Meaning → Standing → Bool
+asks_before (walk.SubmitPicture number) u before = false
+asks_before call u before = begins_at u before
+
+-- the standing after a call that the backend refused, and whether frames were asked for before
+abbrev pub LeftAt : walk.Call → (asked : Bool) → Meaning → Standing → Standing → Type 0
+LeftAt call asked u before standing =
+    IsNumbered call u before
+    × (standing ≡ left_at call u before)
+    × (asked ≡ asks_before call u before)
+
+-- The unit was taken up to a call that the backend refused.
+pub record StopsAt {H : Type 0} (given : Given) (old new : Traces H) (u : Meaning)
+    (before standing : Standing) : Type 0 where
+  pub asked : Bool
+  pub stops : Stops given (questioned_if asked old) new (step_part u before).events
+      (λ call. LeftAt call asked u before standing)
 
 -- nothing was done
 pub record Stays {H : Type 0} (old new : Traces H) (before standing : Standing) : Type 0 where
@@ -86,9 +106,9 @@ Takes (Ok value) given old new u before standing = Goes given old new u before s
 Takes (Err errors.CheckEvents) given old new u before standing =
     Opens given old new u before standing
 Takes (Err errors.Backend) given old new u before standing =
-    Stops given old new (step_part u before).events (λ call. LeftAt call u before standing)
+    StopsAt given old new u before standing
 Takes (Err errors.NoMemory) given old new u before standing =
-    Stops given old new (step_part u before).events (λ call. LeftAt call u before standing)
+    StopsAt given old new u before standing
 Takes (Err errors.DpbFull) given old new u before standing =
     (is_full_at u before ≡ true)
     × Fills given old new (step_part u before).events (kept_behind u before) standing
@@ -138,32 +158,32 @@ LeftBegun call slice s standing =
     × (s.next.number ≢ 2 ^ 64 - 1)
     × (standing ≡ given_up (begin_slice slice s).next)
 
--- a picture begins where none is current
+-- a picture begins where none is current, after a question for free frames
 abbrev pub Begins : {H T : Type 0} → Result T DecodeError → Given → Traces H → Traces H → Slice
     → Standing → Standing → Type 0
 Begins (Ok value) given old new slice s standing =
     (is_accepted slice.format s.store.accepted ≡ true)
     × (s.next.number ≢ 2 ^ 64 - 1)
     × (refusal_of_picture (head s.next slice) ≡ None)
-    × Completes given old new (begin_slice slice s) standing
+    × Completes given (questioned old) new (begin_slice slice s) standing
 Begins (Err errors.CheckEvents) given old new slice s standing =
     (is_accepted slice.format s.store.accepted ≡ false)
-    × Completes given old new (on_store (change_format slice.format) s) standing
+    × Completes given (questioned old) new (on_store (change_format slice.format) s) standing
 Begins (Err (errors.NotEnoughOutputBuffers frames)) given old new slice s standing =
-    (frames ≡ 1) × (new ≡ old) × (standing ≡ s)
+    (frames ≡ 1) × (new ≡ questioned old) × (standing ≡ s)
 Begins (Err errors.PictureNumbersSpent) given old new slice s standing =
     (is_accepted slice.format s.store.accepted ≡ true)
     × (s.next.number ≡ 2 ^ 64 - 1)
-    × (new ≡ old)
+    × (new ≡ questioned old)
     × (standing ≡ s)
 Begins (Err errors.PocOutOfRange) given old new slice s standing =
     (is_accepted slice.format s.store.accepted ≡ true)
     × (s.next.number ≢ 2 ^ 64 - 1)
     × (refusal_of_picture (head s.next slice) ≡ Some PocOutOfRange)
-    × (new ≡ old)
+    × (new ≡ questioned old)
     × (standing ≡ s)
 Begins (Err error) given old new slice s standing =
-    StopsBy error given old new (begin_slice slice s).events
+    StopsBy error given (questioned old) new (begin_slice slice s).events
     (λ call. LeftBegun call slice s standing)
 
 -- the refused call is one of a picture that has begun

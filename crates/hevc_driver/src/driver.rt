@@ -4,8 +4,8 @@ ghost use Rattle.hevc_walk_units.specs.Units.{at_first, open_head};
 ghost use Rattle.hevc_driver.specs.Given.{Given};
 ghost use Rattle.hevc_driver.specs.Answers.{IsFair};
 ghost use Rattle.hevc_driver.specs.Heads.{head_of};
-ghost use Rattle.hevc_driver.specs.Standings.{standing, traces};
-ghost use Rattle.hevc_driver.specs.Sound.{IsSound, HasRoom, total, StaysSound};
+ghost use Rattle.hevc_driver.specs.Standings.{standing, traces, traces_in};
+ghost use Rattle.hevc_driver.specs.Sound.{IsSound, HasRoom, total, IsSoundIn, StaysSoundIn};
 ghost use Rattle.hevc_driver.specs.Takes.{Closes};
 
 use crate::current::Current;
@@ -37,7 +37,7 @@ impl<B: StatelessH265DecoderBackend> Driver<B> {
         ensures backend { result.backend ≡ backend }
         ensures standing { standing result.standing ≡ at_first }
         ensures queue { result.standing.queue.items ≡ [] }
-        ensures tickets { (traces None None result.standing).tickets ≡ [] }
+        ensures tickets { (traces None None None result.standing).tickets ≡ [] }
         ensures kept { result.standing.kept ≡ None }
         ensures sound { IsSound (B.log backend) (B.handed backend) result.standing }
     {
@@ -79,14 +79,12 @@ impl<B: StatelessH265DecoderBackend> Driver<B> {
     ///
     /// Errors: no memory; nothing has changed then but how much room there is.
     pub fn reserve(&mut self) -> Result<(), AllocError>
-        requires sound { IsSound (B.log self.old.backend) (B.handed self.old.backend)
-            self.old.standing }
-        ensures sound { IsSound (B.log self.new.backend) (B.handed self.new.backend)
-            self.new.standing }
+        requires sound { IsSoundIn B.log B.handed self.old }
+        ensures sound { IsSoundIn B.log B.handed self.new }
         ensures room { OnOk result (HasRoom 1 self.new.standing) }
         ensures standing { standing self.new.standing ≡ standing self.old.standing }
-        ensures traces { traces (B.log self.new.backend) (B.handed self.new.backend) self.new.standing
-            ≡ traces (B.log self.old.backend) (B.handed self.old.backend) self.old.standing }
+        ensures traces { traces_in B.log B.handed B.frames self.new
+            ≡ traces_in B.log B.handed B.frames self.old }
         ensures total { total self.new.standing ≡ total self.old.standing }
         ensures backend { self.new.backend ≡ self.old.backend }
         ensures kept { self.new.standing.kept ≡ self.old.standing.kept }
@@ -100,17 +98,14 @@ impl<B: StatelessH265DecoderBackend> Driver<B> {
     ///
     /// Errors: `Backend`, `DpbFull`, `NoMemory`; the picture is given up then, and nothing is output.
     pub fn close(&mut self) -> Result<(), DecodeError>
-        requires sound { IsSound (B.log self.old.backend) (B.handed self.old.backend)
-            self.old.standing }
+        requires sound { IsSoundIn B.log B.handed self.old }
         requires room { HasRoom 1 self.old.standing }
-        ensures stays { StaysSound 1
-            (B.log self.new.backend) (B.handed self.new.backend) self.old.standing
-            self.new.standing }
+        ensures stays { StaysSoundIn 1 B.log B.handed self.old self.new }
         ensures fair { IsFair B.counts B.is_faultless B.info self.old.backend self.new.backend
             result }
         ensures part { (given : Given) → Closes result given
-            (traces (B.log self.old.backend) (B.handed self.old.backend) self.old.standing)
-            (traces (B.log self.new.backend) (B.handed self.new.backend) self.new.standing)
+            (traces_in B.log B.handed B.frames self.old)
+            (traces_in B.log B.handed B.frames self.new)
             (standing self.old.standing) (standing self.new.standing) }
     {
         self.finish()?;

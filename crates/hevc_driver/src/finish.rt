@@ -4,8 +4,8 @@ ghost use Rattle.hevc_walk_units.specs.Units.{NoPicture};
 ghost use Rattle.hevc_backend.specs.Handed.{IsAmong};
 ghost use Rattle.hevc_driver.specs.Given.{Given};
 ghost use Rattle.hevc_driver.specs.Answers.{IsFair};
-ghost use Rattle.hevc_driver.specs.Standings.{standing, traces, current_of, with_open};
-ghost use Rattle.hevc_driver.specs.Sound.{IsSound, IsNewest, HasRoom, StaysSound};
+ghost use Rattle.hevc_driver.specs.Standings.{standing, traces_in, current_of, with_open};
+ghost use Rattle.hevc_driver.specs.Sound.{IsNewest, HasRoom, IsSoundIn, StaysSoundIn};
 ghost use Rattle.hevc_driver.specs.Takes.{Finishes};
 
 use crate::beginning::tid0_behind;
@@ -19,17 +19,14 @@ use std::mem::replace;
 impl<B: StatelessH265DecoderBackend> Driver<B> {
     /// The picture whose slices came is over, or the one whose slices were passed over.
     pub(crate) fn finish(&mut self) -> Result<(), DecodeError>
-        requires sound { IsSound (B.log self.old.backend) (B.handed self.old.backend)
-            self.old.standing }
+        requires sound { IsSoundIn B.log B.handed self.old }
         requires room { HasRoom 1 self.old.standing }
-        ensures stays { StaysSound 1
-            (B.log self.new.backend) (B.handed self.new.backend) self.old.standing
-            self.new.standing }
+        ensures stays { StaysSoundIn 1 B.log B.handed self.old self.new }
         ensures fair { IsFair B.counts B.is_faultless B.info self.old.backend self.new.backend
             result }
         ensures part { (given : Given) → Finishes result given
-            (traces (B.log self.old.backend) (B.handed self.old.backend) self.old.standing)
-            (traces (B.log self.new.backend) (B.handed self.new.backend) self.new.standing)
+            (traces_in B.log B.handed B.frames self.old)
+            (traces_in B.log B.handed B.frames self.new)
             (standing self.old.standing) (standing self.new.standing) }
     {
         match replace(&mut self.standing.current, Current::NoPicture) {
@@ -45,17 +42,14 @@ impl<B: StatelessH265DecoderBackend> Driver<B> {
         requires newest { IsNewest opened.head self.old.standing }
         requires announced { IsAmong (B.handed self.old.backend) opened.head.number
             opened.head.picture }
-        requires sound { IsSound (B.log self.old.backend) (B.handed self.old.backend)
-            self.old.standing }
+        requires sound { IsSoundIn B.log B.handed self.old }
         requires room { HasRoom 1 self.old.standing }
-        ensures stays { StaysSound 1
-            (B.log self.new.backend) (B.handed self.new.backend) self.old.standing
-            self.new.standing }
+        ensures stays { StaysSoundIn 1 B.log B.handed self.old self.new }
         ensures fair { IsFair B.counts B.is_faultless B.info self.old.backend self.new.backend
             result }
         ensures part { (given : Given) → Finishes result given
-            (traces (B.log self.old.backend) (B.handed self.old.backend) self.old.standing)
-            (traces (B.log self.new.backend) (B.handed self.new.backend) self.new.standing)
+            (traces_in B.log B.handed B.frames self.old)
+            (traces_in B.log B.handed B.frames self.new)
             (with_open opened self.old.standing.set (standing self.old.standing))
             (standing self.new.standing) }
     {

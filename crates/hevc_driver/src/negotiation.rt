@@ -1,5 +1,5 @@
 //! A picture begins: first its format is negotiated, where it differs from the accepted one.
-ghost use Rattle.std.specs.Prelude.{◌≡◌, option_map};
+ghost use Rattle.std.specs.Prelude.{◌≡◌, Some, option_map};
 ghost use Rattle.hevc_sequence_set.specs.Sps.{plain_sps};
 ghost use Rattle.hevc_walk_inputs.specs.Sequences.{format_of_set};
 ghost use Rattle.hevc_walk.specs.Walk.{is_accepted, open_sequence};
@@ -7,11 +7,11 @@ ghost use Rattle.hevc_walk_units.specs.Units.{NoPicture, on_store};
 ghost use Rattle.hevc_backend.specs.Handed.{segment_of};
 ghost use Rattle.hevc_backend.specs.Negotiation.{format_of};
 ghost use Rattle.hevc_driver.specs.Slices.{slice_of};
-ghost use Rattle.hevc_driver.specs.Given.{Given, given_slice, picture_from};
+ghost use Rattle.hevc_driver.specs.Given.{Given, given_first};
 ghost use Rattle.hevc_driver.specs.Answers.{IsFair, awaited};
 ghost use Rattle.hevc_driver.specs.Does.{Runs};
-ghost use Rattle.hevc_driver.specs.Standings.{standing, traces, current_of};
-ghost use Rattle.hevc_driver.specs.Sound.{IsSound, HasRoom, AreNamed, StaysSound};
+ghost use Rattle.hevc_driver.specs.Standings.{standing, traces_in, current_of};
+ghost use Rattle.hevc_driver.specs.Sound.{HasRoom, AreNamed, IsSoundIn, StaysSoundIn};
 ghost use Rattle.hevc_driver.specs.Takes.{Begins, Negotiates, IsNewSequence};
 
 use crate::decode_error::DecodeError;
@@ -40,20 +40,16 @@ impl<B: StatelessH265DecoderBackend> Driver<B> {
     ) -> Result<(), DecodeError>
         requires none { current_of self.old.standing.set self.old.standing.current ≡ NoPicture }
         requires named { AreNamed slice.now sps.now pps.now }
-        requires sound { IsSound (B.log self.old.backend) (B.handed self.old.backend)
-            self.old.standing }
+        requires sound { IsSoundIn B.log B.handed self.old }
         requires room { HasRoom 0 self.old.standing }
-        ensures stays { StaysSound 0
-            (B.log self.new.backend) (B.handed self.new.backend) self.old.standing
-            self.new.standing }
+        ensures stays { StaysSoundIn 0 B.log B.handed self.old self.new }
         ensures fair { IsFair B.counts B.is_faultless B.info self.old.backend self.new.backend
             result }
         ensures part { Begins result
-            (given_slice timestamp (picture_from (slice_of options slice.now sps.now pps.now)
+            (given_first timestamp (slice_of options slice.now sps.now pps.now)
             (segment_of slice.now sps.now pps.now) (standing self.old.standing))
-            (segment_of slice.now sps.now pps.now))
-            (traces (B.log self.old.backend) (B.handed self.old.backend) self.old.standing)
-            (traces (B.log self.new.backend) (B.handed self.new.backend) self.new.standing)
+            (traces_in B.log B.handed B.frames self.old)
+            (traces_in B.log B.handed B.frames self.new)
             (slice_of options slice.now sps.now pps.now)
             (standing self.old.standing) (standing self.new.standing) }
     {
@@ -71,17 +67,14 @@ impl<B: StatelessH265DecoderBackend> Driver<B> {
     /// Another format is negotiated: what is needed for output is output before.
     fn negotiate(&mut self, sps: &Sps) -> Result<(), DecodeError>
         requires none { current_of self.old.standing.set self.old.standing.current ≡ NoPicture }
-        requires sound { IsSound (B.log self.old.backend) (B.handed self.old.backend)
-            self.old.standing }
+        requires sound { IsSoundIn B.log B.handed self.old }
         requires room { HasRoom 0 self.old.standing }
-        ensures stays { StaysSound 0
-            (B.log self.new.backend) (B.handed self.new.backend) self.old.standing
-            self.new.standing }
+        ensures stays { StaysSoundIn 0 B.log B.handed self.old self.new }
         ensures fair { IsFair B.counts B.is_faultless B.info self.old.backend self.new.backend
             (awaited result) }
-        ensures part { (given : Given) → Negotiates result given
-            (traces (B.log self.old.backend) (B.handed self.old.backend) self.old.standing)
-            (traces (B.log self.new.backend) (B.handed self.new.backend) self.new.standing)
+        ensures part { (given : Given) → given.set ≡ Some (plain_sps sps.now) → Negotiates result given
+            (traces_in B.log B.handed B.frames self.old)
+            (traces_in B.log B.handed B.frames self.new)
             (format_of_set (plain_sps sps.now)) (standing self.old.standing)
             (standing self.new.standing) }
     {
@@ -94,16 +87,13 @@ impl<B: StatelessH265DecoderBackend> Driver<B> {
     /// Errors: `Backend`, `NoMemory`; nothing has changed then.
     pub fn open_sequence(&mut self, sps: &Sps) -> Result<(), DecodeError>
         requires none { current_of self.old.standing.set self.old.standing.current ≡ NoPicture }
-        requires sound { IsSound (B.log self.old.backend) (B.handed self.old.backend)
-            self.old.standing }
-        ensures stays { StaysSound 0
-            (B.log self.new.backend) (B.handed self.new.backend) self.old.standing
-            self.new.standing }
+        requires sound { IsSoundIn B.log B.handed self.old }
+        ensures stays { StaysSoundIn 0 B.log B.handed self.old self.new }
         ensures fair { IsFair B.counts B.is_faultless B.info self.old.backend self.new.backend
             (awaited result) }
-        ensures part { (given : Given) → Runs result given
-            (traces (B.log self.old.backend) (B.handed self.old.backend) self.old.standing)
-            (traces (B.log self.new.backend) (B.handed self.new.backend) self.new.standing)
+        ensures part { (given : Given) → given.set ≡ Some (plain_sps sps.now) → Runs result given
+            (traces_in B.log B.handed B.frames self.old)
+            (traces_in B.log B.handed B.frames self.new)
             (on_store (open_sequence (format_of_set (plain_sps sps.now)))
             (standing self.old.standing))
             (λ call. IsNewSequence call × (standing self.new.standing ≡ standing self.old.standing))

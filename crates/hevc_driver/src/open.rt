@@ -4,13 +4,13 @@ ghost use Rattle.hevc_walk.specs.Walk.{is_decoded};
 ghost use Rattle.hevc_refs.specs.Sets.{plain_set};
 ghost use Rattle.hevc_driver.specs.Heads.{head_of};
 ghost use Rattle.hevc_driver.specs.Slices.{slice_of};
-ghost use Rattle.hevc_backend.specs.Handed.{plain_picture, segment_of};
-ghost use Rattle.hevc_driver.specs.Given.{given_slice, picture_from};
+ghost use Rattle.hevc_backend.specs.Handed.{dpb_of, plain_dpb, plain_picture, segment_of};
+ghost use Rattle.hevc_driver.specs.Given.{given_first, given_slice};
 ghost use Rattle.hevc_driver.specs.Answers.{IsFair};
 ghost use Rattle.hevc_driver.specs.Does.{Runs};
-ghost use Rattle.hevc_driver.specs.Moments.{starts, hands_over, given_up};
-ghost use Rattle.hevc_driver.specs.Standings.{standing, traces};
-ghost use Rattle.hevc_driver.specs.Sound.{IsNewest, HasRoom, IsNext, StaysSound, MayBegin};
+ghost use Rattle.hevc_driver.specs.Moments.{enters, starts, hands_over, given_up};
+ghost use Rattle.hevc_driver.specs.Standings.{standing, traces_in};
+ghost use Rattle.hevc_driver.specs.Sound.{IsNewest, HasRoom, IsNext, MayBegin, StaysSoundIn};
 ghost use Rattle.hevc_options.specs.declared.Options as code_options;
 ghost use Rattle.hevc_driver.specs.Takes.{Starts, LeftStarted};
 
@@ -35,21 +35,18 @@ impl<B: StatelessH265DecoderBackend> Driver<B> {
         sps: &Sps,
         pps: &Pps,
     ) -> Result<(), DecodeError>
-        requires ready { MayBegin (B.room self.old.backend) (B.log self.old.backend)
+        requires ready { MayBegin (B.frames self.old.backend).found (B.log self.old.backend)
             (B.handed self.old.backend) slice.now
             sps.now pps.now self.old.standing }
         requires room { HasRoom 0 self.old.standing }
-        ensures stays { StaysSound 0
-            (B.log self.new.backend) (B.handed self.new.backend) self.old.standing
-            self.new.standing }
+        ensures stays { StaysSoundIn 0 B.log B.handed self.old self.new }
         ensures fair { IsFair B.counts B.is_faultless B.info self.old.backend self.new.backend
             result }
         ensures part { Starts result
-            (given_slice timestamp (picture_from (slice_of options slice.now sps.now pps.now)
+            (given_first timestamp (slice_of options slice.now sps.now pps.now)
             (segment_of slice.now sps.now pps.now) (standing self.old.standing))
-            (segment_of slice.now sps.now pps.now))
-            (traces (B.log self.old.backend) (B.handed self.old.backend) self.old.standing)
-            (traces (B.log self.new.backend) (B.handed self.new.backend) self.new.standing)
+            (traces_in B.log B.handed B.frames self.old)
+            (traces_in B.log B.handed B.frames self.new)
             (slice_of options slice.now sps.now pps.now)
             (standing self.old.standing) (standing self.new.standing) }
     {
@@ -74,21 +71,21 @@ impl<B: StatelessH265DecoderBackend> Driver<B> {
         sps: &Sps,
         pps: &Pps,
     ) -> Result<(), DecodeError>
-        requires ready { MayBegin (B.room self.old.backend) (B.log self.old.backend)
+        requires ready { MayBegin (B.frames self.old.backend).found (B.log self.old.backend)
             (B.handed self.old.backend) slice.now
             sps.now pps.now self.old.standing }
         requires next { IsNext head.now sps.now self.old.standing }
         requires room { HasRoom 0 self.old.standing }
-        ensures stays { StaysSound 0
-            (B.log self.new.backend) (B.handed self.new.backend) self.old.standing
-            self.new.standing }
+        ensures stays { StaysSoundIn 0 B.log B.handed self.old self.new }
         ensures fair { IsFair B.counts B.is_faultless B.info self.old.backend self.new.backend
             result }
         ensures part { (o : code_options.Options) → Runs result
             (given_slice timestamp (plain_picture head.now.picture)
+            (dpb_of (enters (head_of head.now) (slice_of o slice.now sps.now pps.now)
+            (standing self.old.standing)).next.store)
             (segment_of slice.now sps.now pps.now))
-            (traces (B.log self.old.backend) (B.handed self.old.backend) self.old.standing)
-            (traces (B.log self.new.backend) (B.handed self.new.backend) self.new.standing)
+            (traces_in B.log B.handed B.frames self.old)
+            (traces_in B.log B.handed B.frames self.new)
             (starts (head_of head.now) (slice_of o slice.now sps.now pps.now)
             (standing self.old.standing))
             (λ call. LeftStarted call × (standing self.new.standing
@@ -109,21 +106,19 @@ impl<B: StatelessH265DecoderBackend> Driver<B> {
         sps: &Sps,
         pps: &Pps,
     ) -> Result<(), DecodeError>
-        requires ready { MayBegin (B.room self.old.backend) (B.log self.old.backend)
+        requires ready { MayBegin (B.frames self.old.backend).found (B.log self.old.backend)
             (B.handed self.old.backend) slice.now
             sps.now pps.now self.old.standing }
         requires newest { IsNewest head.now self.old.standing }
         requires decoded { is_decoded (head_of head.now) ≡ true }
-        ensures stays { StaysSound 0
-            (B.log self.new.backend) (B.handed self.new.backend) self.old.standing
-            self.new.standing }
+        ensures stays { StaysSoundIn 0 B.log B.handed self.old self.new }
         ensures fair { IsFair B.counts B.is_faultless B.info self.old.backend self.new.backend
             result }
         ensures part { (o : code_options.Options) → Runs result
             (given_slice timestamp (plain_picture head.now.picture)
-            (segment_of slice.now sps.now pps.now))
-            (traces (B.log self.old.backend) (B.handed self.old.backend) self.old.standing)
-            (traces (B.log self.new.backend) (B.handed self.new.backend) self.new.standing)
+            (plain_dpb self.old.standing.dpb) (segment_of slice.now sps.now pps.now))
+            (traces_in B.log B.handed B.frames self.old)
+            (traces_in B.log B.handed B.frames self.new)
             (hands_over (head_of head.now) (plain_set self.old.standing.set)
             (slice_of o slice.now sps.now pps.now) (standing self.old.standing))
             (λ call. LeftStarted call × (standing self.new.standing ≡ standing self.old.standing))

@@ -1,5 +1,5 @@
 //! Pictures leave the buffer before one is decoded (8.3.2, C.5.2.2).
-ghost use Rattle.std.specs.Prelude.{◌≡◌, ◌<◌, ◌+◌, ◌-◌, ◌^◌, List, Option};
+ghost use Rattle.std.specs.Prelude.{◌≡◌, ℕ, ◌<◌, ◌+◌, ◌-◌, ◌^◌, List, Option};
 ghost use Rattle.hevc_picture_slice.specs.declared.pps.Pps.{Pps};
 ghost use Rattle.hevc_walk.specs.ReferenceSets.{reference_set};
 ghost use Rattle.hevc_walk.specs.Buffer.{draining};
@@ -37,8 +37,9 @@ impl<H: Copy, P> Standing<H, P> {
         requires latency { HaveLatency (stored_entries self.old.dpb) }
         requires room { HasRoom 0 self.old }
         ensures part { (log : Option (List (Call H)))
-            (handed : Option (List Handed)) (given : Given)
-            → Completes given (traces log handed self.old) (traces log handed self.new)
+            (handed : Option (List Handed)) (asked : Option ℕ) (given : Given)
+            → Completes given (traces log handed asked self.old)
+            (traces log handed asked self.new)
             (on_store (output_by draining) (standing self.old)) (standing self.new) }
         ensures leaves { Leaves self.old self.new }
         ensures next { self.new.next ≡ self.old.next }
@@ -51,8 +52,9 @@ impl<H: Copy, P> Standing<H, P> {
         requires latency { HaveLatency (stored_entries self.old.dpb) }
         requires room { HasRoom 0 self.old }
         ensures part { (log : Option (List (Call H)))
-            (handed : Option (List Handed)) (given : Given)
-            → Completes given (traces log handed self.old) (traces log handed self.new)
+            (handed : Option (List Handed)) (asked : Option ℕ) (given : Given)
+            → Completes given (traces log handed asked self.old)
+            (traces log handed asked self.new)
             (on_store (make_room (head_of head.now)) (standing self.old)) (standing self.new) }
         ensures leaves { Leaves self.old self.new }
         ensures next { self.new.next ≡ self.old.next }
@@ -78,8 +80,9 @@ impl<H: Copy, P> Standing<H, P> {
             ≡ reference_set (head_of head.now) (slice_of o slice.now sps.now pps)
             (buffer_of self.old.dpb) }
         ensures part { (log : Option (List (Call H)))
-            (handed : Option (List Handed)) (given : Given) (o : Options) (pps : Pps)
-            → Completes given (traces log handed self.old) (traces log handed self.new)
+            (handed : Option (List Handed)) (asked : Option ℕ) (given : Given) (o : Options) (pps : Pps)
+            → Completes given (traces log handed asked self.old)
+            (traces log handed asked self.new)
             (enters (head_of head.now) (slice_of o slice.now sps.now pps) (standing self.old))
             (standing self.new) }
         ensures references { SetNamesAmong (numbers (stored_entries self.new.dpb)) self.new.set }

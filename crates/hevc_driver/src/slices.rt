@@ -3,16 +3,16 @@ ghost use Rattle.hevc_refs.specs.declared.ref_pic_set.RefPicSet.{RefPicSet};
 ghost use Rattle.std.specs.Prelude.{◌≡◌, Some, option_map};
 ghost use Rattle.hevc_walk.specs.Meanings.{CodedSlice, same_format};
 ghost use Rattle.hevc_walk.specs.DependentSlices.{whole_slice};
-ghost use Rattle.hevc_walk_units.specs.Units.{NoPicture, begins_picture, changed_by};
+ghost use Rattle.hevc_walk_units.specs.Units.{NoPicture, begins_picture, changed_by, finish_current};
 ghost use Rattle.hevc_backend.specs.Negotiation.{format_of};
 ghost use Rattle.hevc_driver.specs.Slices.{slice_of, kept_of, LeavesSlice};
-ghost use Rattle.hevc_backend.specs.Handed.{segment_of};
-ghost use Rattle.hevc_driver.specs.Given.{Given, given_at, given_slice, next_picture};
+ghost use Rattle.hevc_backend.specs.Handed.{plain_dpb, segment_of};
+ghost use Rattle.hevc_driver.specs.Given.{Given, given_at, given_first};
 ghost use Rattle.hevc_driver.specs.Headers.{latest_of, latest_behind, whole_segment};
 ghost use Rattle.hevc_driver.specs.Answers.{IsFair};
-ghost use Rattle.hevc_driver.specs.Standings.{standing, traces, current_of};
+ghost use Rattle.hevc_driver.specs.Standings.{standing, traces_in, current_of};
 ghost use Rattle.hevc_driver.specs.declared.current.Current.TheVariants.{OpenPicture};
-ghost use Rattle.hevc_driver.specs.Sound.{IsSound, HasRoom, AreNamed, StaysSound, with_header};
+ghost use Rattle.hevc_driver.specs.Sound.{HasRoom, AreNamed, StaysSound, with_header, IsSoundIn, StaysSoundIn};
 ghost use Rattle.hevc_driver.specs.Takes.{Takes, Changes, Follows, given_up_by, ChecksFormat};
 ghost use Rattle.hevc_sequence_set.specs.declared.sps.Sps as code_sps;
 ghost use Rattle.hevc_picture_slice.specs.declared.pps.Pps as code_pps;
@@ -79,8 +79,7 @@ impl<B: StatelessH265DecoderBackend> Driver<B> {
         pps: &Pps,
     ) -> Result<(), DecodeError>
         requires named { AreNamed slice.old sps.now pps.now }
-        requires sound { IsSound (B.log self.old.backend) (B.handed self.old.backend)
-            self.old.standing }
+        requires sound { IsSoundIn B.log B.handed self.old }
         requires room { HasRoom 1 self.old.standing }
         ensures stays { StaysSound 1 (B.log self.new.backend) (B.handed self.new.backend)
             (with_header self.new.standing.kept self.old.standing) self.new.standing }
@@ -93,8 +92,8 @@ impl<B: StatelessH265DecoderBackend> Driver<B> {
             (given_at timestamp (slice_of options slice.old sps.now pps.now)
             (whole_segment (latest_of self.old.standing.kept) slice.old sps.now pps.now)
             (standing self.old.standing))
-            (traces (B.log self.old.backend) (B.handed self.old.backend) self.old.standing)
-            (traces (B.log self.new.backend) (B.handed self.new.backend) self.new.standing)
+            (traces_in B.log B.handed B.frames self.old)
+            (traces_in B.log B.handed B.frames self.new)
             (CodedSlice (slice_of options slice.old sps.now pps.now))
             (standing self.old.standing) (standing self.new.standing) }
         ensures slice { LeavesSlice
@@ -124,20 +123,17 @@ impl<B: StatelessH265DecoderBackend> Driver<B> {
         pps: &Pps,
     ) -> Result<(), DecodeError>
         requires named { AreNamed slice.now sps.now pps.now }
-        requires sound { IsSound (B.log self.old.backend) (B.handed self.old.backend)
-            self.old.standing }
+        requires sound { IsSoundIn B.log B.handed self.old }
         requires room { HasRoom 1 self.old.standing }
-        ensures stays { StaysSound 1
-            (B.log self.new.backend) (B.handed self.new.backend) self.old.standing
-            self.new.standing }
+        ensures stays { StaysSoundIn 1 B.log B.handed self.old self.new }
         ensures fair { IsFair B.counts B.is_faultless B.info self.old.backend self.new.backend
             result }
         ensures part { Changes result
-            (given_slice timestamp (next_picture (slice_of options slice.now sps.now pps.now)
-            (segment_of slice.now sps.now pps.now) (standing self.old.standing))
-            (segment_of slice.now sps.now pps.now))
-            (traces (B.log self.old.backend) (B.handed self.old.backend) self.old.standing)
-            (traces (B.log self.new.backend) (B.handed self.new.backend) self.new.standing)
+            (given_first timestamp (slice_of options slice.now sps.now pps.now)
+            (segment_of slice.now sps.now pps.now)
+            (finish_current (standing self.old.standing)).next)
+            (traces_in B.log B.handed B.frames self.old)
+            (traces_in B.log B.handed B.frames self.new)
             (slice_of options slice.now sps.now pps.now)
             (standing self.old.standing) (standing self.new.standing) }
     {
@@ -148,18 +144,16 @@ impl<B: StatelessH265DecoderBackend> Driver<B> {
     /// A later slice of the current picture.
     fn follow(&mut self, slice: &Slice<'_>, sps: &Sps, pps: &Pps) -> Result<(), DecodeError>
         requires named { AreNamed slice.now sps.now pps.now }
-        requires sound { IsSound (B.log self.old.backend) (B.handed self.old.backend)
-            self.old.standing }
-        ensures stays { StaysSound 0
-            (B.log self.new.backend) (B.handed self.new.backend) self.old.standing
-            self.new.standing }
+        requires sound { IsSoundIn B.log B.handed self.old }
+        ensures stays { StaysSoundIn 0 B.log B.handed self.old self.new }
         ensures fair { IsFair B.counts B.is_faultless B.info self.old.backend self.new.backend
             result }
         ensures part { (given : Given) (o : code_options.Options)
             → given.segment ≡ Some (segment_of slice.now sps.now pps.now)
+            → given.dpb ≡ plain_dpb self.old.standing.dpb
             → Follows result given
-            (traces (B.log self.old.backend) (B.handed self.old.backend) self.old.standing)
-            (traces (B.log self.new.backend) (B.handed self.new.backend) self.new.standing)
+            (traces_in B.log B.handed B.frames self.old)
+            (traces_in B.log B.handed B.frames self.new)
             (slice_of o slice.now sps.now pps.now)
             (standing self.old.standing) (standing self.new.standing) }
     {
@@ -173,18 +167,16 @@ impl<B: StatelessH265DecoderBackend> Driver<B> {
     /// A later slice is handed over, where a picture is open. Where that is refused the picture is to be given up.
     fn hand_slice(&mut self, slice: &Slice<'_>, sps: &Sps, pps: &Pps) -> Result<(), DecodeError>
         requires named { AreNamed slice.now sps.now pps.now }
-        requires sound { IsSound (B.log self.old.backend) (B.handed self.old.backend)
-            self.old.standing }
-        ensures stays { StaysSound 0
-            (B.log self.new.backend) (B.handed self.new.backend) self.old.standing
-            self.new.standing }
+        requires sound { IsSoundIn B.log B.handed self.old }
+        ensures stays { StaysSoundIn 0 B.log B.handed self.old self.new }
         ensures fair { IsFair B.counts B.is_faultless B.info self.old.backend self.new.backend
             result }
         ensures part { (given : Given) (o : code_options.Options)
             → given.segment ≡ Some (segment_of slice.now sps.now pps.now)
+            → given.dpb ≡ plain_dpb self.old.standing.dpb
             → Follows result given
-            (traces (B.log self.old.backend) (B.handed self.old.backend) self.old.standing)
-            (traces (B.log self.new.backend) (B.handed self.new.backend) self.new.standing)
+            (traces_in B.log B.handed B.frames self.old)
+            (traces_in B.log B.handed B.frames self.new)
             (slice_of o slice.now sps.now pps.now)
             (standing self.old.standing) (given_up_by result (standing self.new.standing)) }
     {

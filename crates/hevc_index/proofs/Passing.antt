@@ -12,7 +12,7 @@ use Rattle.hevc_stream.specs.Options.{default_options}
 use Rattle.hevc_stream.specs.Stream.{meaning}
 use Rattle.hevc_backend.specs.declared.call.Call.{Call}
 use Rattle.hevc_backend.specs.Handed.{Handed}
-use Rattle.hevc_backend.specs.Trait.{Counts}
+use Rattle.hevc_backend.specs.Trait.{Counts, Frames}
 use Rattle.hevc_stateless.specs.declared.decoder.StatelessDecoder.{StatelessDecoder}
 use Rattle.hevc_stateless.specs.Decoders.{view_of}
 use Rattle.hevc_stateless_laws.proofs.Keeping.{length_meant, meant_last}
@@ -72,15 +72,15 @@ told_last bytes front after u whole =
 front_is : {B H : Type 0} (all : List NalUnit) (k : ℕ) (begin now : Scene B H) (left : List NalUnit) (x : Reached default_options all k begin now left) → x.front ≡ take k all
 front_is all k begin now left x = sym (ap₂ (λ (n : ℕ) (us : List NalUnit). take n us) (sym x.place) x.whole ∙ take_front x.front left)
 
-module _ {B H P : Type 0} (log : B → Option (List (Call H))) (handed : B → Option (List Handed)) (counts : B → Counts) (is_faultless : B → Type 0) where
+module _ {B H P : Type 0} (log : B → Option (List (Call H))) (handed : B → Option (List Handed)) (frames : B → Frames) (counts : B → Counts) (is_faultless : B → Type 0) where
   abbrev Stands : (bytes : List ℕ) (k : ℕ) (left : List NalUnit) (backend : B) (shown : List (Shown H)) (decoder : StatelessDecoder B H P) → Type 0
-  Stands bytes k left backend shown decoder = StandsIn log handed counts is_faultless default_options bytes k left backend shown decoder
+  Stands bytes k left backend shown decoder = StandsIn log handed frames counts is_faultless default_options bytes k left backend shown decoder
 
   -- the points so far were told
   pub record Collected (bytes : List ℕ) (position k : ℕ) (points : List PlainPoint) (decoder : StatelessDecoder B H P) : Type 0 where
     pub backend : B
     pub shown : List (Shown H)
-    pub stands : StandsIn log handed counts is_faultless default_options bytes k (units_from kept_bytes position bytes) backend shown decoder
+    pub stands : StandsIn log handed frames counts is_faultless default_options bytes k (units_from kept_bytes position bytes) backend shown decoder
     pub faultless : is_faultless backend
     pub told : points ≡ told_points bytes (take k (units bytes))
 
@@ -88,11 +88,11 @@ module _ {B H P : Type 0} (log : B → Option (List (Call H))) (handed : B → O
   pub record CollectedAll (bytes : List ℕ) (k : ℕ) (points : List PlainPoint) (decoder : StatelessDecoder B H P) : Type 0 where
     pub backend : B
     pub shown : List (Shown H)
-    pub stands : StandsIn log handed counts is_faultless default_options bytes k [] backend shown decoder
+    pub stands : StandsIn log handed frames counts is_faultless default_options bytes k [] backend shown decoder
     pub faultless : is_faultless backend
     pub told : points ≡ points_of default_options bytes
 
-  pub collected_first : (bytes : List ℕ) (decoder : StatelessDecoder B H P) → StandsFirst log handed counts is_faultless bytes decoder → Collected bytes 0 0 [] decoder
+  pub collected_first : (bytes : List ℕ) (decoder : StatelessDecoder B H P) → StandsFirst log handed frames counts is_faultless bytes decoder → Collected bytes 0 0 [] decoder
   collected_first bytes decoder first = record { backend = first.0; shown = []; stands = first.1; faultless = first.2; told = refl }
 
   module _ (bytes : List ℕ) (k : ℕ) (before after : List NalUnit) (u : NalUnit) (backend : B) (gone shown : List (Shown H)) (old new : StatelessDecoder B H P) (here : Stands bytes k before backend gone old) (next : Stands bytes (k + 1) after backend shown new) (is : before ≡ u ∷ after) where
@@ -127,7 +127,7 @@ module _ {B H P : Type 0} (log : B → Option (List (Call H))) (handed : B → O
 
   module _ {T : Type 0} (bytes : List ℕ) (position next k : ℕ) (points : List PlainPoint) (old new : StatelessDecoder B H P) (old_shown new_shown : List (Shown H)) (there : Collected bytes position k points old) where
     abbrev Next : Result (Option T) Refused → Type 0
-    Next r = DecodesNext log handed counts is_faultless r bytes k (units_from kept_bytes position bytes) (units_from kept_bytes next bytes) old new old_shown new_shown
+    Next r = DecodesNext log handed frames counts is_faultless r bytes k (units_from kept_bytes position bytes) (units_from kept_bytes next bytes) old new old_shown new_shown
 
     -- a unit, and the point that begins with it
     pub collected_more : (t : T) (u : NalUnit) (more : List PlainPoint) → Next (Ok (Some t)) → units_from kept_bytes position bytes ≡ u ∷ units_from kept_bytes next bytes
@@ -163,10 +163,10 @@ module _ {B H P : Type 0} (log : B → Option (List (Call H))) (handed : B → O
         }
 
   module _ (bytes : List ℕ) (k : ℕ) (points : List PlainPoint) (old new : StatelessDecoder B H P) (old_shown new_shown : List (Shown H)) (there : CollectedAll bytes k points old) where
-    pub ended_refused : (r : Refused) → DecodesEnd log handed counts is_faultless (Err r) k old new old_shown new_shown → JudgesError (error_for r.error r) (ending bytes)
+    pub ended_refused : (r : Refused) → DecodesEnd log handed frames counts is_faultless (Err r) k old new old_shown new_shown → JudgesError (error_for r.error r) (ending bytes)
     ended_refused r x =
         judged_refused bytes (told log handed counts is_faultless there.backend []) (told log handed counts is_faultless (view_of new).backend (there.shown ++ x.out)) r (x.decodes default_options bytes there.backend there.shown there.stands) there.faultless
 
-    pub ended_ok : (n : ℕ) → DecodesEnd log handed counts is_faultless (Ok n) k old new old_shown new_shown → IsOk (ending bytes)
+    pub ended_ok : (n : ℕ) → DecodesEnd log handed frames counts is_faultless (Ok n) k old new old_shown new_shown → IsOk (ending bytes)
     ended_ok n x =
         judged_ok bytes (told log handed counts is_faultless there.backend []) (told log handed counts is_faultless (view_of new).backend (there.shown ++ x.out)) n (x.decodes default_options bytes there.backend there.shown there.stands)

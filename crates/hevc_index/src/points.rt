@@ -42,7 +42,7 @@ fn list_points<B: StatelessH265DecoderBackend>(
 ) -> Result<Items<Point>, IndexError>
     requires short { length stream.now < STREAM_LIMIT }
     requires empty { (view_of decoder.old).queue ≡ [] }
-    requires first { StandsFirst B.log B.handed B.counts B.is_faultless stream.now decoder.old }
+    requires first { StandsFirst B.log B.handed B.frames B.counts B.is_faultless stream.now decoder.old }
     ensures points { IfOk result (λ points.
         map plain_point points ≡ points_of default_options stream.now) }
     ensures refused { Judges result (ending stream.now) }

@@ -12,7 +12,7 @@ use Rattle.hevc_pull.specs.declared.decoder.PullDecoder.{PullDecoder}
 use Rattle.hevc_pull.specs.declared.pulled.Pulled.{Pulled}
 use Rattle.hevc_pull.specs.declared.pulled.Pulled.TheVariants.{Asked, Output, FormatChanged}
 use Rattle.hevc_pull.specs.Pulling.{PullsNext}
-use Rattle.hevc_pull.specs.Views.{kept_of, options_for, seen_of, traces_in, view_in, wanted_after, with_free_frames}
+use Rattle.hevc_pull.specs.Views.{kept_of, options_for, seen_of, num_taken, pulled_traces, view_in, wanted_after, with_free_frames}
 use Rattle.hevc_pull.specs.declared.calls.DecodeCall.{DecodeCall}
 use Rattle.hevc_pull.specs.Status.{row_of, status_in, table_of}
 
@@ -34,6 +34,8 @@ pub record DecodesUnit (bytes : List ℕ) (before now : PullDecoder) (given told
   pub takes : TakesFirst (units bytes) answer given.timestamp (options_for before)
       (with_free_frames given.free_frames (seen_of before)) (seen_of now)
   pub wanted : wanted_after now ≡ wanted_after before
+  -- no event is thrown away before it is taken
+  pub taken : num_taken now ≡ num_taken before
   pub options : options_for now ≡ options_for before
   pub status_is : status ≡ status_in answer
   pub told_is : told ≡ answered answer given
@@ -67,10 +69,12 @@ pub record TakesNext (before now : PullDecoder) (old new : Event) (answer : ℕ)
 
 pub record FlushesAll (before now : PullDecoder) (status : ℕ) : Type 0 where
   pub answer : Result (Unit {0}) DecodeError
-  pub flushes : (given : Given) → Flushes answer given (traces_in before) (traces_in now)
+  pub flushes : (given : Given) → Flushes answer given (pulled_traces before) (pulled_traces now)
       (view_in before).state (view_in before).standing (view_in now).standing
   pub status_is : status ≡ status_in answer
   pub wanted : wanted_after now ≡ wanted_after before
+  -- no event is thrown away before it is taken
+  pub taken : num_taken now ≡ num_taken before
   pub kept : kept_of now ≡ kept_of before
   pub options : options_for now ≡ options_for before
 

@@ -5,7 +5,7 @@ use Rattle.hevc_stateless.specs.States.{is_awaited}
 use Rattle.hevc_stateless.specs.Views.{View}
 use Rattle.hevc_events.specs.declared.event.Event.{Event}
 use Rattle.hevc_queue.specs.Events.{event_of}
-use Rattle.hevc_queue.specs.Queue.{Queue, log_of}
+use Rattle.hevc_queue.specs.Queue.{Queue, log_of, with_taken}
 use Rattle.hevc_pull.specs.declared.pulled.Pulled.{Pulled}
 use Rattle.hevc_pull.specs.declared.pulled.Pulled.TheVariants.{Asked, Output, FormatChanged}
 
@@ -18,8 +18,9 @@ outputs_are_due (event ∷ events) = event.kind == 1
 pub record TakesEvent (event : Event) (before now : Queue) : Type 0 where
   pub first : before.waiting ≡ event ∷ now.waiting
   -- it is the event of the call at its place in the log
-  pub told : (d : Call ℕ) → event ≡ event_of before.taken (slice_index_or (log_of before) before.taken d)
-  pub others : now ≡ record before { waiting = now.waiting; taken = before.taken + 1 }
+  pub told : (d : Call ℕ) → event
+      ≡ event_of before.counts.taken (slice_index_or (log_of before) before.counts.taken d)
+  pub others : now ≡ with_taken (before.counts.taken + 1) now.waiting before
 
 -- Events come in order. Outputs come in order too: after all events, but before that of a sequence.
 -- Then it is told that a format is awaited, and nothing is changed by that.

@@ -4,10 +4,11 @@ use Rattle.hevc_stream.specs.Kept.{Kept}
 use Rattle.hevc_stream.specs.Options.{Options}
 use Rattle.hevc_backend.specs.declared.call.Call.{Call}
 use Rattle.hevc_backend.specs.Handed.{Handed}
+use Rattle.hevc_backend.specs.Trait.{Frames}
 use Rattle.hevc_driver.specs.Does.{Traces}
 use Rattle.hevc_stateless.specs.Decoders.{kept_in, seen_by, set_for, view_of}
 use Rattle.hevc_stateless.specs.Steps.{Seen}
-use Rattle.hevc_stateless.specs.Views.{View, traces_of}
+use Rattle.hevc_stateless.specs.Views.{View, traces_at}
 use Rattle.hevc_queue.specs.Queue.{Queue, handed_of, log_of}
 use Rattle.hevc_pull.specs.declared.decoder.PullDecoder.{PullDecoder}
 
@@ -17,6 +18,10 @@ told_log q = Some (log_of q)
 
 abbrev pub told_handed : Queue → Option (List Handed)
 told_handed q = Some (handed_of q)
+
+-- how often it was asked for free frames
+abbrev pub told_frames : Queue → Frames
+told_frames q = q.frames
 
 -- its queue of events, its state, and what the pictures so far mean
 abbrev pub view_in : PullDecoder → View Queue ℕ
@@ -34,12 +39,16 @@ options_for p = set_for p.decoder
 abbrev pub wanted_after : PullDecoder → Option ℕ
 wanted_after p = (view_in p).backend.counts.set_after
 
+-- how many of its events were taken
+abbrev pub num_taken : PullDecoder → ℕ
+num_taken p = (view_in p).backend.counts.taken
+
 -- all of it
 abbrev pub seen_of : PullDecoder → Seen Queue ℕ
-seen_of p = seen_by told_log told_handed p.decoder
+seen_of p = seen_by told_log told_handed told_frames p.decoder
 
-abbrev pub traces_in : PullDecoder → Traces ℕ
-traces_in p = traces_of (told_log (view_in p).backend) (told_handed (view_in p).backend) (view_in p)
+abbrev pub pulled_traces : PullDecoder → Traces ℕ
+pulled_traces p = traces_at told_log told_handed told_frames (view_in p)
 
 -- so many frames are free
 abbrev pub with_free_frames : (free_frames : ℕ) → Seen Queue ℕ → Seen Queue ℕ

@@ -9,7 +9,7 @@ ghost use Rattle.hevc_stateless.specs.Steps.{TakesFirst};
 ghost use Rattle.hevc_stateless.specs.Views.{OutputsFew, PopsFrame};
 ghost use Rattle.hevc_queue.specs.Controls.{latest_picture_controls, latest_slice_control};
 ghost use Rattle.hevc_queue.specs.Queue.{given_wanted, with_controls};
-ghost use Rattle.hevc_pull.specs.Views.{kept_of, options_for, seen_of, traces_in, view_in, wanted_after, with_free_frames};
+ghost use Rattle.hevc_pull.specs.Views.{kept_of, options_for, seen_of, num_taken, pulled_traces, view_in, wanted_after, with_free_frames};
 ghost use Rattle.hevc_pull.specs.Pulling.{PullsNext, TakesEvent, outputs_are_due};
 
 use crate::pulled::Pulled;
@@ -62,6 +62,8 @@ impl PullDecoder {
         ensures few { OutputsFew (view_in self.old) (view_in self.new) }
         ensures inside { IfOk result (λ place. (3 ≤ place) × (place ≤ length bitstream.now)) }
         ensures wanted { wanted_after self.new ≡ wanted_after self.old }
+        // No event is thrown away before it is taken.
+        ensures taken { num_taken self.new ≡ num_taken self.old }
         ensures options { options_for self.new ≡ options_for self.old }
     {
         self.set_free_frames(free_frames);
@@ -73,13 +75,15 @@ impl PullDecoder {
     /// Errors: those of `flush` of `StatelessDecoder`.
     pub fn flush(&mut self) -> Result<(), DecodeError>
         ensures flushes { (given : Given) → Flushes result given
-            (traces_in self.old) (traces_in self.new)
+            (pulled_traces self.old) (pulled_traces self.new)
             (view_in self.old).state (view_in self.old).standing (view_in self.new).standing }
         ensures few { OutputsFew (view_in self.old) (view_in self.new) }
         ensures latest { (view_in self.new).latest ≡ (view_in self.old).latest }
         ensures state { OnOk result ((view_in self.new).state ≡ Reset) }
         ensures stays { OnErr result ((view_in self.new).state ≡ (view_in self.old).state) }
         ensures wanted { wanted_after self.new ≡ wanted_after self.old }
+        // No event is thrown away before it is taken.
+        ensures taken { num_taken self.new ≡ num_taken self.old }
         ensures kept { kept_of self.new ≡ kept_of self.old }
         ensures options { options_for self.new ≡ options_for self.old }
     {

@@ -2,6 +2,7 @@
 use Rattle.std.specs.Prelude.{ℕ, List, [], ◌∷◌, Option, Some, None}
 use Rattle.std.specs.List.{fold}
 use Rattle.hevc_sequence_set.specs.declared.sps.Sps.{Sps}
+use Rattle.hevc_sequence_set.specs.Sps.{plain_sps}
 use Rattle.hevc_picture_slice.specs.declared.pps.Pps.{Pps}
 use Rattle.hevc_picture_slice.specs.declared.slice.Slice as code
 use Rattle.hevc_pictures.specs.declared.picture_data.PictureData.{PictureData}
@@ -11,7 +12,7 @@ use Rattle.hevc_refs.specs.declared.ref_pic_list.RefPicList.{RefPicList}
 use Rattle.hevc_backend.specs.declared.call.Call.{Call}
 use Rattle.hevc_backend.specs.declared.call.Call.TheVariants.{SubmitPicture}
 use Rattle.hevc_backend.specs.Calls.{new_sequence_call, new_picture_call, begin_picture_call, decode_slice_call}
-use Rattle.hevc_backend.specs.Handed.{Handed, Announced, Begun as BegunHanded, Decoded, plain_picture, segment_of}
+use Rattle.hevc_backend.specs.Handed.{Handed, Sequence as SequenceHanded, Announced, Begun as BegunHanded, Decoded, plain_dpb, plain_picture, segment_of}
 use Rattle.hevc_queue.specs.declared.given.BegunPicture.{BegunPicture}
 use Rattle.hevc_queue.specs.declared.given.GivenSlice.{GivenSlice}
 use Rattle.hevc_queue.specs.declared.given.Given.{Given}
@@ -50,11 +51,14 @@ call_of (Slice s) = decode_slice_call s.number s.slice s.list0 s.list1
 call_of (Submission number) = SubmitPicture number number
 
 abbrev pub handed_in : Given → List Handed
-handed_in (Sequence sps) = []
+handed_in (Sequence sps) = SequenceHanded (plain_sps sps) ∷ []
 handed_in (Picture number picture timestamp) = Announced number (plain_picture picture) ∷ []
 handed_in (Begun b) =
-    BegunHanded b.number (plain_picture b.picture) (segment_of b.slice b.sps b.pps) ∷ []
-handed_in (Slice s) = Decoded s.number (segment_of s.slice s.sps s.pps) ∷ []
+    BegunHanded b.number (plain_picture b.picture) (plain_dpb b.buffer)
+    (segment_of b.slice b.sps b.pps)
+    ∷ []
+handed_in (Slice s) =
+    Decoded s.number (plain_dpb s.buffer) (segment_of s.slice s.sps s.pps) ∷ []
 handed_in (Submission number) = []
 
 -- the latest picture that began is this one, or the one that it was before

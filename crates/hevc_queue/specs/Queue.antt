@@ -3,7 +3,7 @@ use Rattle.std.specs.Prelude.{ℕ, Bool, false, List, [], length, drop, map, Opt
 use Rattle.std.specs.List.{flat_map}
 use Rattle.hevc_backend.specs.declared.call.Call.{Call}
 use Rattle.hevc_backend.specs.Handed.{Handed}
-use Rattle.hevc_backend.specs.Trait.{Counts, counts_of}
+use Rattle.hevc_backend.specs.Trait.{Counts, Frames, counts_of}
 use Rattle.hevc_events.specs.declared.event.Event.{Event}
 use Rattle.hevc_queue.specs.declared.given.Given.{Given}
 use Rattle.hevc_queue.specs.Given.{call_of, handed_in}
@@ -11,16 +11,15 @@ use Rattle.hevc_queue.specs.Given.{call_of, handed_in}
 pub record Queue : Type 0 where
   -- what the calls that it took were given
   pub given : List Given
-  -- how many of their events were taken from the queue
-  pub taken : ℕ
-  -- those that wait, in order
+  -- those of their events that wait, in order
   pub waiting : List Event
   -- how many frames are free: as it was told, less the pictures that began since
   pub free_frames : ℕ
-  -- with after how many calls the structs of Linux's stateless decoders were wanted
+  -- with after how many calls the structs of Linux's stateless decoders were wanted, and how many
+  -- events were taken from the queue
   pub counts : Counts
-  -- the last question for free frames found one, and no picture has begun since
-  pub room : Bool
+  -- how often it was asked for free frames, and whether a picture may begin
+  pub frames : Frames
 
 -- its calls, and what was handed over with them
 abbrev pub log_of : Queue → List (Call ℕ)
@@ -33,12 +32,16 @@ handed_of q = flat_map handed_in q.given
 abbrev pub new_queue : Queue
 new_queue = record {
   given = [];
-  taken = 0;
   waiting = [];
   free_frames = 0;
   counts = counts_of 0 0;
-  room = false;
+  frames = record { asked = Some 0; found = false };
 }
+
+-- so many of their events were taken, and these wait
+abbrev pub with_taken : ℕ → List Event → Queue → Queue
+with_taken taken waiting q =
+    record q { waiting = waiting; counts = record q.counts { taken = taken } }
 
 -- structs are wanted after so many calls, or weren't yet
 abbrev pub with_controls_after : Option ℕ → Queue → Queue

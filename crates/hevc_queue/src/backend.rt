@@ -5,7 +5,7 @@ ghost use Rattle.hevc_backend.specs.declared.call.Call.{Call};
 ghost use Rattle.hevc_events.specs.Waiting.{sequence_is_next};
 ghost use Rattle.hevc_queue.specs.Events.{event_of, events_of};
 ghost use Rattle.hevc_queue.specs.Controls.{latest_picture_controls, latest_slice_control};
-ghost use Rattle.hevc_queue.specs.Queue.{given_wanted, handed_of, log_of, new_queue, with_controls_after, with_controls};
+ghost use Rattle.hevc_queue.specs.Queue.{given_wanted, handed_of, log_of, new_queue, with_controls_after, with_controls, with_taken};
 
 use crate::asked::{picture_event, sequence_event, sets_event, slice_event, submission_event};
 use crate::controls::{Controls, PictureControls, fill_picture, fill_slice, no_controls};
@@ -34,6 +34,8 @@ pub struct QueueBackend {
     faults: u64,
     empty_answers: u64,
     room: bool,
+    /// How often it was asked for free frames, up to 2^64 - 1.
+    questions: u64,
     /// The structs of Linux's stateless decoders, where they are wanted.
     controls: Option<Box<Controls>>,
     /// What the calls were given, for proofs alone.
@@ -43,7 +45,7 @@ pub struct QueueBackend {
 }
 
 impl Model for QueueBackend {
-    ghost use Rattle.std.specs.Prelude.{◌≡◌, drop, length, map};
+    ghost use Rattle.std.specs.Prelude.{◌≡◌, drop, length, map, Some};
     ghost use Rattle.std.specs.Option.{option_map};
     ghost use Rattle.hevc_events.specs.Waiting.{next_place};
     ghost use Rattle.hevc_queue.specs.Controls.{AreOfCalls, wanted};
@@ -58,15 +60,15 @@ impl Model for QueueBackend {
 
     ghost view = { λ b. record {
       given = b.history.items;
-      taken = b.queue.taken;
       waiting = b.queue.events;
       free_frames = b.free_frames;
       counts = record {
         faults = b.faults;
         empty_answers = b.empty_answers;
         set_after = option_map (λ _. length b.before.items) (wanted b.controls);
+        taken = b.queue.taken;
       };
-      room = b.room;
+      frames = record { asked = Some b.questions; found = b.room };
     } };
 
     ghost invariant = { λ b. (next_place b.queue ≡ length b.history.items)
@@ -85,6 +87,7 @@ impl QueueBackend {
             faults: 0,
             empty_answers: 0,
             room: false,
+            questions: 0,
             controls: None,
             history: History::new(),
             before: History::new(),
@@ -94,7 +97,7 @@ impl QueueBackend {
     /// A backend that took the same calls, and of which no event waits: one that stands in for this one while its events are taken.
     pub fn stand_in(&self, alloc: Global) -> QueueBackend
         ensures { result ≡ with_controls_after None
-            (record self.now { taken = length self.now.given; waiting = [] }) }
+            (with_taken (length self.now.given) [] self.now) }
     {
         QueueBackend {
             queue: self.queue.stand_in(alloc),
@@ -102,6 +105,7 @@ impl QueueBackend {
             faults: self.faults,
             empty_answers: self.empty_answers,
             room: self.room,
+            questions: self.questions,
             controls: None,
             history: self.history.again(),
             before: History::new(),
@@ -125,8 +129,8 @@ impl QueueBackend {
     /// How many events wait. These are the events of the calls of the log that were not taken yet, in order.
     pub fn num_waiting(&self) -> usize
         ensures value { result ≡ length self.now.waiting }
-        ensures events { self.now.waiting ≡ drop self.now.taken (events_of (log_of self.now)) }
-        ensures all { self.now.taken + length self.now.waiting ≡ length self.now.given }
+        ensures events { self.now.waiting ≡ drop self.now.counts.taken (events_of (log_of self.now)) }
+        ensures all { self.now.counts.taken + length self.now.waiting ≡ length self.now.given }
     {
         self.queue.num_waiting()
     }
@@ -136,9 +140,10 @@ impl QueueBackend {
         ensures none { IsNone result ↔ (self.old.waiting ≡ []) }
         ensures first { IfSome result (λ event. self.old.waiting ≡ event ∷ self.new.waiting) }
         ensures told { IfSome result (λ event. (d : Call ℕ)
-            → event ≡ event_of self.old.taken (slice_index_or (log_of self.old) self.old.taken d)) }
+            → event ≡ event_of self.old.counts.taken
+            (slice_index_or (log_of self.old) self.old.counts.taken d)) }
         ensures taken { IfSome result (λ _. self.new
-            ≡ record self.old { waiting = self.new.waiting; taken = self.old.taken + 1 }) }
+            ≡ with_taken (self.old.counts.taken + 1) self.new.waiting self.old) }
         ensures unchanged { IfNone result (self.new ≡ self.old) }
     {
         self.queue.take()
@@ -206,7 +211,7 @@ impl StatelessH265DecoderBackend for QueueBackend {
 
     ghost counts = { λ b. b.counts };
 
-    ghost room = { λ b. b.room };
+    ghost frames = { λ b. b.frames };
 
     ghost info = { λ _. None };
 
@@ -304,6 +309,7 @@ impl StatelessH265DecoderBackend for QueueBackend {
             self.empty_answers = self.empty_answers.saturating_add(1);
         }
         self.room = self.free_frames != 0;
+        self.questions = self.questions.saturating_add(1);
         self.free_frames
     }
 

@@ -1,5 +1,5 @@
 -- What is written of the calls and the outputs is the report on the stream.
-use Rattle.std.proofs.Common.{◌≡◌, ℕ, suc, ◌+◌, ◌<◌, Bool, true, false, cond, nat_lt, nat_eq, List, [], ◌∷◌, ◌++◌, map, length, take, codes, decimal, Option, None, Some, IfSome, Result, Ok, Err, refl, sym, ap, ap₂, subst, ◌∙◌, is_ok, arith, append_assoc, length-append}
+use Rattle.std.proofs.Common.{◌≡◌, ℕ, suc, ◌+◌, ◌<◌, Bool, true, false, cond, nat_lt, nat_eq, List, [], ◌∷◌, ◌++◌, map, length, take, codes, decimal, Option, None, Some, IfSome, Result, Ok, Err, refl, sym, ap, ap₂, subst, ◌∙◌, is_ok, arith, append_assoc, append-nil, length-append}
 use Rattle.std.proofs.lemmas.List.{map-append}
 use Rattle.std.proofs.lemmas.List.Elements.{filter-append}
 use Rattle.std.proofs.lemmas.Bool.Decides.{nat_tests}
@@ -10,8 +10,10 @@ use Rattle.hevc_backend.specs.declared.call.Call.TheVariants.{NewSequence, NewPi
 use Rattle.hevc_backend.specs.Handles.{handles, AreCounted}
 use Rattle.hevc_backend.specs.Trait.{logged}
 use Rattle.hevc_walk.specs.Meanings.{Meaning}
-use Rattle.hevc_walk.specs.Results.{OutputPicture, calls, outputs, verdict, calls_below, calls_of_unit}
+use Rattle.hevc_walk.specs.Results.{OutputPicture, events, calls, outputs, verdict, calls_in, outputs_in, calls_below, calls_of_unit}
 use Rattle.hevc_walk.specs.Walk as walk
+use Rattle.hevc_walk.specs.Walk.{Event, Called}
+use Rattle.hevc_walk_agree.proofs.Cuts.{calls_in-append, outputs_in-append}
 use Rattle.hevc_stream.specs.Options.{Options, default_options}
 use Rattle.hevc_stream.specs.Stream.{meanings}
 use Rattle.hevc_driver.specs.declared.decode_error.DecodeError.{DecodeError}
@@ -21,7 +23,8 @@ use Rattle.hevc_driver.specs.Calls.{call_of}
 use Rattle.hevc_decoder.specs.declared.decoded.Shown.{Shown}
 use Rattle.hevc_decoder.specs.declared.decoded.Refused.{Refused}
 use Rattle.hevc_decoder.specs.Answers.{IsNoMemory, IsOkOrNoMemory, without_unit}
-use Rattle.hevc_decoder.specs.Headline.{Grew, Appended, AnswersError, AnswersVerdict, EndsCalls, EndsCallsAt, EndsOutputs, EndsOutputsAt, SubmitsLast, all_asked}
+use Rattle.hevc_decoder.specs.Cut.{IsVerdict, Fills, EndsAt, Ends, IsCut}
+use Rattle.hevc_decoder.specs.Headline.{all_asked}
 use Rattle.hevc_decoder.specs.Names.{output_picture, answer_of}
 use Rattle.hevc_report.specs.Lines.{log_line, rest_text, shown_line, shown_counts, summary_text, text_of}
 use Rattle.hevc_report.specs.Report.{calls_text, submission_line, output_line, cause_text, last_line, ending_of, calls_made, outputs_given, text_for, report_of}
@@ -79,16 +82,15 @@ first_of_unit : (k : ℕ) (call : walk.Call) (later : List (ℕ × walk.Call)) �
 first_of_unit k call later = rw (equal_to_itself k) refl
 
 -- the submission of the picture that finds the buffer full is the first call of its unit
-pub submission_first : (k : ℕ) (made : List walk.Call) (all : List (ℕ × walk.Call)) → SubmitsLast k made all
-    → made ≡ all_asked (calls_below k all ++ take 1 (calls_of_unit k all))
-submission_first k made all s =
-    let before = calls_below k all in
-    let here : ℕ × walk.Call = (k, walk.SubmitPicture s.number) in
-    let asked = λ (c : ℕ × walk.Call). c.1 in
-    let split : calls_of_unit k all ≡ calls_of_unit k (here ∷ s.later) =
-    ap (calls_of_unit k) s.whole ∙ filter-append (λ c. nat_eq c.0 k) before (here ∷ s.later) ∙ ap (λ l. l ++ calls_of_unit k (here ∷ s.later)) (none_below k all) in
-    let one : take 1 (calls_of_unit k all) ≡ here ∷ [] = ap (take 1) split ∙ first_of_unit k (walk.SubmitPicture s.number) s.later in
-    s.calls_are ∙ sym (ap (λ l. all_asked (before ++ l)) one ∙ map-append asked before (here ∷ []))
+submission_first : (k number : ℕ) (before later all : List (ℕ × walk.Call)) → before ≡ calls_below k all → all ≡ before ++ (k, walk.SubmitPicture number) ∷ later
+    → calls_below k all ++ take 1 (calls_of_unit k all) ≡ before ++ (k, walk.SubmitPicture number) ∷ []
+submission_first k number before later all below whole =
+    let here : ℕ × walk.Call = (k, walk.SubmitPicture number) in
+    let none : calls_of_unit k before ≡ [] = ap (calls_of_unit k) below ∙ none_below k all in
+    let split : calls_of_unit k all ≡ calls_of_unit k (here ∷ later) =
+    ap (calls_of_unit k) whole ∙ filter-append (λ c. nat_eq c.0 k) before (here ∷ later) ∙ ap (λ l. l ++ calls_of_unit k (here ∷ later)) none in
+    let one : take 1 (calls_of_unit k all) ≡ here ∷ [] = ap (take 1) split ∙ first_of_unit k (walk.SubmitPicture number) later in
+    ap₂ (λ a b. a ++ b) (sym below) one
 
 -- ---- the whole
 
@@ -98,20 +100,46 @@ record IsWhole (us : List Meaning) (log : List (Call ℕ)) (shown : List (Shown 
   pub outputs_are : map output_picture shown ≡ outputs_given result (outputs us)
   pub answer_is : answer_of (verdict us) ≡ result
 
-whole_error : (us : List Meaning) (log : List (Call ℕ)) (shown : List (Shown ℕ)) (k : ℕ) (error : DecodeError) → ¬ IsOfBackend error → ¬ IsNoMemory error
-    → EndsCallsAt error k (map call_of log) (calls us) → EndsOutputsAt error k (map output_picture shown) (outputs us) → AnswersError error (record { unit = k; error = error }) (verdict us)
-    → IsWhole us log shown (Err (record { unit = k; error = error }))
-whole_error us log shown k errors.Backend b m c o a = absurd (b tt)
-whole_error us log shown k (errors.NotEnoughOutputBuffers frames) b m c o a = absurd (b tt)
-whole_error us log shown k errors.NoMemory b m c o a = absurd (m tt)
-whole_error us log shown k errors.DpbFull b m c o a = record { calls_are = submission_first k _ _ c; outputs_are = o; answer_is = a }
-whole_error us log shown k error b m c o a = record { calls_are = c; outputs_are = o; answer_is = a }
-
 -- an answer that is neither a failed backend nor a failed allocation
-whole : (us : List Meaning) (log : List (Call ℕ)) (shown : List (Shown ℕ)) (result : Result ℕ Refused) → IsNotOfBackend (without_unit result) → ¬ WantsMemory result
-    → EndsCalls result (map call_of log) (calls us) → EndsOutputs result (map output_picture shown) (outputs us) → AnswersVerdict result (verdict us) → IsWhole us log shown result
-whole us log shown (Ok n) b m c o a = record { calls_are = c; outputs_are = o; answer_is = a }
-whole us log shown (Err refused) b m c o a = whole_error us log shown refused.unit refused.error b m c o a
+module _ (us : List Meaning) (log : List (Call ℕ)) (shown : List (Shown ℕ)) (done rest : List (ℕ × Event)) (whole : events us ≡ done ++ rest) (made : map call_of log ≡ all_asked (calls_in done)) (given : map output_picture shown ≡ outputs_in done) where
+  all_done : rest ≡ [] → done ≡ events us
+  all_done none = sym (whole ∙ ap (λ r. done ++ r) none ∙ append-nil done)
+
+  all_made : rest ≡ [] → map call_of log ≡ all_asked (calls us)
+  all_made none = made ∙ ap (λ es. all_asked (calls_in es)) (all_done none)
+
+  all_given : rest ≡ [] → map output_picture shown ≡ outputs us
+  all_given none = given ∙ ap outputs_in (all_done none)
+
+  calls_are : calls us ≡ calls_in done ++ calls_in rest
+  calls_are = ap calls_in whole ∙ calls_in-append done rest
+
+  -- where the buffer is full
+  fills : (k : ℕ) → Fills k us done → IsVerdict (record { unit = k; error = errors.DpbFull }) us → IsWhole us log shown (Err (record { unit = k; error = errors.DpbFull }))
+  fills k f verdict_is =
+      let last : ℕ × walk.Call = (k, walk.SubmitPicture f.number) in
+      let last_event : ℕ × Event = (k, Called (walk.SubmitPicture f.number)) in
+      let done_calls : calls_in done ≡ calls_in f.before ++ last ∷ [] = ap calls_in f.done_is ∙ calls_in-append f.before (last_event ∷ []) in
+      let all : calls us ≡ calls_in f.before ++ last ∷ calls_in rest = calls_are ∙ ap (λ l. l ++ calls_in rest) done_calls ∙ append_assoc (calls_in f.before) (last ∷ []) (calls_in rest) in
+      record {
+        calls_are = made ∙ ap all_asked (done_calls ∙ sym (submission_first k f.number (calls_in f.before) (calls_in rest) (calls us) (sym f.calls) all));
+        outputs_are = given ∙ ap outputs_in f.done_is ∙ outputs_in-append f.before (last_event ∷ []) ∙ append-nil (outputs_in f.before) ∙ sym f.outputs;
+        answer_is = verdict_is;
+      }
+
+  whole_error : (k : ℕ) (error : DecodeError) → ¬ IsOfBackend error → ¬ IsNoMemory error → EndsAt error (record { unit = k; error = error }) us done rest → IsWhole us log shown (Err (record { unit = k; error = error }))
+  whole_error k errors.Backend b m e = absurd (b tt)
+  whole_error k (errors.NotEnoughOutputBuffers frames) b m e = absurd (b tt)
+  whole_error k errors.NoMemory b m e = absurd (m tt)
+  whole_error k errors.NoNal b m e = absurd e
+  whole_error k errors.CheckEvents b m e = absurd e
+  whole_error k errors.PictureNumbersSpent b m e = absurd e
+  whole_error k errors.DpbFull b m e = fills k e.1 e.0
+  whole_error k error b m e = record { calls_are = all_made e.1; outputs_are = all_given e.1; answer_is = e.0 }
+
+  whole_answer : (result : Result ℕ Refused) → IsNotOfBackend (without_unit result) → ¬ WantsMemory result → Ends result us done rest → IsWhole us log shown result
+  whole_answer (Ok n) b m e = record { calls_are = all_made e.1; outputs_are = all_given e.1; answer_is = e.0 }
+  whole_answer (Err refused) b m e = whole_error refused.unit refused.error b m e
 
 one_inside : (xs ys : List (Call ℕ)) → Some xs ≡ logged (Some []) ys → xs ≡ ys
 one_inside xs ys e = cc e
@@ -130,24 +158,19 @@ text_is us log shown result w counted =
 -- what the clauses of the decoder say of a log and of outputs that began empty
 whole_of : (us : List Meaning) (empty after log : List (Call ℕ)) (none given shown : List (Shown ℕ)) (result : Result ℕ Refused)
     → empty ≡ [] → log ≡ after → none ≡ [] → shown ≡ given → IsNotOfBackend (without_unit result) → ¬ WantsMemory result
-    → Grew (Some empty) (Some after) (λ l. EndsCalls result (map call_of l) (calls us)) → Appended none given (λ o. EndsOutputs result (map output_picture o) (outputs us))
-    → AnswersVerdict result (verdict us) → IsWhole us log shown result
-whole_of us empty after log none given shown result p q r s b m c o a =
-    let log_is : log ≡ c.0 = q ∙ one_inside after c.0 (c.1 ∙ ap (λ l. logged (Some l) c.0) p) in
-    let shown_is : shown ≡ o.0 = s ∙ o.1 ∙ ap (λ l. l ++ o.0) r in
-    whole us log shown result b m
-    (subst (λ l. EndsCalls result (map call_of l) (calls us)) (sym log_is) c.2)
-    (subst (λ l. EndsOutputs result (map output_picture l) (outputs us)) (sym shown_is) o.2) a
+    → IsCut result us (Some empty) (Some after) none given → IsWhole us log shown result
+whole_of us empty after log none given shown result p q r s b m cut =
+    let log_is : log ≡ cut.made.0 = q ∙ one_inside after cut.made.0 (cut.made.1 ∙ ap (λ l. logged (Some l) cut.made.0) p) in
+    let shown_is : shown ≡ cut.given.0 = s ∙ cut.given.1 ∙ ap (λ l. l ++ cut.given.0) r in
+    whole_answer us log shown cut.done cut.rest cut.whole (ap (map call_of) log_is ∙ cut.made.2) (ap (map output_picture) shown_is ∙ cut.given.2) result b m cut.ends
 
 -- the same, as the clauses of the decoder have it
 pub report_is : (options : Options) (stream : List ℕ) (empty after log : List (Call ℕ)) (none given shown : List (Shown ℕ)) (result : Result ℕ Refused)
     → empty ≡ [] → log ≡ after → none ≡ [] → shown ≡ given → IsNotOfBackend (without_unit result) → ¬ WantsMemory result
-    → Grew (Some empty) (Some after) (λ l. EndsCalls result (map call_of l) (calls (meanings options stream)))
-    → Appended none given (λ o. EndsOutputs result (map output_picture o) (outputs (meanings options stream)))
-    → AnswersVerdict result (verdict (meanings options stream)) → AreCounted log → text_of log shown result ≡ report_of options stream
-report_is options stream empty after log none given shown result p q r s b m c o a counted =
+    → IsCut result (meanings options stream) (Some empty) (Some after) none given → AreCounted log → text_of log shown result ≡ report_of options stream
+report_is options stream empty after log none given shown result p q r s b m cut counted =
     let us = meanings options stream in
-    text_is us log shown result (whole_of us empty after log none given shown result p q r s b m c o a) counted
+    text_is us log shown result (whole_of us empty after log none given shown result p q r s b m cut) counted
 
 -- a text is the lines of the calls, and the rest
 pub in_parts : (log : List (Call ℕ)) (shown : List (Shown ℕ)) (result : Result ℕ Refused) → flat_map log_line log ++ rest_text shown result ≡ text_of log shown result
@@ -177,12 +200,10 @@ summary_is_of us log shown (Err refused) w = ap (λ r. summary_for r (outputs us
 -- the same, as the clauses of the decoder have it
 pub summary_is : (options : Options) (stream : List ℕ) (empty after log : List (Call ℕ)) (none given shown : List (Shown ℕ)) (result : Result ℕ Refused)
     → options ≡ default_options → empty ≡ [] → log ≡ after → none ≡ [] → shown ≡ given → IsNotOfBackend (without_unit result) → ¬ WantsMemory result
-    → Grew (Some empty) (Some after) (λ l. EndsCalls result (map call_of l) (calls (meanings options stream)))
-    → Appended none given (λ o. EndsOutputs result (map output_picture o) (outputs (meanings options stream)))
-    → AnswersVerdict result (verdict (meanings options stream)) → summary_text shown result ≡ summary_of stream
-summary_is options stream empty after log none given shown result o p q r s b m c g a =
+    → IsCut result (meanings options stream) (Some empty) (Some after) none given → summary_text shown result ≡ summary_of stream
+summary_is options stream empty after log none given shown result o p q r s b m cut =
     let us = meanings options stream in
-    let w = whole_of us empty after log none given shown result p q r s b m c g a in
+    let w = whole_of us empty after log none given shown result p q r s b m cut in
     summary_is_of us log shown result w ∙ ap (λ x. summary_for (answer_of (verdict (meanings x stream))) (outputs (meanings x stream))) o
 
 -- ---- what a report tells

@@ -24,8 +24,8 @@ module _ {B H : Type 0} (t : ℕ) (o : Options) (old new : Seen B H) where
   error_in e (Err x) = x
 
   same_refusal : (e : DecodeError) (h : UnitHeader) (bytes : List ℕ) → Step {T = Unit {0}} (Err e) (given_to t o h bytes old) o h bytes old new → Step {T = ℕ} (Err e) (given_to t o h bytes old) o h bytes old new
-  same_refusal errors.NoMemory h bytes step = record { takes = ⊎_elim inl (λ a. inr (record { part = a.part; state = a.state })) step.takes; kept = step.kept; latest = step.latest }
-  same_refusal e h bytes step = record { takes = record { part = step.takes.part; state = step.takes.state }; kept = step.kept; latest = step.latest }
+  same_refusal errors.NoMemory h bytes step = record { takes = ⊎_elim inl (λ a. inr (record { part = a.part; state = a.state; latest = a.latest })) step.takes; kept = step.kept }
+  same_refusal e h bytes step = record { takes = record { part = step.takes.part; state = step.takes.state; latest = step.takes.latest }; kept = step.kept }
 
   refused_in : (e : DecodeError) (h : UnitHeader) (bytes : List ℕ) → StepsIn {T = Unit {0}} (Err e) t o h bytes old new → StepsIn {T = ℕ} (Err e) t o h bytes old new
   refused_in e h bytes x = record {
@@ -34,7 +34,7 @@ module _ {B H : Type 0} (t : ℕ) (o : Options) (old new : Seen B H) where
   }
 
   same_step : {T : Type 0} (v : T) (place : ℕ) (h : UnitHeader) (bytes : List ℕ) → Step (Ok v) (given_to t o h bytes old) o h bytes old new → Step (Ok place) (given_to t o h bytes old) o h bytes old new
-  same_step v place h bytes step = record { takes = record { part = step.takes.part; state = step.takes.state }; kept = step.kept; latest = step.latest }
+  same_step v place h bytes step = record { takes = record { part = step.takes.part; state = step.takes.state; latest = step.takes.latest }; kept = step.kept }
 
   taken_in : {T : Type 0} (v : T) (place : ℕ) (h : UnitHeader) (bytes : List ℕ) → StepsIn (Ok v) t o h bytes old new → StepsIn (Ok place) t o h bytes old new
   taken_in v place h bytes x = record {

@@ -28,10 +28,11 @@ use Rattle.hevc_driver.proofs.Doing.{does_nothing, keeps_all}
 use Rattle.hevc_stateless.specs.declared.state.State.{State}
 use Rattle.hevc_stateless.specs.declared.state.State.TheVariants.{AwaitingStreamInfo, AwaitingFormat, Decoding, Reset}
 use Rattle.hevc_stateless.specs.States.{Unit, unit_at, is_sequence_set, is_parameter_set, later_meaning, state_behind, meaning_when, meaning_in, is_decoding, state_at}
-use Rattle.hevc_stateless.specs.Views.{View, traces_of, moment_of}
-use Rattle.hevc_stateless.specs.Steps.{Step, TakesIn, MovesLatest, KeepsBehind, with_read_set}
-use Rattle.hevc_stateless.specs.Segments.{header_in, latest_at, own_header, given_with}
-use Rattle.hevc_stateless.proofs.Passing.{idle_unit, latest_same, latest_without}
+use Rattle.hevc_stateless.specs.Views.{View, traces_of, traces_at, moment_of}
+use Rattle.hevc_backend.specs.Trait.{Frames}
+use Rattle.hevc_stateless.specs.Steps.{Step, TakesIn, KeepsBehind, with_read_set}
+use Rattle.hevc_stateless.specs.Segments.{ReadUnit, header_in, latest_at, own_header, given_with}
+use Rattle.hevc_stateless.proofs.Passing.{idle_unit, latest_without}
 use Rattle.hevc_stateless.proofs.Setting.{means}
 
 -- ---- the content
@@ -109,10 +110,10 @@ module _ (o : Options) (k : Kept) (bytes : List ℕ) (h : UnitHeader) (parsed : 
 -- ---- ends
 
 pub ends : {H : Type 0} (t : Given) (a : Traces H) (s : Standing) → Goes t a a EndOfSequence s (step_part EndOfSequence s).next
-ends t a s = record { accepted = refl; room = refl; numbered = refl; goes_on = refl; completes = record { does = does_nothing t a a refl refl refl (keeps_all a.tickets a.tickets refl); next = refl } }
+ends t a s = record { accepted = refl; room = refl; numbered = refl; goes_on = refl; completes = record { does = does_nothing t a a refl refl refl refl (keeps_all a.tickets a.tickets refl); next = refl } }
 
 pub closes : {H : Type 0} (t : Given) (a : Traces H) (s : Standing) → Goes t a a EndOfBitstream s (step_part EndOfBitstream s).next
-closes t a s = record { accepted = refl; room = refl; numbered = refl; goes_on = refl; completes = record { does = does_nothing t a a refl refl refl (keeps_all a.tickets a.tickets refl); next = refl } }
+closes t a s = record { accepted = refl; room = refl; numbered = refl; goes_on = refl; completes = record { does = does_nothing t a a refl refl refl refl (keeps_all a.tickets a.tickets refl); next = refl } }
 
 -- ---- the states
 
@@ -190,16 +191,16 @@ coded_waits Reset u d p = ap (λ (b : Bool). if b then later_meaning u.meaning e
 
 -- ---- steps
 
-pub end_step : {B H : Type 0} (logs : B → Option (List (Call H))) (handeds : B → Option (List Handed)) (t : Given) (view now : View B H) (m : Meaning) → m ≡ EndOfSequence → now ≡ record view { standing = (step_part EndOfSequence view.standing).next }
-    → Goes t (traces_of (logs view.backend) (handeds view.backend) view) (traces_of (logs now.backend) (handeds now.backend) now) m view.standing now.standing
-end_step logs handeds t view now m is same = rw same (rw is (ends t (traces_of (logs view.backend) (handeds view.backend) view) view.standing))
+pub end_step : {B H : Type 0} (logs : B → Option (List (Call H))) (handeds : B → Option (List Handed)) (framed : B → Frames) (t : Given) (view now : View B H) (m : Meaning) → m ≡ EndOfSequence → now ≡ record view { standing = (step_part EndOfSequence view.standing).next }
+    → Goes t (traces_at logs handeds framed view) (traces_at logs handeds framed now) m view.standing now.standing
+end_step logs handeds framed t view now m is same = rw same (rw is (ends t (traces_at logs handeds framed view) view.standing))
 
-pub close_step : {B H : Type 0} (logs : B → Option (List (Call H))) (handeds : B → Option (List Handed)) (t : Given) (view now : View B H) (m : Meaning) → m ≡ EndOfBitstream → now ≡ record view { standing = (step_part EndOfBitstream view.standing).next }
-    → Goes t (traces_of (logs view.backend) (handeds view.backend) view) (traces_of (logs now.backend) (handeds now.backend) now) m view.standing now.standing
-close_step logs handeds t view now m is same = rw same (rw is (closes t (traces_of (logs view.backend) (handeds view.backend) view) view.standing))
+pub close_step : {B H : Type 0} (logs : B → Option (List (Call H))) (handeds : B → Option (List Handed)) (framed : B → Frames) (t : Given) (view now : View B H) (m : Meaning) → m ≡ EndOfBitstream → now ≡ record view { standing = (step_part EndOfBitstream view.standing).next }
+    → Goes t (traces_at logs handeds framed view) (traces_at logs handeds framed now) m view.standing now.standing
+close_step logs handeds framed t view now m is same = rw same (rw is (closes t (traces_at logs handeds framed view) view.standing))
 
-pub idle_step : {B H : Type 0} (logs : B → Option (List (Call H))) (handeds : B → Option (List Handed)) (t : Given) (view : View B H) (m : Meaning) → m ≡ Other → Goes t (traces_of (logs view.backend) (handeds view.backend) view) (traces_of (logs view.backend) (handeds view.backend) view) m view.standing view.standing
-idle_step logs handeds t view m is = rw is (idle_unit t (traces_of (logs view.backend) (handeds view.backend) view) view.standing)
+pub idle_step : {B H : Type 0} (logs : B → Option (List (Call H))) (handeds : B → Option (List Handed)) (framed : B → Frames) (t : Given) (view : View B H) (m : Meaning) → m ≡ Other → Goes t (traces_at logs handeds framed view) (traces_at logs handeds framed view) m view.standing view.standing
+idle_step logs handeds framed t view m is = rw is (idle_unit t (traces_at logs handeds framed view) view.standing)
 
 module _ (o : Options) (k : Kept) (bytes : List ℕ) (h : UnitHeader) (parsed : unit_header bytes ≡ Ok h) where
   abbrev u : Unit
@@ -231,14 +232,14 @@ module _ (o : Options) (k : Kept) (bytes : List ℕ) (h : UnitHeader) (parsed : 
   unfolding kept_behind
   unwanted_kept above = sym (ap (λ (c : Content). with_content o bytes c k) (of_unwanted o k bytes h parsed above k))
 
-  pub unwanted_step : {B H T : Type 0} (value : T) (t : Given) (log : Option (List (Call H))) (handed : Option (List Handed)) (view : View B H) → nat_le (temporal_id h) o.highest_tid ≡ false → Step (Ok value) t o h bytes (record { log = log; handed = handed; view = view; kept = k }) (record { log = log; handed = handed; view = view; kept = k })
-  unwanted_step value t log handed view above = record {
+  pub unwanted_step : {B H T : Type 0} (value : T) (t : Given) (log : Option (List (Call H))) (handed : Option (List Handed)) (asked : Option ℕ) (view : View B H) → nat_le (temporal_id h) o.highest_tid ≡ false → Step (Ok value) t o h bytes (record { log = log; handed = handed; asked = asked; view = view; kept = k }) (record { log = log; handed = handed; asked = asked; view = view; kept = k })
+  unwanted_step value t log handed asked view above = record {
     takes = record {
-      part = subst (λ (m : Meaning). Takes (Ok value) t (traces_of log handed view) (traces_of log handed view) m view.standing view.standing) (sym (ap (λ (x : State). meaning_when x u) (unwanted_behind view.state above) ∙ unwanted_when view.state (unwanted_means above))) (idle_unit t (traces_of log handed view) view.standing);
+      part = subst (λ (m : Meaning). Takes (Ok value) t (traces_of log handed asked view) (traces_of log handed asked view) m view.standing view.standing) (sym (ap (λ (x : State). meaning_when x u) (unwanted_behind view.state above) ∙ unwanted_when view.state (unwanted_means above))) (idle_unit t (traces_of log handed asked view) view.standing);
       state = sym (unwanted_behind view.state above);
+      latest = sym (ap (λ (m : Meaning). latest_at m (own_header o k bytes) view.latest) (ap (λ (x : State). meaning_when x u) (unwanted_behind view.state above) ∙ unwanted_when view.state (unwanted_means above)));
     };
     kept = unwanted_kept above;
-    latest = latest_same (Ok value) _ view.latest view.latest (ap (λ (m : Meaning). latest_at m (own_header o k bytes) view.latest) (ap (λ (x : State). meaning_when x u) (unwanted_behind view.state above) ∙ unwanted_when view.state (unwanted_means above))) refl;
   }
 
   -- ---- units that are no parameter sets
@@ -247,49 +248,49 @@ module _ (o : Options) (k : Kept) (bytes : List ℕ) (h : UnitHeader) (parsed : 
     behind : (st : State) → state_behind st u ≡ state_at (is_idr h.nal_unit_type) st
     behind st = let w : nat_le (temporal_id h) o.highest_tid ≡ true = grind (arith, nat_tests, wanted) in coded_behind st u w (coded_isnt o k bytes h parsed wanted other)
 
-    pub passed_step : {B H T : Type 0} (value : T) (t : Given) (log : Option (List (Call H))) (handed : Option (List Handed)) (view : View B H) (at : Bool) → at ≡ is_idr h.nal_unit_type → is_decoding (state_at at view.state) ≡ false
-        → Step (Ok value) t o h bytes (record { log = log; handed = handed; view = view; kept = k }) (record { log = log; handed = handed; view = view; kept = k })
-    passed_step {B} {H} {T} value t log handed view at is waits =
+    pub passed_step : {B H T : Type 0} (value : T) (t : Given) (log : Option (List (Call H))) (handed : Option (List Handed)) (asked : Option ℕ) (view : View B H) (at : Bool) → at ≡ is_idr h.nal_unit_type → is_decoding (state_at at view.state) ≡ false
+        → Step (Ok value) t o h bytes (record { log = log; handed = handed; asked = asked; view = view; kept = k }) (record { log = log; handed = handed; asked = asked; view = view; kept = k })
+    passed_step {B} {H} {T} value t log handed asked view at is waits =
         let st : view.state ≡ state_behind view.state u = sym (still at view.state waits) ∙ ap (λ (b : Bool). state_at b view.state) is ∙ sym (behind view.state) in
         let m : meaning_in view.state u ≡ Other = ap (λ (x : State). meaning_when x u) (sym st) ∙ coded_waits view.state u (ap is_decoding (sym (still at view.state waits)) ∙ waits) other in
         record {
           takes = record {
-            part = subst (λ (x : Meaning). Takes (Ok value) t (traces_of log handed view) (traces_of log handed view) x view.standing view.standing) (sym m) (idle_unit t (traces_of log handed view) view.standing);
+            part = subst (λ (x : Meaning). Takes (Ok value) t (traces_of log handed asked view) (traces_of log handed asked view) x view.standing view.standing) (sym m) (idle_unit t (traces_of log handed asked view) view.standing);
             state = st;
+            latest = sym (ap (λ (x : Meaning). latest_at x (own_header o k bytes) view.latest) m);
           };
           kept = coded_keeps o k bytes h parsed wanted other (Ok value);
-          latest = latest_same (Ok value) _ view.latest view.latest (ap (λ (x : Meaning). latest_at x (own_header o k bytes) view.latest) m) refl;
         }
 
     means_in : {B H : Type 0} (view : View B H) (at : Bool) → at ≡ is_idr h.nal_unit_type → is_decoding (state_at at view.state) ≡ true → meaning_in view.state u ≡ u.meaning
     means_in view at is goes = ap (λ (x : State). meaning_when x u) (behind view.state) ∙ coded_means (state_at (is_idr h.nal_unit_type) view.state) u (ap (λ (b : Bool). is_decoding (state_at b view.state)) (sym is) ∙ goes) (coded_isnt o k bytes h parsed wanted other)
 
-    pub taken_step : {B H T : Type 0} (r : Result T DecodeError) (t : Given) (log newlog : Option (List (Call H))) (handed newhanded : Option (List Handed)) (view now : View B H) (at : Bool) (new : Kept) → at ≡ is_idr h.nal_unit_type → is_decoding (state_at at view.state) ≡ true → new ≡ k → MovesLatest r (latest_at u.meaning (own_header o k bytes) view.latest) view.latest now.latest
-        → TakesIn r t u.meaning (state_at (is_idr h.nal_unit_type) view.state) (moment_of log handed view) (moment_of newlog newhanded now)
-        → Step r t o h bytes (record { log = log; handed = handed; view = view; kept = k }) (record { log = newlog; handed = newhanded; view = now; kept = new })
-    taken_step {B} {H} {T} r t log newlog handed newhanded view now at new is goes kept latest takes =
+    pub taken_step : {B H T : Type 0} (r : Result T DecodeError) (t : Given) (log newlog : Option (List (Call H))) (handed newhanded : Option (List Handed)) (asked newasked : Option ℕ) (view now : View B H) (at : Bool) (new : Kept) → at ≡ is_idr h.nal_unit_type → is_decoding (state_at at view.state) ≡ true → new ≡ k
+        → TakesIn r t u.meaning (own_header o k bytes) (state_at (is_idr h.nal_unit_type) view.state) (moment_of log handed asked view) (moment_of newlog newhanded newasked now)
+        → Step r t o h bytes (record { log = log; handed = handed; asked = asked; view = view; kept = k }) (record { log = newlog; handed = newhanded; asked = newasked; view = now; kept = new })
+    taken_step {B} {H} {T} r t log newlog handed newhanded asked newasked view now at new is goes kept takes =
         let st : state_at (is_idr h.nal_unit_type) view.state ≡ state_behind view.state u = sym (behind view.state) in
         let m : meaning_in view.state u ≡ u.meaning = means_in view at is goes in
         record {
-          takes = subst (λ (x : Meaning). TakesIn r t x (state_behind view.state u) (moment_of log handed view) (moment_of newlog newhanded now)) (sym m) (subst (λ (x : State). TakesIn r t u.meaning x (moment_of log handed view) (moment_of newlog newhanded now)) st takes);
+          takes = subst (λ (x : Meaning). TakesIn r t x (own_header o k bytes) (state_behind view.state u) (moment_of log handed asked view) (moment_of newlog newhanded newasked now)) (sym m) (subst (λ (x : State). TakesIn r t u.meaning (own_header o k bytes) x (moment_of log handed asked view) (moment_of newlog newhanded newasked now)) st takes);
           kept = subst (λ (x : Kept). KeepsBehind r o bytes k x) (sym kept) (coded_keeps o k bytes h parsed wanted other r);
-          latest = subst (λ (x : Meaning). MovesLatest r (latest_at x (own_header o k bytes) view.latest) view.latest now.latest) (sym m) latest;
         }
 
     -- one that comes with what its meaning tells
-    pub coded_step : {B H T : Type 0} (r : Result T DecodeError) (timestamp : ℕ) (segment : Option Segment) (log newlog : Option (List (Call H))) (handed newhanded : Option (List Handed)) (view now : View B H) (at : Bool) (new : Kept) → at ≡ is_idr h.nal_unit_type → is_decoding (state_at at view.state) ≡ true → new ≡ k → MovesLatest r (latest_at u.meaning (own_header o k bytes) view.latest) view.latest now.latest
-        → TakesIn r (given_with timestamp u.meaning segment view.standing) u.meaning (state_at (is_idr h.nal_unit_type) view.state) (moment_of log handed view) (moment_of newlog newhanded now)
-        → Step r (given_with timestamp (meaning_in view.state u) segment view.standing) o h bytes (record { log = log; handed = handed; view = view; kept = k }) (record { log = newlog; handed = newhanded; view = now; kept = new })
-    coded_step {B} {H} {T} r timestamp segment log newlog handed newhanded view now at new is goes kept latest takes =
-        subst (λ (t : Given). Step r t o h bytes (record { log = log; handed = handed; view = view; kept = k }) (record { log = newlog; handed = newhanded; view = now; kept = new })) (ap (λ (x : Meaning). given_with timestamp x segment view.standing) (sym (means_in view at is goes)))
-        (taken_step r (given_with timestamp u.meaning segment view.standing) log newlog handed newhanded view now at new is goes kept latest takes)
+    pub coded_step : {B H T : Type 0} (r : Result T DecodeError) (timestamp : ℕ) (read_ : ReadUnit) (log newlog : Option (List (Call H))) (handed newhanded : Option (List Handed)) (asked newasked : Option ℕ) (view now : View B H) (at : Bool) (new : Kept) → at ≡ is_idr h.nal_unit_type → is_decoding (state_at at view.state) ≡ true → new ≡ k
+        → TakesIn r (given_with timestamp u.meaning read_ view.standing) u.meaning (own_header o k bytes) (state_at (is_idr h.nal_unit_type) view.state) (moment_of log handed asked view) (moment_of newlog newhanded newasked now)
+        → Step r (given_with timestamp (meaning_in view.state u) read_ view.standing) o h bytes (record { log = log; handed = handed; asked = asked; view = view; kept = k }) (record { log = newlog; handed = newhanded; asked = newasked; view = now; kept = new })
+    coded_step {B} {H} {T} r timestamp read_ log newlog handed newhanded asked newasked view now at new is goes kept takes =
+        subst (λ (t : Given). Step r t o h bytes (record { log = log; handed = handed; asked = asked; view = view; kept = k }) (record { log = newlog; handed = newhanded; asked = newasked; view = now; kept = new })) (ap (λ (x : Meaning). given_with timestamp x read_ view.standing) (sym (means_in view at is goes)))
+        (taken_step r (given_with timestamp u.meaning read_ view.standing) log newlog handed newhanded asked newasked view now at new is goes kept takes)
 
     -- a unit that asks for no call
-    pub ended_step : {B H T : Type 0} (logs : B → Option (List (Call H))) (handeds : B → Option (List Handed)) (value : T) (t : Given) (view now : View B H) (at : Bool) (new : Kept) → at ≡ is_idr h.nal_unit_type → is_decoding (state_at at view.state) ≡ true → is_slice h.nal_unit_type ≡ false → new ≡ k → now ≡ record view { standing = now.standing }
-        → Goes t (traces_of (logs view.backend) (handeds view.backend) view) (traces_of (logs now.backend) (handeds now.backend) now) u.meaning view.standing now.standing
-        → Step (Ok value) t o h bytes (record { log = logs view.backend; handed = handeds view.backend; view = view; kept = k }) (record { log = logs now.backend; handed = handeds now.backend; view = now; kept = new })
-    ended_step logs handeds value t view now at new is goes no_slice kept same part =
-        taken_step (Ok value) t (logs view.backend) (logs now.backend) (handeds view.backend) (handeds now.backend) view now at new is goes kept (latest_same (Ok value) _ view.latest now.latest (ap (λ (own : Option PlainSliceSegmentHeader). latest_at u.meaning own view.latest) (own_none o k bytes h parsed wanted other no_slice) ∙ latest_without u.meaning view.latest) (ap (λ (v : View _ _). v.latest) same)) (record {
+    pub ended_step : {B H T : Type 0} (logs : B → Option (List (Call H))) (handeds : B → Option (List Handed)) (framed : B → Frames) (value : T) (t : Given) (view now : View B H) (at : Bool) (new : Kept) → at ≡ is_idr h.nal_unit_type → is_decoding (state_at at view.state) ≡ true → is_slice h.nal_unit_type ≡ false → new ≡ k → now ≡ record view { standing = now.standing }
+        → Goes t (traces_at logs handeds framed view) (traces_at logs handeds framed now) u.meaning view.standing now.standing
+        → Step (Ok value) t o h bytes (record { log = logs view.backend; handed = handeds view.backend; asked = (framed view.backend).asked; view = view; kept = k }) (record { log = logs now.backend; handed = handeds now.backend; asked = (framed now.backend).asked; view = now; kept = new })
+    ended_step logs handeds framed value t view now at new is goes no_slice kept same part =
+        taken_step (Ok value) t (logs view.backend) (logs now.backend) (handeds view.backend) (handeds now.backend) (framed view.backend).asked (framed now.backend).asked view now at new is goes kept (record {
           part = part;
           state = ap (λ (v : View _ _). v.state) same ∙ sym (ap (λ (b : Bool). state_at b view.state) (no_idr h.nal_unit_type no_slice) ∙ still_false view.state);
+          latest = ap (λ (v : View _ _). v.latest) same ∙ sym (ap (λ (own : Option PlainSliceSegmentHeader). latest_at u.meaning own view.latest) (own_none o k bytes h parsed wanted other no_slice) ∙ latest_without u.meaning view.latest);
         })

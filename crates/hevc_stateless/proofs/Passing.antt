@@ -12,11 +12,10 @@ use Rattle.hevc_driver.specs.Given.{Given}
 use Rattle.hevc_driver.specs.Does.{Traces}
 use Rattle.hevc_driver.specs.Takes.{Goes, Refuses, Takes}
 use Rattle.hevc_driver.proofs.Doing.{does_nothing, keeps_all}
-use Rattle.std.proofs.Common.{inl, sym}
 use Rattle.std.specs.Prelude.{Option, None}
 use Rattle.hevc_records.specs.SliceHeader.{PlainSliceSegmentHeader}
 use Rattle.hevc_stateless.specs.Segments.{latest_at}
-use Rattle.hevc_stateless.specs.Steps.{Acts, TakesIn, MovesLatest}
+use Rattle.hevc_stateless.specs.Steps.{Acts, TakesIn}
 use Rattle.hevc_stateless.specs.Views.{Moment}
 use Rattle.hevc_stateless.specs.declared.state.State.{State}
 use Rattle.hevc_stateless.specs.declared.state.State.TheVariants.{AwaitingStreamInfo, AwaitingFormat, Decoding, Reset}
@@ -32,7 +31,7 @@ refuses {H} c t a s = record {
   cause = UnitRefused c;
   refused = refl;
   named = refl;
-  does = does_nothing t a a refl refl refl (keeps_all a.tickets a.tickets refl);
+  does = does_nothing t a a refl refl refl refl (keeps_all a.tickets a.tickets refl);
   left = refl;
 }
 
@@ -53,10 +52,10 @@ refused_moves T (meaning.OutOfRange x y) behind now is = is
 refused_moves T (meaning.MissingPps n) behind now is = is
 
 -- a unit that was taken
-pub acts_in : {H T : Type 0} (r : Result T DecodeError) (t : Given) (u : Meaning) (behind : State) (old new : Moment H) → Acts r t u behind old new → TakesIn r t u behind old new
-acts_in (Ok v) t u behind old new a = a
-acts_in (Err errors.NoMemory) t u behind old new a = inr a
-acts_in (Err e) t u behind old new a = a
+pub acts_in : {H T : Type 0} (r : Result T DecodeError) (t : Given) (u : Meaning) (own : Option PlainSliceSegmentHeader) (behind : State) (old new : Moment H) → Acts r t u own behind old new → TakesIn r t u own behind old new
+acts_in (Ok v) t u own behind old new a = a
+acts_in (Err errors.NoMemory) t u own behind old new a = inr a
+acts_in (Err e) t u own behind old new a = a
 
 -- a unit that means nothing
 pub idle_unit : {H : Type 0} (t : Given) (a : Traces H) (s : Standing) → Goes t a a Other s s
@@ -65,16 +64,10 @@ idle_unit {H} t a s = record {
   room = refl;
   numbered = refl;
   goes_on = refl;
-  completes = record { does = does_nothing t a a refl refl refl (keeps_all a.tickets a.tickets refl); next = refl };
+  completes = record { does = does_nothing t a a refl refl refl refl (keeps_all a.tickets a.tickets refl); next = refl };
 }
 
 -- ---- the latest independent header
-
--- a unit that doesn't change it
-pub latest_same : {A T : Type 0} (r : Result T DecodeError) (behind old new : A) → behind ≡ old → new ≡ old → MovesLatest r behind old new
-latest_same (Ok v) behind old new is same = same ∙ sym is
-latest_same (Err errors.CheckEvents) behind old new is same = same ∙ sym is
-latest_same (Err e) behind old new is same = inl same
 
 -- no header of its own was read
 pub latest_without : (m : Meaning) (latest : Option PlainSliceSegmentHeader) → latest_at m None latest ≡ latest

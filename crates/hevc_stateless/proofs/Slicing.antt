@@ -43,8 +43,8 @@ use Rattle.std.specs.Prelude.{Some}
 use Rattle.hevc_walk.specs.Meanings.{Slice}
 use Rattle.hevc_driver.specs.Headers.{whole_header}
 use Rattle.hevc_driver.specs.Given.{given_at}
-use Rattle.hevc_stateless.specs.Segments.{header_in, own_header, with_sets, segment_with, segment_at, given_with}
-use Rattle.hevc_stateless.specs.Steps.{Acts, TakesIn, MovesLatest}
+use Rattle.hevc_stateless.specs.Segments.{header_in, latest_at, own_header, read_at, with_sets, segment_with, given_with}
+use Rattle.hevc_stateless.specs.Steps.{Acts, TakesIn}
 use Rattle.hevc_stateless.specs.Refusals.{IsOfUnit, refusal_of}
 use Rattle.hevc_stateless.proofs.Passing.{refused_unit, refused_moves}
 use Rattle.hevc_stateless.proofs.Setting.{means}
@@ -81,37 +81,29 @@ module _ (o : Options) (k : Kept) (bytes : List ℕ) (h : UnitHeader) (parsed : 
 
   -- what comes with it
   pub segment_given : (timestamp : ℕ) (latest : Option PlainSliceSegmentHeader) (s : Standing) (segment : PlainSliceSegmentHeader) (rest : List Bool) (sets : ActiveSets) (x : Slice) → reading ≡ gives segment rest → active_sets k.sequence_sets k.picture_sets segment.pic_parameter_set_id ≡ Some sets → (unit_at o k h bytes).meaning ≡ CodedSlice x
-      → given_at timestamp x (with_sets (Some sets) (whole_header latest segment)) s ≡ given_with timestamp (unit_at o k h bytes).meaning (segment_at o k latest bytes) s
+      → given_at timestamp x (with_sets (Some sets) (whole_header latest segment)) s ≡ given_with timestamp (unit_at o k h bytes).meaning (read_at o k latest bytes) s
   segment_given timestamp latest s segment rest sets x is active means =
       ap (λ (a : Option ActiveSets). given_at timestamp x (with_sets a (whole_header latest segment)) s) (sym active)
       ∙ ap (λ (own : Option PlainSliceSegmentHeader). given_at timestamp x (segment_with k latest own) s) (sym (segment_own segment rest is))
-      ∙ ap (λ (m : Meaning). given_with timestamp m (segment_at o k latest bytes) s) (sym means)
+      ∙ ap (λ (m : Meaning). given_with timestamp m (read_at o k latest bytes) s) (sym means)
 
-  module _ {H : Type 0} (T : Type 0) (t : Given) (a : Traces H) (s : Standing) (before state : State) where
+  module _ {H : Type 0} (T : Type 0) (t : Given) (a : Traces H) (s : Standing) (latest : Option PlainSliceSegmentHeader) (before state : State) where
     -- it is refused for a cause
-    refused_for : (cause : UnitCause) → (unit_at o k h bytes).meaning ≡ Refused cause → Acts {T = T} (Err (cause_error cause)) t (unit_at o k h bytes).meaning state (record { traces = a; standing = s; state = before }) (record { traces = a; standing = s; state = state })
+    refused_for : (cause : UnitCause) → (unit_at o k h bytes).meaning ≡ Refused cause → Acts {T = T} (Err (cause_error cause)) t (unit_at o k h bytes).meaning (own_header o k bytes) state (record { traces = a; standing = s; state = before; latest = latest }) (record { traces = a; standing = s; state = state; latest = latest })
     refused_for cause is = record {
       part = subst (λ (m : Meaning). Takes {T = T} (Err (cause_error cause)) t a a m s s) (sym is) (refused_unit T cause t a s);
       state = refused_moves T cause state state refl;
+      latest = sym (ap (λ (m : Meaning). latest_at m (own_header o k bytes) latest) is);
     }
 
     -- unless an allocation fails
-    pub segment_refused : (e : ParseError) → (e ≡ parse.NoMemory → ⊥) → RefusesSet e reading → NamesNoSequenceSet e → TakesIn {T = T} (Err (refusal_of e)) t (unit_at o k h bytes).meaning state (record { traces = a; standing = s; state = before }) (record { traces = a; standing = s; state = state })
+    pub segment_refused : (e : ParseError) → (e ≡ parse.NoMemory → ⊥) → RefusesSet e reading → NamesNoSequenceSet e → TakesIn {T = T} (Err (refusal_of e)) t (unit_at o k h bytes).meaning (own_header o k bytes) state (record { traces = a; standing = s; state = before; latest = latest }) (record { traces = a; standing = s; state = state; latest = latest })
     segment_refused parse.WrongNaluType isnt why names = absurd why
     segment_refused parse.OutOfBits isnt why names = refused_for causes.OutOfBits (slice_means (refuses out_of_bits why.0) why.1)
     segment_refused (parse.OutOfRange table number) isnt why names = refused_for (causes.OutOfRange table number) (slice_means (refuses (out_of_range (row table number)) why.0) why.1)
     segment_refused (parse.MissingSps id) isnt why names = absurd names
     segment_refused (parse.MissingPps id) isnt why names = refused_for (MissingPps id) (slice_means (refuses (not_kept names_picture_set id) why.0) why.1)
     segment_refused parse.NoMemory isnt why names = absurd (isnt refl)
-
--- where it is refused the latest independent header stays
-pub refused_latest : {A : Type 0} (T : Type 0) (e : ParseError) (behind old new : A) → (e ≡ parse.NoMemory → ⊥) → new ≡ old → MovesLatest {T = T} (Err (refusal_of e)) behind old new
-refused_latest T parse.WrongNaluType behind old new isnt same = inl same
-refused_latest T parse.OutOfBits behind old new isnt same = inl same
-refused_latest T (parse.OutOfRange table row) behind old new isnt same = inl same
-refused_latest T (parse.MissingSps id) behind old new isnt same = inl same
-refused_latest T (parse.MissingPps id) behind old new isnt same = inl same
-refused_latest T parse.NoMemory behind old new isnt same = absurd (isnt refl)
 
 -- ---- what the code's words mean
 

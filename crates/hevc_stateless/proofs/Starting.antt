@@ -1,5 +1,5 @@
 -- The first sequence set opens a negotiation.
-use Rattle.std.proofs.Common.{◌≡◌, refl, sym, Result, Err}
+use Rattle.std.proofs.Common.{◌≡◌, false, refl, sym, Result, Err}
 use Rattle.std.specs.Result.{IsErrAnd}
 use Rattle.std.proofs.lemmas.Result.{err_from_is_err_and}
 use Rattle.hevc_walk.specs.Meanings.{Format, SequenceSet}
@@ -15,8 +15,8 @@ use Rattle.hevc_driver.proofs.Doing.{stops_as}
 use Rattle.hevc_stateless.specs.declared.state.State.{State}
 use Rattle.hevc_stateless.specs.States.{MovesBy}
 
-left : (f : Format) (s st : Standing) (c : walk.Call) → IsNewSequence c × (st ≡ s) → LeftAt c (SequenceSet f) s st
-left f s st (walk.NewSequence info) h = (refl, h.1)
+left : (f : Format) (s st : Standing) (c : walk.Call) → IsNewSequence c × (st ≡ s) → LeftAt c false (SequenceSet f) s st
+left f s st (walk.NewSequence info) h = (refl, h.1, refl)
 left f s st (walk.SubmitPicture number) h = absurd h.0
 left f s st (walk.NewPicture number nal c o k) h = absurd h.0
 left f s st (walk.BeginPicture number set) h = absurd h.0
@@ -28,12 +28,12 @@ opens_first t a m b f s ms st traces standing x = rw (sym traces) (rw (sym stand
 pub first_refused : {H T : Type 0} (r : Result T DecodeError) (e : DecodeError) (t : Given) (a m b : Traces H) (f : Format) (s ms st : Standing) → IsErrAnd r (λ y. y ≡ e) → m ≡ a → ms ≡ s → StopsBy e t m b (on_store (open_sequence f) ms).events (λ c. IsNewSequence c × (st ≡ ms)) → Takes r t a b (SequenceSet f) s st
 first_refused {H} {T} r e t a m b f s ms st was traces standing x = let q = err_from_is_err_and r was in rw q.1 (rw q.2 (rw (sym traces) (rw (sym standing) (by e x))))
   where
-    stops : Stops t m b (on_store (open_sequence f) ms).events (λ c. IsNewSequence c × (st ≡ ms)) → Stops t m b (on_store (open_sequence f) ms).events (λ c. LeftAt c (SequenceSet f) ms st)
-    stops y = stops_as t m b (on_store (open_sequence f) ms).events (on_store (open_sequence f) ms).events (λ c. IsNewSequence c × (st ≡ ms)) (λ c. LeftAt c (SequenceSet f) ms st) refl (left f ms st) y
+    stops : Stops t m b (on_store (open_sequence f) ms).events (λ c. IsNewSequence c × (st ≡ ms)) → Stops t m b (on_store (open_sequence f) ms).events (λ c. LeftAt c false (SequenceSet f) ms st)
+    stops y = stops_as t m b (on_store (open_sequence f) ms).events (on_store (open_sequence f) ms).events (λ c. IsNewSequence c × (st ≡ ms)) (λ c. LeftAt c false (SequenceSet f) ms st) refl (left f ms st) y
 
     by : (e : DecodeError) → StopsBy e t m b (on_store (open_sequence f) ms).events (λ c. IsNewSequence c × (st ≡ ms)) → Takes {H = H} {T = T} (Err e) t m b (SequenceSet f) ms st
-    by errors.Backend y = stops y
-    by errors.NoMemory y = stops y
+    by errors.Backend y = record { asked = false; stops = stops y }
+    by errors.NoMemory y = record { asked = false; stops = stops y }
     by other y = absurd y
 
 -- an error of the backend changes no state

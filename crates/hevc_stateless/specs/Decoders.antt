@@ -5,6 +5,7 @@ use Rattle.hevc_stream.specs.Options.{Options}
 use Rattle.hevc_kept_sets.specs.Kept.{kept_of, options_in}
 use Rattle.hevc_backend.specs.declared.call.Call.{Call}
 use Rattle.hevc_backend.specs.Handed.{Handed}
+use Rattle.hevc_backend.specs.Trait.{Frames}
 use Rattle.hevc_stateless.specs.declared.decoder.StatelessDecoder.{StatelessDecoder}
 use Rattle.hevc_stateless.specs.Views.{View}
 use Rattle.hevc_stateless.specs.Steps.{Seen, seen}
@@ -21,7 +22,10 @@ kept_in d = kept_of d.kept
 abbrev pub set_for : {B H P : Type 0} → StatelessDecoder B H P → Options
 set_for d = options_in d.kept
 
--- all of it, where backends expose these logs, and this as what they were handed
-abbrev pub seen_by : {B H P : Type 0} → (B → Option (List (Call H))) → (B → Option (List Handed))
-    → StatelessDecoder B H P → Seen B H
-seen_by log handed d = seen (log d.session.backend) (handed d.session.backend) d.session d.kept
+-- all of it, where backends expose these logs, and this of the questions for frames
+abbrev pub seen_by : {B H P : Type 0} → (log : B → Option (List (Call H)))
+    → (handed : B → Option (List Handed)) → (frames : B → Frames) → StatelessDecoder B H P
+    → Seen B H
+seen_by log handed frames d =
+    seen (log d.session.backend) (handed d.session.backend) (frames d.session.backend).asked
+    d.session d.kept

@@ -12,6 +12,7 @@ use Rattle.hevc_kept_sets.specs.Kept.{kept_of}
 use Rattle.hevc_kept_sets.specs.Takes.{StopsReading}
 use Rattle.hevc_backend.specs.declared.call.Call.{Call}
 use Rattle.hevc_backend.specs.Handed.{Handed}
+use Rattle.hevc_records.specs.SliceHeader.{PlainSliceSegmentHeader}
 use Rattle.hevc_driver.specs.declared.decode_error.DecodeError.{DecodeError}
 use Rattle.hevc_driver.specs.declared.decode_error.DecodeError.TheVariants as errors
 use Rattle.hevc_driver.specs.Errors.{cause_error}
@@ -19,7 +20,7 @@ use Rattle.hevc_driver.specs.Given.{Given}
 use Rattle.hevc_driver.specs.Takes.{Takes}
 use Rattle.hevc_stateless.specs.declared.state.State.{State}
 use Rattle.hevc_stateless.specs.States.{unit_at, meaning_in, state_behind, MovesBy, is_awaited}
-use Rattle.hevc_stateless.specs.Segments.{latest_at, own_header, segment_at, given_with}
+use Rattle.hevc_stateless.specs.Segments.{latest_at, own_header, read_at, given_with}
 use Rattle.hevc_stateless.specs.Views.{View, Moment, moment_of}
 
 -- a sequence set that was read is kept
@@ -46,13 +47,20 @@ KeepsBehind (Err error) options bytes old new = new ≡ old
 pub record Seen (B H : Type 0) : Type 0 where
   pub log : Option (List (Call H))
   pub handed : Option (List Handed)
+  -- how often the backend was asked for free frames
+  pub asked : Option ℕ
   pub view : View B H
   pub kept : Kept
 
-abbrev pub seen : {B H : Type 0} → Option (List (Call H)) → Option (List Handed) → View B H
-    → KeptSets → Seen B H
-seen log handed view sets =
-    record { log = log; handed = handed; view = view; kept = kept_of sets }
+abbrev pub seen : {B H : Type 0} → Option (List (Call H)) → Option (List Handed)
+    → (asked : Option ℕ) → View B H → KeptSets → Seen B H
+seen log handed asked view sets = record {
+  log = log;
+  handed = handed;
+  asked = asked;
+  view = view;
+  kept = kept_of sets;
+}
 
 -- the errors of a parameter set's unit
 abbrev pub IsOfSet : DecodeError → Type 0
@@ -61,45 +69,38 @@ IsOfSet (errors.OutOfRange table row) = Unit {0}
 IsOfSet errors.NoMemory = Unit {0}
 IsOfSet error = ⊥
 
--- A unit of this meaning was taken, which this state follows.
+-- A unit of this meaning was taken, which this state follows; if it is a slice segment, this header
+-- was read of it, which is kept whatever the answer is (7.4.7.1).
 pub record Acts {H T : Type 0} (result : Result T DecodeError) (given : Given) (u : Meaning)
-    (behind : State) (old new : Moment H) : Type 0 where
+    (own : Option PlainSliceSegmentHeader) (behind : State) (old new : Moment H) : Type 0 where
   pub part : Takes result given old.traces new.traces u old.standing new.standing
   pub state : MovesBy result behind new.state
+  pub latest : new.latest ≡ latest_at u own old.latest
 
 -- it was, or nothing has changed, since an allocation failed before a call of the backend
-abbrev pub TakesIn : {H T : Type 0} → Result T DecodeError → Given → Meaning → State → Moment H
-    → Moment H → Type 0
-TakesIn {H} {T} (Err errors.NoMemory) given u behind old new =
-    (new ≡ old) ⊎ Acts {T = T} (Err errors.NoMemory) given u behind old new
-TakesIn result given u behind old new = Acts result given u behind old new
-
--- the header of the latest independent slice segment moved on with a unit; it may have stayed where
--- that is refused
-abbrev pub MovesLatest : {A T : Type 0} → Result T DecodeError → (behind old new : A) → Type 0
-MovesLatest (Ok value) behind old new = new ≡ behind
-MovesLatest (Err errors.CheckEvents) behind old new = new ≡ behind
-MovesLatest (Err error) behind old new = (new ≡ old) ⊎ (new ≡ behind)
+abbrev pub TakesIn : {H T : Type 0} → Result T DecodeError → Given → Meaning
+    → (own : Option PlainSliceSegmentHeader) → State → Moment H → Moment H → Type 0
+TakesIn {H} {T} (Err errors.NoMemory) given u own behind old new =
+    (new ≡ old) ⊎ Acts {T = T} (Err errors.NoMemory) given u own behind old new
+TakesIn result given u own behind old new = Acts result given u own behind old new
 
 -- A unit of this header and these bytes was taken with this, while no format is awaited.
 pub record Step {B H T : Type 0} (result : Result T DecodeError) (given : Given) (options : Options)
     (header : UnitHeader) (bytes : List ℕ) (old new : Seen B H) : Type 0 where
   pub takes : TakesIn result given
       (meaning_in old.view.state (unit_at options old.kept header bytes))
+      (own_header options old.kept bytes)
       (state_behind old.view.state (unit_at options old.kept header bytes))
-      (moment_of old.log old.handed old.view) (moment_of new.log new.handed new.view)
+      (moment_of old.log old.handed old.asked old.view)
+      (moment_of new.log new.handed new.asked new.view)
   pub kept : KeepsBehind result options bytes old.kept new.kept
-  pub latest : MovesLatest result
-      (latest_at (meaning_in old.view.state (unit_at options old.kept header bytes))
-      (own_header options old.kept bytes) old.view.latest)
-      old.view.latest new.view.latest
 
 -- what comes with a unit of this header and these bytes
 abbrev pub given_to : {B H : Type 0} → (timestamp : ℕ) → Options → UnitHeader → (bytes : List ℕ)
     → Seen B H → Given
 given_to timestamp options header bytes old =
     given_with timestamp (meaning_in old.view.state (unit_at options old.kept header bytes))
-    (segment_at options old.kept old.view.latest bytes) old.view.standing
+    (read_at options old.kept old.view.latest bytes) old.view.standing
 
 -- A unit of this header and these bytes was given: a format that is awaited comes before it.
 pub record StepsIn {B H T : Type 0} (result : Result T DecodeError) (timestamp : ℕ)

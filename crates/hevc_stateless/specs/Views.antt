@@ -6,6 +6,7 @@ use Rattle.hevc_bumping.specs.declared.frame.Frame.{Frame}
 use Rattle.hevc_records.specs.SliceHeader.{PlainSliceSegmentHeader}
 use Rattle.hevc_backend.specs.declared.call.Call.{Call}
 use Rattle.hevc_backend.specs.Handed.{Handed}
+use Rattle.hevc_backend.specs.Trait.{Frames}
 use Rattle.hevc_driver.specs.Does.{Traces}
 use Rattle.hevc_stateless.specs.declared.state.State.{State}
 use Rattle.hevc_stateless.specs.declared.state.State.TheVariants.{AwaitingStreamInfo}
@@ -34,22 +35,40 @@ at_beginning backend = record {
   latest = None;
 }
 
--- all that decoding may change, where the backend exposes this log, and this as what it was handed
-abbrev pub traces_of : {B H : Type 0} → Option (List (Call H)) → Option (List Handed) → View B H
-    → Traces H
-traces_of log handed v =
-    record { log = log; handed = handed; queue = v.queue; tickets = v.tickets }
+-- all that decoding may change, where the backend exposes this log, this as what it was handed, and
+-- this as how often it was asked for free frames
+abbrev pub traces_of : {B H : Type 0} → Option (List (Call H)) → Option (List Handed)
+    → (asked : Option ℕ) → View B H → Traces H
+traces_of log handed asked v =
+    record { log = log; handed = handed; asked = asked; queue = v.queue; tickets = v.tickets }
 
--- What taking a unit may change: the traces, what the pictures so far mean, and the state.
+-- What taking a unit may change: the traces, what the pictures so far mean, the state, and what
+-- dependent slice segments take (7.4.7.1).
 pub record Moment (H : Type 0) : Type 0 where
   pub traces : Traces H
   pub standing : Standing
   pub state : State
+  pub latest : Option PlainSliceSegmentHeader
 
-abbrev pub moment_of : {B H : Type 0} → Option (List (Call H)) → Option (List Handed) → View B H
-    → Moment H
-moment_of log handed v =
-    record { traces = traces_of log handed v; standing = v.standing; state = v.state }
+abbrev pub moment_of : {B H : Type 0} → Option (List (Call H)) → Option (List Handed)
+    → (asked : Option ℕ) → View B H → Moment H
+moment_of log handed asked v = record {
+  traces = traces_of log handed asked v;
+  standing = v.standing;
+  state = v.state;
+  latest = v.latest;
+}
+
+-- where backends expose these logs, and this of the questions for frames
+abbrev pub traces_at : {B H : Type 0} → (log : B → Option (List (Call H)))
+    → (handed : B → Option (List Handed)) → (frames : B → Frames) → View B H → Traces H
+traces_at log handed frames v =
+    traces_of (log v.backend) (handed v.backend) (frames v.backend).asked v
+
+abbrev pub moment_at : {B H : Type 0} → (log : B → Option (List (Call H)))
+    → (handed : B → Option (List Handed)) → (frames : B → Frames) → View B H → Moment H
+moment_at log handed frames v =
+    moment_of (log v.backend) (handed v.backend) (frames v.backend).asked v
 
 -- At most 17 pictures were output: the 16 that may be stored, and one more.
 abbrev pub OutputsFew : {B H : Type 0} → View B H → View B H → Type 0

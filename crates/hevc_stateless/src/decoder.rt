@@ -14,7 +14,7 @@ ghost use Rattle.hevc_stateless.specs.Events.{TellsNext};
 ghost use Rattle.hevc_stateless.specs.Flushes.{Flushes};
 ghost use Rattle.hevc_bits.specs.FoundUnit.{bytes_of};
 ghost use Rattle.hevc_stateless.specs.Steps.{StepsIn, TakesFirst};
-ghost use Rattle.hevc_stateless.specs.Views.{at_beginning, traces_of, OutputsFew};
+ghost use Rattle.hevc_stateless.specs.Views.{at_beginning, traces_at, OutputsFew};
 ghost use Rattle.hevc_stateless.specs.Decoders.{view_of, kept_in, set_for, seen_by};
 ghost use Rattle.hevc_bits.specs.declared.stream_limit.TheConstants.{STREAM_LIMIT};
 
@@ -69,7 +69,8 @@ impl<B: StatelessH265DecoderBackend> StatelessDecoder<B> {
         ensures fair { IsFair B.counts B.is_faultless B.info (view_of self.old).backend
             (view_of self.new).backend result }
         ensures takes { TakesFirst (units bitstream.now) result timestamp (set_for self.old)
-            (seen_by B.log B.handed self.old) (seen_by B.log B.handed self.new) }
+            (seen_by B.log B.handed B.frames self.old)
+            (seen_by B.log B.handed B.frames self.new) }
         ensures inside { IfOk result (λ place. (3 ≤ place) × (place ≤ length bitstream.now)) }
         ensures options { set_for self.new ≡ set_for self.old }
     {
@@ -95,7 +96,8 @@ impl<B: StatelessH265DecoderBackend> StatelessDecoder<B> {
             (view_of self.new).backend result }
         ensures takes { StepsIn result timestamp (set_for self.old)
             nalu.now.header (bytes_of nalu.now)
-            (seen_by B.log B.handed self.old) (seen_by B.log B.handed self.new) }
+            (seen_by B.log B.handed B.frames self.old)
+            (seen_by B.log B.handed B.frames self.new) }
         ensures options { set_for self.new ≡ set_for self.old }
     {
         if self.awaiting_format() {
@@ -116,10 +118,8 @@ impl<B: StatelessH265DecoderBackend> StatelessDecoder<B> {
         ensures fair { IsFair B.counts B.is_faultless B.info (view_of self.old).backend
             (view_of self.new).backend result }
         ensures flushes { (given : Given) → Flushes result given
-            (traces_of (B.log (view_of self.old).backend) (B.handed (view_of self.old).backend)
-            (view_of self.old))
-            (traces_of (B.log (view_of self.new).backend) (B.handed (view_of self.new).backend)
-            (view_of self.new))
+            (traces_at B.log B.handed B.frames (view_of self.old))
+            (traces_at B.log B.handed B.frames (view_of self.new))
             (view_of self.old).state (view_of self.old).standing (view_of self.new).standing }
         ensures latest { (view_of self.new).latest ≡ (view_of self.old).latest }
         ensures state { OnOk result ((view_of self.new).state ≡ Reset) }

@@ -1,5 +1,5 @@
 //! A stream that is being decoded.
-ghost use Rattle.std.specs.Prelude.{◌≡◌, true, option_map, OnOk, OnErr};
+ghost use Rattle.std.specs.Prelude.{◌≡◌, true, Option, Some, option_map, OnOk, OnErr};
 ghost use Rattle.hevc_spec.specs.UnitTypes.{is_idr};
 ghost use Rattle.hevc_bits.specs.NaluType.{nalu_type_number};
 ghost use Rattle.hevc_sequence_set.specs.Sps.{plain_sps};
@@ -7,7 +7,7 @@ ghost use Rattle.hevc_walk_inputs.specs.Sequences.{format_of_set};
 ghost use Rattle.hevc_walk.specs.Meanings.{SequenceSet, CodedSlice, EndOfSequence, EndOfBitstream};
 ghost use Rattle.hevc_picture_slice.specs.SliceHeader.{plain_slice_header};
 ghost use Rattle.hevc_walk_units.specs.Units.{open_head};
-ghost use Rattle.hevc_driver.specs.Headers.{latest_behind, whole_segment};
+ghost use Rattle.hevc_driver.specs.Headers.{whole_segment};
 ghost use Rattle.hevc_driver.specs.Heads.{head_of};
 ghost use Rattle.hevc_driver.specs.Given.{Given, given_at};
 ghost use Rattle.hevc_driver.specs.Answers.{IsFair};
@@ -17,8 +17,9 @@ ghost use Rattle.hevc_driver.specs.Sound.{AreNamed};
 ghost use Rattle.hevc_stateless.specs.declared.state.State.TheVariants.{AwaitingStreamInfo, AwaitingFormat, Decoding, Reset};
 ghost use Rattle.hevc_stateless.specs.States.{is_awaited, awaits_stream_info, is_decoding, state_at};
 ghost use Rattle.hevc_stateless.specs.Flushes.{Flushes};
-ghost use Rattle.hevc_stateless.specs.Steps.{Acts, TakesIn, MovesLatest};
-ghost use Rattle.hevc_stateless.specs.Views.{at_beginning, traces_of, moment_of, PopsFrame, OutputsFew};
+ghost use Rattle.hevc_stateless.specs.Steps.{Acts, TakesIn};
+ghost use Rattle.hevc_records.specs.SliceHeader.{PlainSliceSegmentHeader};
+ghost use Rattle.hevc_stateless.specs.Views.{at_beginning, traces_at, moment_at, PopsFrame, OutputsFew};
 
 use crate::state::State;
 use hevc_bits::NaluType;
@@ -173,11 +174,11 @@ impl<B: StatelessH265DecoderBackend> Session<B> {
         ensures few { OutputsFew self.old self.new }
         ensures fair { IsFair B.counts B.is_faultless B.info self.old.backend self.new.backend
             result }
-        ensures latest { self.new.latest ≡ self.old.latest }
-        ensures acts { (given : Given) → Acts result given
-            (SequenceSet (format_of_set (plain_sps sps.now))) self.old.state
-            (moment_of (B.log self.old.backend) (B.handed self.old.backend) self.old)
-            (moment_of (B.log self.new.backend) (B.handed self.new.backend) self.new) }
+        ensures acts { (given : Given) (own : Option PlainSliceSegmentHeader)
+            → given.set ≡ Some (plain_sps sps.now) → Acts result given
+            (SequenceSet (format_of_set (plain_sps sps.now))) own self.old.state
+            (moment_at B.log B.handed B.frames self.old)
+            (moment_at B.log B.handed B.frames self.new) }
     {
         self.driver.open_sequence(sps)?;
         self.state = State::AwaitingFormat;
@@ -202,16 +203,14 @@ impl<B: StatelessH265DecoderBackend> Session<B> {
         ensures few { OutputsFew self.old self.new }
         ensures fair { IsFair B.counts B.is_faultless B.info self.old.backend self.new.backend
             result }
-        ensures latest { MovesLatest result
-            (latest_behind self.old.latest (plain_slice_header slice.old.header))
-            self.old.latest self.new.latest }
         ensures takes { TakesIn result
             (given_at timestamp (slice_of options slice.old sps.now pps.now)
             (whole_segment self.old.latest slice.old sps.now pps.now) self.old.standing)
             (CodedSlice (slice_of options slice.old sps.now pps.now))
+            (Some (plain_slice_header slice.old.header))
             (state_at (is_idr slice.old.nalu.header.nal_unit_type) self.old.state)
-            (moment_of (B.log self.old.backend) (B.handed self.old.backend) self.old)
-            (moment_of (B.log self.new.backend) (B.handed self.new.backend) self.new) }
+            (moment_at B.log B.handed B.frames self.old)
+            (moment_at B.log B.handed B.frames self.new) }
     {
         self.driver.reserve()?;
         self.state = behind_unit(self.state, slice.nalu().header().nalu_type());
@@ -246,8 +245,8 @@ impl<B: StatelessH265DecoderBackend> Session<B> {
         ensures fair { IsFair B.counts B.is_faultless B.info self.old.backend self.new.backend
             result }
         ensures flushes { (given : Given) → Flushes result given
-            (traces_of (B.log self.old.backend) (B.handed self.old.backend) self.old)
-            (traces_of (B.log self.new.backend) (B.handed self.new.backend) self.new)
+            (traces_at B.log B.handed B.frames self.old)
+            (traces_at B.log B.handed B.frames self.new)
             self.old.state self.old.standing self.new.standing }
         ensures latest { self.new.latest ≡ self.old.latest }
         ensures state { OnOk result (self.new.state ≡ Reset) }

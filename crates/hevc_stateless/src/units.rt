@@ -1,5 +1,5 @@
 //! Units are taken.
-ghost use Rattle.std.specs.Prelude.{◌≡◌, ◌<◌, ◌≤◌, length, true, false, Ok, Some, IsSome, IfErr};
+ghost use Rattle.std.specs.Prelude.{◌≡◌, ℕ, ◌<◌, ◌≤◌, length, true, false, Ok, Option, Some, IsSome, IfErr};
 ghost use Rattle.hevc_spec.specs.UnitHeader.{unit_header};
 ghost use Rattle.hevc_spec.specs.UnitTypes.{is_idr, is_slice};
 ghost use Rattle.hevc_bits.specs.FoundUnit.{bytes_of};
@@ -8,15 +8,17 @@ ghost use Rattle.hevc_kept_sets.specs.Kept.{kept_of, options_in};
 ghost use Rattle.hevc_driver.specs.Given.{Given};
 ghost use Rattle.hevc_driver.specs.Answers.{IsFair};
 ghost use Rattle.hevc_stateless.specs.States.{is_awaited, is_decoding, is_parameter_set, state_at, unit_at};
-ghost use Rattle.hevc_stateless.specs.Segments.{given_with, latest_at, own_header, segment_at};
-ghost use Rattle.hevc_stateless.specs.Steps.{Acts, Step, TakesIn, MovesLatest, given_to, seen, IsOfSet};
+ghost use Rattle.hevc_stateless.specs.Segments.{given_with, own_header, read_at};
+ghost use Rattle.hevc_stateless.specs.Steps.{Acts, Step, TakesIn, given_to, IsOfSet};
+ghost use Rattle.hevc_stateless.specs.Decoders.{seen_by};
+ghost use Rattle.hevc_records.specs.SliceHeader.{PlainSliceSegmentHeader};
 ghost use Rattle.hevc_records.specs.Sps.{PlainSps};
 ghost use Rattle.hevc_walk_inputs.specs.Sequences.{format_of_set};
 ghost use Rattle.hevc_walk.specs.Meanings.{SequenceSet};
 ghost use Rattle.hevc_driver.specs.declared.decode_error.DecodeError.TheVariants.{NoMemory};
 ghost use Rattle.hevc_driver.specs.Takes.{Goes};
 ghost use Rattle.hevc_stateless.specs.declared.state.State.TheVariants.{AwaitingStreamInfo};
-ghost use Rattle.hevc_stateless.specs.Views.{traces_of, moment_of, OutputsFew};
+ghost use Rattle.hevc_stateless.specs.Views.{traces_at, moment_at, OutputsFew};
 ghost use Rattle.hevc_bits.specs.declared.stream_limit.TheConstants.{STREAM_LIMIT};
 
 use crate::decoder::StatelessDecoder;
@@ -36,10 +38,8 @@ impl<B: StatelessH265DecoderBackend> StatelessDecoder<B> {
         ensures options { options_in self.new.kept ≡ options_in self.old.kept }
         ensures step { (given : Given) → Step result given (options_in self.old.kept)
             nalu.now.header (bytes_of nalu.now)
-            (seen (B.log self.old.session.backend) (B.handed self.old.session.backend)
-            self.old.session self.old.kept)
-            (seen (B.log self.new.session.backend) (B.handed self.new.session.backend)
-            self.new.session self.new.kept) }
+            (seen_by B.log B.handed B.frames self.old)
+            (seen_by B.log B.handed B.frames self.new) }
         ensures refused { IfErr result IsOfSet }
     {
         match self.kept.take_video_set(nalu) {
@@ -62,12 +62,12 @@ impl<B: StatelessH265DecoderBackend> StatelessDecoder<B> {
         ensures fair { IsFair B.counts B.is_faultless B.info self.old.session.backend
             self.new.session.backend result }
         ensures options { options_in self.new.kept ≡ options_in self.old.kept }
-        ensures step { (given : Given) → Step result given (options_in self.old.kept)
-            nalu.now.header (bytes_of nalu.now)
-            (seen (B.log self.old.session.backend) (B.handed self.old.session.backend)
-            self.old.session self.old.kept)
-            (seen (B.log self.new.session.backend) (B.handed self.new.session.backend)
-            self.new.session self.new.kept) }
+        ensures step { (timestamp : ℕ) → Step result
+            (given_to timestamp (options_in self.old.kept) nalu.now.header (bytes_of nalu.now)
+            (seen_by B.log B.handed B.frames self.old))
+            (options_in self.old.kept) nalu.now.header (bytes_of nalu.now)
+            (seen_by B.log B.handed B.frames self.old)
+            (seen_by B.log B.handed B.frames self.new) }
     {
         let id = match self.kept.keep_sequence_set(nalu) {
             Ok(id) => id,
@@ -88,14 +88,11 @@ impl<B: StatelessH265DecoderBackend> StatelessDecoder<B> {
         ensures few { OutputsFew self.old.session self.new.session }
         ensures fair { IsFair B.counts B.is_faultless B.info self.old.session.backend
             self.new.session.backend result }
-        ensures latest { self.new.session.latest ≡ self.old.session.latest }
-        ensures acts { (given : Given) (set : PlainSps)
-            → (kept_of self.old.kept).sequence_sets id ≡ Some set
-            → Acts result given (SequenceSet (format_of_set set)) self.old.session.state
-            (moment_of (B.log self.old.session.backend) (B.handed self.old.session.backend)
-            self.old.session)
-            (moment_of (B.log self.new.session.backend) (B.handed self.new.session.backend)
-            self.new.session) }
+        ensures acts { (given : Given) (own : Option PlainSliceSegmentHeader) (set : PlainSps)
+            → (kept_of self.old.kept).sequence_sets id ≡ Some set → given.set ≡ Some set
+            → Acts result given (SequenceSet (format_of_set set)) own self.old.session.state
+            (moment_at B.log B.handed B.frames self.old.session)
+            (moment_at B.log B.handed B.frames self.new.session) }
         ensures kept { kept_of self.new.kept ≡ kept_of self.old.kept }
         ensures options { options_in self.new.kept ≡ options_in self.old.kept }
     {
@@ -116,10 +113,8 @@ impl<B: StatelessH265DecoderBackend> StatelessDecoder<B> {
         ensures options { options_in self.new.kept ≡ options_in self.old.kept }
         ensures step { (given : Given) → Step result given (options_in self.old.kept)
             nalu.now.header (bytes_of nalu.now)
-            (seen (B.log self.old.session.backend) (B.handed self.old.session.backend)
-            self.old.session self.old.kept)
-            (seen (B.log self.new.session.backend) (B.handed self.new.session.backend)
-            self.new.session self.new.kept) }
+            (seen_by B.log B.handed B.frames self.old)
+            (seen_by B.log B.handed B.frames self.new) }
         ensures refused { IfErr result (λ e. e ≡ NoMemory) }
     {
         self.kept.take_picture_set(nalu)?;
@@ -138,24 +133,17 @@ impl<B: StatelessH265DecoderBackend> StatelessDecoder<B> {
         ensures fair { IsFair B.counts B.is_faultless B.info self.old.session.backend
             self.new.session.backend result }
         ensures kept { self.new.kept ≡ self.old.kept }
-        ensures latest { MovesLatest result
-            (latest_at (unit_at (options_in self.old.kept) (kept_of self.old.kept)
-            nalu.now.header (bytes_of nalu.now)).meaning
-            (own_header (options_in self.old.kept) (kept_of self.old.kept) (bytes_of nalu.now))
-            self.old.session.latest)
-            self.old.session.latest self.new.session.latest }
         ensures takes { TakesIn result
             (given_with timestamp (unit_at (options_in self.old.kept) (kept_of self.old.kept)
             nalu.now.header (bytes_of nalu.now)).meaning
-            (segment_at (options_in self.old.kept) (kept_of self.old.kept) self.old.session.latest
+            (read_at (options_in self.old.kept) (kept_of self.old.kept) self.old.session.latest
             (bytes_of nalu.now)) self.old.session.standing)
             (unit_at (options_in self.old.kept) (kept_of self.old.kept) nalu.now.header
             (bytes_of nalu.now)).meaning
+            (own_header (options_in self.old.kept) (kept_of self.old.kept) (bytes_of nalu.now))
             (state_at (is_idr nalu.now.header.nal_unit_type) self.old.session.state)
-            (moment_of (B.log self.old.session.backend) (B.handed self.old.session.backend)
-            self.old.session)
-            (moment_of (B.log self.new.session.backend) (B.handed self.new.session.backend)
-            self.new.session) }
+            (moment_at B.log B.handed B.frames self.old.session)
+            (moment_at B.log B.handed B.frames self.new.session) }
     {
         let nalu_type = nalu.header().nalu_type();
         let parser = self.kept.parser();
@@ -185,10 +173,8 @@ impl<B: StatelessH265DecoderBackend> StatelessDecoder<B> {
         ensures others { self.new.session
             ≡ record self.old.session { standing = self.new.session.standing } }
         ensures goes { (given : Given) → Goes given
-            (traces_of (B.log self.old.session.backend) (B.handed self.old.session.backend)
-            self.old.session)
-            (traces_of (B.log self.new.session.backend) (B.handed self.new.session.backend)
-            self.new.session)
+            (traces_at B.log B.handed B.frames self.old.session)
+            (traces_at B.log B.handed B.frames self.new.session)
             (unit_at (options_in self.old.kept) (kept_of self.old.kept) nalu.now.header
             (bytes_of nalu.now)).meaning
             self.old.session.standing self.new.session.standing }
@@ -213,14 +199,11 @@ impl<B: StatelessH265DecoderBackend> StatelessDecoder<B> {
         ensures options { options_in self.new.kept ≡ options_in self.old.kept }
         ensures step { Step result
             (given_to timestamp (options_in self.old.kept) nalu.now.header (bytes_of nalu.now)
-            (seen (B.log self.old.session.backend) (B.handed self.old.session.backend)
-            self.old.session self.old.kept))
+            (seen_by B.log B.handed B.frames self.old))
             (options_in self.old.kept)
             nalu.now.header (bytes_of nalu.now)
-            (seen (B.log self.old.session.backend) (B.handed self.old.session.backend)
-            self.old.session self.old.kept)
-            (seen (B.log self.new.session.backend) (B.handed self.new.session.backend)
-            self.new.session self.new.kept) }
+            (seen_by B.log B.handed B.frames self.old)
+            (seen_by B.log B.handed B.frames self.new) }
     {
         let nalu_type = nalu.header().nalu_type();
         if !self.session.decodes(nalu_type) {
@@ -248,14 +231,11 @@ impl<B: StatelessH265DecoderBackend> StatelessDecoder<B> {
         ensures options { options_in self.new.kept ≡ options_in self.old.kept }
         ensures step { Step result
             (given_to timestamp (options_in self.old.kept) nalu.now.header (bytes_of nalu.now)
-            (seen (B.log self.old.session.backend) (B.handed self.old.session.backend)
-            self.old.session self.old.kept))
+            (seen_by B.log B.handed B.frames self.old))
             (options_in self.old.kept)
             nalu.now.header (bytes_of nalu.now)
-            (seen (B.log self.old.session.backend) (B.handed self.old.session.backend)
-            self.old.session self.old.kept)
-            (seen (B.log self.new.session.backend) (B.handed self.new.session.backend)
-            self.new.session self.new.kept) }
+            (seen_by B.log B.handed B.frames self.old)
+            (seen_by B.log B.handed B.frames self.new) }
     {
         let header = nalu.header();
         if header.temporal_id_plus1() - 1 > self.kept.options().highest_tid {

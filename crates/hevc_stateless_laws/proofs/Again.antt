@@ -33,6 +33,7 @@ use Rattle.hevc_stateless.specs.declared.state.State.TheVariants.{Decoding}
 use Rattle.hevc_stateless.specs.States.{unit_at, state_behind, is_sequence_set, later_meaning, meaning_in, is_awaited}
 use Rattle.hevc_stateless.specs.Steps.{Seen, Step, StepsIn, StepsBehind, TakesFirst}
 use Rattle.hevc_stateless.specs.Views.{traces_of}
+use Rattle.hevc_stateless.specs.Segments.{own_set}
 use Rattle.hevc_stateless_laws.specs.Stands.{state_by, meant, standing_after, asked, kept_after, first_meaning, meant_next, StandsBetween, TookAgain}
 use Rattle.hevc_stateless_laws.proofs.Accepting.{stays_accepted}
 use Rattle.hevc_driver.specs.Given.{Given}
@@ -105,11 +106,14 @@ module _ {B H : Type 0} (o : Options) (us : List NalUnit) (u : NalUnit) (h : Uni
   pub meant_is : (unit_at o old.kept h u.bytes).meaning ≡ y
   meant_is = ap (λ (kk : Kept). meaning o (record kk { has_sequence_set = true }) u.bytes) between.kept ∙ again.means
 
+  pub set_is : own_set o old.kept u.bytes ≡ own_set o k u.bytes
+  set_is = ap (λ (kk : Kept). own_set o kk u.bytes) between.kept ∙ again.set
+
   module _ (t : ℕ) (new : Seen B H) (v : ℕ) (decoding : old.view.state ≡ Decoding) (step : Step (Ok v) (given_next t o us u) o h u.bytes old new) where
-    goes : Goes (given_next t o us u) (traces_of old.log old.handed old.view) (traces_of new.log new.handed new.view) (later_meaning y) n new.view.standing
-    goes = subst (λ (m : Meaning). Goes (given_next t o us u) (traces_of old.log old.handed old.view) (traces_of new.log new.handed new.view) (later_meaning m) n new.view.standing) meant_is
-        (subst (λ (s : Standing). Goes (given_next t o us u) (traces_of old.log old.handed old.view) (traces_of new.log new.handed new.view) (meaning_in Decoding (unit_at o old.kept h u.bytes)) s new.view.standing) between.stands
-        (subst (λ (x : State). Goes (given_next t o us u) (traces_of old.log old.handed old.view) (traces_of new.log new.handed new.view) (meaning_in x (unit_at o old.kept h u.bytes)) old.view.standing new.view.standing) decoding step.takes.part))
+    goes : Goes (given_next t o us u) (traces_of old.log old.handed old.asked old.view) (traces_of new.log new.handed new.asked new.view) (later_meaning y) n new.view.standing
+    goes = subst (λ (m : Meaning). Goes (given_next t o us u) (traces_of old.log old.handed old.asked old.view) (traces_of new.log new.handed new.asked new.view) (later_meaning m) n new.view.standing) meant_is
+        (subst (λ (s : Standing). Goes (given_next t o us u) (traces_of old.log old.handed old.asked old.view) (traces_of new.log new.handed new.asked new.view) (meaning_in Decoding (unit_at o old.kept h u.bytes)) s new.view.standing) between.stands
+        (subst (λ (x : State). Goes (given_next t o us u) (traces_of old.log old.handed old.asked old.view) (traces_of new.log new.handed new.asked new.view) (meaning_in x (unit_at o old.kept h u.bytes)) old.view.standing new.view.standing) decoding step.takes.part))
 
     fine : refusal (stream ms) y ≡ None
     fine = sym (refusal-same (stream ms) y) ∙ tw.refusal ∙ goes.goes_on
@@ -146,7 +150,7 @@ module _ {B H : Type 0} (o : Options) (us : List NalUnit) (u : NalUnit) (h : Uni
         state_is = step.takes.state ∙ ap (λ (x : State). state_behind x (unit_at o old.kept h u.bytes)) decoding ∙ sym (is_decoding new.view.standing.store.accepted some) ∙ ap (λ (s : Standing). state_by s.store.accepted) next_list;
         room = room_now;
         kept = step.kept ∙ ap (λ (kk : Kept). kept_behind o kk u.bytes) between.kept ∙ again.kept ∙ sym (kept_last o none_kept us u);
-        latest = step.latest ∙ latest_second o us u h old between parsed meant_is decoding;
+        latest = step.takes.latest ∙ latest_second o us u h old between parsed meant_is set_is decoding;
         started = ap (λ (s : Standing). is_some s.store.accepted) (sym next_list) ∙ some ∙ sym has_now;
       };
       later = flat_map call_in (step_part (later_meaning y) n).events;
@@ -157,7 +161,7 @@ module _ {B H : Type 0} (o : Options) (us : List NalUnit) (u : NalUnit) (h : Uni
 
 goes_of : {B H : Type 0} (v t : ℕ) (o : Options) (us : List NalUnit) (u : NalUnit) (h : UnitHeader) (old new : Seen B H) → StandsBetween o us u old → unit_header u.bytes ≡ Ok h → old.view.state ≡ Decoding → StepsIn (Ok v) t o h u.bytes old new → Step (Ok v) (given_next t o us u) o h u.bytes old new
 goes_of v t o us u h old new between parsed decoding y =
-    subst (λ (g : Given). Step (Ok v) g o h u.bytes old new) (given_second o us u h old between parsed (meant_is o us u h old between parsed) decoding t) (y.taken (ap is_awaited decoding))
+    subst (λ (g : Given). Step (Ok v) g o h u.bytes old new) (given_second o us u h old between parsed (meant_is o us u h old between parsed) (set_is o us u h old between parsed) decoding t) (y.taken (ap is_awaited decoding))
 
 pub took_first_again : {B H : Type 0} (t : ℕ) (o : Options) (us others : List NalUnit) (u : NalUnit) (old new : Seen B H) (v : ℕ) → StandsBetween o us u old → old.view.state ≡ Decoding → TakesFirst (u ∷ others) (Ok v) t o old new → TookAgain t o us u old new
 took_first_again t o us others u old new v between decoding takes = by (unit_header u.bytes) refl takes.0

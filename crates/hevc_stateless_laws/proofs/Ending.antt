@@ -53,7 +53,7 @@ module _ (ms : List Meaning) (none : stop ms ≡ None) where
       ap verdict (sym (append-nil ms)) ∙ verdict-cut ms [] none ∙ ap (λ (f : Option ℕ). full_or f (verdict_from S k [])) room
       ∙ ap (λ (b : Bool). refused_at k (full_or_cause b None) (Ok S.next.number)) full
 
-pub ended : {B H : Type 0} (t : Given) (o : Options) (us : List NalUnit) (old new : Seen B H) → StandsAfter o us old → Ends t (traces_of old.log old.handed old.view) (traces_of new.log new.handed new.view) old.view.state old.view.standing new.view.standing → Ended t o us old new
+pub ended : {B H : Type 0} (t : Given) (o : Options) (us : List NalUnit) (old new : Seen B H) → StandsAfter o us old → Ends t (traces_of old.log old.handed old.asked old.view) (traces_of new.log new.handed new.asked new.view) old.view.state old.view.standing new.view.standing → Ended t o us old new
 ended t o us old new after ends =
     let ms = meant o us in
     let same = length_meant o none_kept us in

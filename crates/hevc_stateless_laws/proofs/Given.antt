@@ -13,20 +13,22 @@ use Rattle.hevc_walk_units.specs.Units.{Standing, on_store, finish_current}
 use Rattle.hevc_stream.specs.Options.{Options}
 use Rattle.hevc_stream.specs.Kept.{Kept, none_kept}
 use Rattle.hevc_stream.specs.Stream.{meaning, kept_behind, kept_behind_all}
-use Rattle.hevc_backend.specs.Handed.{Segment, PlainPicture, first_picture}
+use Rattle.hevc_records.specs.Sps.{PlainSps}
+use Rattle.hevc_backend.specs.Handed.{Segment, PlainPicture, PlainDpb, dpb_of, first_picture}
 use Rattle.hevc_driver.specs.Headers.{latest_behind, shared_header, whole_header}
-use Rattle.hevc_driver.specs.Given.{Given, given_at, handed_by, handed_in, picture_at}
+use Rattle.hevc_driver.specs.Given.{Given, dpb_at, given_at, handed_by, handed_in, picture_at, set_of}
 use Rattle.hevc_driver.specs.Does.{call_in}
 use Rattle.hevc_driver.specs.Moments.{with_kept, negotiates, negotiates_by, opening, opening_by}
 use Rattle.hevc_stateless.specs.declared.state.State.{State}
 use Rattle.hevc_stateless.specs.declared.state.State.TheVariants.{Decoding}
-use Rattle.hevc_stateless.specs.Segments.{latest_at, own_header, with_sets, segment_with, segment_at, given_with}
+use Rattle.hevc_stateless.specs.Segments.{ReadUnit, latest_at, own_header, own_set, read_at, with_sets, segment_with, segment_at, given_with}
 use Rattle.hevc_stateless.specs.States.{unit_at, later_meaning, meaning_in, is_sequence_set}
 use Rattle.hevc_stateless.specs.Steps.{Seen, given_to}
 use Rattle.hevc_stateless_laws.specs.Segments.{latest_behind_unit, latest_from, latest_after}
 use Rattle.hevc_stateless_laws.specs.Stands.{meant, standing_after, StandsAfter, StandsBetween, first_meaning, meant_next, kept_after, given_next}
 use Rattle.hevc_stateless_laws.proofs.Keeping.{not_read}
 use Rattle.hevc_stateless_laws.proofs.Repeating.{whole_once, finish_none}
+use Rattle.hevc_stateless_laws.proofs.Twice.{twice_whole}
 use Rattle.hevc_stateless_laws.proofs.Means.{first_is}
 
 -- what comes with the calls of some events
@@ -51,21 +53,21 @@ later_latest EndOfBitstream own l = refl
 later_latest Other own l = refl
 later_latest (Refused c) own l = refl
 
-later_given : (t : ℕ) (m : Meaning) (segment : Option Segment) (s : Standing) → given_with t (later_meaning m) segment s ≡ given_with t m segment s
-later_given t (SequenceSet f) segment s = refl
-later_given t (CodedSlice w) segment s = refl
-later_given t EndOfSequence segment s = refl
-later_given t EndOfBitstream segment s = refl
-later_given t Other segment s = refl
-later_given t (Refused c) segment s = refl
+later_given : (t : ℕ) (m : Meaning) (own : ReadUnit) (s : Standing) → given_with t (later_meaning m) own s ≡ given_with t m own s
+later_given t (SequenceSet f) own s = refl
+later_given t (CodedSlice w) own s = refl
+later_given t EndOfSequence own s = refl
+later_given t EndOfBitstream own s = refl
+later_given t Other own s = refl
+later_given t (Refused c) own s = refl
 
 first_latest : (a : Option Format) (m : Meaning) (own l : Option PlainSliceSegmentHeader) → latest_at (first_meaning a m) own l ≡ latest_at m own l
 first_latest None m own l = refl
 first_latest (Some f) m own l = later_latest m own l
 
-first_given : (t : ℕ) (a : Option Format) (m : Meaning) (segment : Option Segment) (s : Standing) → given_with t (first_meaning a m) segment s ≡ given_with t m segment s
-first_given t None m segment s = refl
-first_given t (Some f) m segment s = later_given t m segment s
+first_given : (t : ℕ) (a : Option Format) (m : Meaning) (own : ReadUnit) (s : Standing) → given_with t (first_meaning a m) own s ≡ given_with t m own s
+first_given t None m own s = refl
+first_given t (Some f) m own s = later_given t m own s
 
 -- ---- where a decoder is after some units
 
@@ -78,11 +80,11 @@ module _ {B H : Type 0} (o : Options) (us : List NalUnit) (u : NalUnit) (h : Uni
 
   pub given_first : (t : ℕ) → given_to t o h u.bytes old ≡ given_next t o us u
   given_first t =
-      ap (λ (m : Meaning). given_with t m (segment_at o old.kept old.view.latest u.bytes) old.view.standing) means_it
-      ∙ first_given t a (meaning o old.kept u.bytes) (segment_at o old.kept old.view.latest u.bytes) old.view.standing
-      ∙ ap (λ (k : Kept). given_with t (meaning o k u.bytes) (segment_at o k old.view.latest u.bytes) old.view.standing) after.kept
-      ∙ ap (λ (l : Option PlainSliceSegmentHeader). given_with t (meaning o (kept_after o us) u.bytes) (segment_at o (kept_after o us) l u.bytes) old.view.standing) after.latest
-      ∙ ap (λ (s : Standing). given_with t (meaning o (kept_after o us) u.bytes) (segment_at o (kept_after o us) (latest_after o us) u.bytes) s) after.stands
+      ap (λ (m : Meaning). given_with t m (read_at o old.kept old.view.latest u.bytes) old.view.standing) means_it
+      ∙ first_given t a (meaning o old.kept u.bytes) (read_at o old.kept old.view.latest u.bytes) old.view.standing
+      ∙ ap (λ (k : Kept). given_with t (meaning o k u.bytes) (read_at o k old.view.latest u.bytes) old.view.standing) after.kept
+      ∙ ap (λ (l : Option PlainSliceSegmentHeader). given_with t (meaning o (kept_after o us) u.bytes) (read_at o (kept_after o us) l u.bytes) old.view.standing) after.latest
+      ∙ ap (λ (s : Standing). given_with t (meaning o (kept_after o us) u.bytes) (read_at o (kept_after o us) (latest_after o us) u.bytes) s) after.stands
 
   pub latest_first : latest_at (meaning_in old.view.state (unit_at o old.kept h u.bytes)) (own_header o old.kept u.bytes) old.view.latest ≡ latest_after o (us ++ u ∷ [])
   latest_first =
@@ -122,17 +124,27 @@ picture_twice w None x s = refl
 picture_twice w (Some segment) x s =
     ap (λ (q : Part Standing). first_picture q.next.next w segment.header.st_rps_bits) (finish_none (on_store (change_format w.format) (finish_current (with_kept x s)).next).next refl)
 
+-- and so is what is stored while that is decoded
+dpb_twice : (x : Slice) (s : Standing) (whole : Option Slice) → whole_slice s.kept x ≡ whole → negotiates_by whole s ≡ true → dpb_at x (opening_by whole (with_kept x s)).next ≡ dpb_at x s
+dpb_twice x s whole is negotiates =
+    ap (λ (o : Option Slice). dpb_at x (opening_by o (with_kept x s)).next) (sym is)
+    ∙ sym (ap (λ (q : Part Standing). dpb_of q.next.store) (twice_whole x s whole is negotiates).part)
+
+abbrev given_of_parts : (t : ℕ) → PlainPicture → PlainDpb → Option Segment → Given
+given_of_parts t picture dpb segment = record { timestamp = t; set = set_of segment; picture = picture; dpb = dpb; segment = segment }
+
 opened_given : (t : ℕ) (x : Slice) (segment : Option Segment) (s : Standing) (whole : Option Slice) → whole_slice s.kept x ≡ whole → negotiates_by whole s ≡ true → given_at t x segment (opening_by whole (with_kept x s)).next ≡ given_at t x segment s
 opened_given t x segment s None is negotiates = absurd (cc negotiates)
 opened_given t x segment s (Some w) is negotiates =
-    ap (λ (p : PlainPicture). record { timestamp = t; picture = p; segment = segment })
+    ap (λ (p : PlainPicture). given_of_parts t p (dpb_at x (opening_by (Some w) (with_kept x s)).next) segment)
     (ap (λ (o : Option Slice). picture_at o segment (on_store (change_format w.format) (finish_current (with_kept x s)).next).next) (whole_once s.kept x ∙ is)
     ∙ picture_twice w segment x s
     ∙ ap (λ (o : Option Slice). picture_at o segment s) (sym is))
+    ∙ ap (λ (d : PlainDpb). given_of_parts t (picture_at (whole_slice s.kept x) segment s) d segment) (dpb_twice x s (Some w) is negotiates)
 
 -- ---- where a decoder is between both calls
 
-module _ {B H : Type 0} (o : Options) (us : List NalUnit) (u : NalUnit) (h : UnitHeader) (old : Seen B H) (between : StandsBetween o us u old) (parsed : unit_header u.bytes ≡ Ok h) (meant_is : (unit_at o old.kept h u.bytes).meaning ≡ meaning o (kept_after o us) u.bytes) (decoding : old.view.state ≡ Decoding) where
+module _ {B H : Type 0} (o : Options) (us : List NalUnit) (u : NalUnit) (h : UnitHeader) (old : Seen B H) (between : StandsBetween o us u old) (parsed : unit_header u.bytes ≡ Ok h) (meant_is : (unit_at o old.kept h u.bytes).meaning ≡ meaning o (kept_after o us) u.bytes) (set_is : own_set o old.kept u.bytes ≡ own_set o (kept_after o us) u.bytes) (decoding : old.view.state ≡ Decoding) where
   abbrev k : Kept
   k = kept_after o us
 
@@ -178,18 +190,18 @@ module _ {B H : Type 0} (o : Options) (us : List NalUnit) (u : NalUnit) (h : Uni
       ∙ ap (λ (s : Standing). given_at t x (segment_at o k l u.bytes) s) (between.stands ∙ opens.0)
       ∙ opened_given t x (segment_at o k l u.bytes) S (whole_slice S.kept x) refl opens.1
 
-  by_meaning : (m : Meaning) → y ≡ m → (t : ℕ) → given_with t m (segment_at o old.kept old.view.latest u.bytes) old.view.standing ≡ given_with t m (segment_at o k l u.bytes) S
-  by_meaning (SequenceSet f) is t = refl
+  by_meaning : (m : Meaning) → y ≡ m → (t : ℕ) → given_with t m (read_at o old.kept old.view.latest u.bytes) old.view.standing ≡ given_with t m (read_at o k l u.bytes) S
+  by_meaning (SequenceSet f) is t = ap (λ (own : Option PlainSps). given_with t (SequenceSet f) (record { set = own; segment = None }) S) set_is
   by_meaning (CodedSlice x) is t = coded x is t
-  by_meaning EndOfSequence is t = refl
-  by_meaning EndOfBitstream is t = refl
-  by_meaning Other is t = refl
-  by_meaning (Refused c) is t = refl
+  by_meaning EndOfSequence is t = ap (λ (own : Option PlainSps). given_with t EndOfSequence (record { set = own; segment = None }) S) set_is
+  by_meaning EndOfBitstream is t = ap (λ (own : Option PlainSps). given_with t EndOfBitstream (record { set = own; segment = None }) S) set_is
+  by_meaning Other is t = ap (λ (own : Option PlainSps). given_with t Other (record { set = own; segment = None }) S) set_is
+  by_meaning (Refused c) is t = ap (λ (own : Option PlainSps). given_with t (Refused c) (record { set = own; segment = None }) S) set_is
 
   pub given_second : (t : ℕ) → given_to t o h u.bytes old ≡ given_next t o us u
   given_second t =
-      ap (λ (m : Meaning). given_with t m (segment_at o old.kept old.view.latest u.bytes) old.view.standing) means_later
-      ∙ later_given t y (segment_at o old.kept old.view.latest u.bytes) old.view.standing
+      ap (λ (m : Meaning). given_with t m (read_at o old.kept old.view.latest u.bytes) old.view.standing) means_later
+      ∙ later_given t y (read_at o old.kept old.view.latest u.bytes) old.view.standing
       ∙ by_meaning y refl t
 
   latest_by : (m : Meaning) → y ≡ m → latest_at m (own_header o old.kept u.bytes) (latest_at m (own_header o k u.bytes) l) ≡ latest_at m (own_header o k u.bytes) l

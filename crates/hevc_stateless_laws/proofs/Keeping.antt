@@ -1,9 +1,9 @@
 -- What units mean and keep, one after the other.
-use Rattle.std.proofs.Common.{drop, ◌≡◌, ℕ, List, [], ◌∷◌, ◌++◌, length, suc, refl, sym, ◌∙◌, ap, arith, Option, Some, None, Ok, Bool, true, false, not}
+use Rattle.std.proofs.Common.{drop, ◌≡◌, ℕ, List, [], ◌∷◌, ◌++◌, length, suc, refl, sym, ◌∙◌, ap, arith, Option, Some, None, Ok, Bool, true, false, not, Result, Err}
 use Rattle.std.specs.Prelude.{nat_lt, fold, ◌==◌, ◌||◌, if◌then◌else◌}
 use Rattle.std.proofs.lemmas.Bool.Decides.{nat_tests}
 use Rattle.hevc_spec.specs.Units.{NalUnit}
-use Rattle.hevc_spec.specs.UnitHeader.{UnitHeader, unit_header}
+use Rattle.hevc_spec.specs.UnitHeader.{UnitHeader, unit_header, HeaderFault}
 use Rattle.hevc_spec.specs.Payload.{payload}
 use Rattle.hevc_spec.specs.Table.{Reading, gives, refuses, read}
 use Rattle.hevc_records.specs.Vps.{PlainVps}
@@ -12,13 +12,14 @@ use Rattle.hevc_records.specs.Pps.{PlainPps}
 use Rattle.hevc_tables.specs.VpsTable.{video_parameter_set}
 use Rattle.hevc_tables.specs.SpsTable.{sequence_parameter_set}
 use Rattle.hevc_tables.specs.PpsTable.{picture_parameter_set}
-use Rattle.hevc_walk.specs.Meanings.{Meaning, CodedSlice}
+use Rattle.hevc_walk.specs.Meanings.{Meaning, CodedSlice, SequenceSet, Format}
 use Rattle.hevc_stream.specs.Options.{Options}
 use Rattle.std.proofs.Math.Path.{fun_ext}
 use Rattle.hevc_spec.specs.UnitTypes.{is_slice}
 use Rattle.hevc_records.specs.SliceHeader.{PlainSliceSegmentHeader}
 use Rattle.hevc_stream.specs.Kept.{Kept, with_sequence_set}
 use Rattle.hevc_stateless.specs.Steps.{with_read_set}
+use Rattle.hevc_stateless.specs.Segments.{own_set, set_in}
 use Rattle.hevc_stream.specs.Slices.{temporal_id, slice_segment_meaning}
 use Rattle.hevc_tables.specs.SliceHeaderTable.{ActiveSets, active_sets, slice_segment_header}
 use Rattle.hevc_stream.specs.Contents.{Content, refused, video_set, sequence_set, picture_set, unread_picture_set, slice, end_of_sequence, end_of_bitstream, nothing, content_read, picture_set_read, content_by_type, content, coded_content}
@@ -157,6 +158,7 @@ pub record IsReadAgain (o : Options) (k : Kept) (bytes : List ℕ) : Type 0 wher
   pub means : meaning o (record (with_read_set (content o k bytes) k) { has_sequence_set = true }) bytes ≡ meaning o k bytes
   pub has : (with_read_set (content o k bytes) k).has_sequence_set ≡ true
   pub kept : kept_behind o (with_read_set (content o k bytes) k) bytes ≡ kept_behind o k bytes
+  pub set : own_set o (with_read_set (content o k bytes) k) bytes ≡ own_set o k bytes
 
 module _ (o : Options) (k : Kept) (bytes : List ℕ) (h : UnitHeader) (parsed : unit_header bytes ≡ Ok h) where
   -- the content of a sequence set's unit
@@ -179,6 +181,7 @@ module _ (o : Options) (k : Kept) (bytes : List ℕ) (h : UnitHeader) (parsed : 
     has = ap (λ (c : Content). (with_read_set c k).has_sequence_set) (is k);
     kept = ap (λ (c : Content). with_content o bytes (content o (with_read_set c k) bytes) (with_read_set c k)) (is k)
         ∙ ap (λ (c : Content). with_content o bytes c (with_sequence_set set k)) (is (with_sequence_set set k)) ∙ ap (with_all_waited o) (twice_set set k) ∙ ap (λ (c : Content). with_content o bytes c k) (sym (is k));
+    set = ap set_in (is (record (with_read_set (content o k bytes) k) { has_sequence_set = true }) ∙ sym (is (record k { has_sequence_set = true })));
   }
   set_again (refused cause) is negotiated = absurd (cc (sym (ap (λ (c : Content). is_sequence_set (meaning_of o k bytes c)) (is k)) ∙ negotiated))
   set_again (video_set set) is negotiated = absurd (cc (sym (ap (λ (c : Content). is_sequence_set (meaning_of o k bytes c)) (is k)) ∙ negotiated))
@@ -195,6 +198,7 @@ module _ (o : Options) (k : Kept) (bytes : List ℕ) (h : UnitHeader) (parsed : 
     means = ap (λ (kk : Kept). meaning o (record kk { has_sequence_set = true }) bytes) same ∙ ap (λ (b : Bool). meaning o (record k { has_sequence_set = b }) bytes) (sym has);
     has = ap (λ (kk : Kept). kk.has_sequence_set) same ∙ has;
     kept = ap (λ (kk : Kept). kept_behind o kk bytes) same;
+    set = ap (λ (kk : Kept). own_set o kk bytes) same;
   }
 
   not_kept : (c : Content) → is_sequence_set (meaning_of o k bytes c) ≡ false → with_read_set c k ≡ k
@@ -250,3 +254,34 @@ module _ (o : Options) (k : Kept) (bytes : List ℕ) (h : UnitHeader) (parsed : 
       by : (b : Bool) → (h.nal_unit_type == 33) ≡ b → IsReadAgain o k bytes
       by true e = let typed : h.nal_unit_type ≡ 33 = grind (arith, nat_tests, e) in set_again set_content (is_set_content typed) is
       by false e = absurd (cc (sym (not_typed e) ∙ is))
+
+  -- a sequence set that is meant was read
+  found : (c : Content) → ((kk : Kept) → content o kk bytes ≡ c) → is_sequence_set (meaning o k bytes) ≡ true → (set : PlainSps) × (own_set o k bytes ≡ Some set)
+  unfolding meaning
+  found (sequence_set set) is meant = (set, ap set_in (is (record k { has_sequence_set = true })))
+  found (refused cause) is meant = absurd (cc (sym (ap (λ (c : Content). is_sequence_set (meaning_of o k bytes c)) (is k)) ∙ meant))
+  found (video_set set) is meant = absurd (cc (sym (ap (λ (c : Content). is_sequence_set (meaning_of o k bytes c)) (is k)) ∙ meant))
+  found (picture_set set) is meant = absurd (cc (sym (ap (λ (c : Content). is_sequence_set (meaning_of o k bytes c)) (is k)) ∙ meant))
+  found unread_picture_set is meant = absurd (cc (sym (ap (λ (c : Content). is_sequence_set (meaning_of o k bytes c)) (is k)) ∙ meant))
+  found (slice g segment) is meant = absurd (cc (sym (ap (λ (c : Content). is_sequence_set (meaning_of o k bytes c)) (is k) ∙ segment_isnt o bytes g segment (active_sets k.sequence_sets k.picture_sets segment.pic_parameter_set_id)) ∙ meant))
+  found end_of_sequence is meant = absurd (cc (sym (ap (λ (c : Content). is_sequence_set (meaning_of o k bytes c)) (is k)) ∙ meant))
+  found end_of_bitstream is meant = absurd (cc (sym (ap (λ (c : Content). is_sequence_set (meaning_of o k bytes c)) (is k)) ∙ meant))
+  found nothing is meant = absurd (cc (sym (ap (λ (c : Content). is_sequence_set (meaning_of o k bytes c)) (is k)) ∙ meant))
+
+  pub set_found : is_sequence_set (meaning o k bytes) ≡ true → (set : PlainSps) × (own_set o k bytes ≡ Some set)
+  set_found meant = by (h.nal_unit_type == 33) refl
+    where
+      by : (b : Bool) → (h.nal_unit_type == 33) ≡ b → (set : PlainSps) × (own_set o k bytes ≡ Some set)
+      by true e = let typed : h.nal_unit_type ≡ 33 = grind (arith, nat_tests, e) in found set_content (is_set_content typed) meant
+      by false e = absurd (cc (sym (not_typed e) ∙ meant))
+
+-- whatever its header
+pub sequence_read : (o : Options) (k : Kept) (bytes : List ℕ) (f : Format) → meaning o k bytes ≡ SequenceSet f → (set : PlainSps) × (own_set o k bytes ≡ Some set)
+unfolding meaning content
+sequence_read o k bytes f meant = by (unit_header bytes) refl
+  where
+    headerless : (fault : HeaderFault) → unit_header bytes ≡ Err fault → is_sequence_set (meaning o k bytes) ≡ false
+    headerless fault parsed = rw parsed refl
+    by : (r : Result UnitHeader HeaderFault) → unit_header bytes ≡ r → (set : PlainSps) × (own_set o k bytes ≡ Some set)
+    by (Ok h) parsed = set_found o k bytes h parsed (ap is_sequence_set meant)
+    by (Err fault) parsed = absurd (cc (sym (headerless fault parsed) ∙ ap is_sequence_set meant))

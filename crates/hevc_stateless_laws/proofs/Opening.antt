@@ -50,10 +50,10 @@ module _ {B H : Type 0} (t : ℕ) (o : Options) (us : List NalUnit) (u : NalUnit
   meant_is : meaning_in (state_by a) (unit_at o old.kept h u.bytes) ≡ meant_next o us u
   meant_is = first_is o old.kept u.bytes h parsed a after.started ∙ ap (λ (k : Kept). first_meaning a (meaning o k u.bytes)) after.kept
 
-  pub opens : Opens (given_next t o us u) (traces_of old.log old.handed old.view) (traces_of new.log new.handed new.view) (meant_next o us u) S new.view.standing
-  opens = subst (λ (m : Meaning). Opens (given_next t o us u) (traces_of old.log old.handed old.view) (traces_of new.log new.handed new.view) m S new.view.standing) meant_is
-      (subst (λ (s : Standing). Opens (given_next t o us u) (traces_of old.log old.handed old.view) (traces_of new.log new.handed new.view) (meaning_in (state_by a) (unit_at o old.kept h u.bytes)) s new.view.standing) after.stands
-      (subst (λ (x : State). Opens (given_next t o us u) (traces_of old.log old.handed old.view) (traces_of new.log new.handed new.view) (meaning_in x (unit_at o old.kept h u.bytes)) old.view.standing new.view.standing) after.state_is step.takes.part))
+  pub opens : Opens (given_next t o us u) (traces_of old.log old.handed old.asked old.view) (traces_of new.log new.handed new.asked new.view) (meant_next o us u) S new.view.standing
+  opens = subst (λ (m : Meaning). Opens (given_next t o us u) (traces_of old.log old.handed old.asked old.view) (traces_of new.log new.handed new.asked new.view) m S new.view.standing) meant_is
+      (subst (λ (s : Standing). Opens (given_next t o us u) (traces_of old.log old.handed old.asked old.view) (traces_of new.log new.handed new.asked new.view) (meaning_in (state_by a) (unit_at o old.kept h u.bytes)) s new.view.standing) after.stands
+      (subst (λ (x : State). Opens (given_next t o us u) (traces_of old.log old.handed old.asked old.view) (traces_of new.log new.handed new.asked new.view) (meaning_in x (unit_at o old.kept h u.bytes)) old.view.standing new.view.standing) after.state_is step.takes.part))
 
   tw : TwiceBy (opening (meant_next o us u) S) (later_meaning y) y S
   tw = twice a y S refl opens.negotiates
@@ -76,7 +76,7 @@ module _ {B H : Type 0} (t : ℕ) (o : Options) (us : List NalUnit) (u : NalUnit
       space = opens.room;
       stands = opens.completes.next;
       kept = step.kept ∙ ap (λ (k : Kept). with_read_set (content o k u.bytes) k) after.kept;
-      latest = step.latest ∙ latest_first o us u h old after parsed;
+      latest = step.takes.latest ∙ latest_first o us u h old after parsed;
       started = after.started ∙ ap (λ (k : Kept). k.has_sequence_set) after.kept;
     };
     state_is = step.takes.state;

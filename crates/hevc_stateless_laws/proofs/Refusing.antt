@@ -20,6 +20,9 @@ use Rattle.hevc_driver.specs.declared.decode_error.DecodeError.TheVariants as er
 use Rattle.hevc_driver.specs.Errors.{cause_error, error_of}
 use Rattle.hevc_driver.specs.Does.{Does}
 use Rattle.hevc_driver.specs.Takes as takes
+use Rattle.hevc_driver.specs.Takes.{asking}
+use Rattle.hevc_records.specs.SliceHeader.{PlainSliceSegmentHeader}
+use Rattle.hevc_stateless.specs.Segments.{own_header}
 use Rattle.hevc_driver.proofs.Doing.{does_nothing, keeps_all}
 use Rattle.hevc_stateless.specs.declared.state.State.{State}
 use Rattle.hevc_stateless.specs.States.{unit_at, meaning_in, state_behind, is_awaited}
@@ -68,8 +71,8 @@ module _ {B H : Type 0} (e : DecodeError) (t : ℕ) (o : Options) (us : List Nal
   asked_is = sym (calls_are (length ms) (unit_part y S).events) ∙ sym (ap (map asked) (calls-at ms y [] after.goes_on)) ∙ sym (here (λ n l. map asked (calls_of_unit n (calls l))))
 
   -- what the unit asks was done, up to its refusal
-  refused_unit : (cause : Cause) → refusal (stream ms) y ≡ Some cause → is_full_at y S ≡ false → error_of cause ≡ e → Does (given_next t o us u) (traces_of old.log old.handed old.view) (traces_of new.log new.handed new.view) (unit_part y S).events → RefusedUnit e t o us u old new
-  refused_unit cause refused full named does = record {
+  refused_unit : (n : Option ℕ) (cause : Cause) → refusal (stream ms) y ≡ Some cause → is_full_at y S ≡ false → error_of cause ≡ e → Does (given_next t o us u) (traces_of old.log old.handed n old.view) (traces_of new.log new.handed new.asked new.view) (unit_part y S).events → RefusedUnit e t o us u old new
+  refused_unit n cause refused full named does = record {
     cause = cause;
     refused = refused;
     named = named;
@@ -91,9 +94,9 @@ module _ {B H : Type 0} (e : DecodeError) (t : ℕ) (o : Options) (us : List Nal
   -- its header is refused
   header_refused : (fault : HeaderFault) → unit_header u.bytes ≡ Err fault → e ≡ cause_error (header_cause fault) → new ≡ old → RefusedUnit e t o us u old new
   unfolding meaning content
-  header_refused fault parsed is same = refused_unit (UnitRefused (header_cause fault)) (sym (refusal-same (stream ms) y) ∙ ap (λ (m : Meaning). refusal_at m S) means_it) (ap (λ (m : Meaning). is_full_at m S) means_it) (sym is)
-      (subst (λ (m : Meaning). Does (given_next t o us u) (traces_of old.log old.handed old.view) (traces_of new.log new.handed new.view) (unit_part m S).events) (sym means_it)
-      (does_nothing (given_next t o us u) (traces_of old.log old.handed old.view) (traces_of new.log new.handed new.view) (ap (λ (s : Seen B H). s.log) same) (ap (λ (s : Seen B H). s.handed) same) (ap (λ (s : Seen B H). s.view.queue) same) (keeps_all old.view.tickets new.view.tickets (ap (λ (s : Seen B H). s.view.tickets) same))))
+  header_refused fault parsed is same = refused_unit old.asked (UnitRefused (header_cause fault)) (sym (refusal-same (stream ms) y) ∙ ap (λ (m : Meaning). refusal_at m S) means_it) (ap (λ (m : Meaning). is_full_at m S) means_it) (sym is)
+      (subst (λ (m : Meaning). Does (given_next t o us u) (traces_of old.log old.handed old.asked old.view) (traces_of new.log new.handed new.asked new.view) (unit_part m S).events) (sym means_it)
+      (does_nothing (given_next t o us u) (traces_of old.log old.handed old.asked old.view) (traces_of new.log new.handed new.asked new.view) (ap (λ (s : Seen B H). s.log) same) (ap (λ (s : Seen B H). s.handed) same) (ap (λ (s : Seen B H). s.asked) same) (ap (λ (s : Seen B H). s.view.queue) same) (keeps_all old.view.tickets new.view.tickets (ap (λ (s : Seen B H). s.view.tickets) same))))
     where
       means_it : y ≡ Refused (header_cause fault)
       means_it = rw parsed refl
@@ -108,28 +111,28 @@ module _ {B H : Type 0} (e : DecodeError) (t : ℕ) (o : Options) (us : List Nal
     same : Means x y old.view.standing
     same = subst (λ (k : Kept). Means x (meaning o k u.bytes) old.view.standing) after.kept (means o old.kept u.bytes h parsed a old.view.standing (ap (λ (s : Standing). s.store.accepted) after.stands) after.started)
 
-    read_refused : takes.Refuses e (given_next t o us u) (traces_of old.log old.handed old.view) (traces_of new.log new.handed new.view) x old.view.standing new.view.standing → RefusedUnit e t o us u old new
-    read_refused r = refused_unit r.cause (sym (refusal-same (stream ms) y) ∙ ap (refusal_at y) (sym after.stands) ∙ sym same.refusal ∙ r.refused) (ap (is_full_at y) (sym after.stands) ∙ sym same.full ∙ r.room) r.named
-        (subst (λ (q : Part Standing). Does (given_next t o us u) (traces_of old.log old.handed old.view) (traces_of new.log new.handed new.view) q.events) (same.part ∙ ap (unit_part y) after.stands) r.does)
+    read_refused : takes.Refuses e (given_next t o us u) (traces_of old.log old.handed old.asked old.view) (traces_of new.log new.handed new.asked new.view) x old.view.standing new.view.standing → RefusedUnit e t o us u old new
+    read_refused r = refused_unit (asking x old.view.standing (traces_of old.log old.handed old.asked old.view)).asked r.cause (sym (refusal-same (stream ms) y) ∙ ap (refusal_at y) (sym after.stands) ∙ sym same.refusal ∙ r.refused) (ap (is_full_at y) (sym after.stands) ∙ sym same.full ∙ r.room) r.named
+        (subst (λ (q : Part Standing). Does (given_next t o us u) (asking x old.view.standing (traces_of old.log old.handed old.asked old.view)) (traces_of new.log new.handed new.asked new.view) q.events) (same.part ∙ ap (unit_part y) after.stands) r.does)
 
 -- ---- by the error
 
-refuses_of : {H : Type 0} (e : DecodeError) (t : Given) (u : Meaning) (behind : State) (old new : Moment H) → IsRefusal e → TakesIn {H = H} {T = ℕ} (Err e) t u behind old new → takes.Refuses e t old.traces new.traces u old.standing new.standing
-refuses_of errors.TruncatedNalu t u behind old new is y = y.part
-refuses_of (errors.InvalidNaluType n) t u behind old new is y = y.part
-refuses_of errors.OutOfBits t u behind old new is y = y.part
-refuses_of (errors.OutOfRange table row) t u behind old new is y = y.part
-refuses_of (errors.MissingPps id) t u behind old new is y = y.part
-refuses_of errors.NoIndependentSlice t u behind old new is y = y.part
-refuses_of (errors.ChangedMidPicture accepted named) t u behind old new is y = y.part
-refuses_of errors.PocOutOfRange t u behind old new is y = y.part
-refuses_of errors.NoNal t u behind old new is y = absurd is
-refuses_of errors.DpbFull t u behind old new is y = absurd is
-refuses_of (errors.NotEnoughOutputBuffers n) t u behind old new is y = absurd is
-refuses_of errors.CheckEvents t u behind old new is y = absurd is
-refuses_of errors.PictureNumbersSpent t u behind old new is y = absurd is
-refuses_of errors.Backend t u behind old new is y = absurd is
-refuses_of errors.NoMemory t u behind old new is y = absurd is
+refuses_of : {H : Type 0} (e : DecodeError) (t : Given) (u : Meaning) (own : Option PlainSliceSegmentHeader) (behind : State) (old new : Moment H) → IsRefusal e → TakesIn {H = H} {T = ℕ} (Err e) t u own behind old new → takes.Refuses e t old.traces new.traces u old.standing new.standing
+refuses_of errors.TruncatedNalu t u own behind old new is y = y.part
+refuses_of (errors.InvalidNaluType n) t u own behind old new is y = y.part
+refuses_of errors.OutOfBits t u own behind old new is y = y.part
+refuses_of (errors.OutOfRange table row) t u own behind old new is y = y.part
+refuses_of (errors.MissingPps id) t u own behind old new is y = y.part
+refuses_of errors.NoIndependentSlice t u own behind old new is y = y.part
+refuses_of (errors.ChangedMidPicture accepted named) t u own behind old new is y = y.part
+refuses_of errors.PocOutOfRange t u own behind old new is y = y.part
+refuses_of errors.NoNal t u own behind old new is y = absurd is
+refuses_of errors.DpbFull t u own behind old new is y = absurd is
+refuses_of (errors.NotEnoughOutputBuffers n) t u own behind old new is y = absurd is
+refuses_of errors.CheckEvents t u own behind old new is y = absurd is
+refuses_of errors.PictureNumbersSpent t u own behind old new is y = absurd is
+refuses_of errors.Backend t u own behind old new is y = absurd is
+refuses_of errors.NoMemory t u own behind old new is y = absurd is
 
 step_of : {B H : Type 0} (e : DecodeError) (t : ℕ) (o : Options) (us : List NalUnit) (u : NalUnit) (h : UnitHeader) (old new : Seen B H) → StandsAfter o us old → unit_header u.bytes ≡ Ok h → StepsIn {T = ℕ} (Err e) t o h u.bytes old new → Step {T = ℕ} (Err e) (given_next t o us u) o h u.bytes old new
 step_of e t o us u h old new after parsed y = subst (λ (g : Given). Step {T = ℕ} (Err e) g o h u.bytes old new) (given_first o us u h old after parsed t) (y.taken (ap is_awaited after.state_is ∙ going_by (standing_after (meant o us)).store.accepted))
@@ -140,7 +143,7 @@ refused_first {B} {H} e t o us others u old new is after first = by (unit_header
     by : (r : Result UnitHeader HeaderFault) → unit_header u.bytes ≡ r → StepsBehind {T = ℕ} r (Err e) t o u.bytes old new → RefusedUnit e t o us u old new
     by (Ok h) parsed step =
         let s = step_of e t o us u h old new after parsed step in
-        read_refused e t o us u old new after h parsed (subst (λ (x : State). takes.Refuses e (given_next t o us u) (traces_of old.log old.handed old.view) (traces_of new.log new.handed new.view) (meaning_in x (unit_at o old.kept h u.bytes)) old.view.standing new.view.standing) after.state_is (refuses_of e (given_next t o us u) (meaning_in old.view.state (unit_at o old.kept h u.bytes)) (state_behind old.view.state (unit_at o old.kept h u.bytes)) (moment_of old.log old.handed old.view) (moment_of new.log new.handed new.view) is s.takes))
+        read_refused e t o us u old new after h parsed (subst (λ (x : State). takes.Refuses e (given_next t o us u) (traces_of old.log old.handed old.asked old.view) (traces_of new.log new.handed new.asked new.view) (meaning_in x (unit_at o old.kept h u.bytes)) old.view.standing new.view.standing) after.state_is (refuses_of e (given_next t o us u) (meaning_in old.view.state (unit_at o old.kept h u.bytes)) (own_header o old.kept u.bytes) (state_behind old.view.state (unit_at o old.kept h u.bytes)) (moment_of old.log old.handed old.asked old.view) (moment_of new.log new.handed new.asked new.view) is s.takes))
     by (Err fault) parsed step = header_refused e t o us u old new after fault parsed (cc step.0) step.1
 
 -- ---- a full store

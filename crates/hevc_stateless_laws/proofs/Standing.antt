@@ -110,8 +110,8 @@ module _ {B H : Type 0} (t : ℕ) (o : Options) (us : List NalUnit) (u : NalUnit
   same : Means (meaning_in (state_by a) taken) y old.view.standing
   same = means o old.kept u.bytes h parsed a old.view.standing accepted after.started
 
-  goes : Goes (given_next t o us u) (traces_of old.log old.handed old.view) (traces_of new.log new.handed new.view) (meaning_in (state_by a) taken) old.view.standing new.view.standing
-  goes = subst (λ (x : State). Goes (given_next t o us u) (traces_of old.log old.handed old.view) (traces_of new.log new.handed new.view) (meaning_in x taken) old.view.standing new.view.standing) after.state_is step.takes.part
+  goes : Goes (given_next t o us u) (traces_of old.log old.handed old.asked old.view) (traces_of new.log new.handed new.asked new.view) (meaning_in (state_by a) taken) old.view.standing new.view.standing
+  goes = subst (λ (x : State). Goes (given_next t o us u) (traces_of old.log old.handed old.asked old.view) (traces_of new.log new.handed new.asked new.view) (meaning_in x taken) old.view.standing new.view.standing) after.state_is step.takes.part
 
   part_is : step_part (meaning_in (state_by a) taken) old.view.standing ≡ unit_part y (standing_after ms)
   part_is = same.part ∙ ap (unit_part y) after.stands
@@ -168,7 +168,7 @@ module _ {B H : Type 0} (t : ℕ) (o : Options) (us : List NalUnit) (u : NalUnit
       state_is = stays ∙ (together a refl).0 ∙ ap (λ (s : Standing). state_by s.store.accepted) next_list;
       room = room_now;
       kept = step.kept ∙ ap (λ (k : Kept). kept_behind o k u.bytes) after.kept ∙ sym (kept_last o none_kept us u);
-      latest = step.latest ∙ latest_first o us u h old after parsed;
+      latest = step.takes.latest ∙ latest_first o us u h old after parsed;
       started = ap (λ (s : Standing). is_some s.store.accepted) (sym next_list) ∙ (together a refl).1;
     };
     calls = record {

@@ -40,7 +40,7 @@ not_true : (a : Bool) → not a ≡ true → a ≡ false
 not_true true e = absurd (cc e)
 not_true false e = refl
 
-twice_whole : (x : Slice) (s : Standing) (o : Option Slice) → whole_slice s.kept x ≡ o → negotiates_by o s ≡ true → TwiceBy (opening (CodedSlice x) s) (CodedSlice x) (CodedSlice x) s
+pub twice_whole : (x : Slice) (s : Standing) (o : Option Slice) → whole_slice s.kept x ≡ o → negotiates_by o s ≡ true → TwiceBy (opening (CodedSlice x) s) (CodedSlice x) (CodedSlice x) s
 twice_whole x s None whole e = absurd (cc e)
 twice_whole x s (Some w) whole e = subst (λ (q : Part Standing). TwiceBy q (CodedSlice x) (CodedSlice x) s) (sym (ap (λ o. opening_by o (with_kept x s)) whole)) (record {
   part = ap (λ o. whole_part o (with_kept x s)) whole ∙ ap (λ (c : Bool). if c then first_slice w (with_kept x s) else later_slice w (with_kept x s)) begins ∙ in_two x w s whole other;

@@ -1,5 +1,5 @@
--- The slice segments of a stream, each with its parameter sets and its whole header, and what comes
--- with each unit.
+-- What is read of the units of a stream: the sequence parameter sets, the slice segments, each with
+-- its parameter sets and its whole header; and what comes with each unit.
 use Rattle.std.specs.Prelude.{ℕ, List, [], ◌∷◌, take, get_or, Option, None}
 use Rattle.std.specs.List.{flat_map}
 use Rattle.hevc_spec.specs.Units.{NalUnit, units}
@@ -11,9 +11,9 @@ use Rattle.hevc_walk_agree.specs.Standings.{standing}
 use Rattle.hevc_stream.specs.Options.{Options}
 use Rattle.hevc_stream.specs.Kept.{Kept, none_kept}
 use Rattle.hevc_stream.specs.Stream.{meaning, kept_behind}
-use Rattle.hevc_backend.specs.Handed.{Segment, Handed}
+use Rattle.hevc_backend.specs.Handed.{Handed}
 use Rattle.hevc_driver.specs.Given.{Given, handed_by}
-use Rattle.hevc_stateless.specs.Segments.{latest_at, own_header, segment_at, given_with}
+use Rattle.hevc_stateless.specs.Segments.{ReadUnit, nothing_read, latest_at, own_header, read_at, given_with}
 
 -- the latest independent header (7.4.7.1) after a unit of these bytes
 abbrev pub latest_behind_unit : Options → Kept → (latest : Option PlainSliceSegmentHeader)
@@ -32,27 +32,27 @@ latest_from options kept latest (u ∷ us) =
 abbrev pub latest_after : Options → List NalUnit → Option PlainSliceSegmentHeader
 latest_after options us = latest_from options none_kept None us
 
--- the segment of each unit, None where it is none, after these sets and this latest header
-abbrev pub segments_from : Options → Kept → (latest : Option PlainSliceSegmentHeader)
-    → List NalUnit → List (Option Segment)
-segments_from options kept latest [] = []
-segments_from options kept latest (u ∷ us) =
-    segment_at options kept latest u.bytes
-    ∷ segments_from options (kept_behind options kept u.bytes)
+-- what was read of each unit, after these sets and this latest header
+abbrev pub read_units_from : Options → Kept → (latest : Option PlainSliceSegmentHeader)
+    → List NalUnit → List ReadUnit
+read_units_from options kept latest [] = []
+read_units_from options kept latest (u ∷ us) =
+    read_at options kept latest u.bytes
+    ∷ read_units_from options (kept_behind options kept u.bytes)
     (latest_behind_unit options kept latest u.bytes) us
 
-abbrev pub segments_of : Options → List NalUnit → List (Option Segment)
-segments_of options us = segments_from options none_kept None us
+abbrev pub read_units_of : Options → List NalUnit → List ReadUnit
+read_units_of options us = read_units_from options none_kept None us
 
--- the segments of a stream
-abbrev pub segments : Options → List ℕ → List (Option Segment)
-segments options stream = segments_of options (units stream)
+-- of each unit of a stream
+abbrev pub read_units : Options → List ℕ → List ReadUnit
+read_units options stream = read_units_of options (units stream)
 
--- what comes with the k-th unit of these meanings and segments, at no time
-abbrev pub given_of : List Meaning → List (Option Segment) → (k : ℕ) → Given
-given_of ms segments k =
-    given_with 0 (get_or ms k Other) (get_or segments k None) (standing (stream (take k ms)))
+-- what comes with the k-th unit of these meanings, of which this was read, at no time
+abbrev pub given_of : List Meaning → List ReadUnit → (k : ℕ) → Given
+given_of ms reads k =
+    given_with 0 (get_or ms k Other) (get_or reads k nothing_read) (standing (stream (take k ms)))
 
 -- what comes with these calls, each of its unit
-abbrev pub handed_over : List Meaning → List (Option Segment) → List (ℕ × walk.Call) → List Handed
-handed_over ms segments calls = flat_map (λ c. handed_by (given_of ms segments c.0) c.1) calls
+abbrev pub handed_over : List Meaning → List ReadUnit → List (ℕ × walk.Call) → List Handed
+handed_over ms reads calls = flat_map (λ c. handed_by (given_of ms reads c.0) c.1) calls

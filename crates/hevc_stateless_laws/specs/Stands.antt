@@ -26,7 +26,7 @@ use Rattle.hevc_driver.specs.Moments.{negotiates, opening}
 use Rattle.hevc_stateless.specs.declared.state.State.{State}
 use Rattle.hevc_stateless.specs.declared.state.State.TheVariants.{AwaitingStreamInfo, AwaitingFormat, Decoding}
 use Rattle.hevc_stateless.specs.States.{later_meaning}
-use Rattle.hevc_stateless.specs.Segments.{segment_at, given_with}
+use Rattle.hevc_stateless.specs.Segments.{read_at, given_with}
 use Rattle.hevc_stateless.specs.Steps.{Seen, with_read_set}
 use Rattle.hevc_stateless_laws.specs.Segments.{latest_after}
 
@@ -80,7 +80,7 @@ pub record Logged {B H : Type 0} (given : Given) (old new : Seen B H) (calls : L
 abbrev pub given_next : (timestamp : ℕ) → Options → List NalUnit → NalUnit → Given
 given_next timestamp options us u =
     given_with timestamp (meaning options (kept_after options us) u.bytes)
-    (segment_at options (kept_after options us) (latest_after options us) u.bytes)
+    (read_at options (kept_after options us) (latest_after options us) u.bytes)
     (standing_after (meant options us))
 
 -- the queue grew by these outputs, of the k-th unit

@@ -84,8 +84,8 @@ pub fn fills_the_buffer<B, H>()
 pub fn ends_the_stream<B, H>()
     ensures { (given : Given) (options : Options) (us : List NalUnit) (old new : Seen B H)
         → StandsAfter options us old
-        → Ends given (traces_of old.log old.handed old.view)
-        (traces_of new.log new.handed new.view)
+        → Ends given (traces_of old.log old.handed old.asked old.view)
+        (traces_of new.log new.handed new.asked new.view)
         old.view.state old.view.standing new.view.standing
         → Ended given options us old new }
 {}

@@ -61,7 +61,7 @@ impl<D: Device> StatelessH265DecoderBackend for OverDevice<D> {
 
     ghost counts = { λ b. counts_of b.faults b.empty_answers };
 
-    ghost room = { λ b. b.room };
+    ghost frames = { λ b. record { asked = None; found = b.room } };
 
     ghost info = { λ b. b.info };
 

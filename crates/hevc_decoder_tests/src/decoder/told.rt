@@ -1,7 +1,8 @@
 //! What a backend is handed with the calls of a stream.
 use crate::expect::{expect, expect_eq};
 use hevc_decoder::decode_stream;
-use hevc_test_backend::{Came, KeptSegment, TellingBackend};
+use hevc_pictures::Reference;
+use hevc_test_backend::{Came, KeptDpb, KeptSegment, TellingBackend};
 
 /// A sequence set of 16 by 16 luma samples, a picture set with `dependent_slice_segments_enabled_flag`, an IDR picture whose
 /// slice has `slice_qp_delta` 1, and a dependent slice segment of it, every unit after a start code.
@@ -11,6 +12,102 @@ const DEPENDENT_SEGMENT: &[u8] = &[
     0x44, 0x01, 0xe0, 0x71, 0x80, 0x12, 0x00, 0x00, 0x01, 0x26, 0x01, 0xad, 0x60, 0x00, 0x00, 0x01,
     0x26, 0x01, 0x38, 0x80,
 ];
+
+/// A sequence set of 16 by 16 luma samples, with MaxPicOrderCntLsb 16 and sps_max_num_reorder_pics 1; a picture set; an IDR picture; a
+/// P picture with the low bits 12 that refers to it; one with the low bits 4, whose count is 20, that refers to both; an end of sequence;
+/// a CRA picture with the low bits 8; and an I picture with the low bits 0, whose count is 16, that keeps no picture.
+const TWO_SEQUENCES: &[u8] = &[
+    0x00, 0x00, 0x01, 0x42, 0x01, 0x01, 0x01, 0x60, 0x00, 0x00, 0x03, 0x00, 0x90, 0x00, 0x00, 0x03,
+    0x00, 0x00, 0x03, 0x00, 0x3c, 0xa0, 0x88, 0x45, 0xe5, 0x5a, 0xbc, 0x20, 0x80, 0x00, 0x00, 0x01,
+    0x44, 0x01, 0xc0, 0x71, 0x80, 0x12, 0x00, 0x00, 0x01, 0x26, 0x01, 0xaf, 0x80, 0x00, 0x00, 0x01,
+    0x02, 0x01, 0xd6, 0x14, 0x65, 0xc0, 0x80, 0x00, 0x00, 0x01, 0x02, 0x01, 0xd2, 0x1c, 0x44, 0x65,
+    0xc0, 0x80, 0x00, 0x00, 0x01, 0x48, 0x01, 0x00, 0x00, 0x01, 0x2a, 0x01, 0xae, 0x1e, 0x80, 0x00,
+    0x00, 0x01, 0x02, 0x01, 0xd8, 0x3c, 0x80,
+];
+
+/// A stored picture: its number and count, whether it waits for output, its mark, and its latency count.
+type Stored = (u64, i32, bool, Reference, i32);
+
+/// What comes with the slices of a picture.
+struct Handed<'a> {
+    number: u64,
+    count: i32,
+    stored: &'a [Stored],
+}
+
+/// Whether a buffer holds these pictures, in this order, and may hold 16.
+fn holds(dpb: &KeptDpb, stored: &[Stored]) -> bool {
+    dpb.max_num_pics == 16
+        && dpb.entries.as_slice().len() == stored.len()
+        && dpb.entries.as_slice().iter().zip(stored.iter()).all(|(entry, stored)| {
+            let picture = &entry.picture;
+            (
+                entry.number,
+                picture.pic_order_cnt_val,
+                picture.needed_for_output,
+                *picture.reference(),
+                picture.pic_latency_cnt,
+            ) == *stored
+        })
+}
+
+/// Whether a picture of one slice came as it is to come: announced, begun, and decoded.
+fn came_as(came: &[Came], expected: &Handed<'_>) -> bool {
+    match came {
+        [
+            Came::Announced { number: announced, picture: first },
+            Came::Begun { number: begun, picture, dpb: before, segment: _ },
+            Came::Decoded { number: decoded, dpb, segment: _ },
+        ] => {
+            *announced == expected.number
+                && *begun == expected.number
+                && *decoded == expected.number
+                && *first == *picture
+                && picture.pic_order_cnt_val == expected.count
+                && holds(before, expected.stored)
+                && holds(dpb, expected.stored)
+        }
+        _ => false,
+    }
+}
+
+#[test]
+fn the_whole_buffer_comes_with_each_slice(rt: HostRuntime) {
+    let rt = &rt;
+    let alloc = rt.alloc();
+    let mut shown = Vec::new(alloc);
+    let backend = TellingBackend::new(alloc);
+    let decoded = decode_stream(alloc, backend, TWO_SEQUENCES, &mut shown);
+    expect(rt, decoded.result == Ok(5));
+    expect_eq(rt, decoded.backend.asked, 5);
+    let idr = (0, 0, true, Reference::ShortTerm, 0);
+    let expected = [
+        Handed { number: 0, count: 0, stored: &[] },
+        Handed { number: 1, count: 12, stored: &[idr] },
+        Handed {
+            number: 2,
+            count: 20,
+            stored: &[
+                (0, 0, false, Reference::ShortTerm, 0),
+                (1, 12, true, Reference::ShortTerm, 0),
+            ],
+        },
+        Handed { number: 3, count: 8, stored: &[] },
+        Handed { number: 4, count: 16, stored: &[(3, 8, true, Reference::None, 0)] },
+    ];
+    let came = decoded.backend.came.as_slice();
+    match came.split_first() {
+        Some((Came::Sequence(set), pictures)) => {
+            expect_eq(rt, (set.width(), set.height()), (16, 16));
+            expect_eq(rt, set.max_num_reorder_pics[0], 1);
+            expect_eq(rt, pictures.len(), 15);
+            for (came, expected) in pictures.chunks(3).zip(expected.iter()) {
+                expect(rt, came_as(came, expected));
+            }
+        }
+        _ => panic!(rt; "no sequence set"),
+    }
+}
 
 /// The sets of this stream, and a header with this quantiser.
 fn is_of_stream(segment: &KeptSegment, dependent: bool) -> bool {
@@ -33,8 +130,9 @@ fn a_dependent_segment_comes_with_the_whole_header(rt: HostRuntime) {
     );
     expect(rt, decoded.result == Ok(1));
     let came = decoded.backend.came.as_slice();
-    expect_eq(rt, came.len(), 4);
-    match (came.get(0), came.get(1)) {
+    expect_eq(rt, came.len(), 5);
+    expect(rt, matches!(came.get(0), Some(Came::Sequence(_))));
+    match (came.get(1), came.get(2)) {
         (
             Some(
                 Came::Announced {
@@ -46,6 +144,7 @@ fn a_dependent_segment_comes_with_the_whole_header(rt: HostRuntime) {
                 Came::Begun {
                     number: 0,
                     picture,
+                    dpb: _,
                     segment,
                 },
             ),
@@ -55,17 +154,19 @@ fn a_dependent_segment_comes_with_the_whole_header(rt: HostRuntime) {
         }
         _ => panic!(rt; "no picture begins"),
     }
-    match (came.get(2), came.get(3)) {
+    match (came.get(3), came.get(4)) {
         (
             Some(
                 Came::Decoded {
                     number: 0,
+                    dpb: _,
                     segment: first,
                 },
             ),
             Some(
                 Came::Decoded {
                     number: 0,
+                    dpb: _,
                     segment: second,
                 },
             ),

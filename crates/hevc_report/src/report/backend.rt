@@ -101,7 +101,7 @@ impl StatelessH265DecoderBackend for ReportBackend {
 
     ghost counts = { λ _. counts_of 0 0 };
 
-    ghost room = { λ b. b.room };
+    ghost frames = { λ b. record { asked = None; found = b.room } };
 
     ghost info = { λ _. None };
 

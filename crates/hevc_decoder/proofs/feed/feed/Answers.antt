@@ -15,7 +15,7 @@ use Rattle.hevc_decoder.proofs.feed.feed.Goals as goal
 pub loop-count-init : goal.loop-count-init
 loop-count-init g c =
     let o = set_for c.args.decoder.now in
-    let now = scene g.B.StatelessH265DecoderBackend.log g.B.StatelessH265DecoderBackend.handed c.args.decoder.now c.args.shown.now.items in
+    let now = scene g.B.StatelessH265DecoderBackend.log g.B.StatelessH265DecoderBackend.handed g.B.StatelessH265DecoderBackend.frames c.args.decoder.now c.args.shown.now.items in
     let none = ap (λ (bytes : List ℕ). length bytes) c.requires.fresh in
     record {
       fed = ([], Consumes-nil (g.S.Source.left c.args.source.now), omega arith, subst (λ (window : List ℕ). Fed o [] window 0 now now) (sym c.requires.fresh) (fed_first o now (view_of c.args.decoder.now).backend c.requires.beginning c.requires.nothing));
@@ -32,16 +32,18 @@ pub returns-in_err-count-clause-outputs : goal.returns-in_err-count-clause-outpu
 returns-in_err-count-clause-outputs g c =
     let logs = g.B.StatelessH265DecoderBackend.log in
     let handeds = g.B.StatelessH265DecoderBackend.handed in
+    let framed = g.B.StatelessH265DecoderBackend.frames in
     let fed = c.loop-count.invariant.fed in
     let p = err_from_is_err_and c.from_residual.result c.from_residual.ensures.1 in
-    rw p.1 (fed_front (set_for c.args.decoder.now) fed.0 c.loop-count.window c.loop-count.unit (scene logs handeds c.args.decoder.now c.args.shown.now.items) (scene logs handeds c.loop-count.decoder c.loop-count.shown.items) (g.S.Source.left c.args.source.now) (g.S.Source.left c.loop-count.source) fed.3 fed.1)
+    rw p.1 (fed_front (set_for c.args.decoder.now) fed.0 c.loop-count.window c.loop-count.unit (scene logs handeds framed c.args.decoder.now c.args.shown.now.items) (scene logs handeds framed c.loop-count.decoder c.loop-count.shown.items) (g.S.Source.left c.args.source.now) (g.S.Source.left c.loop-count.source) fed.3 fed.1)
 
 pub returns-then-count-left-clause-outputs : goal.returns-then-count-left-clause-outputs
 returns-then-count-left-clause-outputs g c =
     let logs = g.B.StatelessH265DecoderBackend.log in
     let handeds = g.B.StatelessH265DecoderBackend.handed in
+    let framed = g.B.StatelessH265DecoderBackend.frames in
     let fed = c.loop-count.invariant.fed in
-    fed_front (set_for c.args.decoder.now) fed.0 c.loop-count.window c.loop-count.unit (scene logs handeds c.args.decoder.now c.args.shown.now.items) (scene logs handeds c.loop-count.decoder c.loop-count.shown.items) (g.S.Source.left c.args.source.now) (g.S.Source.left c.loop-count.source) fed.3 fed.1
+    fed_front (set_for c.args.decoder.now) fed.0 c.loop-count.window c.loop-count.unit (scene logs handeds framed c.args.decoder.now c.args.shown.now.items) (scene logs handeds framed c.loop-count.decoder c.loop-count.shown.items) (g.S.Source.left c.args.source.now) (g.S.Source.left c.loop-count.source) fed.3 fed.1
 
 pub returns-then-count-left-clause-too_long : goal.returns-then-count-left-clause-too_long
 returns-then-count-left-clause-too_long g c =
@@ -54,10 +56,11 @@ pub loop-count-preserved : goal.loop-count-preserved
 loop-count-preserved g c =
     let logs = g.B.StatelessH265DecoderBackend.log in
     let handeds = g.B.StatelessH265DecoderBackend.handed in
+    let framed = g.B.StatelessH265DecoderBackend.frames in
     let o = set_for c.args.decoder.now in
-    let begin = scene logs handeds c.args.decoder.now c.args.shown.now.items in
-    let now = scene logs handeds c.loop-count.decoder c.loop-count.shown.items in
-    let new = scene logs handeds c.take_whole.new.decoder c.take_whole.new.shown.items in
+    let begin = scene logs handeds framed c.args.decoder.now c.args.shown.now.items in
+    let now = scene logs handeds framed c.loop-count.decoder c.loop-count.shown.items in
+    let new = scene logs handeds framed c.take_whole.new.decoder c.take_whole.new.shown.items in
     let fed = c.loop-count.invariant.fed in
     let more = c.in_ok-count.ensures.more in
     let both = length-append fed.0 more.0 in
@@ -78,10 +81,11 @@ pub returns-in-Err-clause-fed : goal.returns-in-Err-clause-fed
 returns-in-Err-clause-fed g c =
     let logs = g.B.StatelessH265DecoderBackend.log in
     let handeds = g.B.StatelessH265DecoderBackend.handed in
+    let framed = g.B.StatelessH265DecoderBackend.frames in
     let o = set_for c.args.decoder.now in
-    let begin = scene logs handeds c.args.decoder.now c.args.shown.now.items in
-    let now = scene logs handeds c.loop-count.decoder c.loop-count.shown.items in
-    let new = scene logs handeds c.take_whole.new.decoder c.take_whole.new.shown.items in
+    let begin = scene logs handeds framed c.args.decoder.now c.args.shown.now.items in
+    let now = scene logs handeds framed c.loop-count.decoder c.loop-count.shown.items in
+    let new = scene logs handeds framed c.take_whole.new.decoder c.take_whole.new.shown.items in
     let fed = c.loop-count.invariant.fed in
     let more = c.in_ok-count.ensures.more in
     let both = length-append fed.0 more.0 in

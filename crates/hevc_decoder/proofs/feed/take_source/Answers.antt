@@ -18,10 +18,11 @@ pub returns-in-Ok-clause-drained : goal.returns-in-Ok-clause-drained
 returns-in-Ok-clause-drained g c =
     let logs = g.B.StatelessH265DecoderBackend.log in
     let handeds = g.B.StatelessH265DecoderBackend.handed in
+    let framed = g.B.StatelessH265DecoderBackend.frames in
     let o = set_for c.args.decoder.now in
-    let begin = scene logs handeds c.args.decoder.now c.args.shown.now.items in
-    let old = scene logs handeds c.feed.new.decoder c.feed.new.shown.items in
-    let new = scene logs handeds c.take_last-answer.new.decoder c.take_last-answer.new.shown.items in
+    let begin = scene logs handeds framed c.args.decoder.now c.args.shown.now.items in
+    let old = scene logs handeds framed c.feed.new.decoder c.feed.new.shown.items in
+    let new = scene logs handeds framed c.take_last-answer.new.decoder c.take_last-answer.new.shown.items in
     let r = c.take_last-answer.result in
     let k = c.in-Ok.unit in
     let window = c.feed.new.window in
@@ -33,9 +34,10 @@ pub returns-clause-drained : goal.returns-clause-drained
 returns-clause-drained g c =
     let logs = g.B.StatelessH265DecoderBackend.log in
     let handeds = g.B.StatelessH265DecoderBackend.handed in
+    let framed = g.B.StatelessH265DecoderBackend.frames in
     let o = set_for c.args.decoder.now in
-    let begin = scene logs handeds c.args.decoder.now c.args.shown.now.items in
-    let now = scene logs handeds c.feed.new.decoder c.feed.new.shown.items in
+    let begin = scene logs handeds framed c.args.decoder.now c.args.shown.now.items in
+    let now = scene logs handeds framed c.feed.new.decoder c.feed.new.shown.items in
     let fed = c.in_ok-fed.ensures.fed in
     let more = c.in_ok-skip.ensures.all in
     let both = length-append fed.0 more.0 in
@@ -47,9 +49,10 @@ pub returns-in_err-skip-clause-outputs : goal.returns-in_err-skip-clause-outputs
 returns-in_err-skip-clause-outputs g c =
     let logs = g.B.StatelessH265DecoderBackend.log in
     let handeds = g.B.StatelessH265DecoderBackend.handed in
+    let framed = g.B.StatelessH265DecoderBackend.frames in
     let o = set_for c.args.decoder.now in
-    let begin = scene logs handeds c.args.decoder.now c.args.shown.now.items in
-    let now = scene logs handeds c.feed.new.decoder c.feed.new.shown.items in
+    let begin = scene logs handeds framed c.args.decoder.now c.args.shown.now.items in
+    let now = scene logs handeds framed c.feed.new.decoder c.feed.new.shown.items in
     let fed = c.in_ok-fed.ensures.fed in
     let p = err_from_is_err_and c.from_residual-in_err-skip.result c.from_residual-in_err-skip.ensures.1 in
     rw p.1 (stopped_front o fed.0 c.in_default.field-0 begin now (g.S.Source.left c.args.source.now) (g.S.Source.left c.feed.new.source) (subst (λ (x : Result ℕ Refused). FedTo x o fed.0 c.feed.new.window begin now) c.in_default.is fed.3) fed.1)

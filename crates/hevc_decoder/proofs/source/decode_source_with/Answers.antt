@@ -1,4 +1,4 @@
-use Rattle.hevc_stateless_laws.specs.Segments.{segments}
+use Rattle.hevc_stateless_laws.specs.Segments.{read_units}
 use Rattle.std.proofs.Common.{ℕ, ◌≤◌, List, [], map, length, ap, IfSome}
 use Rattle.hevc_walk.specs.Results.{outputs}
 use Rattle.hevc_stream.specs.Stream.{meanings}
@@ -26,8 +26,8 @@ abbrev after : (g : given.Over) (c : goal.After-into_backend g) → Trail g.row.
 after g c = record { log = g.B.StatelessH265DecoderBackend.log c.into_backend.result; handed = g.B.StatelessH265DecoderBackend.handed c.into_backend.result; shown = c.take_source.new.shown.items; tickets = (view_of c.take_source.new.decoder).tickets }
 
 -- the run from the decoder that was made
-run : (g : given.Over) (c : goal.After-into_backend g) → Ended c.in_ok-result.result (meanings (options_of c.args.options) c.in_ok-result.ensures.drained.stream) (segments (options_of c.args.options) c.in_ok-result.ensures.drained.stream) (before g c) (after g c)
-run g c = whole_run g.B.StatelessH265DecoderBackend.log g.B.StatelessH265DecoderBackend.handed c.new_with-decoder.result c.take_source.new.decoder c.args.shown.now.items c.take_source.new.shown.items c.args.backend c.into_backend.result (options_of c.args.options) c.in_ok-result.ensures.drained.stream c.in_ok-result.result c.new_with-decoder.ensures.view c.new_with-decoder.ensures.options c.into_backend.ensures c.in_ok-result.ensures.drained.ended
+run : (g : given.Over) (c : goal.After-into_backend g) → Ended c.in_ok-result.result (meanings (options_of c.args.options) c.in_ok-result.ensures.drained.stream) (read_units (options_of c.args.options) c.in_ok-result.ensures.drained.stream) (before g c) (after g c)
+run g c = whole_run g.B.StatelessH265DecoderBackend.log g.B.StatelessH265DecoderBackend.handed g.B.StatelessH265DecoderBackend.frames c.new_with-decoder.result c.take_source.new.decoder c.args.shown.now.items c.take_source.new.shown.items c.args.backend c.into_backend.result (options_of c.args.options) c.in_ok-result.ensures.drained.stream c.in_ok-result.result c.new_with-decoder.ensures.view c.new_with-decoder.ensures.options c.into_backend.ensures c.in_ok-result.ensures.drained.ended
 
 -- what follows of it of the bytes that the source had left
 from_run : (g : given.Over) (c : goal.After-into_backend g) (P : List ℕ → Type 0) → P c.in_ok-result.ensures.drained.stream → IfSome (g.S.Source.left c.args.source.now) P

@@ -1,4 +1,4 @@
-use Rattle.hevc_stateless_laws.specs.Segments.{segments}
+use Rattle.hevc_stateless_laws.specs.Segments.{read_units}
 use Rattle.std.proofs.Common.{[], ap}
 use Rattle.hevc_stream.specs.Stream.{meanings}
 use Rattle.hevc_options.specs.Options.{options_of}
@@ -12,9 +12,9 @@ use Rattle.hevc_decoder.proofs.stream.decode_stream_with.Given as given
 use Rattle.hevc_decoder.proofs.stream.decode_stream_with.Goals as goal
 
 -- the run from the decoder that was made
-run : (g : given.Over) (c : goal.After-into_backend g) → Ended c.take_units-result.result (meanings (options_of c.args.options) c.args.stream.now) (segments (options_of c.args.options) c.args.stream.now) (record { log = g.B.StatelessH265DecoderBackend.log c.args.backend; handed = g.B.StatelessH265DecoderBackend.handed c.args.backend; shown = c.args.shown.now.items; tickets = [] })
+run : (g : given.Over) (c : goal.After-into_backend g) → Ended c.take_units-result.result (meanings (options_of c.args.options) c.args.stream.now) (read_units (options_of c.args.options) c.args.stream.now) (record { log = g.B.StatelessH265DecoderBackend.log c.args.backend; handed = g.B.StatelessH265DecoderBackend.handed c.args.backend; shown = c.args.shown.now.items; tickets = [] })
     (record { log = g.B.StatelessH265DecoderBackend.log c.into_backend.result; handed = g.B.StatelessH265DecoderBackend.handed c.into_backend.result; shown = c.take_units-result.new.shown.items; tickets = (view_of c.take_units-result.new.decoder).tickets })
-run g c = whole_run g.B.StatelessH265DecoderBackend.log g.B.StatelessH265DecoderBackend.handed c.new_with-decoder.result c.take_units-result.new.decoder c.args.shown.now.items c.take_units-result.new.shown.items c.args.backend c.into_backend.result (options_of c.args.options) c.args.stream.now c.take_units-result.result c.new_with-decoder.ensures.view c.new_with-decoder.ensures.options c.into_backend.ensures c.take_units-result.ensures.ended
+run g c = whole_run g.B.StatelessH265DecoderBackend.log g.B.StatelessH265DecoderBackend.handed g.B.StatelessH265DecoderBackend.frames c.new_with-decoder.result c.take_units-result.new.decoder c.args.shown.now.items c.take_units-result.new.shown.items c.args.backend c.into_backend.result (options_of c.args.options) c.args.stream.now c.take_units-result.result c.new_with-decoder.ensures.view c.new_with-decoder.ensures.options c.into_backend.ensures c.take_units-result.ensures.ended
 
 pub returns : goal.returns
 returns g c =

@@ -7,6 +7,7 @@ pub returns : goal.returns
 returns g c =
     let logs = g.B.StatelessH265DecoderBackend.log in
     let handeds = g.B.StatelessH265DecoderBackend.handed in
+    let framed = g.B.StatelessH265DecoderBackend.frames in
     let counts = g.B.StatelessH265DecoderBackend.counts in
     let is_faultless = g.B.StatelessH265DecoderBackend.is_faultless in
     let o = options_of c.args.options in

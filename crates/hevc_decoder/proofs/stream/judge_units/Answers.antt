@@ -17,7 +17,7 @@ returns-in_err-_nalu g c o backend there =
     let stream = c.args.stream.now in
     let p = err_from_is_err_and c.from_residual.result c.from_residual.ensures.1 in
     rw (p.1, p.2)
-    (along_refused g.B.StatelessH265DecoderBackend.log g.B.StatelessH265DecoderBackend.handed g.B.StatelessH265DecoderBackend.counts g.B.StatelessH265DecoderBackend.is_faultless
+    (along_refused g.B.StatelessH265DecoderBackend.log g.B.StatelessH265DecoderBackend.handed g.B.StatelessH265DecoderBackend.frames g.B.StatelessH265DecoderBackend.counts g.B.StatelessH265DecoderBackend.is_faultless
     o stream c.loop-shown.unit (units_from kept_bytes c.loop-shown.position stream) (units_from kept_bytes c.decode_next_unit.new.position stream) backend c.loop-shown.decoder c.decode_next_unit.new.decoder
     c.loop-shown.shown.items c.decode_next_unit.new.shown.items (c.loop-shown.invariant.along o backend there) _ c.in_err-_nalu.ensures.decodes)
 
@@ -31,7 +31,7 @@ loop-shown-preserved g c =
       few = omega (arith, few, moves);
       empty = c.in_ok-_nalu.ensures.empty;
       along = λ o backend there.
-          along_more g.B.StatelessH265DecoderBackend.log g.B.StatelessH265DecoderBackend.handed g.B.StatelessH265DecoderBackend.counts g.B.StatelessH265DecoderBackend.is_faultless
+          along_more g.B.StatelessH265DecoderBackend.log g.B.StatelessH265DecoderBackend.handed g.B.StatelessH265DecoderBackend.frames g.B.StatelessH265DecoderBackend.counts g.B.StatelessH265DecoderBackend.is_faultless
           o stream c.loop-shown.unit (units_from kept_bytes c.loop-shown.position stream) (units_from kept_bytes c.decode_next_unit.new.position stream) backend c.loop-shown.decoder c.decode_next_unit.new.decoder
           c.loop-shown.shown.items c.decode_next_unit.new.shown.items (c.loop-shown.invariant.along o backend there) c.in-Some._nalu (rw c.in-Some.is at c.in_ok-_nalu.ensures.decodes);
     }
@@ -39,9 +39,9 @@ loop-shown-preserved g c =
 pub returns : goal.returns
 returns g c o backend there =
     let stream = c.args.stream.now in
-    along_ended g.B.StatelessH265DecoderBackend.log g.B.StatelessH265DecoderBackend.handed g.B.StatelessH265DecoderBackend.counts g.B.StatelessH265DecoderBackend.is_faultless
+    along_ended g.B.StatelessH265DecoderBackend.log g.B.StatelessH265DecoderBackend.handed g.B.StatelessH265DecoderBackend.frames g.B.StatelessH265DecoderBackend.counts g.B.StatelessH265DecoderBackend.is_faultless
     o stream c.loop-shown.unit backend c.decode_next_unit.new.decoder c.end_stream.new.decoder c.decode_next_unit.new.shown.items c.end_stream.new.shown.items c.end_stream.result
-    (along_end g.B.StatelessH265DecoderBackend.log g.B.StatelessH265DecoderBackend.handed g.B.StatelessH265DecoderBackend.counts g.B.StatelessH265DecoderBackend.is_faultless
+    (along_end g.B.StatelessH265DecoderBackend.log g.B.StatelessH265DecoderBackend.handed g.B.StatelessH265DecoderBackend.frames g.B.StatelessH265DecoderBackend.counts g.B.StatelessH265DecoderBackend.is_faultless
     o stream c.loop-shown.unit (units_from kept_bytes c.loop-shown.position stream) (units_from kept_bytes c.decode_next_unit.new.position stream) backend c.loop-shown.decoder c.decode_next_unit.new.decoder
     c.loop-shown.shown.items c.decode_next_unit.new.shown.items (c.loop-shown.invariant.along o backend there) (rw c.in_default.is at c.in_ok-_nalu.ensures.decodes))
     c.end_stream.ensures.decodes

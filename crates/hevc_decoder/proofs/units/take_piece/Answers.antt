@@ -20,8 +20,8 @@ loop-nalu-init g c = record {
 pub returns-in_err-_nalu-clause-takes : goal.returns-in_err-_nalu-clause-takes
 returns-in_err-_nalu-clause-takes g c =
     let piece = c.args.piece.now in
-    let old = scene g.B.StatelessH265DecoderBackend.log g.B.StatelessH265DecoderBackend.handed c.loop-nalu.decoder c.loop-nalu.shown.items in
-    let new = scene g.B.StatelessH265DecoderBackend.log g.B.StatelessH265DecoderBackend.handed c.take_next.new.decoder c.take_next.new.shown.items in
+    let old = scene g.B.StatelessH265DecoderBackend.log g.B.StatelessH265DecoderBackend.handed g.B.StatelessH265DecoderBackend.frames c.loop-nalu.decoder c.loop-nalu.shown.items in
+    let new = scene g.B.StatelessH265DecoderBackend.log g.B.StatelessH265DecoderBackend.handed g.B.StatelessH265DecoderBackend.frames c.take_next.new.decoder c.take_next.new.shown.items in
     let p = err_from_is_err_and c.from_residual.result c.from_residual.ensures.1 in
     rw (p.1, p.2)
     (λ begin all later x. piece_refused (set_for c.args.decoder.now) c.loop-nalu.unit (units_from kept_bytes c.loop-nalu.position piece) (units_from kept_bytes c.take_next.new.position piece) old new _
@@ -31,8 +31,8 @@ pub loop-nalu-preserved : goal.loop-nalu-preserved
 loop-nalu-preserved g c =
     let piece = c.args.piece.now in
     let before = c.loop-nalu.invariant in
-    let old = scene g.B.StatelessH265DecoderBackend.log g.B.StatelessH265DecoderBackend.handed c.loop-nalu.decoder c.loop-nalu.shown.items in
-    let new = scene g.B.StatelessH265DecoderBackend.log g.B.StatelessH265DecoderBackend.handed c.take_next.new.decoder c.take_next.new.shown.items in
+    let old = scene g.B.StatelessH265DecoderBackend.log g.B.StatelessH265DecoderBackend.handed g.B.StatelessH265DecoderBackend.frames c.loop-nalu.decoder c.loop-nalu.shown.items in
+    let new = scene g.B.StatelessH265DecoderBackend.log g.B.StatelessH265DecoderBackend.handed g.B.StatelessH265DecoderBackend.frames c.take_next.new.decoder c.take_next.new.shown.items in
     let moves : c.loop-nalu.position < c.take_next.new.position = rw c.in-Some.is at c.in_ok-_nalu.ensures.moves in
     let few = before.few in
     record {
@@ -51,7 +51,7 @@ pub returns-clause-takes : goal.returns-clause-takes
 returns-clause-takes g c begin all later x =
     let piece = c.args.piece.now in
     let before = c.loop-nalu.invariant in
-    let old = scene g.B.StatelessH265DecoderBackend.log g.B.StatelessH265DecoderBackend.handed c.loop-nalu.decoder c.loop-nalu.shown.items in
-    let new = scene g.B.StatelessH265DecoderBackend.log g.B.StatelessH265DecoderBackend.handed c.take_next.new.decoder c.take_next.new.shown.items in
+    let old = scene g.B.StatelessH265DecoderBackend.log g.B.StatelessH265DecoderBackend.handed g.B.StatelessH265DecoderBackend.frames c.loop-nalu.decoder c.loop-nalu.shown.items in
+    let new = scene g.B.StatelessH265DecoderBackend.log g.B.StatelessH265DecoderBackend.handed g.B.StatelessH265DecoderBackend.frames c.take_next.new.decoder c.take_next.new.shown.items in
     piece_ends (set_for c.args.decoder.now) c.loop-nalu.unit (units_from kept_bytes c.loop-nalu.position piece) (units_from kept_bytes c.take_next.new.position piece) old new
     (with_options (set_for c.loop-nalu.decoder) (set_for c.args.decoder.now) c.loop-nalu.unit (units_from kept_bytes c.loop-nalu.position piece) (units_from kept_bytes c.take_next.new.position piece) old new _ before.options (rw c.in_default.is at c.in_ok-_nalu.ensures.takes)) begin all later (before.reached begin all later x)

@@ -18,7 +18,7 @@ loop-shown-init g c = record {
   within = omega arith;
   few = omega arith;
   empty = c.requires.empty;
-  collected = rw c.new-points.ensures (collected_first g.B.StatelessH265DecoderBackend.log g.B.StatelessH265DecoderBackend.handed g.B.StatelessH265DecoderBackend.counts g.B.StatelessH265DecoderBackend.is_faultless c.args.stream.now c.args.decoder.now c.requires.first);
+  collected = rw c.new-points.ensures (collected_first g.B.StatelessH265DecoderBackend.log g.B.StatelessH265DecoderBackend.handed g.B.StatelessH265DecoderBackend.frames g.B.StatelessH265DecoderBackend.counts g.B.StatelessH265DecoderBackend.is_faultless c.args.stream.now c.args.decoder.now c.requires.first);
 }
 
 pub loop-shown-preserved : goal.loop-shown-preserved
@@ -49,7 +49,7 @@ loop-shown-preserved g c =
       few = omega (arith, few, moves);
       empty = c.in_ok-next.ensures.empty;
       collected =
-          collected_more g.B.StatelessH265DecoderBackend.log g.B.StatelessH265DecoderBackend.handed g.B.StatelessH265DecoderBackend.counts g.B.StatelessH265DecoderBackend.is_faultless
+          collected_more g.B.StatelessH265DecoderBackend.log g.B.StatelessH265DecoderBackend.handed g.B.StatelessH265DecoderBackend.frames g.B.StatelessH265DecoderBackend.counts g.B.StatelessH265DecoderBackend.is_faultless
           stream c.loop-shown.position c.decode_next_unit.new.position k before c.loop-shown.decoder new c.loop-shown.shown.items c.decode_next_unit.new.shown.items c.loop-shown.invariant.collected
           nalu (unit_of nalu) (map plain_point c.match-point_begun.points) (rw c.in-Some.is at c.in_ok-next.ensures.decodes) first (added ∙ ap (λ (o : Option PlainPoint). before ++ option_to_list o) begun);
     }
@@ -58,7 +58,7 @@ pub returns-in_err-next-clause-refused : goal.returns-in_err-next-clause-refused
 returns-in_err-next-clause-refused g c =
     let p = err_from_is_err_and c.from_residual.result c.from_residual.ensures.1 in
     rw (p.1, p.2)
-    (collected_refused g.B.StatelessH265DecoderBackend.log g.B.StatelessH265DecoderBackend.handed g.B.StatelessH265DecoderBackend.counts g.B.StatelessH265DecoderBackend.is_faultless
+    (collected_refused g.B.StatelessH265DecoderBackend.log g.B.StatelessH265DecoderBackend.handed g.B.StatelessH265DecoderBackend.frames g.B.StatelessH265DecoderBackend.counts g.B.StatelessH265DecoderBackend.is_faultless
     c.args.stream.now c.loop-shown.position c.decode_next_unit.new.position c.loop-shown.unit (map plain_point c.loop-shown.points) c.loop-shown.decoder c.decode_next_unit.new.decoder c.loop-shown.shown.items c.decode_next_unit.new.shown.items c.loop-shown.invariant.collected
     _ c.in_err-next.ensures.decodes)
 
@@ -66,24 +66,24 @@ pub returns-in_err-end_stream-clause-refused : goal.returns-in_err-end_stream-cl
 returns-in_err-end_stream-clause-refused g c =
     let p = err_from_is_err_and c.from_residual-in_err-end_stream.result c.from_residual-in_err-end_stream.ensures.1 in
     rw (p.1, p.2)
-    (ended_refused g.B.StatelessH265DecoderBackend.log g.B.StatelessH265DecoderBackend.handed g.B.StatelessH265DecoderBackend.counts g.B.StatelessH265DecoderBackend.is_faultless
+    (ended_refused g.B.StatelessH265DecoderBackend.log g.B.StatelessH265DecoderBackend.handed g.B.StatelessH265DecoderBackend.frames g.B.StatelessH265DecoderBackend.counts g.B.StatelessH265DecoderBackend.is_faultless
     c.args.stream.now c.loop-shown.unit (map plain_point c.loop-shown.points) c.decode_next_unit.new.decoder c.end_stream.new.decoder c.decode_next_unit.new.shown.items c.end_stream.new.shown.items
-    (collected_end g.B.StatelessH265DecoderBackend.log g.B.StatelessH265DecoderBackend.handed g.B.StatelessH265DecoderBackend.counts g.B.StatelessH265DecoderBackend.is_faultless
+    (collected_end g.B.StatelessH265DecoderBackend.log g.B.StatelessH265DecoderBackend.handed g.B.StatelessH265DecoderBackend.frames g.B.StatelessH265DecoderBackend.counts g.B.StatelessH265DecoderBackend.is_faultless
     c.args.stream.now c.loop-shown.position c.decode_next_unit.new.position c.loop-shown.unit (map plain_point c.loop-shown.points) c.loop-shown.decoder c.decode_next_unit.new.decoder c.loop-shown.shown.items c.decode_next_unit.new.shown.items c.loop-shown.invariant.collected
     (rw c.in_default.is at c.in_ok-next.ensures.decodes))
     _ c.in_err-end_stream.ensures.decodes)
 
 pub returns-in_default-clause-points : goal.returns-in_default-clause-points
 returns-in_default-clause-points g c =
-    (collected_end g.B.StatelessH265DecoderBackend.log g.B.StatelessH265DecoderBackend.handed g.B.StatelessH265DecoderBackend.counts g.B.StatelessH265DecoderBackend.is_faultless
+    (collected_end g.B.StatelessH265DecoderBackend.log g.B.StatelessH265DecoderBackend.handed g.B.StatelessH265DecoderBackend.frames g.B.StatelessH265DecoderBackend.counts g.B.StatelessH265DecoderBackend.is_faultless
     c.args.stream.now c.loop-shown.position c.decode_next_unit.new.position c.loop-shown.unit (map plain_point c.loop-shown.points) c.loop-shown.decoder c.decode_next_unit.new.decoder c.loop-shown.shown.items c.decode_next_unit.new.shown.items c.loop-shown.invariant.collected
     (rw c.in_default.is at c.in_ok-next.ensures.decodes)).told
 
 pub returns-in_default-clause-refused : goal.returns-in_default-clause-refused
 returns-in_default-clause-refused g c =
-    ended_ok g.B.StatelessH265DecoderBackend.log g.B.StatelessH265DecoderBackend.handed g.B.StatelessH265DecoderBackend.counts g.B.StatelessH265DecoderBackend.is_faultless
+    ended_ok g.B.StatelessH265DecoderBackend.log g.B.StatelessH265DecoderBackend.handed g.B.StatelessH265DecoderBackend.frames g.B.StatelessH265DecoderBackend.counts g.B.StatelessH265DecoderBackend.is_faultless
     c.args.stream.now c.loop-shown.unit (map plain_point c.loop-shown.points) c.decode_next_unit.new.decoder c.end_stream.new.decoder c.decode_next_unit.new.shown.items c.end_stream.new.shown.items
-    (collected_end g.B.StatelessH265DecoderBackend.log g.B.StatelessH265DecoderBackend.handed g.B.StatelessH265DecoderBackend.counts g.B.StatelessH265DecoderBackend.is_faultless
+    (collected_end g.B.StatelessH265DecoderBackend.log g.B.StatelessH265DecoderBackend.handed g.B.StatelessH265DecoderBackend.frames g.B.StatelessH265DecoderBackend.counts g.B.StatelessH265DecoderBackend.is_faultless
     c.args.stream.now c.loop-shown.position c.decode_next_unit.new.position c.loop-shown.unit (map plain_point c.loop-shown.points) c.loop-shown.decoder c.decode_next_unit.new.decoder c.loop-shown.shown.items c.decode_next_unit.new.shown.items c.loop-shown.invariant.collected
     (rw c.in_default.is at c.in_ok-next.ensures.decodes))
     _ c.in_ok-end_stream.ensures.decodes

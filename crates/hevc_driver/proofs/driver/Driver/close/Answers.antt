@@ -10,7 +10,7 @@ pub returns-in_err-finish-clause-part : goal.returns-in_err-finish-clause-part
 returns-in_err-finish-clause-part g c t = close_refused _ _ t _ _ _ _ c.from_residual.ensures.1 (c.in_err-finish.ensures.part t)
 
 pub returns-clause-part : goal.returns-clause-part
-returns-clause-part g c t = close_done t _ _ _ _ _ _ (c.in_ok-finish.ensures.part t) (c.output_all.ensures.part _ _ t)
+returns-clause-part g c t = close_done t _ _ _ _ _ _ (c.in_ok-finish.ensures.part t) (c.output_all.ensures.part _ _ _ t)
 
 pub returns-clause-stays : goal.returns-clause-stays
 returns-clause-stays g c =

@@ -9,6 +9,7 @@ use Rattle.hevc_backend.specs.Calls.{decode_slice_call}
 use Rattle.hevc_backend.specs.declared.negotiation.NegotiationInfo.{NegotiationInfo}
 use Rattle.hevc_backend.specs.Negotiation.{format_of}
 use Rattle.hevc_backend.specs.Told.{BegunPicture}
+use Rattle.hevc_backend.specs.Trait.{Frames}
 use Rattle.hevc_backend.proofs.ToldLaws.{told_call, told_same}
 use Rattle.hevc_backend.proofs.NamedLaws.{list0_among, list1_among}
 use Rattle.hevc_driver.specs.declared.current.Current.TheVariants as code
@@ -23,21 +24,21 @@ use Rattle.hevc_driver.proofs.Soundness.{accepted_sequence, unchanged_accepted, 
 use Rattle.hevc_driver.proofs.driver.Driver.hand_slice.Goals as goal
 
 pub returns-in-SkippedPicture-clause-part : goal.returns-in-SkippedPicture-clause-part
-returns-in-SkippedPicture-clause-part g c t o segment =
-    not_followed t _ _ (slice_of o c.args.slice.now c.args.sps.now c.args.pps.now) (standing c.args.self.now.standing) _ SkippedPicture (ap (current_of c.args.self.now.standing.set) c.in-SkippedPicture.is) refl refl refl refl refl refl refl
+returns-in-SkippedPicture-clause-part g c t o segment dpb =
+    not_followed t _ _ (slice_of o c.args.slice.now c.args.sps.now c.args.pps.now) (standing c.args.self.now.standing) _ SkippedPicture (ap (current_of c.args.self.now.standing.set) c.in-SkippedPicture.is) refl refl refl refl refl refl refl refl
 
 pub returns-in-NoPicture-clause-part : goal.returns-in-NoPicture-clause-part
-returns-in-NoPicture-clause-part g c t o segment =
-    not_followed t _ _ (slice_of o c.args.slice.now c.args.sps.now c.args.pps.now) (standing c.args.self.now.standing) _ NoPicture (ap (current_of c.args.self.now.standing.set) c.in-NoPicture.is) refl refl refl refl refl refl refl
+returns-in-NoPicture-clause-part g c t o segment dpb =
+    not_followed t _ _ (slice_of o c.args.slice.now c.args.sps.now c.args.pps.now) (standing c.args.self.now.standing) _ NoPicture (ap (current_of c.args.self.now.standing.set) c.in-NoPicture.is) refl refl refl refl refl refl refl refl
 
 pub returns-in_err-check_format-clause-part : goal.returns-in_err-check_format-clause-part
-returns-in_err-check_format-clause-part g c t o segment =
+returns-in_err-check_format-clause-part g c t o segment dpb =
     let w = c.args.self.now.standing in
     let v = slice_of o c.args.slice.now c.args.sps.now c.args.pps.now in
     let r = c.from_residual.result in
     let after = record (standing w) { current = current_of c.args.self.now.standing.set (code.OpenPicture c.in-OpenPicture.opened) } in
     let named = slice_format o c.args.slice.now c.args.sps.now c.args.pps.now ∙ sym (ap format_of c.into.ensures) in
-    subst (λ (k : Current). Follows r t (traces (g.B.StatelessH265DecoderBackend.log c.args.self.now.backend) (g.B.StatelessH265DecoderBackend.handed c.args.self.now.backend) w) (traces (g.B.StatelessH265DecoderBackend.log c.args.self.now.backend) (g.B.StatelessH265DecoderBackend.handed c.args.self.now.backend) w) v (record (standing w) { current = k }) (given_up_by r after))
+    subst (λ (k : Current). Follows r t (traces (g.B.StatelessH265DecoderBackend.log c.args.self.now.backend) (g.B.StatelessH265DecoderBackend.handed c.args.self.now.backend) (g.B.StatelessH265DecoderBackend.frames c.args.self.now.backend).asked w) (traces (g.B.StatelessH265DecoderBackend.log c.args.self.now.backend) (g.B.StatelessH265DecoderBackend.handed c.args.self.now.backend) (g.B.StatelessH265DecoderBackend.frames c.args.self.now.backend).asked w) v (record (standing w) { current = k }) (given_up_by r after))
     (sym (ap (current_of c.args.self.now.standing.set) c.in-OpenPicture.is))
     (hand_changed r c.in_err-check_format.field-0.0 t _ _ v after c.from_residual.ensures.1
     (subst (λ (f : Format). Changed c.in_err-check_format.field-0.0 (changed_by f (option_map format_of w.accepted))) (sym named) (subst (λ (a : Option NegotiationInfo). Changed c.in_err-check_format.field-0.0 (changed_by (format_of c.into.result) (option_map format_of a))) (sym (open_newest w c.in-OpenPicture.opened c.in-OpenPicture.is c.requires.sound.newest).accepted) c.in_err-check_format.ensures)) refl)
@@ -60,30 +61,30 @@ decode_slice-requires-clause-told g c =
     })
 
 pub returns-in_err-decode_slice-clause-part : goal.returns-in_err-decode_slice-clause-part
-returns-in_err-decode_slice-clause-part g c t o segment =
+returns-in_err-decode_slice-clause-part g c t o segment dpb =
     let w = c.args.self.now.standing in
     let v = slice_of o c.args.slice.now c.args.sps.now c.args.pps.now in
     let open_ = c.in-OpenPicture.opened in
     let r = c.from_residual-in_err-decode_slice.result in
     let after = record (standing w) { current = current_of c.args.self.now.standing.set (code.OpenPicture open_) } in
     let named = slice_format o c.args.slice.now c.args.sps.now c.args.pps.now ∙ sym (ap format_of c.into.ensures) in
-    subst (λ (k : Current). Follows r t (traces (g.B.StatelessH265DecoderBackend.log c.args.self.now.backend) (g.B.StatelessH265DecoderBackend.handed c.args.self.now.backend) w) (traces (g.B.StatelessH265DecoderBackend.log c.decode_slice.new.self) (g.B.StatelessH265DecoderBackend.handed c.decode_slice.new.self) w) v (record (standing w) { current = k }) (given_up_by r after))
+    subst (λ (k : Current). Follows r t (traces (g.B.StatelessH265DecoderBackend.log c.args.self.now.backend) (g.B.StatelessH265DecoderBackend.handed c.args.self.now.backend) (g.B.StatelessH265DecoderBackend.frames c.args.self.now.backend).asked w) (traces (g.B.StatelessH265DecoderBackend.log c.decode_slice.new.self) (g.B.StatelessH265DecoderBackend.handed c.decode_slice.new.self) (g.B.StatelessH265DecoderBackend.frames c.decode_slice.new.self).asked w) v (record (standing w) { current = k }) (given_up_by r after))
     (sym (ap (current_of c.args.self.now.standing.set) c.in-OpenPicture.is))
     (hand_stops r _ t _ _ (head_of open_.head) (plain_set c.args.self.now.standing.set) v (standing w) c.from_residual-in_err-decode_slice.ensures.1 open_.decoded
-    (ap (λ (f : Format). changed_by f (option_map format_of w.accepted)) named ∙ ap (λ (a : Option NegotiationInfo). changed_by (format_of c.into.result) (option_map format_of a)) (open_newest w c.in-OpenPicture.opened c.in-OpenPicture.is c.requires.sound.newest).accepted ∙ c.in_ok-check_format.ensures) c.in_err-decode_slice.ensures.log c.in_err-decode_slice.ensures.handed refl refl)
+    (ap (λ (f : Format). changed_by f (option_map format_of w.accepted)) named ∙ ap (λ (a : Option NegotiationInfo). changed_by (format_of c.into.result) (option_map format_of a)) (open_newest w c.in-OpenPicture.opened c.in-OpenPicture.is c.requires.sound.newest).accepted ∙ c.in_ok-check_format.ensures) c.in_err-decode_slice.ensures.log c.in_err-decode_slice.ensures.handed (ap (λ (f : Frames). f.asked) c.in_err-decode_slice.ensures.frames) refl refl)
 
 pub returns-clause-part : goal.returns-clause-part
-returns-clause-part g c t o segment =
+returns-clause-part g c t o segment dpb =
     let w = c.args.self.now.standing in
     let v = slice_of o c.args.slice.now c.args.sps.now c.args.pps.now in
     let open_ = c.in-OpenPicture.opened in
     let named = slice_format o c.args.slice.now c.args.sps.now c.args.pps.now ∙ sym (ap format_of c.into.ensures) in
-    subst (λ (k : Current). Follows {T = Unit {0}} (Ok tt) t (traces (g.B.StatelessH265DecoderBackend.log c.args.self.now.backend) (g.B.StatelessH265DecoderBackend.handed c.args.self.now.backend) w) (traces (g.B.StatelessH265DecoderBackend.log c.decode_slice.new.self) (g.B.StatelessH265DecoderBackend.handed c.decode_slice.new.self) w) v (record (standing w) { current = k }) (record (standing w) { current = current_of c.args.self.now.standing.set (code.OpenPicture open_) }))
+    subst (λ (k : Current). Follows {T = Unit {0}} (Ok tt) t (traces (g.B.StatelessH265DecoderBackend.log c.args.self.now.backend) (g.B.StatelessH265DecoderBackend.handed c.args.self.now.backend) (g.B.StatelessH265DecoderBackend.frames c.args.self.now.backend).asked w) (traces (g.B.StatelessH265DecoderBackend.log c.decode_slice.new.self) (g.B.StatelessH265DecoderBackend.handed c.decode_slice.new.self) (g.B.StatelessH265DecoderBackend.frames c.decode_slice.new.self).asked w) v (record (standing w) { current = k }) (record (standing w) { current = current_of c.args.self.now.standing.set (code.OpenPicture open_) }))
     (sym (ap (current_of c.args.self.now.standing.set) c.in-OpenPicture.is))
     (followed t _ _ (head_of open_.head) (plain_set c.args.self.now.standing.set) v (standing w) _ (decode_slice_call open_.head.number c.args.slice.now c.build_lists.new.lists.ref_pic_list0 c.build_lists.new.lists.ref_pic_list1) open_.decoded
     (ap (λ (f : Format). changed_by f (option_map format_of w.accepted)) named ∙ ap (λ (a : Option NegotiationInfo). changed_by (format_of c.into.result) (option_map format_of a)) (open_newest w c.in-OpenPicture.opened c.in-OpenPicture.is c.requires.sound.newest).accepted ∙ c.in_ok-check_format.ensures)
     (slice_made g.row.B-Handle.Denot o c.args.slice.now c.args.sps.now c.args.pps.now (head_of open_.head) (plain_set c.args.self.now.standing.set) _ _ (c.build_lists.ensures.list0 o c.args.sps.now) (c.build_lists.ensures.list1 o c.args.sps.now)) tt
-    c.in_ok-decode_slice.ensures.log (decoded_handed t _ _ open_.head.number _ segment c.in_ok-decode_slice.ensures.handed) refl refl refl)
+    c.in_ok-decode_slice.ensures.log (decoded_handed t _ _ open_.head.number _ _ dpb segment c.in_ok-decode_slice.ensures.handed) (ap (λ (f : Frames). f.asked) c.in_ok-decode_slice.ensures.frames) refl refl refl)
 
 pub returns-clause-stays : goal.returns-clause-stays
 returns-clause-stays g c =

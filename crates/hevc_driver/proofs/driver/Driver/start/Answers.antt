@@ -1,4 +1,4 @@
-use Rattle.std.proofs.Common.{◌≡◌, refl, ap, arith, subst, rules, Result, Ok, Err}
+use Rattle.std.proofs.Common.{◌≡◌, ◌∙◌, refl, ap, arith, subst, rules, Result, Ok, Err}
 use Rattle.std.specs.Prelude.{IsErrAnd}
 use Rattle.hevc_backend.specs.Trait.{Counts}
 use Rattle.hevc_driver.specs.declared.decode_error.DecodeError.{DecodeError}
@@ -9,12 +9,15 @@ use Rattle.hevc_walk_units.specs.Units.{SkippedPicture}
 use Rattle.hevc_backend.proofs.ToldLaws.{told_same}
 use Rattle.hevc_driver.specs.Heads.{head_of}
 use Rattle.hevc_driver.specs.Slices.{slice_of}
-use Rattle.hevc_backend.specs.Handed.{PlainPicture, segment_of}
-use Rattle.hevc_driver.specs.Given.{given_slice}
+use Rattle.hevc_backend.specs.Handed.{segment_of}
+use Rattle.hevc_walk.specs.Meanings.{Format}
+use Rattle.hevc_walk.specs.Walk.{is_accepted}
+use Rattle.hevc_driver.specs.Given.{Given}
 use Rattle.hevc_driver.specs.Takes.{Starts}
 use Rattle.hevc_driver.specs.Standings.{standing, traces}
 use Rattle.hevc_driver.proofs.HeadViews.{decoded_is}
-use Rattle.hevc_driver.proofs.PictureBegins.{skips_at, starts_at, head_number}
+use Rattle.hevc_driver.proofs.PictureBegins.{skips_at, starts_at, head_number, begun_given}
+use Rattle.hevc_driver.proofs.SliceViews.{slice_format}
 use Rattle.hevc_driver.proofs.Soundness.{below_part, same_grows}
 use Rattle.hevc_driver.proofs.driver.Driver.start.Goals as goal
 
@@ -42,7 +45,7 @@ open-requires-clause-next g c =
 
 pub returns-then-head-clause-part : goal.returns-then-head-clause-part
 returns-then-head-clause-part g c =
-    skips_at _ _ _ (slice_of c.args.options c.args.slice.now c.args.sps.now c.args.pps.now) (standing c.args.self.now.standing) _ (head_of c.in_ok-head.head) (λ e. omega (arith, e)) (c.in_ok-head.ensures.head c.args.pps.now) (c.in_ok-head.ensures.within c.args.pps.now) c.if-head.true refl refl refl refl
+    skips_at _ _ _ (slice_of c.args.options c.args.slice.now c.args.sps.now c.args.pps.now) (standing c.args.self.now.standing) _ (head_of c.in_ok-head.head) (λ e. omega (arith, e)) (c.in_ok-head.ensures.head c.args.pps.now) (c.in_ok-head.ensures.within c.args.pps.now) c.if-head.true refl refl refl refl refl
     (ap (λ (v : Context). record (standing c.args.self.now.standing) { current = SkippedPicture; next = v }) c.behind-self.ensures)
 
 pub returns-then-head-clause-stays : goal.returns-then-head-clause-stays
@@ -68,6 +71,10 @@ returns-clause-part g c =
     let w = slice_of c.args.options c.args.slice.now c.args.sps.now c.args.pps.now in
     let segment = segment_of c.args.slice.now c.args.sps.now c.args.pps.now in
     let s = standing c.args.self.now.standing in
-    subst (λ (p : PlainPicture). Starts c.open.result (given_slice c.args.timestamp p segment) (traces (g.B.StatelessH265DecoderBackend.log c.args.self.now.backend) (g.B.StatelessH265DecoderBackend.handed c.args.self.now.backend) c.args.self.now.standing) (traces (g.B.StatelessH265DecoderBackend.log c.open.new.self.backend) (g.B.StatelessH265DecoderBackend.handed c.open.new.self.backend) c.open.new.self.standing) w s (standing c.open.new.self.standing))
-    (c.in_ok-head.ensures.picture c.args.pps.now)
-    (starts_at _ _ _ _ (slice_of c.args.options c.args.slice.now c.args.sps.now c.args.pps.now) _ _ (head_of c.in_ok-head.head) (λ e. omega (arith, e)) (c.in_ok-head.ensures.head c.args.pps.now) (c.in_ok-head.ensures.within c.args.pps.now) (c.open.ensures.part c.args.options))
+    let head_is = c.in_ok-head.ensures.head c.args.pps.now in
+    let within = c.in_ok-head.ensures.within c.args.pps.now in
+    let decoded = decoded_is _ _ head_is within c.if-head.false in
+    let accepted = ap (λ (f : Format). is_accepted f s.store.accepted) (slice_format c.args.options c.args.slice.now c.args.sps.now c.args.pps.now) ∙ c.requires.ready.accepted in
+    subst (λ (t : Given). Starts c.open.result t (traces (g.B.StatelessH265DecoderBackend.log c.args.self.now.backend) (g.B.StatelessH265DecoderBackend.handed c.args.self.now.backend) (g.B.StatelessH265DecoderBackend.frames c.args.self.now.backend).asked c.args.self.now.standing) (traces (g.B.StatelessH265DecoderBackend.log c.open.new.self.backend) (g.B.StatelessH265DecoderBackend.handed c.open.new.self.backend) (g.B.StatelessH265DecoderBackend.frames c.open.new.self.backend).asked c.open.new.self.standing) w s (standing c.open.new.self.standing))
+    (begun_given c.args.timestamp w segment s (head_of c.in_ok-head.head) _ (c.in_ok-head.ensures.picture c.args.pps.now) head_is decoded accepted)
+    (starts_at _ _ _ _ w _ _ (head_of c.in_ok-head.head) (λ e. omega (arith, e)) head_is within (c.open.ensures.part c.args.options))

@@ -9,6 +9,7 @@ use Rattle.hevc_walk_units.specs.Units.{Current}
 use Rattle.hevc_refs.specs.Sets.{plain_set}
 use Rattle.hevc_backend.specs.declared.call.Call.TheVariants.{SubmitPicture}
 use Rattle.hevc_backend.proofs.ToldLaws.{told_call, submitted_more}
+use Rattle.hevc_backend.specs.Trait.{Frames}
 use Rattle.hevc_driver.specs.Heads.{head_of}
 use Rattle.hevc_driver.specs.Standings.{standing}
 use Rattle.hevc_backend.proofs.HandedLaws.{announced_same, announced_stored, stored_more, stored_part}
@@ -21,20 +22,20 @@ store_picture-requires-clause-other g c = below_absent _ _ c.requires.newest.new
 
 pub returns-in_err-handle-clause-part : goal.returns-in_err-handle-clause-part
 returns-in_err-handle-clause-part g c t =
-    unsubmitted _ _ _ _ _ (head_of c.args.opened.head) (plain_set c.args.self.now.standing.set) (standing c.args.self.now.standing) _ c.from_residual.ensures.1 (not_skipped _ c.args.opened.decoded) c.in_err-handle.ensures.log c.in_err-handle.ensures.handed refl refl
+    unsubmitted _ _ _ _ _ (head_of c.args.opened.head) (plain_set c.args.self.now.standing.set) (standing c.args.self.now.standing) _ c.from_residual.ensures.1 (not_skipped _ c.args.opened.decoded) c.in_err-handle.ensures.log c.in_err-handle.ensures.handed (ap (λ (f : Frames). f.asked) c.in_err-handle.ensures.frames) refl refl
     (ap (λ (v : Current). record (standing c.args.self.now.standing) { current = v }) c.requires.none)
 
 pub returns-in_err-store_picture-clause-part : goal.returns-in_err-store_picture-clause-part
 returns-in_err-store_picture-clause-part g c t =
     fills _ _ _ _ (head_of c.args.opened.head) (plain_set c.args.self.now.standing.set) (standing c.args.self.now.standing) _ (max_num_pics_of c.args.self.now.standing.dpb) c.in_ok-handle.handle c.from_residual-in_err-store_picture.ensures.1 (not_skipped _ c.args.opened.decoded) c.requires.sound.sized
     (no_room _ _ _ _ _ c.in_err-store_picture.was c.store_picture.ensures.full.0 (sym (length-map (stored_entries c.args.self.now.standing.dpb) plain_entry)))
-    c.in_ok-handle.ensures.log c.in_ok-handle.ensures.handed refl (ap (λ d. tickets (stored_entries d)) c.in_err-store_picture.ensures.stays) (cc (ap buffer_of c.in_err-store_picture.ensures.stays, c.requires.none, c.tid0_behind-self.ensures))
+    c.in_ok-handle.ensures.log c.in_ok-handle.ensures.handed (ap (λ (f : Frames). f.asked) c.in_ok-handle.ensures.frames) refl (ap (λ d. tickets (stored_entries d)) c.in_err-store_picture.ensures.stays) (cc (ap buffer_of c.in_err-store_picture.ensures.stays, c.requires.none, c.tid0_behind-self.ensures))
 
 pub returns-clause-part : goal.returns-clause-part
 returns-clause-part g c t =
     stored _ _ _ (head_of c.args.opened.head) (plain_set c.args.self.now.standing.set) (standing c.args.self.now.standing) _ (max_num_pics_of c.args.self.now.standing.dpb) c.in_ok-handle.handle c.store_picture.new.self c.bump_additionally.new.dpb c.args.self.now.standing.queue c.bump_additionally.new.queue (not_skipped _ c.args.opened.decoded) c.requires.sound.sized
     (room_left _ _ _ _ _ c.in_ok-store_picture.was c.store_picture.ensures.full.1 (sym (length-map (stored_entries c.args.self.now.standing.dpb) plain_entry)))
-    c.in_ok-handle.ensures.log c.in_ok-handle.ensures.handed (c.in_ok-store_picture.ensures.buffer (head_of c.args.opened.head) (record { same_number = refl; order_count = refl; pic_output_flag = refl }) c.requires.sound.latency) c.in_ok-store_picture.ensures.handles c.bump_additionally.ensures refl refl refl (cc (c.requires.none, c.tid0_behind-self.ensures))
+    c.in_ok-handle.ensures.log c.in_ok-handle.ensures.handed (ap (λ (f : Frames). f.asked) c.in_ok-handle.ensures.frames) (c.in_ok-store_picture.ensures.buffer (head_of c.args.opened.head) (record { same_number = refl; order_count = refl; pic_output_flag = refl }) c.requires.sound.latency) c.in_ok-store_picture.ensures.handles c.bump_additionally.ensures refl refl refl (cc (c.requires.none, c.tid0_behind-self.ensures))
 
 pub bump_additionally-requires-clause-room : goal.bump_additionally-requires-clause-room
 bump_additionally-requires-clause-room g c =

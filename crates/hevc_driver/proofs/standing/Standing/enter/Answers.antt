@@ -20,11 +20,11 @@ use Rattle.hevc_driver.proofs.Rooms.{reference_stays, marks_wait}
 use Rattle.hevc_driver.proofs.standing.Standing.enter.Goals as goal
 
 pub returns-clause-part : goal.returns-clause-part
-returns-clause-part g c log handed t o pps =
+returns-clause-part g c log handed asked t o pps =
     entered t _ _ (head_of c.args.head.now) (slice_of o c.args.slice.now c.args.sps.now pps) (standing c.args.self.now) _ (buffer_of c.reference_set.new.dpb) (context_of c.behind-self.result) (tickets (stored_entries c.reference_set.new.dpb))
     (c.reference_set.ensures.marks o pps) c.behind-self.ensures c.reference_set.ensures.kept.handles
-    (subst (λ (k : Current). Completes t (record (traces log handed c.args.self.now) { tickets = tickets (stored_entries c.reference_set.new.dpb) }) (traces log handed c.make_room.new.self) (on_store (make_room (head_of c.args.head.now)) (record (standing c.args.self.now) { store = record (standing c.args.self.now).store { buffer = buffer_of c.reference_set.new.dpb }; next = context_of c.behind-self.result; current = k })) (standing c.make_room.new.self))
-    (none_with _ _ _ c.requires.none ∙ sym c.requires.none) (c.make_room.ensures.part log handed t))
+    (subst (λ (k : Current). Completes t (record (traces log handed asked c.args.self.now) { tickets = tickets (stored_entries c.reference_set.new.dpb) }) (traces log handed asked c.make_room.new.self) (on_store (make_room (head_of c.args.head.now)) (record (standing c.args.self.now) { store = record (standing c.args.self.now).store { buffer = buffer_of c.reference_set.new.dpb }; next = context_of c.behind-self.result; current = k })) (standing c.make_room.new.self))
+    (none_with _ _ _ c.requires.none ∙ sym c.requires.none) (c.make_room.ensures.part log handed asked t))
 
 pub returns-clause-set : goal.returns-clause-set
 returns-clause-set g c o pps = ap plain_set c.make_room.ensures.set ∙ c.reference_set.ensures.set o pps
@@ -33,7 +33,7 @@ pub returns-clause-references : goal.returns-clause-references
 returns-clause-references g c =
     subst (SetNamesAmong (numbers (stored_entries c.make_room.new.self.dpb))) (sym c.make_room.ensures.set)
     (set_stored c.reference_set.new.out (stored_entries c.make_room.new.self.dpb) (set_among c.reference_set.new.out (stored_entries c.make_room.new.self.dpb) (λ n h.
-    ap (λ (s : Standing). has_reference n s.store.buffer) (c.make_room.ensures.part None None no_given).next
+    ap (λ (s : Standing). has_reference n s.store.buffer) (c.make_room.ensures.part None None None no_given).next
     ∙ reference_stays (head_of c.args.head.now) (record (standing c.args.self.now).store { buffer = buffer_of c.reference_set.new.dpb }) n c.args.head.now.prior (λ begins. absurd (cc (sym (c.reference_set.ensures.nothing n begins) ∙ h))) (c.reference_set.ensures.named n h))))
 
 pub make_room-requires-clause-room : goal.make_room-requires-clause-room

@@ -18,7 +18,7 @@ returns-in_err-reserve-clause-takes g c =
     rw e.1 (rw e.2 (inl (search rules)))
 
 pub returns-then-matches-clause-takes : goal.returns-then-matches-clause-takes
-returns-then-matches-clause-takes g c = acts_in _ _ _ _ _ _ (record { part = search rules; state = search rules })
+returns-then-matches-clause-takes g c = acts_in _ _ _ _ _ _ _ (record { part = search rules; state = search rules; latest = search rules })
 
 pub returns-else-matches-clause-takes : goal.returns-else-matches-clause-takes
-returns-else-matches-clause-takes g c = acts_in _ _ _ _ _ _ (record { part = search rules; state = search rules })
+returns-else-matches-clause-takes g c = acts_in _ _ _ _ _ _ _ (record { part = search rules; state = search rules; latest = search rules })
