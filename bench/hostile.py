@@ -12,7 +12,8 @@ import subprocess
 import sys
 import time
 
-START = b"\0\0\1"
+from units import START, ue, unit
+
 SEQUENCE_SET = bytes.fromhex("42010101600000030090000003000003003ca08845e55abc2080")
 PICTURE_SET = bytes.fromhex("4401c0718012")
 # It ends within its third row, so it waits, and is read again whenever the sequence set of id 0 changes.
@@ -26,26 +27,6 @@ END_OF_BITSTREAM = bytes.fromhex("4a01")
 MESSAGE = bytes.fromhex("4e01")
 PLAIN = ["plain, still picture", "plain, larger pictures"]
 MEMORY = 8 << 30
-
-
-def ue(value):
-    """ue(v) of 9.2."""
-    digits = bin(value + 1)[2:]
-    return "0" * (len(digits) - 1) + digits
-
-
-def unit(header, bits):
-    """A unit with these payload bits, a stop bit behind them, and each 03 that 7.3.1.1 asks for."""
-    bits += "1"
-    bits += "0" * (-len(bits) % 8)
-    out, zeros = bytearray(), 0
-    for byte in int(bits, 2).to_bytes(len(bits) // 8, "big"):
-        if zeros == 2 and byte <= 3:
-            out.append(3)
-            zeros = 0
-        out.append(byte)
-        zeros = zeros + 1 if byte == 0 else 0
-    return bytes.fromhex(header) + bytes(out)
 
 
 def sequence_set(width, height, latency=0):

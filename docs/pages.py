@@ -1,8 +1,8 @@
 """Makes the examples of BACKENDS.md and CALLING.md, and checks the pages.
 
-pages.py          writes them
+pages.py          writes them, and the names of rows in hevc_row_names
 pages.py --check  says what differs, and ends with 1 where anything does:
-                  those examples; each bound of TABLES.md that is two numbers, beside the table's own in hevc_tables; that
+                  those examples and names; that each row that code can answer is in TABLES.md; each bound of TABLES.md that is two numbers, beside the table's own in hevc_tables; that
                   each field of a record that TABLES.md names is an element of its table; that MAP.md has each crate of
                   crates.txt, in its order and no other; the numbers of edits in STRENGTH.md; that files and headings which
                   the pages name or link to are there
@@ -116,11 +116,43 @@ def rows_of_tables():
         for row, names, bound in re.findall(r"^ {4} ?(\d+)  (.*?)(?: {3}(.*))?$", part, re.M) if table else []:
             elements = [re.match(r"\w*", element.strip()).group() for element in names.split(",")]
             rows[table.group(1), row] = elements, bound
-    # Rows 9 to 14 of table 16 are rows 3 to 8 for list 1.
-    for number in range(9, 15):
-        elements, bound = rows["16", str(number - 6)]
-        rows["16", str(number)] = [element.replace("_l0", "_l1") for element in elements], bound
     return rows
+
+
+# Code that is for several rows: what stands there, and the rows that it can answer for the number in it.
+COMPUTED = (
+    (r"Row\((\d+), (\d+)\)", lambda table, row: [(table, row)]),
+    (r"Row\(16, 6 \* list \+ (\d+)\)", lambda row: [(16, row), (16, row + 6)]),
+    (r"row_of\(scope, (\d+)\)", lambda row: [(2, row), (2, 30)]),
+    (r"read_chroma_offset\(r, (\d+), ", lambda row: [(14, row), (14, row + 1)]),
+)
+# How the functions of the last two name their rows.
+BY_NUMBER = ("Row(2, number)", "Row(14, number)", "Row(14, number + 1)")
+
+
+def rows_of_code():
+    """The rows that code can answer, and the rows in it that are computed otherwise than above."""
+    rows, unknown = set(), []
+    for path in sorted(CRATES.glob("hevc_*/src/**/*.rt")):
+        if path.relative_to(CRATES).parts[0].endswith("_tests"):
+            continue
+        code = re.sub(r"//.*", "", path.read_text())
+        for pattern, rows_of in COMPUTED:
+            for numbers in re.finditer(pattern, code):
+                rows.update(rows_of(*map(int, numbers.groups())))
+        for written in re.findall(r"\bRow\([^()]*\)", code):
+            if "pub " not in written and written not in BY_NUMBER and not any(re.fullmatch(pattern, written) for pattern, _ in COMPUTED):
+                unknown.append(f"{path.relative_to(TOP)}: pages.py doesn't know which rows {written} is")
+    return rows, unknown
+
+
+def wrong_rows():
+    """The rows that code can answer and TABLES.md lacks."""
+    listed = {(int(table), int(row)) for table, row in rows_of_tables()}
+    rows, unknown = rows_of_code()
+    yield from unknown
+    for table, row in sorted(rows - listed):
+        yield f"TABLES.md: row {row} of table {table} is missing"
 
 
 def numeric_bounds():
@@ -143,6 +175,89 @@ def wrong_bounds():
         _, bound = rows.get((table, row), ([], None))
         if bound != f"{least}..{greatest}" and not (all_values and bound == ""):
             yield f"TABLES.md: row {row} of table {table} has {bound}, and hevc_tables {least}..{greatest}"
+
+
+# The rows of TABLES.md that are a condition on values before, or other rows: the elements that they are about.
+ABOUT = {
+    (1, 12): "vps_max_dec_pic_buffering_minus1[ i ]",
+    (1, 13): "vps_max_num_reorder_pics[ i ]",
+    (2, 30): "sub_layer_profile_space[ i ] to sub_layer_reserved_zero_bit[ i ]",
+    (5, 12): "conf_win_left_offset, conf_win_right_offset, conf_win_top_offset, conf_win_bottom_offset",
+    (5, 24): "log2_min_luma_transform_block_size_minus2, log2_diff_max_min_luma_transform_block_size",
+    (7, 6): "delta_idx_minus1, delta_rps_sign, abs_delta_rps_minus1",
+    (14, 36): "slice_qp_delta",
+    (14, 38): "slice_cb_qp_offset",
+    (14, 40): "slice_cr_qp_offset",
+}
+ROW_NAMES = CRATES / "hevc_row_names" / "src" / "rows.rt"
+ROW_NAMES_HEAD = """//! The elements of the rows of each table. `docs/pages.py` makes this file from docs/TABLES.md.
+"""
+
+
+def elements_of(names):
+    """The elements of a row of TABLES.md, with indices as H.265 writes them."""
+    element = r"(?:and )?([a-z]\w*_\w+(?:\[[^\]]*\])*(?:\([^)]*\))?)(?:[ :]|$)"
+    found = [re.match(element, part) for part in re.split(r", (?![^(]*\))", names)]
+    spaced = [re.sub(r"\[(.*?)\]", lambda at: f"[ {index_of(at.group(1))} ]", it.group(1)) for it in found if it]
+    return ", ".join(spaced)
+
+
+def index_of(text):
+    """An index of TABLES.md, as H.265 has it."""
+    names = {"0 to 31": "j", "s": "sizeId", "s - 2": "sizeId - 2", "m": "matrixId"}
+    return names.get(text, text)
+
+
+def named_rows():
+    """The elements of each row: table, its clause, and for each row the elements' names."""
+    page = (DOCS / "TABLES.md").read_text()
+    clauses = re.findall(r"^\| (\d+) \| [^|]* \| ([\w.]+) \|", page, re.M)
+    for table, clause in clauses:
+        rows = re.search(rf"^### Table {table},.*?(?=^##)", page, re.M | re.S).group()
+        lines = re.findall(r"^ {4} ?(\d+)  (.*?)(?: {3}.*)?$", rows, re.M)
+        named = {int(row): ABOUT.get((int(table), int(row))) or elements_of(text) for row, text in lines}
+        yield int(table), clause, named
+
+
+def runs(numbers):
+    """Numbers in rising order, cut where one is left out."""
+    parts = []
+    for number in numbers:
+        if parts and parts[-1][-1] + 1 == number:
+            parts[-1].append(number)
+        else:
+            parts.append([number])
+    return parts
+
+
+def array_of(name, texts):
+    """An array of texts, laid out as rt fmt does."""
+    head = f"pub(crate) const {name}: [&str; {len(texts)}] = "
+    quoted = [f'"{text}"' for text in texts]
+    line = ", ".join(quoted)
+    if len(line) <= 58 and len(head) + len(line) + 3 <= 100:
+        return f"{head}[{line}];\n"
+    return head + "[\n" + "".join(f"    {text},\n" for text in quoted) + "];\n"
+
+
+def row_names():
+    """The file of the names of rows."""
+    clauses = [clause for _, clause, _ in named_rows()]
+    parts = [ROW_NAMES_HEAD, "\n/// The clause that has the syntax of each table.\n" + array_of("CLAUSES", clauses)]
+    for table, clause, named in named_rows():
+        for run in runs(sorted(named)):
+            name = f"TABLE_{table}" + ("" if run[0] == 1 else f"_FROM_{run[0]}")
+            rows = f"row {run[0]}" if len(run) == 1 else f"rows {run[0]} to {run[-1]}"
+            parts.append(f"\n/// Table {table} ({clause}), {rows}.\n" + array_of(name, [named[row] for row in run]))
+    return "".join(parts)
+
+
+def wrong_names():
+    """The rows that are left without an element."""
+    for table, _, named in named_rows():
+        for row, elements in named.items():
+            if not elements:
+                yield f"pages.py: row {row} of table {table} has no element (ABOUT)"
 
 
 def is_at(field, elements):
@@ -216,6 +331,8 @@ def with_example(page, example):
 
 def complaints():
     yield from wrong_bounds()
+    yield from wrong_rows()
+    yield from wrong_names()
     yield from wrong_records()
     yield from wrong_fields()
     yield from wrong_crates((DOCS / "MAP.md").read_text())
@@ -229,7 +346,8 @@ def main():
     for page, (example, first, after) in EXAMPLES.items():
         path = DOCS / page
         pages[path] = with_example(path.read_text(), part_of((CRATES / example).read_text(), first, after))
-    stale = [path for path, text in pages.items() if path.read_text() != text]
+    pages[ROW_NAMES] = row_names()
+    stale = [path for path, text in pages.items() if not path.exists() or path.read_text() != text]
     if sys.argv[1:] == ["--check"]:
         said = [f"{path.relative_to(TOP)} differs from what docs/pages.py makes" for path in stale] + list(complaints())
         print("\n".join(said), end="\n" if said else "")

@@ -1,4 +1,5 @@
-//! Tests of units and their bits, of the streams that are made of them, of input and output, of records, and of elements.
+//! Tests of units and their bits, of the streams that are made of them, of input and output, of records, of elements, and of the names
+//! of rows.
 #![tactic(auto)]
 
 #[cfg(test)]
@@ -15,6 +16,8 @@ mod io;
 mod made;
 #[cfg(test)]
 mod picture_slice;
+#[cfg(test)]
+mod row_names;
 #[cfg(test)]
 mod sequence_set;
 #[cfg(test)]

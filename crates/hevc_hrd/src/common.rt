@@ -62,12 +62,11 @@ fn read_scales(r: &mut NaluReader<'_>, hrd: &mut HrdParams) -> Result<(), ParseE
     Ok(())
 }
 
-/// What a structure has in common for its sub-layers, with nothing said of them.
+/// What a structure has in common for its sub-layers stays, with nothing said of them.
 #[tactic(auto, unfolding(hevc_tables::specs::HrdTable::common_of))]
-pub(crate) fn common_of(before: &HrdParams) -> HrdParams
-    ensures { plain_hrd_params result ≡ table.common_of (plain_hrd_params before.now) }
+pub(crate) fn forget_sub_layers(hrd: &mut HrdParams)
+    ensures { plain_hrd_params hrd.new ≡ table.common_of (plain_hrd_params hrd.old) }
 {
-    let mut hrd = *before;
     hrd.fixed_pic_rate_general_flag = [false; 7];
     hrd.fixed_pic_rate_within_cvs_flag = [false; 7];
     hrd.elemental_duration_in_tc_minus1 = [0; 7];
@@ -75,5 +74,4 @@ pub(crate) fn common_of(before: &HrdParams) -> HrdParams
     hrd.cpb_cnt_minus1 = [0; 7];
     hrd.nal_hrd = [SublayerHrdParameters::new(); 7];
     hrd.vcl_hrd = [SublayerHrdParameters::new(); 7];
-    hrd
 }

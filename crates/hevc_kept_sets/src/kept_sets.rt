@@ -138,7 +138,7 @@ impl KeptSets {
         ensures options { options_in self.new ≡ options_in self.old }
     {
         let set = read_sps(self.alloc, nalu)?;
-        let id = set.seq_parameter_set_id;
+        let id = set.get().seq_parameter_set_id;
         if self.parser.keep_sequence_set(set)? {
             self.changed = with_id(self.changed, id);
         }

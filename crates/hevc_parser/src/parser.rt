@@ -22,6 +22,7 @@ ghost use Rattle.hevc_parser.specs.OwnIds.{HasOwnIds, HasOwnIds-prop, HasNamedSe
 ghost use Rattle.hevc_bits.specs.declared.stream_limit.TheConstants.{STREAM_LIMIT};
 
 use hevc_bits::{Nalu, NaluHeader};
+use hevc_boxed::Boxed;
 use hevc_picture_slice::{Pps, Slice, SliceHeader};
 use hevc_readers::{ParseError, read_pps, read_sps, read_vps};
 use hevc_sequence_set::Sps;
@@ -39,7 +40,7 @@ use std::collections::BTreeMap;
 pub struct Parser {
     alloc: Global,
     video_sets: BTreeMap<u8, Vps>,
-    sequence_sets: BTreeMap<u8, Sps>,
+    sequence_sets: BTreeMap<u8, Boxed<Sps>>,
     picture_sets: BTreeMap<u8, Pps>,
     ghost video_ids: { HasOwnIds (λ set. set.video_parameter_set_id) video_sets } by { HasOwnIds-prop (λ set. set.video_parameter_set_id) video_sets },
     ghost sequence_ids: { HasOwnIds (λ set. set.seq_parameter_set_id) sequence_sets } by { HasOwnIds-prop (λ set. set.seq_parameter_set_id) sequence_sets },
@@ -98,6 +99,8 @@ impl Parser {
         Ok(self.video_sets.get(&id).unwrap())
     }
 
+    // Its frame has whole sets: the stack of its callers stays small without it.
+    #[inline(never)]
     fn keep_video_set(&mut self, set: Vps) -> Result<(), AllocError>
         ensures kept { OnOk result
             (kept_by self.new ≡ with_video_set (plain_vps set) (kept_by self.old)) }
@@ -132,29 +135,29 @@ impl Parser {
     }
 
     /// Keeps a set, and lends it.
-    fn lend_sequence_set(&mut self, set: Sps) -> Result<&Sps, ParseError>
+    fn lend_sequence_set(&mut self, set: Boxed<Sps>) -> Result<&Sps, ParseError>
         ensures* keeps { sem 𝓛 (LeavesParser self.entry
             (Keeps (λ set. with_sequence_set (plain_sps set.now)) result self.old)) }
         ensures same { IfOk result (λ kept. kept.now ≡ set) }
         ensures refused { IfErr result (λ e. e ≡ ParseError.NoMemory) }
     {
-        let id = set.seq_parameter_set_id;
+        let id = set.get().seq_parameter_set_id;
         self.insert_sequence_set(set)?;
-        Ok(self.sequence_sets.get(&id).unwrap())
+        Ok(self.sequence_sets.get(&id).unwrap().get())
     }
 
     /// Keeps a sequence parameter set, in the place of an earlier one of its id (7.4.2.4.2), and tells whether that changed what is
     /// kept: whether no set was kept under its id, or one that differs from it.
     ///
     /// Errors: an allocation fails; what is kept then stays.
-    pub fn keep_sequence_set(&mut self, set: Sps) -> Result<bool, AllocError>
+    pub fn keep_sequence_set(&mut self, set: Boxed<Sps>) -> Result<bool, AllocError>
         ensures kept { OnOk result
             (kept_by self.new ≡ with_sequence_set (plain_sps set) (kept_by self.old)) }
         ensures changed { IfOk result (λ changed. IsFalse changed
             ↔ (sequence_set_by self.old set.seq_parameter_set_id ≡ Some set)) }
         ensures stays { OnErr result (kept_by self.new ≡ kept_by self.old) }
     {
-        let changed = !self.keeps(&set);
+        let changed = !self.keeps(set.get());
         self.insert_sequence_set(set)?;
         Ok(changed)
     }
@@ -165,19 +168,20 @@ impl Parser {
             ↔ (sequence_set_by self.now set.now.seq_parameter_set_id ≡ Some set.now) }
     {
         match self.sequence_sets.get(&set.seq_parameter_set_id) {
-            Some(kept) => sps_eq(kept, set),
+            Some(kept) => sps_eq(kept.get(), set),
             None => false,
         }
     }
 
-    fn insert_sequence_set(&mut self, set: Sps) -> Result<(), AllocError>
+    fn insert_sequence_set(&mut self, set: Boxed<Sps>) -> Result<(), AllocError>
         ensures kept { OnOk result
             (kept_by self.new ≡ with_sequence_set (plain_sps set) (kept_by self.old)) }
         ensures found { OnOk result
             (get nat_cmp self.new.sequence_sets set.seq_parameter_set_id ≡ Some set) }
         ensures stays { OnErr result (kept_by self.new ≡ kept_by self.old) }
     {
-        self.sequence_sets.insert(set.seq_parameter_set_id, set)?;
+        let id = set.get().seq_parameter_set_id;
+        self.sequence_sets.insert(id, set)?;
         Ok(())
     }
 
@@ -222,6 +226,8 @@ impl Parser {
         Ok(self.picture_sets.get(&id).unwrap())
     }
 
+    // Its frame has whole sets: the stack of its callers stays small without it.
+    #[inline(never)]
     fn keep_picture_set(&mut self, set: Pps) -> Result<(), AllocError>
         requires { IsSome ((kept_by self.old).sequence_sets set.seq_parameter_set_id) }
         ensures kept { OnOk result
@@ -300,7 +306,8 @@ impl Parser {
             ≡ (kept_by self.now).sequence_sets sps_id }
         ensures own_id { IfSome result (λ set. set.now.seq_parameter_set_id ≡ sps_id) }
     {
-        self.sequence_sets.get(&sps_id)
+        let set = self.sequence_sets.get(&sps_id)?;
+        Some(set.get())
     }
 
     /// The picture parameter set of an id, if it is kept. The sequence parameter set that it names is kept too.

@@ -18,6 +18,7 @@ use crate::filters::{read_filters, read_merging, read_scaling};
 use crate::tiles::read_tiles;
 use crate::tools::{read_presence, read_quantiser, read_tools};
 use hevc_bits::{Nalu, NaluHeader, NaluReader, NaluType};
+use hevc_boxed::Boxed;
 use hevc_elements::ParseError;
 use hevc_elements::rows::ue_u8;
 use hevc_picture_slice::Pps;
@@ -36,10 +37,12 @@ use std::collections::BTreeMap;
 /// `OutOfRange` with table and row of the first element that isn't allowed; after row 2, `MissingSps` where none of the sets has
 /// the id that it names.
 #[tactic(auto, using(hevc_elements::proofs::SetMeaning::set_meanings))]
+// Its frame has whole sets: the stack of its callers stays small without it.
+#[inline(never)]
 pub fn read_pps(
     _alloc: Global,
     nalu: &Nalu<'_, NaluHeader>,
-    spses: &BTreeMap<u8, Sps>,
+    spses: &BTreeMap<u8, Boxed<Sps>>,
 ) -> Result<Pps, ParseError>
     requires { length nalu.now.stream < STREAM_LIMIT }
     ensures wrong_type { IsErrOf result ParseError.WrongNaluType
@@ -75,7 +78,7 @@ fn is_picture_set(nalu_type: NaluType) -> bool
 fn read_payload(
     temporal_id: u8,
     payload: &[u8],
-    spses: &BTreeMap<u8, Sps>,
+    spses: &BTreeMap<u8, Boxed<Sps>>,
 ) -> Result<Pps, ParseError>
     requires { length payload.now < STREAM_LIMIT }
     ensures read { ReadsSet plain_pps result
@@ -92,7 +95,7 @@ fn read_payload(
 fn read_rows(
     temporal_id: u8,
     r: &mut NaluReader<'_>,
-    spses: &BTreeMap<u8, Sps>,
+    spses: &BTreeMap<u8, Boxed<Sps>>,
 ) -> Result<Pps, ParseError>
     ensures read { ReadsNaming plain_pps result r.new
         (read (table.picture_parameter_set temporal_id (sets_by_id plain_sps spses.now))

@@ -11,6 +11,7 @@ mod video_set;
 use crate::expect::{expect, expect_eq, ok};
 use hevc_bit_writer::{BitWriter, append_unit};
 use hevc_bits::{Nalu, NaluHeader};
+use hevc_boxed::Boxed;
 use hevc_picture_slice::{Pps, SliceHeader};
 use hevc_readers::{ParseError, read_pps, read_sps, read_vps};
 use hevc_sequence_set::Sps;
@@ -56,7 +57,7 @@ struct Unit {
 /// The sets that a unit is read with.
 #[derive(Drop)]
 struct Kept {
-    spses: BTreeMap<u8, Sps>,
+    spses: BTreeMap<u8, Boxed<Sps>>,
     ppses: BTreeMap<u8, Pps>,
 }
 

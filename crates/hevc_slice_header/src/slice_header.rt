@@ -22,6 +22,7 @@ use crate::active_sets::ActiveSets;
 use crate::beginning::read_beginning;
 use crate::segment::read_behind_sets;
 use hevc_bits::{Nalu, NaluHeader, NaluReader, NaluType};
+use hevc_boxed::Boxed;
 use hevc_elements::ParseError;
 use hevc_elements::rows::skip;
 use hevc_picture_slice::{Pps, SliceHeader};
@@ -45,7 +46,7 @@ use std::collections::BTreeMap;
 pub fn read_slice_header<'a>(
     alloc: Global,
     nalu: &Nalu<'_, NaluHeader>,
-    spses: &'a BTreeMap<u8, Sps>,
+    spses: &'a BTreeMap<u8, Boxed<Sps>>,
     ppses: &'a BTreeMap<u8, Pps>,
     h: &mut SliceHeader,
 ) -> Result<ActiveSets<'a>, ParseError>
@@ -74,7 +75,7 @@ fn read_payload<'a>(
     alloc: Global,
     nalu_type: NaluType,
     payload: &[u8],
-    spses: &'a BTreeMap<u8, Sps>,
+    spses: &'a BTreeMap<u8, Boxed<Sps>>,
     ppses: &'a BTreeMap<u8, Pps>,
     h: &mut SliceHeader,
 ) -> Result<ActiveSets<'a>, ParseError>
@@ -121,7 +122,7 @@ fn read_aligned<'a>(
     alloc: Global,
     r: &mut NaluReader<'_>,
     nalu_type: NaluType,
-    spses: &'a BTreeMap<u8, Sps>,
+    spses: &'a BTreeMap<u8, Boxed<Sps>>,
     ppses: &'a BTreeMap<u8, Pps>,
     h: &mut SliceHeader,
 ) -> Result<ActiveSets<'a>, ParseError>
@@ -153,7 +154,7 @@ fn read_elements<'a>(
     alloc: Global,
     r: &mut NaluReader<'_>,
     nalu_type: NaluType,
-    spses: &'a BTreeMap<u8, Sps>,
+    spses: &'a BTreeMap<u8, Boxed<Sps>>,
     ppses: &'a BTreeMap<u8, Pps>,
     h: &mut SliceHeader,
 ) -> Result<ActiveSets<'a>, ParseError>
@@ -179,6 +180,7 @@ fn read_elements<'a>(
         return Err(missing);
     };
     has_few_extra_bits(pps);
+    let sps = sps.get();
     read_behind_sets(alloc, r, nalu_type, sps, pps, h)?;
     Ok(ActiveSets { sps, pps })
 }

@@ -53,7 +53,7 @@ pub(crate) fn read_list_weights(
     Ok(w)
 }
 
-/// Rows 3 and 4 of table 16.
+/// Rows 3 and 4 of table 16, or 9 and 10 for list 1.
 #[tactic(auto, unfolding(hevc_tables::specs::WeightedPredictionTable::flags, hevc_spec::specs::Rows::when))]
 fn read_flags(
     r: &mut NaluReader<'_>,
@@ -75,7 +75,7 @@ fn read_flags(
     Ok(w)
 }
 
-/// Row 3 of table 16.
+/// Row 3 of table 16, or 9 for list 1.
 #[tactic(auto, using(hevc_elements::proofs::Loops::loops), unfolding(hevc_tables::specs::WeightedPredictionTable::luma_flags))]
 fn read_luma_flags(
     r: &mut NaluReader<'_>,
@@ -94,7 +94,7 @@ fn read_luma_flags(
     Ok(())
 }
 
-/// Row 3 of table 16, for one place.
+/// Row 3 of table 16, or 9 for list 1, for one place.
 #[tactic(auto, unfolding(hevc_tables::specs::WeightedPredictionTable::luma_flag))]
 fn read_luma_flag(
     r: &mut NaluReader<'_>,
@@ -111,7 +111,7 @@ fn read_luma_flag(
     Ok(())
 }
 
-/// Row 4 of table 16.
+/// Row 4 of table 16, or 10 for list 1.
 #[tactic(auto, using(hevc_elements::proofs::Loops::loops), unfolding(hevc_tables::specs::WeightedPredictionTable::chroma_flags))]
 fn read_chroma_flags(
     r: &mut NaluReader<'_>,
@@ -130,7 +130,7 @@ fn read_chroma_flags(
     Ok(())
 }
 
-/// Row 4 of table 16, for one place.
+/// Row 4 of table 16, or 10 for list 1, for one place.
 #[tactic(auto, unfolding(hevc_tables::specs::WeightedPredictionTable::chroma_flag))]
 fn read_chroma_flag(
     r: &mut NaluReader<'_>,
@@ -147,7 +147,7 @@ fn read_chroma_flag(
     Ok(())
 }
 
-/// Rows 5 to 8 of table 16.
+/// Rows 5 to 8 of table 16, or 11 to 14 for list 1.
 #[tactic(auto, using(hevc_elements::proofs::Loops::loops), unfolding(hevc_tables::specs::WeightedPredictionTable::weights))]
 fn read_weights(
     r: &mut NaluReader<'_>,
@@ -167,7 +167,7 @@ fn read_weights(
     Ok(())
 }
 
-/// Rows 5 to 8 of table 16, for one place.
+/// Rows 5 to 8 of table 16, or 11 to 14 for list 1, for one place.
 #[tactic(auto, unfolding(hevc_tables::specs::WeightedPredictionTable::place_weights, hevc_spec::specs::Rows::when))]
 fn read_place_weights(
     r: &mut NaluReader<'_>,
@@ -190,7 +190,7 @@ fn read_place_weights(
     Ok(())
 }
 
-/// Rows 5 and 6 of table 16, for one place.
+/// Rows 5 and 6 of table 16, or 11 and 12 for list 1, for one place.
 #[tactic(auto, using(crate::proofs::Ranges::ranges), unfolding(hevc_tables::specs::WeightedPredictionTable::luma_weight))]
 fn read_luma_weight(
     r: &mut NaluReader<'_>,
@@ -220,7 +220,7 @@ fn luma_half_range(sps: &Sps) -> u32
     sps.wp_offset_half_range_y
 }
 
-/// Rows 7 and 8 of table 16, for one place.
+/// Rows 7 and 8 of table 16, or 13 and 14 for list 1, for one place.
 #[tactic(auto, unfolding(hevc_tables::specs::WeightedPredictionTable::chroma_weight))]
 fn read_chroma_weight(
     r: &mut NaluReader<'_>,
@@ -238,7 +238,7 @@ fn read_chroma_weight(
     read_chroma_component(r, sps, list, i, 1, w)
 }
 
-/// Rows 7 and 8 of table 16, for component `j` of one place: Cb or Cr.
+/// Rows 7 and 8 of table 16, or 13 and 14 for list 1, for component `j` of one place: Cb or Cr.
 #[tactic(auto, using(crate::proofs::Ranges::ranges), unfolding(hevc_tables::specs::WeightedPredictionTable::chroma_component))]
 fn read_chroma_component(
     r: &mut NaluReader<'_>,

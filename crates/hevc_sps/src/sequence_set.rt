@@ -4,6 +4,7 @@ ghost use Rattle.hevc_spec.specs.Payload.{payload, payload_bits};
 ghost use Rattle.hevc_bits.specs.FoundUnit.{bytes_of};
 ghost use Rattle.hevc_bits.specs.NaluType.{nalu_type_number};
 ghost use Rattle.hevc_elements.specs.Words.{bits, IsAhead, read, Fills, FillsGrowing, ReadsGrowing, ReadsSet, MeansSet, NamesNoSet};
+ghost use Rattle.hevc_records.specs.Sps.{default_sps};
 ghost use Rattle.hevc_tables.specs.SpsTable as table;
 ghost use Rattle.hevc_sequence_set.specs.Sps.{plain_sps};
 ghost use Rattle.hevc_sps.specs.Predictions.{AreInOrder};
@@ -19,11 +20,13 @@ use crate::short_term::read_short_term;
 use crate::tools::{read_scaling, read_tools};
 use crate::usability::read_usability;
 use hevc_bits::{Nalu, NaluHeader, NaluReader, NaluType};
+use hevc_boxed::Boxed;
 use hevc_elements::ParseError;
 use hevc_sequence_set::Sps;
-use std::alloc::Global;
+use std::alloc::{AllocError, Global};
 
-/// Reads a sequence parameter set out of its unit, of a stream of less than 2^60 bytes, by table 5 (7.3.2.2.1).
+/// Reads a sequence parameter set out of its unit, of a stream of less than 2^60 bytes, by table 5 (7.3.2.2.1), into a place of its
+/// own.
 ///
 /// An element that is absent has its value of `Sps::new`. Where each sub-layer doesn't have its own numbers of buffering, reordering
 /// and latency, those of the highest hold for all lower ones.
@@ -31,7 +34,9 @@ use std::alloc::Global;
 /// Errors: `WrongNaluType` first, where the unit is of another type; `OutOfBits` where the payload ends within an element;
 /// `OutOfRange` with table and row of the first element that isn't allowed; `NoMemory`.
 #[tactic(auto, using(hevc_elements::proofs::SetMeaning::set_meanings, crate::proofs::Orders::are_in_order))]
-pub fn read_sps(alloc: Global, nalu: &Nalu<'_, NaluHeader>) -> Result<Sps, ParseError>
+// Its frame has whole sets: the stack of its callers stays small without it.
+#[inline(never)]
+pub fn read_sps(alloc: Global, nalu: &Nalu<'_, NaluHeader>) -> Result<Boxed<Sps>, ParseError>
     requires { length nalu.now.stream < STREAM_LIMIT }
     ensures wrong_type { IsErrOf result ParseError.WrongNaluType
         ↔ ¬ (nalu.now.header.nal_unit_type ≡ 33) }
@@ -59,7 +64,7 @@ fn is_sequence_set(nalu_type: NaluType) -> bool
 
 /// Reads the payload of a unit.
 #[tactic(auto, using(hevc_elements::proofs::SetMeaning::sets_from_growing))]
-fn read_payload(alloc: Global, payload: &[u8]) -> Result<Sps, ParseError>
+fn read_payload(alloc: Global, payload: &[u8]) -> Result<Boxed<Sps>, ParseError>
     requires { length payload.now < STREAM_LIMIT }
     ensures read { ReadsSet plain_sps result
         (read table.sequence_parameter_set (payload_bits 0 payload.now)) }
@@ -70,15 +75,22 @@ fn read_payload(alloc: Global, payload: &[u8]) -> Result<Sps, ParseError>
 
 /// Rows 1 to 50 of table 5.
 #[tactic(auto, unfolding(hevc_tables::specs::SpsTable::sequence_parameter_set))]
-fn read_rows(alloc: Global, r: &mut NaluReader<'_>) -> Result<Sps, ParseError>
+fn read_rows(alloc: Global, r: &mut NaluReader<'_>) -> Result<Boxed<Sps>, ParseError>
     ensures read { ReadsGrowing plain_sps result r.new
         (read table.sequence_parameter_set (bits r.old)) }
     ensures moves { IsAhead r.old r.new }
 {
-    let mut sps = Sps::new(alloc);
+    let mut sps = new_set(alloc)?;
     read_format(r, &mut sps)?;
     read_coding(alloc, r, &mut sps)?;
-    Ok(sps)
+    Ok(Boxed::of(sps))
+}
+
+/// A set of `Sps::new`, at the place where its rows are filled in.
+fn new_set(alloc: Global) -> Result<Box<Sps>, AllocError>
+    ensures { IfOk result (λ sps. plain_sps sps.value ≡ default_sps) }
+{
+    Ok(Box::new(alloc, Sps::new(alloc))?)
 }
 
 /// Rows 1 to 24 of table 5.

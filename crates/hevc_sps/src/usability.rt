@@ -2,7 +2,6 @@
 ghost use Rattle.std.specs.Prelude.{◌≡◌};
 ghost use Rattle.hevc_elements.specs.Words.{Fills};
 ghost use Rattle.hevc_tables.specs.SpsTable as table;
-ghost use Rattle.hevc_video_set.specs.VuiParams.{plain_vui_params};
 ghost use Rattle.hevc_sequence_set.specs.Sps.{plain_sps};
 
 use hevc_bits::NaluReader;
@@ -10,7 +9,6 @@ use hevc_elements::ParseError;
 use hevc_elements::rows::flag;
 use hevc_sequence_set::Sps;
 use hevc_spec::Row;
-use hevc_video_set::VuiParams;
 use hevc_vui::read_vui_parameters;
 
 /// Rows 41 and 42 of table 5.
@@ -47,16 +45,6 @@ fn set_usability(sps: &mut Sps, temporal: bool, strong: bool, present: bool)
 fn read_information(r: &mut NaluReader<'_>, sps: &mut Sps) -> Result<(), ParseError>
     ensures { Fills plain_sps table.usability_information result sps.old sps.new r.old r.new }
 {
-    let vui_parameters = read_vui_parameters(r, sps.max_sub_layers_minus1)?;
-    set_information(sps, vui_parameters);
-    Ok(())
-}
-
-/// Fills in row 42.
-fn set_information(sps: &mut Sps, vui_parameters: VuiParams)
-    ensures { plain_sps sps.new ≡ record (plain_sps sps.old) {
-      vui_parameters = plain_vui_params vui_parameters;
-    } }
-{
-    sps.vui_parameters = vui_parameters;
+    let highest = sps.max_sub_layers_minus1;
+    read_vui_parameters(r, highest, &mut sps.vui_parameters)
 }

@@ -1,5 +1,4 @@
 -- Structures one after another.
-use Rattle.std.proofs.Common.{◌-◌}
 use Rattle.std.proofs.lemmas.List.{map-append, length-map}
 
 pub ruleset pushes = (map-append)

@@ -1,8 +1,7 @@
 //! The clock and the structures of timing (7.3.2.1, rows 17 to 24 of table 1).
 ghost use Rattle.std.specs.Prelude.{◌<◌, ◌^◌, map};
 ghost use Rattle.std.specs.Prelude.{◌≡◌, ◌≤◌};
-ghost use Rattle.hevc_elements.specs.Words.{bits, IsAhead, read, Reads, FillsGrowing};
-ghost use Rattle.hevc_tables.specs.HrdTable.{hrd_parameters};
+ghost use Rattle.hevc_elements.specs.Words.{FillsGrowing};
 ghost use Rattle.hevc_tables.specs.VpsTable as table;
 ghost use Rattle.hevc_video_set.specs.HrdParams.{plain_hrd_params};
 ghost use Rattle.hevc_video_set.specs.Vps.{plain_vps};
@@ -54,17 +53,16 @@ fn read_structures(r: &mut NaluReader<'_>, vps: &mut Vps) -> Result<(), ParseErr
 
 /// Rows 22 to 24 of table 1, for one structure.
 #[tactic(auto, using(crate::proofs::StructureLists::pushes), unfolding(hevc_tables::specs::VpsTable::structure))]
+// Its frame has whole structures: the stack of its callers stays small without it.
+#[inline(never)]
 fn read_structure(r: &mut NaluReader<'_>, i: u32, vps: &mut Vps) -> Result<(), ParseError>
     ensures { FillsGrowing plain_vps (table.structure i) result vps.old vps.new r.old r.new }
 {
     let layer_set = ue_u16(r, Row(1, 22), 0, 65_535)?;
     let common = flag_or(r, i != 0, true, Row(1, 23))?;
-    let hrd = read_next(
-        r,
-        common,
-        vps.max_sub_layers_minus1,
-        vps.hrd_parameters.as_slice(),
-    )?;
+    let mut hrd = HrdParams::new();
+    take_last(vps.hrd_parameters.as_slice(), &mut hrd);
+    read_hrd_parameters(r, common, vps.max_sub_layers_minus1, &mut hrd)?;
     vps.hrd_layer_set_idx.push(layer_set)?;
     if i != 0 {
         vps.cprms_present_flag.push(common)?;
@@ -73,22 +71,14 @@ fn read_structure(r: &mut NaluReader<'_>, i: u32, vps: &mut Vps) -> Result<(), P
     Ok(())
 }
 
-/// Row 24 of table 1, for the structure after these.
+/// The last structure so far; before the first one there is one of no elements.
 #[tactic(auto, using(crate::proofs::StructureLists::lasts))]
-fn read_next(
-    r: &mut NaluReader<'_>,
-    common: bool,
-    max_sub_layers_minus1: u8,
-    structures: &[HrdParams],
-) -> Result<HrdParams, ParseError>
-    requires { max_sub_layers_minus1 ≤ 6 }
-    ensures read { Reads plain_hrd_params result r.new
-        (read (hrd_parameters common max_sub_layers_minus1
-        (table.last_structure (map plain_hrd_params structures.now))) (bits r.old)) }
-    ensures moves { IsAhead r.old r.new }
+fn take_last(structures: &[HrdParams], hrd: &mut HrdParams)
+    ensures { plain_hrd_params hrd.new
+        ≡ table.last_structure (map plain_hrd_params structures.now) }
 {
     match structures.last() {
-        Some(before) => read_hrd_parameters(r, common, max_sub_layers_minus1, before),
-        None => read_hrd_parameters(r, common, max_sub_layers_minus1, &HrdParams::new()),
+        Some(last) => *hrd = *last,
+        None => *hrd = HrdParams::new(),
     }
 }

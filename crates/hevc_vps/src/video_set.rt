@@ -24,6 +24,8 @@ use std::alloc::Global;
 /// Errors: `WrongNaluType` first, where the unit is of another type; `OutOfBits` where the payload ends within an element;
 /// `OutOfRange` with table and row of the first element that isn't allowed; `NoMemory`.
 #[tactic(auto, using(hevc_elements::proofs::SetMeaning::set_meanings))]
+// Its frame has whole sets: the stack of its callers stays small without it.
+#[inline(never)]
 pub fn read_vps(alloc: Global, nalu: &Nalu<'_, NaluHeader>) -> Result<Vps, ParseError>
     requires { length nalu.now.stream < STREAM_LIMIT }
     ensures wrong_type { IsErrOf result ParseError.WrongNaluType

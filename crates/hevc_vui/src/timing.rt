@@ -9,7 +9,7 @@ use hevc_elements::ParseError;
 use hevc_elements::rows::{bits_32, flag, ue_if};
 use hevc_hrd::read_hrd_parameters;
 use hevc_spec::Row;
-use hevc_video_set::{HrdParams, VuiParams};
+use hevc_video_set::VuiParams;
 
 /// Rows 15 to 20 of table 8.
 #[tactic(auto, unfolding(hevc_tables::specs::VuiTable::timing_info, hevc_spec::specs::Rows::when))]
@@ -53,7 +53,7 @@ fn read_timing(
 }
 
 /// Row 20 of table 8.
-#[tactic(auto, unfolding(hevc_tables::specs::VuiTable::hrd))]
+#[tactic(auto, unfolding(hevc_tables::specs::VuiTable::hrd, hevc_tables::specs::HrdTable::hrd_parameters, hevc_spec::specs::Rows::when))]
 fn read_hrd(
     r: &mut NaluReader<'_>,
     max_sub_layers_minus1: u8,
@@ -63,6 +63,5 @@ fn read_hrd(
     ensures { Fills plain_vui_params
         (table.hrd max_sub_layers_minus1) result vui.old vui.new r.old r.new }
 {
-    vui.hrd = read_hrd_parameters(r, true, max_sub_layers_minus1, &HrdParams::new())?;
-    Ok(())
+    read_hrd_parameters(r, true, max_sub_layers_minus1, &mut vui.hrd)
 }

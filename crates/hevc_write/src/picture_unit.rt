@@ -12,6 +12,7 @@ use crate::syntax::Syntax;
 use crate::unit_type::is_of_type;
 use hevc_bit_writer::BitWriter;
 use hevc_bits::{NaluHeader, NaluType};
+use hevc_boxed::Boxed;
 use hevc_elements::ParseError;
 use hevc_picture_slice::Pps;
 use hevc_picture_slice::comparisons::pps_eq;
@@ -112,11 +113,12 @@ fn is_read_back(
 }
 
 /// A sequence set alone, under its id.
-pub(crate) fn alone(alloc: Global, sps: &Sps) -> Result<BTreeMap<u8, Sps>, AllocError>
+pub(crate) fn alone(alloc: Global, sps: &Sps) -> Result<BTreeMap<u8, Boxed<Sps>>, AllocError>
     ensures { IfOk result
         (λ sets. sets_by_id plain_sps sets ≡ only_sequence_set (plain_sps sps.now)) }
 {
     let mut sets = BTreeMap::new(alloc);
-    sets.insert(sps.seq_parameter_set_id, sps.try_clone()?)?;
+    let set = Boxed::new(alloc, sps.try_clone()?)?;
+    sets.insert(sps.seq_parameter_set_id, set)?;
     Ok(sets)
 }

@@ -154,7 +154,7 @@ fn append_sequence_set(
     let header = nalu.header();
     match read_sps(alloc, nalu) {
         Ok(set) => {
-            append_anew(alloc, &set, header, out)?;
+            append_anew(alloc, set.get(), header, out)?;
             parser.keep_sequence_set(set)?;
             Ok(())
         }

@@ -72,7 +72,7 @@ fn is_read_back(
 {
     let stream = trial_stream(alloc, header, w)?;
     match read_sps(alloc, &trial_unit(&stream)) {
-        Ok(read) => Ok(sps_eq(&read, set)),
+        Ok(read) => Ok(sps_eq(read.get(), set)),
         Err(ParseError::NoMemory) => Err(AllocError),
         Err(_) => Ok(false),
     }

@@ -4,7 +4,7 @@ use crate::written::assert_written;
 use hevc_bit_writer::BitWriter;
 use hevc_bits::NaluReader;
 use hevc_readers::{read_hrd_parameters, read_profile_tier_level, read_vui_parameters};
-use hevc_video_set::HrdParams;
+use hevc_video_set::{HrdParams, VuiParams};
 use hevc_write_parts::{write_hrd_parameters, write_profile_tier_level, write_vui_parameters};
 
 /// Usability with every group of elements, and a one after its last bit.
@@ -39,7 +39,8 @@ fn usability_is_written_as_it_was(rt: HostRuntime) {
     let rt = &rt;
     let mut r = NaluReader::new(USABILITY);
     let mut w = BitWriter::new(rt.alloc());
-    let vui = ok(rt, read_vui_parameters(&mut r, 0));
+    let mut vui = VuiParams::new();
+    ok(rt, read_vui_parameters(&mut r, 0, &mut vui));
     ok(rt, write_vui_parameters(&mut w, 0, &vui));
     assert_written(rt, rt.alloc(), &mut w, USABILITY);
 }
@@ -49,7 +50,8 @@ fn schedules_are_written_as_they_were(rt: HostRuntime) {
     let rt = &rt;
     let mut r = NaluReader::new(SCHEDULES);
     let mut w = BitWriter::new(rt.alloc());
-    let hrd = ok(rt, read_hrd_parameters(&mut r, true, 1, &HrdParams::new()));
+    let mut hrd = HrdParams::new();
+    ok(rt, read_hrd_parameters(&mut r, true, 1, &mut hrd));
     ok(rt, write_hrd_parameters(&mut w, true, 1, &hrd));
     assert_written(rt, rt.alloc(), &mut w, SCHEDULES);
 }

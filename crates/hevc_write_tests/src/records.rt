@@ -6,6 +6,7 @@
 //! set is as in a new record.
 use crate::expect::{expect, expect_eq, expect_fewer, ok};
 use hevc_bits::{Nalu, NaluHeader, NaluType};
+use hevc_boxed::Boxed;
 use hevc_picture_slice::{Pps, SliceHeader};
 use hevc_readers::{default_scaling_lists, read_pps, read_sps, read_vps};
 use hevc_sequence_set::Sps;
@@ -277,7 +278,7 @@ fn sequence_set_again(rt: &impl Abort, alloc: Global, sps: &Sps) -> Sps {
     expect_fewer(rt, &stream, 1000);
     let mut position = 0;
     let nalu = ok(rt, Nalu::<NaluHeader>::next(&stream, &mut position));
-    ok(rt, read_sps(alloc, &nalu))
+    ok(rt, read_sps(alloc, &nalu)).into_inner()
 }
 
 /// A picture set that names this sequence set, written and read back.
@@ -288,7 +289,7 @@ fn picture_set_again(rt: &impl Abort, alloc: Global, sps: &Sps, pps: &Pps) -> Pp
     );
     expect_fewer(rt, &stream, 1000);
     let mut spses = BTreeMap::new(alloc);
-    let kept = ok(rt, sps.try_clone());
+    let kept = ok(rt, Boxed::new(alloc, ok(rt, sps.try_clone())));
     ok(rt, spses.insert(sps.seq_parameter_set_id, kept));
     let mut position = 0;
     let nalu = ok(rt, Nalu::<NaluHeader>::next(&stream, &mut position));
@@ -305,7 +306,7 @@ fn header_again(
     let stream = ok(rt, written(alloc, slice, nalu_type));
     expect_fewer(rt, &stream, 1000);
     let mut spses = BTreeMap::new(alloc);
-    let kept = ok(rt, slice.sps.try_clone());
+    let kept = ok(rt, Boxed::new(alloc, ok(rt, slice.sps.try_clone())));
     ok(rt, spses.insert(slice.sps.seq_parameter_set_id, kept));
     let mut ppses = BTreeMap::new(alloc);
     ok(rt, ppses.insert(slice.pps.pic_parameter_set_id, *slice.pps));

@@ -3,6 +3,7 @@ use crate::expect::{expect, expect_eq, expect_fewer, ok};
 use crate::written::assert_unit;
 use hevc_bit_writer::{BitWriter, append_unit};
 use hevc_bits::{Nalu, NaluHeader};
+use hevc_boxed::Boxed;
 use hevc_readers::{read_pps, read_sps, read_vps};
 use hevc_sequence_set::Sps;
 use hevc_write_pps::write_pps;
@@ -139,7 +140,7 @@ fn assert_sequence_set(rt: &impl Abort, alloc: Global, stream: &[u8]) {
 fn assert_picture_set(rt: &impl Abort, alloc: Global, sps: &Sps, stream: &[u8]) {
     expect_fewer(rt, stream, 1000);
     let mut spses = BTreeMap::new(alloc);
-    let kept = ok(rt, sps.try_clone());
+    let kept = ok(rt, Boxed::new(alloc, ok(rt, sps.try_clone())));
     ok(rt, spses.insert(sps.seq_parameter_set_id, kept));
     let mut position = 0;
     let nalu = ok(rt, Nalu::<NaluHeader>::next(stream, &mut position));

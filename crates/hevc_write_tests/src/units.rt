@@ -1,6 +1,7 @@
 //! Slices, and their refusals, as units (7.3.1.1).
 use crate::expect::{expect, expect_eq, expect_fewer, ok};
 use hevc_bits::{Nalu, NaluHeader};
+use hevc_boxed::Boxed;
 use hevc_picture_slice::{Pps, SliceHeader};
 use hevc_sequence_set::Sps;
 use hevc_slice_header::read_slice_header;
@@ -107,7 +108,8 @@ fn read(
 ) -> (NaluHeader, SliceHeader) {
     expect_fewer(rt, stream, 1000);
     let mut spses = BTreeMap::new(alloc);
-    ok(rt, spses.insert(0, ok(rt, sps.try_clone())));
+    let kept = ok(rt, Boxed::new(alloc, ok(rt, sps.try_clone())));
+    ok(rt, spses.insert(0, kept));
     let mut ppses = BTreeMap::new(alloc);
     ok(rt, ppses.insert(0, *pps));
     let mut position = 0;

@@ -6,6 +6,7 @@ use super::slice::SLICE;
 use super::{Kept, Line, Unit, both_sets, no_sets, whole};
 use crate::expect::{expect, expect_eq, ok};
 use hevc_bits::{Nalu, NaluHeader};
+use hevc_boxed::Boxed;
 use hevc_picture_slice::{Pps, SliceHeader};
 use hevc_readers::{read_pps, read_sps};
 use hevc_sequence_set::Sps;
@@ -129,7 +130,7 @@ const PLANE: Unit = Unit {
 };
 
 /// The sequence set of a unit.
-fn sequence_set_of(rt: &impl Abort, alloc: Global, unit: &Unit) -> Sps {
+fn sequence_set_of(rt: &impl Abort, alloc: Global, unit: &Unit) -> Boxed<Sps> {
     let stream = whole(rt, alloc, unit);
     let mut position = 0;
     let nalu = ok(rt, Nalu::<NaluHeader>::next(&stream, &mut position));

@@ -4,6 +4,7 @@ ghost use Rattle.std.specs.Prelude.{◌<◌, length};
 use crate::expect::{expect, expect_eq, ok};
 use crate::streams::{PICTURE_SET, SEQUENCE_SET};
 use hevc_bits::{Nalu, NaluHeader};
+use hevc_boxed::Boxed;
 use hevc_picture_slice::Pps;
 use hevc_readers::{ParseError, default_scaling_lists, read_pps};
 use hevc_sequence_set::Sps;
@@ -107,15 +108,19 @@ fn twenty_blocks(alloc: Global) -> Sps {
 fn read(alloc: Global, sps: Sps, stream: &[u8]) -> Result<Pps, ParseError>
     requires { length stream.now < 1000 }
 {
+    let id = sps.seq_parameter_set_id;
     let mut spses = BTreeMap::new(alloc);
-    spses
-        .insert(sps.seq_parameter_set_id, sps)
-        .map_err(|_| ParseError::NoMemory)?;
+    let sps = Boxed::new(alloc, sps)?;
+    spses.insert(id, sps).map_err(|_| ParseError::NoMemory)?;
     read_with(alloc, &spses, stream)
 }
 
 /// The first unit of a stream as a set.
-fn read_with(alloc: Global, spses: &BTreeMap<u8, Sps>, stream: &[u8]) -> Result<Pps, ParseError>
+fn read_with(
+    alloc: Global,
+    spses: &BTreeMap<u8, Boxed<Sps>>,
+    stream: &[u8],
+) -> Result<Pps, ParseError>
     requires { length stream.now < 1000 }
 {
     let mut position = 0;

@@ -4,6 +4,7 @@ ghost use Rattle.std.specs.Prelude.{◌<◌, length};
 use crate::expect::{expect, expect_eq, ok};
 use crate::streams::{PICTURE_SET, SEQUENCE_SET};
 use hevc_bits::{Nalu, NaluHeader};
+use hevc_boxed::Boxed;
 use hevc_readers::{ParseError, read_sps};
 use hevc_sequence_set::{Sps, SpsSccExtension};
 use std::alloc::Global;
@@ -82,7 +83,7 @@ const LARGE_TRANSFORMS: &[u8] = &[
 ];
 
 /// The first unit of a stream as a set.
-fn read(alloc: Global, stream: &[u8]) -> Result<Sps, ParseError>
+fn read(alloc: Global, stream: &[u8]) -> Result<Boxed<Sps>, ParseError>
     requires { length stream.now < 1000 }
 {
     let mut position = 0;

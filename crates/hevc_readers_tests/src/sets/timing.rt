@@ -1,5 +1,5 @@
 //! Worked structures, and the values that E.2.2 and E.2.3 give for their bits.
-use crate::expect::{expect, expect_eq};
+use crate::expect::{expect, expect_eq, ok};
 use hevc_bits::NaluReader;
 use hevc_readers::{ParseError, read_hrd_parameters};
 use hevc_video_set::HrdParams;
@@ -79,8 +79,9 @@ fn both_kinds_with_decoding_units(rt: HostRuntime) {
     put_first_sub_layer(&mut want);
     put_second_sub_layer(&mut want);
     let mut r = NaluReader::new(BOTH_KINDS);
-    let read = read_hrd_parameters(&mut r, true, 1, &HrdParams::new());
-    expect(rt, read == Ok(want));
+    let mut read = HrdParams::new();
+    ok(rt, read_hrd_parameters(&mut r, true, 1, &mut read));
+    expect(rt, read == want);
     expect_eq(rt, r.num_bits_left(), 7);
 }
 
@@ -100,8 +101,8 @@ fn a_structure_without_common_elements(rt: HostRuntime) {
     want.vcl_hrd[0].bit_rate_value_minus1[0] = 3;
     want.vcl_hrd[0].cpb_size_value_minus1[0] = 4;
     want.vcl_hrd[0].cbr_flag[0] = true;
-    let read = read_hrd_parameters(&mut r, false, 0, &before);
-    expect(rt, read == Ok(want));
+    ok(rt, read_hrd_parameters(&mut r, false, 0, &mut before));
+    expect(rt, before == want);
     expect_eq(rt, r.num_bits_left(), 1);
 }
 
@@ -110,8 +111,8 @@ fn refusals_stand_before_their_element(rt: HostRuntime) {
     let rt = &rt;
     // 0 0 | 1 | 1 | 00000100001: 33 schedules
     let mut r = NaluReader::new(&[0x30, 0x42]);
-    let before = HrdParams::new();
-    let read = read_hrd_parameters(&mut r, true, 0, &before);
+    let mut hrd = HrdParams::new();
+    let read = read_hrd_parameters(&mut r, true, 0, &mut hrd);
     expect(
         rt,
         read == Err(ParseError::OutOfRange { table: 3, row: 14 }),
@@ -119,7 +120,7 @@ fn refusals_stand_before_their_element(rt: HostRuntime) {
     expect_eq(rt, r.num_bits_left(), 12);
     // 1 0 | 0 | 0000, and one bit of the second row 7
     let mut r = NaluReader::new(&[0x80]);
-    let read = read_hrd_parameters(&mut r, true, 0, &before);
+    let read = read_hrd_parameters(&mut r, true, 0, &mut hrd);
     expect(rt, read == Err(ParseError::OutOfBits));
     expect_eq(rt, r.num_bits_left(), 1);
 }

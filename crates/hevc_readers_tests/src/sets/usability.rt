@@ -1,5 +1,5 @@
 //! Worked structures, and the values that E.2.1 gives for their bits.
-use crate::expect::{expect, expect_eq};
+use crate::expect::{expect, expect_eq, ok};
 use hevc_bits::NaluReader;
 use hevc_readers::{ParseError, read_vui_parameters};
 use hevc_video_set::{HrdParams, VuiParams};
@@ -104,7 +104,9 @@ fn every_group_with_both_kinds_of_schedules(rt: HostRuntime) {
     put_timing(&mut want);
     put_hrd(&mut want.hrd);
     let mut r = NaluReader::new(EVERY_GROUP);
-    expect(rt, read_vui_parameters(&mut r, 0) == Ok(want));
+    let mut read = VuiParams::new();
+    ok(rt, read_vui_parameters(&mut r, 0, &mut read));
+    expect(rt, read == want);
     expect_eq(rt, r.num_bits_left(), 5);
 }
 
@@ -112,7 +114,10 @@ fn every_group_with_both_kinds_of_schedules(rt: HostRuntime) {
 fn no_flag_is_set(rt: HostRuntime) {
     let rt = &rt;
     let mut r = NaluReader::new(&[0x00, 0x20]);
-    expect(rt, read_vui_parameters(&mut r, 6) == Ok(VuiParams::new()));
+    let mut read = VuiParams::new();
+    read.video_format = 5;
+    ok(rt, read_vui_parameters(&mut r, 6, &mut read));
+    expect(rt, read == VuiParams::new());
     expect_eq(rt, r.num_bits_left(), 6);
 }
 
@@ -121,7 +126,8 @@ fn a_refusal_stands_before_its_element(rt: HostRuntime) {
     let rt = &rt;
     // 0 | 0 | 0 | 1 00111: a place of chroma samples of 6
     let mut r = NaluReader::new(&[0x13, 0x80]);
-    let read = read_vui_parameters(&mut r, 0);
+    let mut vui = VuiParams::new();
+    let read = read_vui_parameters(&mut r, 0, &mut vui);
     expect(
         rt,
         read == Err(ParseError::OutOfRange { table: 8, row: 11 }),
@@ -130,7 +136,7 @@ fn a_refusal_stands_before_its_element(rt: HostRuntime) {
     let mut r = NaluReader::new(&[0xff]);
     expect(
         rt,
-        read_vui_parameters(&mut r, 0) == Err(ParseError::OutOfBits),
+        read_vui_parameters(&mut r, 0, &mut vui) == Err(ParseError::OutOfBits),
     );
     expect_eq(rt, r.num_bits_left(), 7);
 }

@@ -4,6 +4,7 @@ ghost use Rattle.std.specs.Prelude.{◌<◌, length};
 use crate::expect::{expect, expect_eq, ok};
 use crate::streams::{NO_SET, P_SLICE, PICTURE_SET, SEQUENCE_SET, VIDEO_SET};
 use hevc_bits::{Nalu, NaluHeader};
+use hevc_boxed::Boxed;
 use hevc_parser::{ParseError, Parser, slice_header_set_defaults};
 use hevc_picture_slice::{Pps, Slice, SliceHeader};
 use hevc_readers::read_sps;
@@ -64,9 +65,9 @@ fn changes(alloc: Global, parser: &mut Parser, stream: &[u8], id: u8) -> Result<
     let Ok(unit) = Nalu::<NaluHeader>::next(stream, &mut position) else {
         return Err(ParseError::OutOfBits);
     };
-    let mut set = read_sps(alloc, &unit)?;
+    let mut set = read_sps(alloc, &unit)?.into_inner();
     set.seq_parameter_set_id = id;
-    Ok(parser.keep_sequence_set(set)?)
+    Ok(parser.keep_sequence_set(Boxed::new(alloc, set)?)?)
 }
 
 #[test]
@@ -79,7 +80,8 @@ fn a_sequence_set_that_is_repeated_changes_nothing(rt: HostRuntime) {
             changes(rt.alloc(), &mut parser, SEQUENCE_SET, id) == Ok(is_changed),
         );
     }
-    expect(rt, ok(rt, parser.keep_sequence_set(Sps::new(rt.alloc()))));
+    let set = ok(rt, Boxed::new(rt.alloc(), Sps::new(rt.alloc())));
+    expect(rt, ok(rt, parser.keep_sequence_set(set)));
     for (id, is_changed) in [(1, false), (0, true)] {
         expect(
             rt,

@@ -4,6 +4,7 @@ ghost use Rattle.std.specs.Prelude.{◌<◌, length};
 use crate::expect::{expect, expect_eq, ok};
 use crate::streams::{NO_SET, P_SLICE, PICTURE_SET};
 use hevc_bits::{Nalu, NaluHeader, NaluReader};
+use hevc_boxed::Boxed;
 use hevc_parser::{ParseError, parse_pred_weight_table};
 use hevc_picture_slice::{Pps, SliceHeader};
 use hevc_sequence_set::Sps;
@@ -155,6 +156,7 @@ fn read(alloc: Global, sps: Sps, pps: Pps, stream: &[u8]) -> Result<SliceHeader,
     requires { length stream.now < 1000 }
 {
     let mut spses = BTreeMap::new(alloc);
+    let sps = Boxed::new(alloc, sps)?;
     spses.insert(0, sps).map_err(|_| ParseError::NoMemory)?;
     let mut ppses = BTreeMap::new(alloc);
     ppses.insert(0, pps).map_err(|_| ParseError::NoMemory)?;

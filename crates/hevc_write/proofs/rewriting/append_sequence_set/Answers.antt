@@ -1,4 +1,4 @@
-use Rattle.std.proofs.Common.{◌≡◌, ◌++◌, refl, sym, ap, ◌∙◌, List, ℕ}
+use Rattle.std.proofs.Common.{◌≡◌, ◌++◌, refl, sym, subst, ap, ◌∙◌, List, [], ℕ}
 use Rattle.hevc_bits.specs.FoundUnit.{bytes_of, unit_of}
 use Rattle.hevc_bit_writer.specs.WrittenUnits.{started}
 use Rattle.hevc_spec.specs.Payload.{payload}
@@ -9,7 +9,9 @@ use Rattle.hevc_stream.specs.Contents.{sequence_set}
 use Rattle.hevc_stream.specs.Kept.{Kept, with_set}
 use Rattle.hevc_stream.specs.Options.{default_options}
 use Rattle.hevc_tables.specs.SpsTable.{sequence_parameter_set}
+use Rattle.hevc_sequence_set.specs.declared.sps.Sps.{Sps}
 use Rattle.hevc_sequence_set.specs.Sps.{plain_sps}
+use Rattle.hevc_write_units.specs.Added.{AddsUnit}
 use Rattle.hevc_write_units.specs.Values.{SetLines, MeansSequenceSet}
 use Rattle.hevc_write.proofs.Taking.{anew, copied, header_is, on_ok, own_sequences, refuses_set, sequence_is, sequence_unread, wanted}
 use Rattle.hevc_write.proofs.rewriting.append_sequence_set.Goals as goal
@@ -22,7 +24,8 @@ returns-in_ok-keep_sequence_set-in-Ok-clause-takes c =
     let parsed = header_is bytes header c.header-header.ensures.parsed in
     let typed : header.nal_unit_type ≡ 33 = ap (λ (h : UnitHeader). h.nal_unit_type) c.header-header.ensures.value ∙ c.requires.typed in
     let was = c.in-Ok.ensures.read c.requires.typed in
-    let added = c.in_ok-append_anew-in-Ok.ensures.added in
+    let adds = λ (s : Sps). AddsUnit header (SetLines 33 sequence_parameter_set (plain_sps s) header) [] (MeansSequenceSet (plain_sps s) header) c.args.out.now.items c.append_anew.new.out.items in
+    let added = subst adds c.get.ensures c.in_ok-append_anew-in-Ok.ensures.added in
     λ kept before.
     let is = sequence_is kept bytes header parsed set was.0 typed was.1 in
     let kept_are = ap (λ (k : Kept). k.sequence_sets) c.in_ok-keep_sequence_set-in-Ok.ensures.kept ∙ ap (with_set set.seq_parameter_set_id set) before ∙ sym (own_sequences bytes kept set is) in
