@@ -37,13 +37,23 @@ pub record MeanAlike (stream : List ℕ) (us vs : List Meaning) : Type 0 where
   pub outputs : outputs vs ≡ map (renumbered_output (flags_of 6 stream)) (outputs us)
   pub verdict : verdict vs ≡ renumbered_verdict (flags_of 6 stream) (verdict us)
 
-module _ (stream bytes : List ℕ) (us vs : List Meaning) (e : meanings default_options stream ≡ us) (f : meanings default_options bytes ≡ vs) where
-  pub mean_alike : DecodesAlike 6 stream bytes → MeanAlike stream us vs
-  mean_alike alike =
-      let whole : MeanAlike stream (meanings default_options stream) (meanings default_options bytes) = record { calls = alike.calls; outputs = alike.outputs; verdict = alike.verdict } in
-      subst (λ (ms : List Meaning). MeanAlike stream ms vs) e (subst (λ (ms : List Meaning). MeanAlike stream (meanings default_options stream) ms) f whole)
+module _ (stream bytes : List ℕ) (us vs : List Meaning)
+    (e : meanings default_options stream ≡ us) (f : meanings default_options bytes ≡ vs)
+  where
+    pub mean_alike : DecodesAlike 6 stream bytes → MeanAlike stream us vs
+    mean_alike alike =
+        let of_stream = meanings default_options stream in
+        let whole : MeanAlike stream of_stream (meanings default_options bytes) = record {
+          calls = alike.calls;
+          outputs = alike.outputs;
+          verdict = alike.verdict;
+        } in
+        let meant = subst (λ (ms : List Meaning). MeanAlike stream of_stream ms) f whole in
+        subst (λ (ms : List Meaning). MeanAlike stream ms vs) e meant
 
-  pub decode_alike : MeanAlike stream us vs → DecodesAlike 6 stream bytes
-  decode_alike alike =
-      let whole = subst (λ (ms : List Meaning). MeanAlike stream ms (meanings default_options bytes)) (sym e) (subst (λ (ms : List Meaning). MeanAlike stream us ms) (sym f) alike) in
-      record { calls = whole.calls; outputs = whole.outputs; verdict = whole.verdict }
+    pub decode_alike : MeanAlike stream us vs → DecodesAlike 6 stream bytes
+    decode_alike alike =
+        let of_bytes = meanings default_options bytes in
+        let meant = subst (λ (ms : List Meaning). MeanAlike stream us ms) (sym f) alike in
+        let whole = subst (λ (ms : List Meaning). MeanAlike stream ms of_bytes) (sym e) meant in
+        record { calls = whole.calls; outputs = whole.outputs; verdict = whole.verdict }

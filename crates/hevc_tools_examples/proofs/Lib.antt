@@ -1,3 +1,4 @@
 mod Alike
 mod Beginning
 mod Few
+mod Pieces

@@ -4,4 +4,5 @@
 pub mod added;
 pub mod begun;
 pub mod extracts;
+pub mod rewritten;
 pub mod runs;

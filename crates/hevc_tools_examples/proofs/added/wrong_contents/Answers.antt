@@ -8,5 +8,6 @@ pub returns-clause-found : goal.returns-clause-found
 unfolding units_from
 returns-clause-found c = λ added.
     let bytes : added.bytes ≡ 66 ∷ 1 ∷ 128 ∷ 0 ∷ [] = cc added.parts in
-    let e : 66 ∷ 1 ∷ 128 ∷ [] ≡ 66 ∷ 1 ∷ 128 ∷ 0 ∷ [] = subst (λ (b : List ℕ). first_bytes (units (started b)) ≡ b) bytes (ap first_bytes added.found) in
+    let e : 66 ∷ 1 ∷ 128 ∷ [] ≡ 66 ∷ 1 ∷ 128 ∷ 0 ∷ [] =
+    subst (λ (b : List ℕ). first_bytes (units (started b)) ≡ b) bytes (ap first_bytes added.found) in
     absurd (cc e)

@@ -13,5 +13,10 @@ use Rattle.hevc_tools_examples.proofs.Beginning.{begins}
 use Rattle.hevc_tools_examples.proofs.begun.right_beginnings.Goals as goal
 
 pub returns : goal.returns
-unfolding units_from head order_count_in_range nearest due_outputs needs_additional_bumping needs_bumping with_stored reference_set with_marks ref_pic_list0 ref_pic_list1 finish store_picture change_format begin_picture make_room start_decoding
-returns c = λ p first. let us = sets_then plain_format (idr_of plain_format ∷ []) in begins p first 1 idr_stream idr_stream us us computed.idr computed.idr (record { verdict = refl; whole_calls = refl; whole_outputs = refl; calls = refl; outputs = refl })
+unfolding units_from head order_count_in_range nearest due_outputs needs_additional_bumping needs_bumping with_stored
+    reference_set with_marks ref_pic_list0 ref_pic_list1
+    finish store_picture change_format begin_picture make_room start_decoding
+returns c = λ p first.
+    let us = sets_then plain_format (idr_of plain_format ∷ []) in
+    begins p first 1 idr_stream idr_stream us us computed.idr computed.idr
+    (record { verdict = refl; whole_calls = refl; whole_outputs = refl; calls = refl; outputs = refl })

@@ -13,13 +13,28 @@ use Rattle.hevc_tools_examples.proofs.Beginning.{mean_begun}
 use Rattle.hevc_tools_examples.proofs.begun.wrong_beginnings.Goals as goal
 
 pub returns-clause-verdict : goal.returns-clause-verdict
-unfolding units_from head order_count_in_range nearest due_outputs needs_additional_bumping needs_bumping with_stored reference_set with_marks ref_pic_list0 ref_pic_list1 finish store_picture change_format begin_picture make_room start_decoding
-returns-clause-verdict c = λ p first begun. let e : Path (Result ℕ Refusal) (Ok 1) (Ok 2) = (mean_begun p first _ _ _ _ _ computed.idr computed.idr begun).verdict in absurd (cc e)
+unfolding units_from head order_count_in_range nearest due_outputs needs_additional_bumping needs_bumping with_stored
+    reference_set with_marks ref_pic_list0 ref_pic_list1
+    finish store_picture change_format begin_picture make_room start_decoding
+returns-clause-verdict c = λ p first begun.
+    let as_meant = mean_begun p first _ _ _ _ _ computed.idr computed.idr begun in
+    let e : Path (Result ℕ Refusal) (Ok 1) (Ok 2) = as_meant.verdict in
+    absurd (cc e)
 
 pub returns-clause-calls : goal.returns-clause-calls
-unfolding units_from head order_count_in_range nearest due_outputs needs_additional_bumping needs_bumping with_stored reference_set with_marks ref_pic_list0 ref_pic_list1 finish store_picture change_format begin_picture make_room start_decoding
-returns-clause-calls c = λ p first begun. let e : 5 ∷ [] ≡ 4 ∷ [] = ap sizes (mean_begun p first _ _ _ _ _ computed.idr computed.longer_idr begun).calls in absurd (cc e)
+unfolding units_from head order_count_in_range nearest due_outputs needs_additional_bumping needs_bumping with_stored
+    reference_set with_marks ref_pic_list0 ref_pic_list1
+    finish store_picture change_format begin_picture make_room start_decoding
+returns-clause-calls c = λ p first begun.
+    let as_meant = mean_begun p first _ _ _ _ _ computed.idr computed.longer_idr begun in
+    let e : 5 ∷ [] ≡ 4 ∷ [] = ap sizes as_meant.calls in
+    absurd (cc e)
 
 pub returns-clause-outputs : goal.returns-clause-outputs
-unfolding units_from head order_count_in_range nearest due_outputs needs_additional_bumping needs_bumping with_stored reference_set with_marks ref_pic_list0 ref_pic_list1 finish store_picture change_format begin_picture make_room start_decoding
-returns-clause-outputs c = λ p first begun. let e : 5 ∷ [] ≡ 4 ∷ [] = ap output_units (mean_begun p first _ _ _ _ _ computed.ended computed.ended_twice begun).outputs in absurd (cc e)
+unfolding units_from head order_count_in_range nearest due_outputs needs_additional_bumping needs_bumping with_stored
+    reference_set with_marks ref_pic_list0 ref_pic_list1
+    finish store_picture change_format begin_picture make_room start_decoding
+returns-clause-outputs c = λ p first begun.
+    let as_meant = mean_begun p first _ _ _ _ _ computed.ended computed.ended_twice begun in
+    let e : 5 ∷ [] ≡ 4 ∷ [] = ap output_units as_meant.outputs in
+    absurd (cc e)

@@ -18,5 +18,10 @@ unfolding units_from
 returns-clause-holds c = holds_kept 6 63 idr_stream
 
 pub returns-clause-alike : goal.returns-clause-alike
-unfolding units_from head order_count_in_range nearest due_outputs needs_additional_bumping needs_bumping with_stored reference_set with_marks ref_pic_list0 ref_pic_list1 finish store_picture change_format begin_picture make_room start_decoding
-returns-clause-alike c = let us = sets_then plain_format (idr_of plain_format ∷ []) in decode_alike idr_stream idr_stream us us computed.idr computed.idr (record { calls = refl; outputs = refl; verdict = refl })
+unfolding units_from head order_count_in_range nearest due_outputs needs_additional_bumping needs_bumping with_stored
+    reference_set with_marks ref_pic_list0 ref_pic_list1
+    finish store_picture change_format begin_picture make_room start_decoding
+returns-clause-alike c =
+    let us = sets_then plain_format (idr_of plain_format ∷ []) in
+    decode_alike idr_stream idr_stream us us computed.idr computed.idr
+    (record { calls = refl; outputs = refl; verdict = refl })

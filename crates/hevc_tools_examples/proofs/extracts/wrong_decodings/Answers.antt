@@ -11,13 +11,23 @@ use Rattle.hevc_tools_examples.proofs.Alike.{mean_alike, output_units, sizes}
 use Rattle.hevc_tools_examples.proofs.extracts.wrong_decodings.Goals as goal
 
 pub returns-clause-calls : goal.returns-clause-calls
-unfolding units_from head order_count_in_range nearest due_outputs needs_additional_bumping needs_bumping with_stored reference_set with_marks ref_pic_list0 ref_pic_list1 finish store_picture change_format begin_picture make_room start_decoding
-returns-clause-calls c = λ alike. let e : 5 ∷ [] ≡ 4 ∷ [] = ap sizes (mean_alike _ _ _ _ computed.idr computed.longer_idr alike).calls in absurd (cc e)
+unfolding units_from head order_count_in_range nearest due_outputs needs_additional_bumping needs_bumping with_stored
+    reference_set with_marks ref_pic_list0 ref_pic_list1
+    finish store_picture change_format begin_picture make_room start_decoding
+returns-clause-calls c = λ alike.
+    let e : 5 ∷ [] ≡ 4 ∷ [] = ap sizes (mean_alike _ _ _ _ computed.idr computed.longer_idr alike).calls in
+    absurd (cc e)
 
 pub returns-clause-outputs : goal.returns-clause-outputs
-unfolding units_from head order_count_in_range nearest due_outputs needs_additional_bumping needs_bumping with_stored reference_set with_marks ref_pic_list0 ref_pic_list1 finish store_picture change_format begin_picture make_room start_decoding
-returns-clause-outputs c = λ alike. let e : 5 ∷ [] ≡ 4 ∷ [] = ap output_units (mean_alike _ _ _ _ computed.ended computed.ended_twice alike).outputs in absurd (cc e)
+unfolding units_from head order_count_in_range nearest due_outputs needs_additional_bumping needs_bumping with_stored
+    reference_set with_marks ref_pic_list0 ref_pic_list1
+    finish store_picture change_format begin_picture make_room start_decoding
+returns-clause-outputs c = λ alike.
+    let e : 5 ∷ [] ≡ 4 ∷ [] = ap output_units (mean_alike _ _ _ _ computed.ended computed.ended_twice alike).outputs in
+    absurd (cc e)
 
 pub returns-clause-verdict : goal.returns-clause-verdict
-unfolding units_from head order_count_in_range nearest due_outputs needs_additional_bumping needs_bumping with_stored reference_set with_marks ref_pic_list0 ref_pic_list1 finish store_picture change_format begin_picture make_room start_decoding
+unfolding units_from head order_count_in_range nearest due_outputs needs_additional_bumping needs_bumping with_stored
+    reference_set with_marks ref_pic_list0 ref_pic_list1
+    finish store_picture change_format begin_picture make_room start_decoding
 returns-clause-verdict c = λ alike. absurd (cc (mean_alike _ _ _ _ computed.truncated computed.empty alike).verdict)

@@ -11,7 +11,9 @@ returns-clause-more c = λ held. absurd (cc held.found)
 
 pub returns-clause-place : goal.returns-clause-place
 unfolding units_from
-returns-clause-place c = λ held. let e : 4 ≡ 3 = ap first_offset held.found in absurd (cc e)
+returns-clause-place c = λ held.
+    let e : 4 ≡ 3 = ap first_offset held.found in
+    absurd (cc e)
 
 pub returns-clause-meant : goal.returns-clause-meant
 unfolding units_from

@@ -4,4 +4,5 @@ use Rattle.hevc_tools_examples.proofs.Few.{not_done, not_risen}
 use Rattle.hevc_tools_examples.proofs.runs.wrong_statuses.Goals as goal
 
 pub returns-clause-completes : goal.returns-clause-completes
-returns-clause-completes c = λ run. not_done 9 (omega arith) (run.completes two_bytes refl (omega arith) not_risen not_risen)
+returns-clause-completes c = λ run.
+    not_done 9 (omega arith) (run.completes two_bytes refl (omega arith) not_risen not_risen)
