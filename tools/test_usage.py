@@ -15,6 +15,12 @@ def run(program, words, **given):
     return ended.returncode, ended.stdout, ended.stderr.decode()
 
 
+def run_on_zeros(program, words, count):
+    """The same on so many zero bytes, which are no unit."""
+    with subprocess.Popen(["head", "-c", str(count), "/dev/zero"], stdout=subprocess.PIPE) as zeros:
+        return run(program, words, stdin=zeros.stdout, stdout=subprocess.PIPE)
+
+
 class Usage(unittest.TestCase):
     def test_words_that_ask_for_nothing(self):
         for program in PROGRAMS:
@@ -29,10 +35,15 @@ class Usage(unittest.TestCase):
             status, _, said = run(program, words, input=b"", stdout=subprocess.PIPE)
             self.assertEqual((status, said), (0, ""))
 
+    def test_an_input_that_is_as_long_as_may_be(self):
+        for program, words in PROGRAMS.items():
+            status, written, said = run_on_zeros(program, words, LIMIT)
+            self.assertEqual((status, said), (0, ""))
+            self.assertEqual(written, run(program, words, input=b"", stdout=subprocess.PIPE)[1])
+
     def test_an_input_that_is_too_long(self):
         for program, words in PROGRAMS.items():
-            with subprocess.Popen(["head", "-c", str(LIMIT + 1), "/dev/zero"], stdout=subprocess.PIPE) as zeros:
-                status, written, said = run(program, words, stdin=zeros.stdout, stdout=subprocess.PIPE)
+            status, written, said = run_on_zeros(program, words, LIMIT + 1)
             self.assertEqual((status, written), (6, b""))
             self.assertEqual(said, f"{program}: the input has more than {LIMIT} bytes\n")
 

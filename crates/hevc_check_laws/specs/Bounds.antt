@@ -23,7 +23,7 @@ breaks_bounds set p before Full =
     not p.skipped
     && not (begins p before)
     && nat_le (p.limits.max_dec_pic_buffering_minus1 + 1) (length (entries_before set p before))
--- what is needed for output is discarded at it (C.5.2.2)
+-- its NoOutputOfPriorPicsFlag is set (C.5.2.2), whether or not a picture waits for output
 breaks_bounds set p before Discards = discards p
 -- more pictures than declared are before it and are output after it
 breaks_bounds set p before Reorder = is_reordered p before

@@ -1,4 +1,5 @@
--- What a picture can break of what its coded video sequence declares (7.4.3.2.1).
+-- What is looked for at a picture: that it, or its coded video sequence, isn't within bounds that are
+-- enough for its outputs to be all of its pictures, in order (7.4.3.2.1, C.5.2).
 use Rattle.std.specs.Prelude.{Bool, false, not, ◌&&◌, ◌==◌, nat_lt, int_lt, count_by, filter, List, [], ◌∷◌, if◌then◌else◌, Option, Some, None}
 use Rattle.hevc_walk.specs.Meanings.{same_format}
 use Rattle.hevc_walk.specs.Pictures.{Picture}
@@ -34,8 +35,8 @@ differs_from p (Some first) =
 abbrev pub is_changed : Picture → List Picture → Bool
 is_changed p before = differs_from p (earliest (earlier_in p before))
 
--- its NoOutputOfPriorPicsFlag empties the buffer of what is needed for output (C.5.2.2); before the
--- first picture there is nothing
+-- its NoOutputOfPriorPicsFlag is set, by which all that waits for output is discarded, if anything
+-- does (C.5.2.2); before the first picture there is nothing
 abbrev pub discards : Picture → Bool
 discards p = p.no_output_of_prior_pics && not (p.number == 0)
 

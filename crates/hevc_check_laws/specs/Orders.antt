@@ -44,7 +44,7 @@ breaks_order set p before SameCount =
     && list_any (λ b. int_eq p.order_count b.order_count) (earlier_for_output p before)
 -- because the buffer is full there is bumped, up to it, what is output no earlier than it
 breaks_order set p before Full = is_for_output p && filled_for set p.order_count (p ∷ before)
--- what is needed for output is discarded at it (C.5.2.2)
+-- its NoOutputOfPriorPicsFlag is set (C.5.2.2), whether or not a picture waits for output
 breaks_order set p before Discards = discards p
 -- more pictures than declared are before it and are output after it
 breaks_order set p before Reorder = is_reordered p before

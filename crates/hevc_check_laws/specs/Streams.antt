@@ -95,3 +95,13 @@ full_skipped =
 abbrev pub full_hidden : List Meaning
 full_hidden =
     stream_of (idr (limited 2 0 1) ∷ trailing (limited 2 0 1) 4 ∷ hidden (limited 2 0 1) 0 ∷ [])
+
+-- an IDR picture, and one that discards and has a latency declared
+abbrev pub late_discarding : List Meaning
+late_discarding = stream_of (idr (limited 2 0 4) ∷ idr_without_prior (limited 2 1 4) ∷ [])
+
+-- order counts 0, 4, 1, 2 and 4 where SpsMaxLatencyPictures is 2: two are decoded between the twins
+abbrev pub twin_at_latency : List Meaning
+twin_at_latency =
+    stream_of (idr (limited 2 1 4) ∷ trailing (limited 2 1 4) 4 ∷ trailing (limited 2 1 4) 1
+    ∷ trailing (limited 2 1 4) 2 ∷ trailing (limited 2 1 4) 4 ∷ [])

@@ -1,5 +1,6 @@
-//! Which picture of a stream breaks what its coded video sequences declare (7.4.3.2.1), and that
-//! none does exactly where each of them keeps it.
+//! At which picture of a stream a bound doesn't hold that is enough for output in order (7.4.3.2.1,
+//! C.5.2), and that all hold exactly where each coded video sequence keeps `KeepsBounds`, or
+//! `KeepsOrder`.
 #![tactic(auto)]
 
 pub mod rows;

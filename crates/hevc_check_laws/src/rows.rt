@@ -7,7 +7,7 @@ ghost use Rattle.hevc_walk_examples.specs.Corners.{limited, without_prior};
 ghost use Rattle.hevc_walk_examples.specs.OrderStreams.{two_sequences, reordered_too_far, late_stream, full_stream, overfull_stream};
 ghost use Rattle.hevc_check_laws.specs.Breaches.{Changed, Latency, SameCount, Full, Discards, Reorder};
 ghost use Rattle.hevc_check_laws.specs.Checks.{Yes, No, checked_bounds, checked_order};
-ghost use Rattle.hevc_check_laws.specs.Streams.{stream_of, late_second, deep_second, full_then_changed, full_twin, skipped_under, hidden_between, hidden_twin, cra_within, first_without_prior, full_at_start, full_before, late_twin, full_reference, full_skipped, full_hidden};
+ghost use Rattle.hevc_check_laws.specs.Streams.{stream_of, late_second, deep_second, full_then_changed, full_twin, skipped_under, hidden_between, hidden_twin, cra_within, first_without_prior, full_at_start, full_before, late_twin, full_reference, full_skipped, full_hidden, late_discarding, twin_at_latency};
 
 /// Streams that break nothing: sequences begin at the first picture and at IRAP pictures with
 /// NoRaslOutputFlag, and at no other IRAP picture (8.1.3).
@@ -75,6 +75,10 @@ pub fn which_is_named()
         ≡ No (record { number = 1; unit = 3; breach = Changed }) }
     ensures latency_and_count { checked_order late_twin
         ≡ No (record { number = 5; unit = 7; breach = Latency }) }
+    ensures latency_and_discards { checked_bounds late_discarding
+        ≡ No (record { number = 1; unit = 3; breach = Latency }) }
+    ensures count_at_latency { checked_order twin_at_latency
+        ≡ No (record { number = 4; unit = 6; breach = SameCount }) }
     ensures full_and_reorder { checked_bounds full_reference
         ≡ No (record { number = 1; unit = 3; breach = Full }) }
     ensures full_and_reorder_order { checked_order full_reference

@@ -1,4 +1,5 @@
--- The units of a stream up to a temporal sub-layer and a layer (clause 10).
+-- The units of a stream up to a temporal sub-layer and a layer (clause 10, but that all SEI units of
+-- these stay).
 use Rattle.std.specs.Prelude.{◌≡◌, ℕ, ◌+◌, ◌≤◌, nat_le, ◌&&◌, Bool, false, List, [], ◌∷◌, filter, map, Option, Some, None, Result, Ok, Err, if◌then◌else◌}
 use Rattle.hevc_spec.specs.UnitHeader.{UnitHeader, HeaderFault, unit_header}
 use Rattle.hevc_spec.specs.Units.{NalUnit, units}

@@ -7,12 +7,12 @@ use Rattle.hevc_program_answers.specs.Answers.{Program}
 use Rattle.hevc_extract.specs.Extracting.{extracted, first_refused}
 use Rattle.hevc_extract.specs.declared.words.Targets.{Targets}
 
--- why the header of a unit is refused, as the report on a stream has it
+-- why the header of a unit is refused: the name of the error of `extract`
 abbrev pub cause_text : UnitError → List ℕ
 cause_text NoNal = codes "NoNal"
 cause_text TruncatedNalu = codes "TruncatedNalu"
 cause_text (InvalidNaluType nal_unit_type) = codes "InvalidNaluType " ++ decimal nal_unit_type
-cause_text TemporalIdZero = codes "OutOfRange 0 1"
+cause_text TemporalIdZero = codes "TemporalIdZero"
 
 -- the line of a refusal
 abbrev pub refusal_line : ℕ → UnitError → List ℕ

@@ -39,7 +39,7 @@ impl From<AllocError> for ExtractError {
 
 /// Adds the units of `stream` whose temporal id is at most `highest_tid`, 0 to 6, to `out`, each
 /// after 00 00 01, byte for byte and in order: the sub-bitstream of clause 10 of H.265 with all
-/// layers. What is decoded from them with `highest_tid` as the highest sub-layer that is wanted is
+/// layers, but that all SEI units of these sub-layers stay. What is decoded from them with `highest_tid` as the highest sub-layer that is wanted is
 /// what is decoded so from `stream` (`DecodesAlike`).
 ///
 /// `Refused` tells of the first unit whose header is refused. After a refusal `out` is as before.
@@ -62,7 +62,7 @@ pub fn extract(stream: &[u8], highest_tid: u8, out: &mut Vec<u8>) -> Result<Kept
 }
 
 /// The same of the units whose layer id, besides, is at most `highest_layer`, 0 to 63: the
-/// sub-bitstream of clause 10 of H.265.
+/// sub-bitstream of clause 10 of H.265, but that all SEI units of these layers stay.
 pub fn extract_layer(
     stream: &[u8],
     highest_tid: u8,

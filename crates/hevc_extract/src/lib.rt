@@ -8,4 +8,4 @@ mod program;
 mod words;
 
 pub use extraction::{ExtractError, Kept, extract, extract_layer};
-pub use program::{INPUT_LIMIT, run_extract};
+pub use program::run_extract;

@@ -25,6 +25,6 @@ fn push_cause(line: &mut String, error: UnitError) -> Result<(), AllocError>
         UnitError::NoNal => line.push_str("NoNal"),
         UnitError::TruncatedNalu => line.push_str("TruncatedNalu"),
         UnitError::InvalidNaluType(number) => write!(line, "InvalidNaluType {number}"),
-        UnitError::TemporalIdZero => line.push_str("OutOfRange 0 1"),
+        UnitError::TemporalIdZero => line.push_str("TemporalIdZero"),
     }
 }

@@ -14,11 +14,8 @@ ghost use Rattle.hevc_extract.specs.Written.{extract_program, written_of};
 use crate::extraction::{ExtractError, extract_layer};
 use crate::line::refusal_line;
 use crate::words::{Targets, read_targets};
-use hevc_io::{Sink, Source, Stop, Word, read_all, write_all};
+use hevc_io::{INPUT_LIMIT, Sink, Source, Stop, Word, read_all, write_all};
 use std::alloc::Global;
-
-/// The longest input that is taken, in bytes.
-pub const INPUT_LIMIT: usize = 268_435_456;
 
 /// Reads the source's stream to its end, and writes the units of the lower sub-layers and layers,
 /// each after 00 00 01. `words` are those of the command line after the program's name: `T`, one
@@ -95,6 +92,9 @@ fn write_extracted<S: Source, K: Sink>(
         AppendsPrefix (K.written sink.old) (K.written sink.new) (written_of targets s)) }
     ensures less { IsErrOf result Stop.Write → IfSome (S.left source.old) (λ s.
         AppendsLess (K.written sink.old) (K.written sink.new) (written_of targets s)) }
+    ensures less_by_memory { IsErrOf result Stop.NoMemory → IfSome (S.left source.old) (λ s.
+        0 < length (written_of targets s)
+        → AppendsLess (K.written sink.old) (K.written sink.new) (written_of targets s)) }
     ensures read { IsErrOf result Stop.Read
         → Rose (S.faults source.old) (S.faults source.new) × (sink.new ≡ sink.old) }
     ensures write { IsErrOf result Stop.Write → Rose (K.faults sink.old) (K.faults sink.new) }

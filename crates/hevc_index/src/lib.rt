@@ -11,5 +11,5 @@ mod words;
 
 pub use point::{IndexError, Point};
 pub use points::index;
-pub use program::{INPUT_LIMIT, run_index};
+pub use program::run_index;
 pub use splicing::splice;

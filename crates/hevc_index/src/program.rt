@@ -10,11 +10,8 @@ ghost use Rattle.hevc_index.specs.Written.{status_of, written_of, index_program,
 
 use crate::answer::answer_to;
 use crate::words::{Request, read_request};
-use hevc_io::{Sink, Source, Stop, Word, read_all, write_all};
+use hevc_io::{INPUT_LIMIT, Sink, Source, Stop, Word, read_all, write_all};
 use std::alloc::Global;
-
-/// The longest input that is taken, in bytes.
-pub const INPUT_LIMIT: usize = 268_435_456;
 
 /// Reads the source's stream to its end, and tells its points, or writes the stream from one of them
 /// on. `words` are those of the command line after the program's name: none for a line for each
@@ -83,6 +80,9 @@ fn write_answer<S: Source, K: Sink>(
         AppendsPrefix (K.written sink.old) (K.written sink.new) (written_of request s)) }
     ensures less { IsErrOf result Stop.Write → IfSome (S.left source.old) (λ s.
         AppendsLess (K.written sink.old) (K.written sink.new) (written_of request s)) }
+    ensures less_by_memory { IsErrOf result Stop.NoMemory → IfSome (S.left source.old) (λ s.
+        0 < length (written_of request s)
+        → AppendsLess (K.written sink.old) (K.written sink.new) (written_of request s)) }
     ensures read { IsErrOf result Stop.Read
         → Rose (S.faults source.old) (S.faults source.new) × (sink.new ≡ sink.old) }
     ensures write { IsErrOf result Stop.Write → Rose (K.faults sink.old) (K.faults sink.new) }

@@ -7,6 +7,9 @@ use crate::source::{Failed, Source};
 use std::alloc::{AllocError, Global};
 use thiserror::Error;
 
+/// The longest input that the programs take, in bytes.
+pub const INPUT_LIMIT: usize = 268_435_456;
+
 /// For how many bytes at least one read has room.
 const BLOCK: usize = 65_536;
 
@@ -78,3 +81,8 @@ pub fn read_all<S: Source>(
         filled += count;
     }
 }
+
+/// The longest input has 2^28 bytes.
+pub fn inputs_have_a_limit()
+    ensures { INPUT_LIMIT ≡ 268435456 }
+{}

@@ -14,7 +14,7 @@ mod stop;
 mod word;
 mod words;
 
-pub use input::{InputError, read_all};
+pub use input::{INPUT_LIMIT, InputError, inputs_have_a_limit, read_all};
 pub use memory::{MemorySink, MemorySource};
 pub use output::write_all;
 pub use sink::{Sink, SinkError};

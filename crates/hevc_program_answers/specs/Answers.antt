@@ -38,11 +38,15 @@ pub record Answers {A S K : Type 0} (ends : Ends S K) (program : Program A) (lim
   -- that is so for no longer input than may be
   pub limit_kept : IfSome asked (λ a. program.IsAnswer status
       → IfSome (ends.left old.source) (λ input. length input ≤ limit))
-  -- whatever the status, what was written is a prefix of that text; on 4 not the whole
+  -- whatever the status, what was written is a prefix of that text; on 4 not the whole, and on 5
+  -- neither, unless there is no byte of it
   pub part : IfSome asked (λ a. IfSome (ends.left old.source) (λ input.
       AppendsPrefix (ends.written old.sink) (ends.written new.sink) (program.text a input)))
   pub less : IfSome asked (λ a. status ≡ 4 → IfSome (ends.left old.source) (λ input.
       AppendsLess (ends.written old.sink) (ends.written new.sink) (program.text a input)))
+  pub less_by_memory : IfSome asked (λ a. status ≡ 5 → IfSome (ends.left old.source) (λ input.
+      0 < length (program.text a input)
+      → AppendsLess (ends.written old.sink) (ends.written new.sink) (program.text a input)))
   -- 2 exactly where the words ask for nothing, and then nothing is read or written
   pub nothing_asked : (status ≡ 2) ↔ (asked ≡ None)
   pub untouched : status ≡ 2 → (new.source ≡ old.source) × (new.sink ≡ old.sink)

@@ -7,5 +7,5 @@ mod made;
 mod program;
 mod report;
 
-pub use program::{INPUT_LIMIT, run};
+pub use program::run;
 pub use report::refusal_line;

@@ -11,11 +11,11 @@ ghost use Rattle.hevc_report.specs.Report.{ending_of};
 ghost use Rattle.hevc_report.specs.Status.{IsMade, status_of};
 ghost use Rattle.hevc_report.specs.Summary.{summary_of};
 
-use crate::program::{INPUT_LIMIT, wants_memory};
+use crate::program::wants_memory;
 use crate::report::summary_text;
 use hevc_backend::Backend;
 use hevc_decoder::{Options, decode_stream_with};
-use hevc_io::{Sink, SinkError, write_all};
+use hevc_io::{INPUT_LIMIT, Sink, SinkError, write_all};
 use hevc_stream_maker::make_stream;
 use std::alloc::{AllocError, Global};
 

@@ -21,11 +21,8 @@ use crate::command::{read_command, read_make};
 use crate::made::run_made;
 use crate::report::{ReportBackend, push_rest};
 use hevc_decoder::{DecodeError, Decoded, Options, Refused, Shown, decode_source_with};
-use hevc_io::{Sink, Source, Stop, Word, write_all};
+use hevc_io::{INPUT_LIMIT, Sink, Source, Stop, Word, write_all};
 use std::alloc::Global;
-
-/// The longest input that is taken, in bytes.
-pub const INPUT_LIMIT: usize = 268_435_456;
 
 /// What a run over a source's stream leaves to be written: the lines of the calls, the outputs, and the answer.
 #[derive(Drop)]

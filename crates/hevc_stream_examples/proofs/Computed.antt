@@ -4,7 +4,7 @@ use Rattle.hevc_walk.specs.Meanings.{TruncatedNalu, InvalidNaluType, OutOfBits, 
 use Rattle.hevc_stream.specs.Options.{default_options}
 use Rattle.hevc_stream.specs.Stream.{meanings}
 use Rattle.hevc_walk_examples.specs.Streams.{plain_format, deep_format, p4, cra, dependent, plain, encoded, crowded, leading, ended_by, equal_counts, without_reference, dependent_alone, dependent_behind}
-use Rattle.hevc_stream_examples.specs.Worked.{plain_stream, encoded_stream, waiting_stream, still_waiting_stream, read_later_stream, in_order_stream, cut_sets_stream, cut_set_stream, not_read_again_stream, read_again_stream, resized_stream, mid_picture_stream, ended_within_stream, crowded_stream, ends_early_stream, missing_set_stream, no_sets_yet_stream, truncated_stream, unspecified_stream, no_temporal_id_stream, end_cut_stream, many_sub_layers_stream, no_level_stream, long_latency_stream, leading_stream, sequence_ends_stream, bitstream_ends_stream, equal_counts_stream, without_reference_stream, dependent_alone_stream, dependent_behind_stream, before_sets_stream, cut_video_set_stream, two_layers_stream, large_stream, referring_stream, referring_slices, cra_within_stream, sub_layers_stream, cut_pps_bytes, other_pps_bytes, idr_of, sets_then, waiting_behind, video_set_stream, has_video_set, wide_format, large_format, idr_under, later_idr_at_1, sub_layer_p2, handled, cra_as_bla, up_to}
+use Rattle.hevc_stream_examples.specs.Worked.{plain_stream, encoded_stream, waiting_stream, still_waiting_stream, read_later_stream, in_order_stream, cut_sets_stream, cut_set_stream, not_read_again_stream, read_again_stream, resized_stream, mid_picture_stream, ended_within_stream, crowded_stream, ends_early_stream, missing_set_stream, no_sets_yet_stream, truncated_stream, unspecified_stream, no_temporal_id_stream, end_cut_stream, many_sub_layers_stream, no_level_stream, long_latency_stream, leading_stream, sequence_ends_stream, bitstream_ends_stream, equal_counts_stream, without_reference_stream, dependent_alone_stream, dependent_behind_stream, before_sets_stream, cut_video_set_stream, two_layers_stream, large_stream, screen_stream, idr_stream, longer_idr_stream, longer_idr_of, ended_stream, ended_twice_stream, referring_stream, referring_slices, cra_within_stream, sub_layers_stream, cut_pps_bytes, other_pps_bytes, idr_of, sets_then, waiting_behind, video_set_stream, has_video_set, wide_format, large_format, screen_format, idr_under, later_idr_at_1, sub_layer_p2, handled, cra_as_bla, up_to}
 use Rattle.hevc_spec.specs.Bits as bits
 use Rattle.hevc_spec.specs.Payload as payload
 use Rattle.hevc_spec.specs.Rows as rows
@@ -61,10 +61,15 @@ pub record Rows : Type 0 where
   pub lower_layer : meanings (up_to 0) two_layers_stream ≡ sets_then plain_format (idr_under 0 0 1 ∷ [])
   pub higher_layer : meanings default_options two_layers_stream ≡ sets_then plain_format (idr_under 2 3 4 ∷ [])
   pub large : meanings default_options large_stream ≡ SequenceSet large_format ∷ []
+  pub screen_content : meanings default_options screen_stream ≡ SequenceSet screen_format ∷ []
   pub referring : meanings default_options referring_stream ≡ sets_then wide_format referring_slices
   pub leading : meanings default_options leading_stream ≡ leading
   pub sequence_ends : meanings default_options sequence_ends_stream ≡ ended_by EndOfSequence
   pub bitstream_ends : meanings default_options bitstream_ends_stream ≡ ended_by EndOfBitstream
+  pub idr : meanings default_options idr_stream ≡ sets_then plain_format (idr_of plain_format ∷ [])
+  pub longer_idr : meanings default_options longer_idr_stream ≡ sets_then plain_format (longer_idr_of plain_format ∷ [])
+  pub ended : meanings default_options ended_stream ≡ sets_then plain_format (idr_of plain_format ∷ EndOfSequence ∷ [])
+  pub ended_twice : meanings default_options ended_twice_stream ≡ sets_then plain_format (idr_of plain_format ∷ EndOfSequence ∷ EndOfSequence ∷ [])
   pub equal_counts : meanings default_options equal_counts_stream ≡ equal_counts
   pub without_reference : meanings default_options without_reference_stream ≡ without_reference
   pub dependent_alone : meanings default_options dependent_alone_stream ≡ dependent_alone
@@ -198,10 +203,15 @@ computed = record {
   lower_layer = refl;
   higher_layer = refl;
   large = refl;
+  screen_content = refl;
   referring = refl;
   leading = refl;
   sequence_ends = refl;
   bitstream_ends = refl;
+  idr = refl;
+  longer_idr = refl;
+  ended = refl;
+  ended_twice = refl;
   equal_counts = refl;
   without_reference = refl;
   dependent_alone = refl;

@@ -235,7 +235,7 @@ end_cut_stream = stream_of ((72 ∷ 0 ∷ 5 ∷ []) ∷ [])
 abbrev pub many_sub_layers_stream : List ℕ
 many_sub_layers_stream = stream_of ((66 ∷ 1 ∷ 15 ∷ 128 ∷ []) ∷ [])
 
--- general_level_idc is 91
+-- general_level_idc is 61
 abbrev pub no_level_stream : List ℕ
 no_level_stream = stream_of ((take 17 sps_bytes ++ 61 ∷ []) ∷ [])
 
@@ -252,6 +252,10 @@ two_layers_stream = stream_of (two_layers_sps_bytes ∷ pps_bytes ∷ idr_bytes 
 
 abbrev pub large_stream : List ℕ
 large_stream = stream_of (large_sps_bytes ∷ [])
+
+-- the same under a profile of screen content: general_profile_idc is 9
+abbrev pub screen_stream : List ℕ
+screen_stream = stream_of ((take 3 large_sps_bytes ++ 9 ∷ drop 4 large_sps_bytes) ∷ [])
 
 abbrev pub referring_stream : List ℕ
 referring_stream =
@@ -300,6 +304,23 @@ cut_sets_stream = behind_sets (cut_pps_bytes ∷ other_pps_bytes ∷ sps_bytes �
 abbrev pub cut_set_stream : List ℕ
 cut_set_stream = behind_sets (cut_pps_bytes ∷ other_pps_bytes ∷ other_sps_bytes ∷ [])
 
+-- an IDR picture whose slice has one more byte
+abbrev pub longer_idr_bytes : List ℕ
+longer_idr_bytes = idr_bytes ++ 128 ∷ []
+
+abbrev pub idr_stream : List ℕ
+idr_stream = behind_sets (idr_bytes ∷ [])
+
+abbrev pub longer_idr_stream : List ℕ
+longer_idr_stream = behind_sets (longer_idr_bytes ∷ [])
+
+-- a picture, and one or two ends of sequence
+abbrev pub ended_stream : List ℕ
+ended_stream = behind_sets (idr_bytes ∷ eos_bytes ∷ [])
+
+abbrev pub ended_twice_stream : List ℕ
+ended_twice_stream = behind_sets (idr_bytes ∷ eos_bytes ∷ eos_bytes ∷ [])
+
 -- a video set of id 5
 abbrev pub video_set_stream : List ℕ
 video_set_stream = stream_of ((64 ∷ 1 ∷ 92 ∷ drop 3 vps_bytes) ∷ [])
@@ -309,6 +330,11 @@ video_set_stream = stream_of ((64 ∷ 1 ∷ 92 ∷ drop 3 vps_bytes) ∷ [])
 -- an IDR picture of a format
 abbrev pub idr_of : Format → Meaning
 idr_of format = idr (plain_sets format)
+
+-- the same of one more byte
+abbrev pub longer_idr_of : Format → Meaning
+longer_idr_of format =
+    CodedSlice (first_slice 19 longer_idr_bytes (plain_sets format) (plain_header I 0 [] [] 0))
 
 -- a sequence set of a format and a picture set, and what follows them
 abbrev pub sets_then : Format → List Meaning → List Meaning
@@ -326,6 +352,10 @@ idr_under reorder latency_plus1 buffering =
 -- level 2, and at most three quarters
 abbrev pub large_format : Format
 large_format = record plain_format { coded_width = 352; coded_height = 240; max_num_pics = 8 }
+
+-- under a profile of screen content it has room for 9
+abbrev pub screen_format : Format
+screen_format = record large_format { general_profile_idc = 9; max_num_pics = 9 }
 
 abbrev pub one_sided_set : ShortTermRefPicSet
 one_sided_set = record {

@@ -16,7 +16,7 @@ ghost use Rattle.hevc_walk.specs.Results.{calls, verdict};
 ghost use Rattle.hevc_stream.specs.Options.{default_options};
 ghost use Rattle.hevc_stream.specs.Stream.{meanings};
 ghost use Rattle.hevc_walk_examples.specs.Streams.{plain_format, deep_format, p4, cra, dependent, plain, encoded, crowded, leading, ended_by, equal_counts, without_reference, dependent_alone, dependent_behind, told_outputs, new_pictures, idr_bytes, p4_bytes, p2_bytes};
-ghost use Rattle.hevc_stream_examples.specs.Worked.{plain_stream, encoded_stream, waiting_stream, still_waiting_stream, read_later_stream, in_order_stream, cut_sets_stream, cut_set_stream, not_read_again_stream, read_again_stream, resized_stream, mid_picture_stream, ended_within_stream, later_idr_bytes, crowded_stream, ends_early_stream, missing_set_stream, no_sets_yet_stream, truncated_stream, unspecified_stream, no_temporal_id_stream, end_cut_stream, many_sub_layers_stream, no_level_stream, long_latency_stream, leading_stream, sequence_ends_stream, bitstream_ends_stream, equal_counts_stream, without_reference_stream, dependent_alone_stream, dependent_behind_stream, before_sets_stream, cut_video_set_stream, two_layers_stream, large_stream, referring_stream, referring_slices, cra_within_stream, sub_layers_stream, cut_pps_bytes, other_pps_bytes, idr_of, sets_then, waiting_behind, video_set_stream, has_video_set, wide_format, large_format, idr_under, later_idr_at_1, sub_layer_p2, handled, cra_as_bla, up_to};
+ghost use Rattle.hevc_stream_examples.specs.Worked.{plain_stream, encoded_stream, waiting_stream, still_waiting_stream, read_later_stream, in_order_stream, cut_sets_stream, cut_set_stream, not_read_again_stream, read_again_stream, resized_stream, mid_picture_stream, ended_within_stream, later_idr_bytes, crowded_stream, ends_early_stream, missing_set_stream, no_sets_yet_stream, truncated_stream, unspecified_stream, no_temporal_id_stream, end_cut_stream, many_sub_layers_stream, no_level_stream, long_latency_stream, leading_stream, sequence_ends_stream, bitstream_ends_stream, equal_counts_stream, without_reference_stream, dependent_alone_stream, dependent_behind_stream, before_sets_stream, cut_video_set_stream, two_layers_stream, large_stream, screen_stream, referring_stream, referring_slices, cra_within_stream, sub_layers_stream, cut_pps_bytes, other_pps_bytes, idr_of, sets_then, waiting_behind, video_set_stream, has_video_set, wide_format, large_format, screen_format, idr_under, later_idr_at_1, sub_layer_p2, handled, cra_as_bla, up_to};
 
 /// An IDR picture and two P pictures: what the units mean, and what the walk makes of it.
 pub fn plain_pictures()
@@ -122,9 +122,11 @@ pub fn sub_layers()
 {}
 
 /// MaxDpbSize falls from four times what the profile has to once as the picture has more than a quarter, half and three
-/// quarters of the samples of the level's largest, and is at most 16.
+/// quarters of the samples of the level's largest, and is at most 16. A profile has six, one of screen content seven.
 pub fn buffer_sizes()
     ensures large { meanings default_options large_stream ≡ SequenceSet large_format ∷ [] }
+    ensures screen_content { meanings default_options screen_stream
+        ≡ SequenceSet screen_format ∷ [] }
     ensures at { map (max_dpb_size 122880 6) (30720 ∷ 61440 ∷ 92160 ∷ 122880 ∷ [])
         ≡ 16 ∷ 12 ∷ 8 ∷ 6 ∷ [] }
     ensures above { map (max_dpb_size 122880 6) (30721 ∷ 61441 ∷ 92161 ∷ []) ≡ 12 ∷ 8 ∷ 6 ∷ [] }

@@ -39,6 +39,13 @@ kept_for_later = SequenceSet plain_format ∷ Other ∷ idr sets
     ∷ CodedSlice (referring P 7 (used_member (negsuc 0) ∷ []) (used_member (pos 1) ∷ []) [] 1)
     ∷ []
 
+-- order counts 0, 8 and 4: the last picture keeps both others for later ones alone
+abbrev pub kept_on_both_sides : List Meaning
+kept_on_both_sides = SequenceSet plain_format ∷ Other ∷ idr sets
+    ∷ CodedSlice (referring P 8 (used_member (negsuc 7) ∷ []) [] [] 1)
+    ∷ CodedSlice (referring I 4 (unused_member (negsuc 3) ∷ []) (unused_member (pos 4) ∷ []) [] 1)
+    ∷ []
+
 -- the first picture waits for output, but the second one refers to nothing: the third finds it
 -- neither by its low bits nor by its difference
 abbrev pub unmarked_waits : List Meaning

@@ -7,7 +7,7 @@ ghost use Rattle.hevc_walk.specs.Refusals.{PocOutOfRange};
 ghost use Rattle.hevc_walk.specs.Results.{verdict};
 ghost use Rattle.hevc_walk_examples.specs.Streams.{slice_lists, new_pictures};
 ghost use Rattle.hevc_walk_examples.specs.Corners.{reference_sets};
-ghost use Rattle.hevc_walk_examples.specs.References.{between, kept_for_later, unmarked_waits, idr_under_set, broken_link_set, screen_pair, rasl_tid0, counted_anew, ended_within, far_step, far_msb, dependent_of_1, dependent_twice};
+ghost use Rattle.hevc_walk_examples.specs.References.{between, kept_for_later, kept_on_both_sides, unmarked_waits, idr_under_set, broken_link_set, screen_pair, rasl_tid0, counted_anew, ended_within, far_step, far_msb, dependent_of_1, dependent_twice};
 
 /// Both lists of a B picture have the pictures before it, those after it and the long-term ones, and go round them.
 pub fn lists_of_both()
@@ -21,8 +21,8 @@ pub fn lists_of_both()
         ∷ [] }
 {}
 
-/// A picture that is named for later pictures alone stays, before and after the current one in output order; what is only
-/// kept for output, and what is stored as a sequence begins, is no reference picture.
+/// A picture that is named for later pictures alone stays, before and after the current one in output order, and of two
+/// such ones the one before it is named first; what is only kept for output, and what is stored as a sequence begins, is no reference picture.
 pub fn kept_references()
     ensures later { reference_sets kept_for_later ≡ (0, no_references)
         ∷ (1, record no_references { st_curr_before = Some 0 ∷ [] })
@@ -30,6 +30,9 @@ pub fn kept_references()
         ∷ (3, record no_references { st_curr_before = Some 2 ∷ []; st_curr_after = Some 1 ∷ [] })
         ∷ (4, record no_references { st_curr_before = Some 3 ∷ []; st_curr_after = Some 1 ∷ [] })
         ∷ [] }
+    ensures both { reference_sets kept_on_both_sides ≡ (0, no_references)
+        ∷ (1, record no_references { st_curr_before = Some 0 ∷ [] })
+        ∷ (2, record no_references { st_foll = Some 0 ∷ Some 1 ∷ [] }) ∷ [] }
     ensures unmarked { reference_sets unmarked_waits ≡ (0, no_references) ∷ (1, no_references)
         ∷ (2, record no_references { st_curr_before = None ∷ []; lt_curr = None ∷ [] }) ∷ [] }
     ensures idr { reference_sets idr_under_set ≡ (0, no_references) ∷ [] }

@@ -55,6 +55,7 @@ module _ (stream bytes : List ℕ) (pieces : List (List ℕ)) (steps : AreSteps 
     pieces = pieces;
     are = rewritten none_kept (units stream) pieces steps;
     parts = parts;
+    found = ap units parts ∙ pieces_found pieces (all_pieces none_kept (units stream) pieces steps);
     decodes = record {
       calls = λ options all. ap calls (same_meanings options all);
       outputs = λ options all. ap outputs (same_meanings options all);

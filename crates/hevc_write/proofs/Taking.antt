@@ -123,7 +123,7 @@ anew kept bytes header c Lines Means old new sets parsed is set added all back m
       grown = added.parts;
       step = record {
         is = record {
-          anew = λ e. record { header = header; old_header = parsed; new_header = added.header_is; payload = lines; meant = meant ∙ sym is };
+          anew = λ e. record { header = header; old_header = parsed; new_header = added.header_is; are = added.are; payload = lines; meant = meant ∙ sym is };
           copied = λ e. absurd (not_both (is_read_set c) set (ap is_read_set (sym is) ∙ e));
         };
         found = whole.piece;

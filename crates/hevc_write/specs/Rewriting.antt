@@ -9,11 +9,13 @@ use Rattle.hevc_records.specs.Sps.{PlainSps}
 use Rattle.hevc_tables.specs.SpsTable.{sequence_parameter_set}
 use Rattle.hevc_tables.specs.VpsTable.{video_parameter_set}
 use Rattle.hevc_bit_writer.specs.WrittenUnits.{stream_of}
+use Rattle.hevc_stream_pieces.specs.Pieces.{units_of_pieces}
 use Rattle.hevc_walk.specs.Results.{calls, outputs, verdict}
 use Rattle.hevc_stream.specs.Contents.{Content, video_set, sequence_set, picture_set, content}
 use Rattle.hevc_stream.specs.Kept.{Kept, none_kept}
 use Rattle.hevc_stream.specs.Options.{Options, default_options}
 use Rattle.hevc_stream.specs.Stream.{kept_behind, meanings}
+use Rattle.hevc_write_units.specs.Added.{AreUnitBytes}
 use Rattle.hevc_write_units.specs.Payloads.{IsPayload}
 use Rattle.hevc_write_units.specs.Values.{SetLines, PictureSetLines}
 
@@ -34,11 +36,12 @@ set_lines kept header (picture_set set) lines =
 set_lines kept header other lines = ⊥
 
 -- A set is written anew: its header, and its lines with the values that are written for what it
--- doesn't keep. It means the same after these sets.
+-- doesn't keep, as the bytes of a unit. It means the same after these sets.
 pub record IsWrittenAnew (kept : Kept) (bytes piece : List ℕ) : Type 0 where
   pub header : UnitHeader
   pub old_header : unit_header bytes ≡ Ok header
   pub new_header : unit_header piece ≡ Ok header
+  pub are : AreUnitBytes piece
   pub payload : IsPayload (set_lines kept header (content default_options kept bytes)) []
       (payload_after 0 (drop 2 piece))
   pub meant : content default_options kept piece ≡ content default_options kept bytes
@@ -77,9 +80,11 @@ pub record DecodesTheSame (stream bytes : List ℕ) : Type 0 where
   pub verdict : (options : Options) → 6 ≤ options.highest_tid
       → verdict (meanings options bytes) ≡ verdict (meanings options stream)
 
--- the bytes are the stream with its sets written anew, each unit after 00 00 01
+-- The bytes are the stream with its sets written anew, each unit after 00 00 01, and these are the
+-- units that they have (B.2).
 pub record IsRewriting (stream bytes : List ℕ) : Type 0 where
   pub pieces : List (List ℕ)
   pub are : AreRewritten none_kept (units stream) pieces
   pub parts : bytes ≡ stream_of pieces
+  pub found : units bytes ≡ units_of_pieces 0 pieces
   pub decodes : DecodesTheSame stream bytes

@@ -14,7 +14,7 @@ mod video_set;
 
 pub use hevc_write_units::WriteError;
 pub use picture_unit::PictureUnit;
-pub use program::{INPUT_LIMIT, run_write};
+pub use program::run_write;
 pub use rewriting::rewrite;
 pub use slice_unit::SliceUnit;
 pub use syntax::Syntax;

@@ -6,11 +6,8 @@ ghost use Rattle.hevc_write.specs.Program.{AnswersRewritten};
 ghost use Rattle.hevc_write.specs.Rewriting.{IsRewriting};
 
 use crate::rewriting::rewrite;
-use hevc_io::{Sink, Source, Stop, Word, read_all, write_all};
+use hevc_io::{INPUT_LIMIT, Sink, Source, Stop, Word, read_all, write_all};
 use std::alloc::Global;
-
-/// The longest input that is taken, in bytes.
-pub const INPUT_LIMIT: usize = 268_435_456;
 
 /// Reads the source's stream to its end, and writes it with its sets written anew, as `rewrite`
 /// does. `words` are those of the command line after the program's name: none. Answers the status

@@ -1,6 +1,6 @@
 -- One unit is added.
 use Rattle.std.proofs.Common.{◌≡◌, ℕ, suc, ◌+◌, ◌-◌, ◌%◌, ◌<◌, Bool, true, false, cond, List, [], ◌∷◌, ◌++◌, length, refl, sym, ap, ◌∙◌, subst, arith, append-nil, Result, Ok, Err}
-use Rattle.std.specs.Prelude.{All, ◌&&◌, ◌==◌, nat_le, drop}
+use Rattle.std.specs.Prelude.{All, ◌&&◌, ◌==◌, nat_le, drop, slice_index}
 use Rattle.std.proofs.lemmas.List.Elements.{All-head, All-cons, All-nil}
 use Rattle.hevc_spec.specs.Lines.{Line, joined}
 use Rattle.std.proofs.lemmas.List.{length-append, length-replicate}
@@ -39,6 +39,7 @@ pub record IsStream (header : UnitHeader) (payload bytes : List ℕ) : Type 0 wh
   pub whole : IsWholePiece bytes
   pub header_is : unit_header bytes ≡ Ok header
   pub payload_is : drop 2 bytes ≡ escaped payload
+  pub zero_bit : slice_index bytes 0 < 128
 
 pub one_unit : (header : UnitHeader) (front payload : List ℕ) → AreHeaderBytes header front → is_end header.nal_unit_type ≡ false → without_trailing_zeros payload ≡ payload
     → IsStream header payload (front ++ escaped payload)
@@ -54,6 +55,7 @@ one_unit header front payload are no_end trimmed =
       whole = All-head (λ u. (h : UnitHeader) → unit_header u.bytes ≡ Ok h → IsWholePiece u.bytes) (record { offset = 3; bytes = bytes }) [] all header (are.parsed (escaped payload));
       header_is = are.parsed (escaped payload);
       payload_is = refl;
+      zero_bit = are.zero_bit;
     } in
     subst (λ (x : List ℕ). IsStream header payload (x ++ escaped payload)) (sym are.are) stream
 
@@ -70,6 +72,10 @@ module _ (header : UnitHeader) (HasLines : List Line → Type 0) (body : List �
         record {
           bytes = front ++ escaped payload;
           parts = grew;
+          are = record {
+            zero_bit = stream.zero_bit;
+            escapes = stream.payload_is ∙ ap escaped (sym (ap (payload_after 0) stream.payload_is ∙ payload_back payload));
+          };
           found = stream.found;
           whole = stream.whole.piece.whole;
           header_is = stream.header_is;

@@ -5,6 +5,9 @@ use Rattle.hevc_stream_examples.proofs.buffer_sizes.Goals as goal
 pub returns-clause-large : goal.returns-clause-large
 returns-clause-large c = computed.large
 
+pub returns-clause-screen_content : goal.returns-clause-screen_content
+returns-clause-screen_content c = computed.screen_content
+
 pub returns-clause-at : goal.returns-clause-at
 returns-clause-at c = refl
 

@@ -34,3 +34,11 @@ returns-clause-full_and_reorder_order c = refl
 pub returns-clause-count_and_full : goal.returns-clause-count_and_full
 unfolding head order_count_in_range nearest due_outputs needs_additional_bumping needs_bumping with_stored reference_set with_marks ref_pic_list0 ref_pic_list1 finish store_picture change_format begin_picture make_room start_decoding
 returns-clause-count_and_full c = refl
+
+pub returns-clause-latency_and_discards : goal.returns-clause-latency_and_discards
+unfolding head order_count_in_range nearest due_outputs needs_additional_bumping needs_bumping with_stored reference_set with_marks ref_pic_list0 ref_pic_list1 finish store_picture change_format begin_picture make_room start_decoding
+returns-clause-latency_and_discards c = refl
+
+pub returns-clause-count_at_latency : goal.returns-clause-count_at_latency
+unfolding head order_count_in_range nearest due_outputs needs_additional_bumping needs_bumping with_stored reference_set with_marks ref_pic_list0 ref_pic_list1 finish store_picture change_format begin_picture make_room start_decoding
+returns-clause-count_at_latency c = refl

@@ -11,6 +11,10 @@ pub returns-clause-later : goal.returns-clause-later
 unfolding head order_count_in_range nearest due_outputs needs_additional_bumping needs_bumping with_stored reference_set with_marks ref_pic_list0 ref_pic_list1 finish store_picture change_format begin_picture make_room start_decoding
 returns-clause-later c = refl
 
+pub returns-clause-both : goal.returns-clause-both
+unfolding head order_count_in_range nearest due_outputs needs_additional_bumping needs_bumping with_stored reference_set with_marks ref_pic_list0 ref_pic_list1 finish store_picture change_format begin_picture make_room start_decoding
+returns-clause-both c = refl
+
 pub returns-clause-unmarked : goal.returns-clause-unmarked
 unfolding head order_count_in_range nearest due_outputs needs_additional_bumping needs_bumping with_stored reference_set with_marks ref_pic_list0 ref_pic_list1 finish store_picture change_format begin_picture make_room start_decoding
 returns-clause-unmarked c = refl

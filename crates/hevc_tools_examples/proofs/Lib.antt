@@ -1,0 +1,4 @@
+mod Alike
+mod Beginning
+mod Few
+mod Pieces

@@ -1,0 +1,4 @@
+pub mod Added
+pub mod Begun
+pub mod Extracts
+pub mod Runs
