@@ -282,6 +282,7 @@ sequence_read o k bytes f meant = by (unit_header bytes) refl
   where
     headerless : (fault : HeaderFault) → unit_header bytes ≡ Err fault → is_sequence_set (meaning o k bytes) ≡ false
     headerless fault parsed = rw parsed refl
+
     by : (r : Result UnitHeader HeaderFault) → unit_header bytes ≡ r → (set : PlainSps) × (own_set o k bytes ≡ Some set)
     by (Ok h) parsed = set_found o k bytes h parsed (ap is_sequence_set meant)
     by (Err fault) parsed = absurd (cc (sym (headerless fault parsed) ∙ ap is_sequence_set meant))

@@ -55,9 +55,21 @@ fn holds(dpb: &KeptDpb, stored: &[Stored]) -> bool {
 fn came_as(came: &[Came], expected: &Handed<'_>) -> bool {
     match came {
         [
-            Came::Announced { number: announced, picture: first },
-            Came::Begun { number: begun, picture, dpb: before, segment: _ },
-            Came::Decoded { number: decoded, dpb, segment: _ },
+            Came::Announced {
+                number: announced,
+                picture: first,
+            },
+            Came::Begun {
+                number: begun,
+                picture,
+                dpb: before,
+                segment: _,
+            },
+            Came::Decoded {
+                number: decoded,
+                dpb,
+                segment: _,
+            },
         ] => {
             *announced == expected.number
                 && *begun == expected.number
@@ -82,8 +94,16 @@ fn the_whole_buffer_comes_with_each_slice(rt: HostRuntime) {
     expect_eq(rt, decoded.backend.asked, 5);
     let idr = (0, 0, true, Reference::ShortTerm, 0);
     let expected = [
-        Handed { number: 0, count: 0, stored: &[] },
-        Handed { number: 1, count: 12, stored: &[idr] },
+        Handed {
+            number: 0,
+            count: 0,
+            stored: &[],
+        },
+        Handed {
+            number: 1,
+            count: 12,
+            stored: &[idr],
+        },
         Handed {
             number: 2,
             count: 20,
@@ -92,8 +112,16 @@ fn the_whole_buffer_comes_with_each_slice(rt: HostRuntime) {
                 (1, 12, true, Reference::ShortTerm, 0),
             ],
         },
-        Handed { number: 3, count: 8, stored: &[] },
-        Handed { number: 4, count: 16, stored: &[(3, 8, true, Reference::None, 0)] },
+        Handed {
+            number: 3,
+            count: 8,
+            stored: &[],
+        },
+        Handed {
+            number: 4,
+            count: 16,
+            stored: &[(3, 8, true, Reference::None, 0)],
+        },
     ];
     let came = decoded.backend.came.as_slice();
     match came.split_first() {
