@@ -10,11 +10,8 @@ ghost use Rattle.hevc_bench.specs.Counts.{count_of, line_of, status_of};
 use crate::count::{Count, find};
 use crate::line::line_text;
 use crate::work::{Work, read_work};
-use hevc_io::{Sink, Source, Stop, Word, read_all, write_all};
+use hevc_io::{INPUT_LIMIT, Sink, Source, Stop, Word, read_all, write_all};
 use std::alloc::Global;
-
-/// The longest input that is taken, in bytes.
-pub const INPUT_LIMIT: usize = 268_435_456;
 
 /// Counts what the source's stream has, and writes one line. `words` are those of the command line after the program's
 /// name: by none the stream is decoded and its pictures are counted, by `cut` it is cut into units and these are counted, by `read`

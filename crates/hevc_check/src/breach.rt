@@ -1,6 +1,6 @@
-//! What a picture can break.
+//! What may not hold at a picture.
 
-/// What a picture can break of what its coded video sequence declares. They are looked for in this
+/// What may not hold at a picture of what is enough for output in order. They are looked for in this
 /// order.
 #[derive(Clone, Copy, Debug, PartialEq, Eq)]
 pub enum Breach {
@@ -12,7 +12,7 @@ pub enum Breach {
     SameCount,
     /// As it is to be decoded the buffer is full.
     Full,
-    /// What is needed for output is discarded at it.
+    /// Its NoOutputOfPriorPicsFlag is set, whether or not a picture waits for output.
     Discards,
     /// More pictures than sps_max_num_reorder_pics are decoded before it and output after it.
     Reorder,

@@ -184,10 +184,10 @@ fn find_breach(alloc: Global, table: Table, stream: &[u8]) -> Result<Checked, Un
 
 /// Checks a byte stream (Annex B) of less than 2^60 bytes: whether each of its coded video
 /// sequences has one format and one set of limits, declares no latency, has no two pictures of one
-/// order count, never fills the decoded picture buffer, isn't discarded by the next one, and has at
-/// most sps_max_num_reorder_pics pictures before one in decoding order and after it in output order
-/// (7.4.3.2.1). Where the answer is `Yes` the outputs of each sequence are exactly its pictures
-/// that are to be output, in strictly rising order count.
+/// order count, never fills the decoded picture buffer, isn't followed by one whose first picture has
+/// NoOutputOfPriorPicsFlag set, and has at most sps_max_num_reorder_pics pictures before one in
+/// decoding order and after it in output order (7.4.3.2.1). Where the answer is `Yes` the outputs of
+/// each sequence are exactly its pictures that are to be output, in strictly rising order count.
 ///
 /// Errors: `Refused` exactly where the stream can't be decoded; `NoMemory`.
 pub fn check_stream(alloc: Global, stream: &[u8]) -> Result<Checked, CheckError>
@@ -201,12 +201,13 @@ pub fn check_stream(alloc: Global, stream: &[u8]) -> Result<Checked, CheckError>
 
 /// Checks a byte stream (Annex B) of less than 2^60 bytes for display order alone: whether each of
 /// its coded video sequences has one format and one set of limits, has no two pictures of one order
-/// count that are to be output, isn't discarded by the next one, and has at most
-/// sps_max_num_reorder_pics pictures before one in decoding order and after it in output order;
-/// whether less than SpsMaxLatencyPictures are decoded between one and a later one that is output
-/// before it, where a latency is declared (7.4.3.2.1); and whether no picture is output because the
-/// buffer is full that a later one is output before. Where the answer is `Yes` the outputs of each sequence
-/// are exactly its pictures that are to be output, in strictly rising order count.
+/// count that are to be output, isn't followed by one whose first picture has NoOutputOfPriorPicsFlag
+/// set, and has at most sps_max_num_reorder_pics pictures before one in decoding order and after it
+/// in output order; whether less than SpsMaxLatencyPictures are decoded between one and a later one
+/// that is output before it, where a latency is declared (7.4.3.2.1); and whether no picture is
+/// output because the buffer is full that a later one is output before. Where the answer is `Yes` the
+/// outputs of each sequence are exactly its pictures that are to be output, in strictly rising order
+/// count.
 ///
 /// Errors: `Refused` exactly where the stream can't be decoded; `NoMemory`.
 pub fn check_order(alloc: Global, stream: &[u8]) -> Result<Checked, CheckError>

@@ -1,5 +1,5 @@
-//! Whether an H.265 byte stream keeps what its sequence parameter sets declare of the order of its
-//! pictures (7.4.3.2.1), and if not, which picture breaks what.
+//! Whether an H.265 byte stream keeps bounds that are enough for its pictures to be output whole and in
+//! order (7.4.3.2.1, C.5.2), and if not, at which picture one of them doesn't hold.
 #![tactic(auto)]
 
 mod answer;
@@ -20,4 +20,4 @@ mod words;
 
 pub use breach::Breach;
 pub use check::{CheckError, Checked, check_order, check_stream};
-pub use program::{INPUT_LIMIT, run_check};
+pub use program::run_check;

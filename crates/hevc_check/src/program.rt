@@ -14,11 +14,8 @@ ghost use Rattle.hevc_check.specs.Written.{status_of, written_of, IsAnswer, chec
 use crate::answer::answer_to;
 use crate::table::Table;
 use crate::words::read_table;
-use hevc_io::{Sink, Source, Stop, Word, read_all, write_all};
+use hevc_io::{INPUT_LIMIT, Sink, Source, Stop, Word, read_all, write_all};
 use std::alloc::Global;
-
-/// The longest input that is taken, in bytes.
-pub const INPUT_LIMIT: usize = 268_435_456;
 
 /// Reads the source's stream to its end, checks it, and writes one line. `words` are those of the
 /// command line after the program's name: none for the check of `check_stream`, `order` for that of
@@ -85,6 +82,9 @@ fn write_answer<S: Source, K: Sink>(
         AppendsPrefix (K.written sink.old) (K.written sink.new) (written_of table s)) }
     ensures less { IsErrOf result Stop.Write → IfSome (S.left source.old) (λ s.
         AppendsLess (K.written sink.old) (K.written sink.new) (written_of table s)) }
+    ensures less_by_memory { IsErrOf result Stop.NoMemory → IfSome (S.left source.old) (λ s.
+        0 < length (written_of table s)
+        → AppendsLess (K.written sink.old) (K.written sink.new) (written_of table s)) }
     ensures read { IsErrOf result Stop.Read
         → Rose (S.faults source.old) (S.faults source.new) × (sink.new ≡ sink.old) }
     ensures write { IsErrOf result Stop.Write → Rose (K.faults sink.old) (K.faults sink.new) }

@@ -79,7 +79,7 @@ fn latency_pictures(limits: &Limits) -> usize
     (limits.reorder as usize + limits.latency_plus1 as usize).saturating_sub(1)
 }
 
-/// Whether what is needed for output is discarded at a picture, which isn't the first (C.5.2.2).
+/// Whether NoOutputOfPriorPicsFlag is set at a picture, which isn't the first (C.5.2.2).
 fn discards(head: &Head) -> bool
     ensures { (p : Picture) → head_of head.now ≡ p.head → result ≡ discards p }
 {

@@ -1,5 +1,5 @@
-//! The program: tells whether an H.265 byte stream from standard input keeps what its sequence
-//! parameter sets declare of the order of its pictures, and if not, which picture breaks what.
+//! The program: tells whether an H.265 byte stream from standard input keeps bounds that are enough
+//! for its pictures to be output in order, and if not, at which picture one of them doesn't hold.
 #![tactic(auto)]
 
 use hevc_check::run_check;
@@ -10,16 +10,18 @@ use std::process::ExitCode;
 
 /// How the program is called.
 const USAGE: &str = "\
-usage: hevc_checker < STREAM\n\
-\x20      hevc_checker order < STREAM\n\
+usage: hevc_checker order < STREAM\n\
+\x20      hevc_checker < STREAM\n\
 \n\
-Tells whether an H.265 byte stream (Annex B) from standard input keeps what its\n\
-sequence parameter sets declare of the order of its pictures: then one line,\n\
-check yes, and status 0; else check no with the first picture that breaks\n\
-something, and status 7.\n\
+Tells whether an H.265 byte stream (Annex B) from standard input keeps bounds\n\
+that are enough for its pictures to be output whole and in order: then one line,\n\
+check yes, and status 0; else check no with the first picture at which one\n\
+doesn't hold, and status 7.\n\
 \n\
-\x20 order   only what the order of the outputs needs: a latency may be declared,\n\
-\x20         and the buffer may be filled\n";
+\x20 order   what the order of the outputs needs\n\
+\n\
+Without a word the bounds are plainer: no latency is declared, and the buffer is\n\
+never full.\n";
 
 fn main(rt: HostRuntime) -> ExitCode {
     let status = match command_line(&StdWords { system: &rt }, rt.alloc()) {

@@ -94,7 +94,7 @@ fn a_refused_unit_has_a_line(rt: HostRuntime) {
         &["6"],
         &bytes,
         1,
-        b"refused unit 1 OutOfRange 0 1\n",
+        b"refused unit 1 TemporalIdZero\n",
     );
 }
 
