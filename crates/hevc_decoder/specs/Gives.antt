@@ -62,7 +62,8 @@ abbrev pub Flushed : {B H T : Type 0} → Result T DecodeError → Seen B H → 
 Flushed result old new =
     (given : Given)
     → Flushes result given (traces_of old.log old.handed old.asked old.view)
-    (traces_of new.log new.handed new.asked new.view) old.view.state old.view.standing new.view.standing
+    (traces_of new.log new.handed new.asked new.view) old.view.state old.view.standing
+    new.view.standing
 
 -- the stream ended, after k units
 abbrev pub Closes : {B H T : Type 0} → Result T DecodeError → ℕ → Scene B H → Scene B H → Type 0

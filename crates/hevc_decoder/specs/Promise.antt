@@ -77,8 +77,8 @@ pub record Decodes {H : Type 0} (options : Options) (stream : List ℕ) (before 
   -- any answer but a failed backend, one without a frame, and no memory is the verdict on the units
   pub answer : AnswersVerdict result (walk.verdict (meanings options stream))
   -- In the order of all events there is one cut, before which all calls were made and all pictures
-  -- output, and after it none: at the end on a verdict, or where the picture is submitted that finds
-  -- the buffer full; else, at unit k, after all of units before k and before all of units after it.
+  -- output, and none after it: at the end on a verdict, or after the submission that finds the
+  -- buffer full; else, at unit k, after all of units before k and before all of units after it.
   pub cut : IsCut result (meanings options stream) before.log now.log before.shown now.shown
   -- with each of these calls came exactly the picture, the parameter sets and the header of its
   -- unit: the sets that are kept there, and the header of a dependent slice segment completed

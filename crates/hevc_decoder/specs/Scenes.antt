@@ -17,8 +17,10 @@ pub record Scene (B H : Type 0) : Type 0 where
 
 -- where backends expose these logs, and this as what they were handed
 abbrev pub scene : {B H P : Type 0} → (log : B → Option (List (Call H)))
-    → (handed : B → Option (List Handed)) → (frames : B → Frames) → StatelessDecoder B H P → List (Shown H) → Scene B H
-scene log handed frames decoder shown = record { seen = seen_by log handed frames decoder; shown = shown }
+    → (handed : B → Option (List Handed)) → (frames : B → Frames) → StatelessDecoder B H P
+    → List (Shown H) → Scene B H
+scene log handed frames decoder shown =
+    record { seen = seen_by log handed frames decoder; shown = shown }
 
 -- with these pictures in the queue
 abbrev pub with_queue : {B H : Type 0} → List (Frame H) → Seen B H → Seen B H

@@ -33,7 +33,8 @@ first_trail log handed = record { log = log; handed = handed; shown = []; ticket
 -- to unit k; these are left. None was refused, all that they ask for was done, and these pictures
 -- were output.
 pub record StandsIn {B H P : Type 0} (log : B → Option (List (Call H)))
-    (handed : B → Option (List Handed)) (frames : B → Frames) (counts : B → Counts) (is_faultless : B → Type 0)
+    (handed : B → Option (List Handed)) (frames : B → Frames) (counts : B → Counts)
+    (is_faultless : B → Type 0)
     (options : Options) (stream : List ℕ) (k : ℕ) (left : List NalUnit) (backend : B)
     (shown : List (Shown H)) (decoder : StatelessDecoder B H P) : Type 0 where
   pub begin : Scene B H
@@ -46,24 +47,27 @@ pub record StandsIn {B H P : Type 0} (log : B → Option (List (Call H)))
 -- Unit k was taken, and `after` are left; or there is none; or it is refused, and with it the
 -- stream.
 abbrev pub GoesOn : {B H P T : Type 0} → (log : B → Option (List (Call H)))
-    → (handed : B → Option (List Handed)) → (frames : B → Frames) → (counts : B → Counts) → (is_faultless : B → Type 0)
+    → (handed : B → Option (List Handed)) → (frames : B → Frames) → (counts : B → Counts)
+    → (is_faultless : B → Type 0)
     → Result (Option T) Refused → Options → List ℕ → (k : ℕ) → (before after : List NalUnit) → B
     → List (Shown H) → StatelessDecoder B H P → Type 0
-GoesOn log handed frames counts is_faultless (Ok (Some taken)) options stream k before after backend shown
-    new =
+GoesOn log handed frames counts is_faultless (Ok (Some taken)) options stream k before
+    after backend shown new =
     StandsIn log handed frames counts is_faultless options stream (k + 1) after backend shown new
-GoesOn log handed frames counts is_faultless (Ok None) options stream k before after backend shown new =
+GoesOn log handed frames counts is_faultless (Ok None) options stream k before after
+    backend shown new =
     (before ≡ [])
     × StandsIn log handed frames counts is_faultless options stream k [] backend shown new
-GoesOn log handed frames counts is_faultless (Err refused) options stream k before after backend shown
-    new =
+GoesOn log handed frames counts is_faultless (Err refused) options stream k before
+    after backend shown new =
     Decodes options stream (told log handed counts is_faultless backend [])
     (told log handed counts is_faultless (view_of new).backend shown) (Err refused)
 
 -- The next unit was taken of a stream, of which `before` were left: so much more was output, and
 -- the stream goes on.
 pub record DecodesNext {B H P T : Type 0} (log : B → Option (List (Call H)))
-    (handed : B → Option (List Handed)) (frames : B → Frames) (counts : B → Counts) (is_faultless : B → Type 0)
+    (handed : B → Option (List Handed)) (frames : B → Frames) (counts : B → Counts)
+    (is_faultless : B → Type 0)
     (result : Result (Option T) Refused) (stream : List ℕ) (k : ℕ) (before after : List NalUnit)
     (old new : StatelessDecoder B H P) (old_shown new_shown : List (Shown H)) : Type 0 where
   pub out : List (Shown H)
@@ -76,7 +80,8 @@ pub record DecodesNext {B H P T : Type 0} (log : B → Option (List (Call H)))
 -- All units of a stream had been taken, k of them: so much more was output at its end, and the
 -- stream is decoded.
 pub record DecodesEnd {B H P : Type 0} (log : B → Option (List (Call H)))
-    (handed : B → Option (List Handed)) (frames : B → Frames) (counts : B → Counts) (is_faultless : B → Type 0)
+    (handed : B → Option (List Handed)) (frames : B → Frames) (counts : B → Counts)
+    (is_faultless : B → Type 0)
     (result : Result ℕ Refused) (k : ℕ) (old new : StatelessDecoder B H P)
     (old_shown new_shown : List (Shown H)) : Type 0 where
   pub out : List (Shown H)
@@ -89,7 +94,8 @@ pub record DecodesEnd {B H P : Type 0} (log : B → Option (List (Call H)))
 -- All units of a stream were taken from its beginning on, and the stream was decoded: these
 -- pictures were output.
 pub record ComesOut {B H P : Type 0} (log : B → Option (List (Call H)))
-    (handed : B → Option (List Handed)) (frames : B → Frames) (counts : B → Counts) (is_faultless : B → Type 0)
+    (handed : B → Option (List Handed)) (frames : B → Frames) (counts : B → Counts)
+    (is_faultless : B → Type 0)
     (result : Result ℕ Refused) (options : Options) (stream : List ℕ) (backend : B)
     (new : StatelessDecoder B H P) : Type 0 where
   pub shown : List (Shown H)
@@ -97,7 +103,8 @@ pub record ComesOut {B H P : Type 0} (log : B → Option (List (Call H)))
       (told log handed counts is_faultless (view_of new).backend shown) result
 
 abbrev pub JudgesUnits : {B H P : Type 0} → (log : B → Option (List (Call H)))
-    → (handed : B → Option (List Handed)) → (frames : B → Frames) → (counts : B → Counts) → (is_faultless : B → Type 0)
+    → (handed : B → Option (List Handed)) → (frames : B → Frames) → (counts : B → Counts)
+    → (is_faultless : B → Type 0)
     → Result ℕ Refused → List ℕ → (old new : StatelessDecoder B H P) → Type 0
 JudgesUnits {B} log handed frames counts is_faultless result stream old new =
     (options : Options) (backend : B)

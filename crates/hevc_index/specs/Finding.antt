@@ -45,11 +45,13 @@ numbered_unit number points = option_map (λ p. p.unit) (find (λ p. p.number ==
 
 -- a decoder that was made over a backend that never fails is before the first unit of a stream
 abbrev pub StandsFirst : {B H P : Type 0} → (log : B → Option (List (Call H)))
-    → (handed : B → Option (List Handed)) → (frames : B → Frames) → (counts : B → Counts) → (is_faultless : B → Type 0)
+    → (handed : B → Option (List Handed)) → (frames : B → Frames) → (counts : B → Counts)
+    → (is_faultless : B → Type 0)
     → List ℕ → StatelessDecoder B H P → Type 0
 StandsFirst {B} log handed frames counts is_faultless stream decoder =
     (backend : B)
-    × StandsIn log handed frames counts is_faultless default_options stream 0 (units stream) backend []
+    × StandsIn log handed frames counts is_faultless default_options stream 0 (units stream)
+    backend []
     decoder
     × is_faultless backend
 
