@@ -3,6 +3,7 @@ use crate::expect::{expect, expect_eq};
 use hevc_decoder::decode_stream;
 use hevc_pictures::Reference;
 use hevc_test_backend::{Came, KeptDpb, KeptSegment, TellingBackend};
+use std::process::Abort;
 
 /// A sequence set of 16 by 16 luma samples, a picture set with `dependent_slice_segments_enabled_flag`, an IDR picture whose
 /// slice has `slice_qp_delta` 1, and a dependent slice segment of it, every unit after a start code.
@@ -14,13 +15,13 @@ const DEPENDENT_SEGMENT: &[u8] = &[
 ];
 
 /// A sequence set of 16 by 16 luma samples, with MaxPicOrderCntLsb 16 and sps_max_num_reorder_pics 1; a picture set; an IDR picture; a
-/// P picture with the low bits 12 that refers to it; one with the low bits 4, whose count is 20, that refers to both; an end of sequence;
+/// P picture with the low bits 8 that refers to it; one with the low bits 0, whose count is 16, that refers to both; an end of sequence;
 /// a CRA picture with the low bits 8; and an I picture with the low bits 0, whose count is 16, that keeps no picture.
 const TWO_SEQUENCES: &[u8] = &[
     0x00, 0x00, 0x01, 0x42, 0x01, 0x01, 0x01, 0x60, 0x00, 0x00, 0x03, 0x00, 0x90, 0x00, 0x00, 0x03,
     0x00, 0x00, 0x03, 0x00, 0x3c, 0xa0, 0x88, 0x45, 0xe5, 0x5a, 0xbc, 0x20, 0x80, 0x00, 0x00, 0x01,
     0x44, 0x01, 0xc0, 0x71, 0x80, 0x12, 0x00, 0x00, 0x01, 0x26, 0x01, 0xaf, 0x80, 0x00, 0x00, 0x01,
-    0x02, 0x01, 0xd6, 0x14, 0x65, 0xc0, 0x80, 0x00, 0x00, 0x01, 0x02, 0x01, 0xd2, 0x1c, 0x44, 0x65,
+    0x02, 0x01, 0xd4, 0x14, 0x45, 0xc0, 0x80, 0x00, 0x00, 0x01, 0x02, 0x01, 0xd0, 0x1c, 0x44, 0x45,
     0xc0, 0x80, 0x00, 0x00, 0x01, 0x48, 0x01, 0x00, 0x00, 0x01, 0x2a, 0x01, 0xae, 0x1e, 0x80, 0x00,
     0x00, 0x01, 0x02, 0x01, 0xd8, 0x3c, 0x80,
 ];
@@ -29,30 +30,33 @@ const TWO_SEQUENCES: &[u8] = &[
 type Stored = (u64, i32, bool, Reference, i32);
 
 /// What comes with the slices of a picture.
+#[derive(Drop)]
 struct Handed<'a> {
     number: u64,
     count: i32,
     stored: &'a [Stored],
 }
 
-/// Whether a buffer holds these pictures, in this order, and may hold 16.
-fn holds(dpb: &KeptDpb, stored: &[Stored]) -> bool {
-    dpb.max_num_pics == 16
-        && dpb.entries.as_slice().len() == stored.len()
-        && dpb.entries.as_slice().iter().zip(stored.iter()).all(|(entry, stored)| {
-            let picture = &entry.picture;
-            (
-                entry.number,
-                picture.pic_order_cnt_val,
-                picture.needed_for_output,
-                *picture.reference(),
-                picture.pic_latency_cnt,
-            ) == *stored
-        })
+/// A buffer holds these pictures, in this order, and may hold 16.
+fn expect_stored(rt: &impl Abort, dpb: &KeptDpb, stored: &[Stored]) {
+    expect_eq(rt, dpb.max_num_pics, 16);
+    expect_eq(rt, dpb.entries.as_slice().len(), stored.len());
+    for (entry, stored) in dpb.entries.as_slice().iter().zip(stored.iter()) {
+        let picture = &entry.picture;
+        let (number, count, waits, mark, latency) = *stored;
+        expect_eq(
+            rt,
+            (entry.number, picture.pic_order_cnt_val),
+            (number, count),
+        );
+        expect_eq(rt, picture.needed_for_output, waits);
+        expect(rt, *picture.reference() == mark);
+        expect_eq(rt, picture.pic_latency_cnt, latency);
+    }
 }
 
-/// Whether a picture of one slice came as it is to come: announced, begun, and decoded.
-fn came_as(came: &[Came], expected: &Handed<'_>) -> bool {
+/// A picture of one slice came as it is to come: announced, begun, and decoded.
+fn expect_came(rt: &impl Abort, came: &[Came], expected: &Handed<'_>) {
     match came {
         [
             Came::Announced {
@@ -71,15 +75,17 @@ fn came_as(came: &[Came], expected: &Handed<'_>) -> bool {
                 segment: _,
             },
         ] => {
-            *announced == expected.number
-                && *begun == expected.number
-                && *decoded == expected.number
-                && *first == *picture
-                && picture.pic_order_cnt_val == expected.count
-                && holds(before, expected.stored)
-                && holds(dpb, expected.stored)
+            expect_eq(
+                rt,
+                (*announced, *begun, *decoded),
+                (expected.number, expected.number, expected.number),
+            );
+            expect(rt, *first == *picture);
+            expect_eq(rt, picture.pic_order_cnt_val, expected.count);
+            expect_stored(rt, before, expected.stored);
+            expect_stored(rt, dpb, expected.stored);
         }
-        _ => false,
+        _ => panic!(rt; "another call comes"),
     }
 }
 
@@ -101,15 +107,15 @@ fn the_whole_buffer_comes_with_each_slice(rt: HostRuntime) {
         },
         Handed {
             number: 1,
-            count: 12,
+            count: 8,
             stored: &[idr],
         },
         Handed {
             number: 2,
-            count: 20,
+            count: 16,
             stored: &[
-                (0, 0, false, Reference::ShortTerm, 0),
-                (1, 12, true, Reference::ShortTerm, 0),
+                (0, 0, false, Reference::ShortTerm, 1),
+                (1, 8, true, Reference::ShortTerm, 0),
             ],
         },
         Handed {
@@ -130,7 +136,7 @@ fn the_whole_buffer_comes_with_each_slice(rt: HostRuntime) {
             expect_eq(rt, set.max_num_reorder_pics[0], 1);
             expect_eq(rt, pictures.len(), 15);
             for (came, expected) in pictures.chunks(3).zip(expected.iter()) {
-                expect(rt, came_as(came, expected));
+                expect_came(rt, came, expected);
             }
         }
         _ => panic!(rt; "no sequence set"),
