@@ -6,3 +6,4 @@ pub mod begun;
 pub mod extracts;
 pub mod rewritten;
 pub mod runs;
+pub mod verdicts;
