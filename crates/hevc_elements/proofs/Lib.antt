@@ -1,3 +1,4 @@
+pub mod ScanLaws
 pub mod ElementLaws
 pub mod Loops
 pub mod Meaning

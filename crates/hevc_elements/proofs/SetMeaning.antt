@@ -1,44 +1,52 @@
 -- From what a reader of a whole set answered to what the lines of its payload say, in both directions.
-use Rattle.std.proofs.Common.{Bool, List, Result, Ok, Err, subst}
+use Rattle.std.proofs.Common.{◌≡◌, Bool, List, Result, Ok, Err, subst}
 use Rattle.std.specs.Prelude.{IfOk, IfErr}
-use Rattle.hevc_spec.specs.Payload.{Place, bits}
 use Rattle.hevc_spec.specs.Table.{Table, Fault, Reading, read, gives, refuses, out_of_bits, out_of_range, not_kept}
 use Rattle.hevc_spec.specs.Rows.{row}
 use Rattle.hevc_spec.specs.Lines.{Spells, BreaksOff}
 use Rattle.hevc_reading_laws.proofs.TableLaws.{spelled_from_read, read_from_spelled, breaks_from_refused, refused_from_breaks}
 use Rattle.hevc_elements.specs.declared.parse_error.ParseError.{ParseError}
 use Rattle.hevc_elements.specs.declared.parse_error.ParseError.TheVariants.{WrongNaluType, OutOfBits, OutOfRange, MissingSps, MissingPps, NoMemory}
-use Rattle.hevc_elements.specs.Growing.{ReadsGrowing}
-use Rattle.hevc_elements.specs.Naming.{ReadsNaming, names_sequence_set, names_picture_set}
-use Rattle.hevc_elements.specs.Sets.{ReadsSet, BreaksSet, NamesNoSet}
+use Rattle.hevc_elements.specs.Telling.{Telling}
+use Rattle.hevc_elements.specs.Scan.{Position, left, gave, refused, scan}
+use Rattle.hevc_elements.specs.Growing.{AnswersGrowing}
+use Rattle.hevc_elements.specs.Naming.{AnswersNaming, names_sequence_set, names_picture_set}
+use Rattle.hevc_elements.specs.Sets.{IsRefused, ReadsSet, BreaksSet, NamesNoSet}
+use Rattle.hevc_elements.proofs.ScanLaws.{gave_is_read, refused_is_read}
 
 -- what a reader of rows answered, a reader of the set did
-module _ {X A : Type 0} (view : X → A) (new : Place) (reading : Reading A) where
-  pub set_from_growing : (r : Result X ParseError) → ReadsGrowing view r new reading → ReadsSet view r reading
-  set_from_growing (Ok x) h = (bits new, h)
+module _ {X A : Type 0} (view : X → A) (new : Position) (table : Table A) (t : Telling) (bits : List Bool) where
+  given : (x : A) → scan table t bits ≡ gave x new.telling (left new) → read table bits ≡ gives x (left new)
+  given x h = gave_is_read table t new.telling bits (left new) x h
+
+  refusing : (fault : Fault) → scan table t bits ≡ refused fault new.telling (left new) → IsRefused fault (read table bits)
+  refusing fault h = (left new, refused_is_read table t new.telling bits (left new) fault h)
+
+  pub set_from_growing : (r : Result X ParseError) → AnswersGrowing view r new (scan table t bits) → ReadsSet view r (read table bits)
+  set_from_growing (Ok x) h = (left new, given (view x) h)
   set_from_growing (Err WrongNaluType) h = absurd h
-  set_from_growing (Err OutOfBits) h = (bits new, h)
-  set_from_growing (Err (OutOfRange table number)) h = (bits new, h)
+  set_from_growing (Err OutOfBits) h = refusing out_of_bits h
+  set_from_growing (Err (OutOfRange number r)) h = refusing (out_of_range (row number r)) h
   set_from_growing (Err (MissingSps id)) h = absurd h
   set_from_growing (Err (MissingPps id)) h = absurd h
   set_from_growing (Err NoMemory) h = tt
 
-  pub no_set_from_growing : (r : Result X ParseError) → ReadsGrowing view r new reading → IfErr r NamesNoSet
+  pub no_set_from_growing : (r : Result X ParseError) → AnswersGrowing view r new (scan table t bits) → IfErr r NamesNoSet
   no_set_from_growing (Ok x) h = tt
   no_set_from_growing (Err WrongNaluType) h = tt
   no_set_from_growing (Err OutOfBits) h = tt
-  no_set_from_growing (Err (OutOfRange table number)) h = tt
+  no_set_from_growing (Err (OutOfRange number r)) h = tt
   no_set_from_growing (Err (MissingSps id)) h = absurd h
   no_set_from_growing (Err (MissingPps id)) h = absurd h
   no_set_from_growing (Err NoMemory) h = tt
 
-  pub set_from_naming : (r : Result X ParseError) → ReadsNaming view r new reading → ReadsSet view r reading
-  set_from_naming (Ok x) h = (bits new, h)
+  pub set_from_naming : (r : Result X ParseError) → AnswersNaming view r new (scan table t bits) → ReadsSet view r (read table bits)
+  set_from_naming (Ok x) h = (left new, given (view x) h)
   set_from_naming (Err WrongNaluType) h = absurd h
-  set_from_naming (Err OutOfBits) h = (bits new, h)
-  set_from_naming (Err (OutOfRange table number)) h = (bits new, h)
-  set_from_naming (Err (MissingSps id)) h = (bits new, h)
-  set_from_naming (Err (MissingPps id)) h = (bits new, h)
+  set_from_naming (Err OutOfBits) h = refusing out_of_bits h
+  set_from_naming (Err (OutOfRange number r)) h = refusing (out_of_range (row number r)) h
+  set_from_naming (Err (MissingSps id)) h = refusing (not_kept names_sequence_set id) h
+  set_from_naming (Err (MissingPps id)) h = refusing (not_kept names_picture_set id) h
   set_from_naming (Err NoMemory) h = absurd h
 
 module _ {X A : Type 0} (view : X → A) (t : Table A) (payload : List Bool) where

@@ -1,3 +1,6 @@
+pub mod Telling
+pub mod Kept
+pub mod Scan
 pub mod Reads
 pub mod Naming
 pub mod Growing

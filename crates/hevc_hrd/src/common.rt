@@ -4,15 +4,14 @@ ghost use Rattle.hevc_elements.specs.Words.{Fills};
 ghost use Rattle.hevc_tables.specs.HrdTable as table;
 ghost use Rattle.hevc_video_set.specs.HrdParams.{plain_hrd_params};
 
-use hevc_bits::NaluReader;
-use hevc_elements::ParseError;
+use hevc_elements::{ElementReader, ParseError};
 use hevc_elements::rows::{bits_u8, bits_u8_if, flag};
 use hevc_spec::Row;
 use hevc_video_set::{HrdParams, SublayerHrdParameters};
 
 /// Rows 1 to 9 of table 3.
 #[tactic(auto, unfolding(hevc_tables::specs::HrdTable::common_parameters, hevc_spec::specs::Rows::when))]
-pub(crate) fn read_common(r: &mut NaluReader<'_>, hrd: &mut HrdParams) -> Result<(), ParseError>
+pub(crate) fn read_common(r: &mut ElementReader<'_>, hrd: &mut HrdParams) -> Result<(), ParseError>
     ensures { Fills plain_hrd_params table.common_parameters result hrd.old hrd.new r.old r.new }
 {
     hrd.nal_hrd_parameters_present_flag = flag(r, Row(3, 1))?;
@@ -25,7 +24,7 @@ pub(crate) fn read_common(r: &mut NaluReader<'_>, hrd: &mut HrdParams) -> Result
 
 /// Rows 2 to 9 of table 3.
 #[tactic(auto, unfolding(hevc_tables::specs::HrdTable::buffering, hevc_spec::specs::Rows::when))]
-fn read_buffering(r: &mut NaluReader<'_>, hrd: &mut HrdParams) -> Result<(), ParseError>
+fn read_buffering(r: &mut ElementReader<'_>, hrd: &mut HrdParams) -> Result<(), ParseError>
     ensures { Fills plain_hrd_params table.buffering result hrd.old hrd.new r.old r.new }
 {
     hrd.sub_pic_hrd_params_present_flag = flag(r, Row(3, 2))?;
@@ -37,7 +36,7 @@ fn read_buffering(r: &mut NaluReader<'_>, hrd: &mut HrdParams) -> Result<(), Par
 
 /// Rows 3 to 6 of table 3.
 #[tactic(auto, unfolding(hevc_tables::specs::HrdTable::decoding_units))]
-fn read_units(r: &mut NaluReader<'_>, hrd: &mut HrdParams) -> Result<(), ParseError>
+fn read_units(r: &mut ElementReader<'_>, hrd: &mut HrdParams) -> Result<(), ParseError>
     ensures { Fills plain_hrd_params table.decoding_units result hrd.old hrd.new r.old r.new }
 {
     hrd.tick_divisor_minus2 = bits_u8(r, Row(3, 3), 8, 0, 255)?;
@@ -49,7 +48,7 @@ fn read_units(r: &mut NaluReader<'_>, hrd: &mut HrdParams) -> Result<(), ParseEr
 
 /// Rows 7 to 9 of table 3.
 #[tactic(auto, unfolding(hevc_tables::specs::HrdTable::scales))]
-fn read_scales(r: &mut NaluReader<'_>, hrd: &mut HrdParams) -> Result<(), ParseError>
+fn read_scales(r: &mut ElementReader<'_>, hrd: &mut HrdParams) -> Result<(), ParseError>
     ensures { Fills plain_hrd_params table.scales result hrd.old hrd.new r.old r.new }
 {
     let by_units = hrd.sub_pic_hrd_params_present_flag;

@@ -1,14 +1,13 @@
 //! Parameters of the hypothetical reference decoder (E.2.2, table 3).
 ghost use Rattle.std.specs.Prelude.{◌≡◌, ◌≤◌, OnErr};
-ghost use Rattle.hevc_elements.specs.Words.{bits, IsAhead, IsReached, read, when, Fills, Reads, Means};
+ghost use Rattle.hevc_elements.specs.Words.{read, when, Fills, Reads, ReadsTable};
 ghost use Rattle.hevc_records.specs.HrdParams.{default_hrd_params};
 ghost use Rattle.hevc_tables.specs.HrdTable as table;
 ghost use Rattle.hevc_video_set.specs.HrdParams.{plain_hrd_params};
 
 use crate::common::{forget_sub_layers, read_common};
 use crate::sub_layers::read_sub_layers;
-use hevc_bits::NaluReader;
-use hevc_elements::ParseError;
+use hevc_elements::{ElementReader, ParseError};
 use hevc_video_set::HrdParams;
 
 /// Reads parameters of the hypothetical reference decoder, for sub-layers from 0 to `max_sub_layers_minus1`, by table 3 (E.2.2), into
@@ -21,20 +20,14 @@ use hevc_video_set::HrdParams;
 /// isn't allowed. The reader then is where that element begins, and `hrd` is that of `HrdParams::new`.
 #[tactic(auto, using(hevc_elements::proofs::Meaning::meanings))]
 pub fn read_hrd_parameters(
-    r: &mut NaluReader<'_>,
+    r: &mut ElementReader<'_>,
     common: bool,
     max_sub_layers_minus1: u8,
     hrd: &mut HrdParams,
 ) -> Result<(), ParseError>
     requires { max_sub_layers_minus1 ≤ 6 }
-    ensures read { Reads (λ _. plain_hrd_params hrd.new) result r.new
-        (read (table.hrd_parameters common max_sub_layers_minus1 (plain_hrd_params hrd.old))
-        (bits r.old)) }
-    ensures means { Means (λ _. plain_hrd_params hrd.new)
-        (table.hrd_parameters common max_sub_layers_minus1
-        (plain_hrd_params hrd.old)) result r.old r.new }
-    ensures moves { IsAhead r.old r.new }
-    ensures place { IsReached r.old r.new }
+    ensures rows { ReadsTable (λ _. plain_hrd_params hrd.new) (table.hrd_parameters common
+        max_sub_layers_minus1 (plain_hrd_params hrd.old)) result r.old r.new }
     ensures refused { OnErr result (plain_hrd_params hrd.new ≡ default_hrd_params) }
 {
     let result = read_rows(r, common, max_sub_layers_minus1, hrd);
@@ -47,7 +40,7 @@ pub fn read_hrd_parameters(
 /// Rows 1 to 16 of table 3.
 #[tactic(auto, unfolding(hevc_tables::specs::HrdTable::hrd_parameters))]
 fn read_rows(
-    r: &mut NaluReader<'_>,
+    r: &mut ElementReader<'_>,
     common: bool,
     max_sub_layers_minus1: u8,
     hrd: &mut HrdParams,
@@ -63,7 +56,7 @@ fn read_rows(
 /// Rows 1 to 9 of table 3, or what the structure before has.
 #[tactic(auto, unfolding(hevc_spec::specs::Rows::when))]
 fn read_common_or_keep(
-    r: &mut NaluReader<'_>,
+    r: &mut ElementReader<'_>,
     common: bool,
     hrd: &mut HrdParams,
 ) -> Result<(), ParseError>

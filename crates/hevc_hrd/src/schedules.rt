@@ -1,11 +1,10 @@
 //! The schedules of delivery of a sub-layer (E.2.3, table 4).
 ghost use Rattle.std.specs.Prelude.{◌≡◌, ◌+◌, ◌≤◌, ◌<◌};
-ghost use Rattle.hevc_elements.specs.Words.{bits, IsAhead, read, Reads, Fills};
+ghost use Rattle.hevc_elements.specs.Words.{read, Reads, Fills};
 ghost use Rattle.hevc_tables.specs.HrdTable as table;
 ghost use Rattle.hevc_video_set.specs.SublayerHrdParameters.{plain_sublayer_hrd_parameters};
 
-use hevc_bits::NaluReader;
-use hevc_elements::ParseError;
+use hevc_elements::{ElementReader, ParseError};
 use hevc_elements::rows::{flag, ue, ue_if};
 use hevc_spec::Row;
 use hevc_video_set::SublayerHrdParameters;
@@ -13,14 +12,13 @@ use hevc_video_set::SublayerHrdParameters;
 /// Reads the schedules of a sub-layer, by table 4; those of decoding units where `by_units`.
 #[tactic(auto, using(hevc_elements::proofs::Loops::loops), unfolding(hevc_tables::specs::HrdTable::sub_layer_hrd_parameters))]
 pub(crate) fn read_schedules(
-    r: &mut NaluReader<'_>,
+    r: &mut ElementReader<'_>,
     by_units: bool,
     cpb_cnt_minus1: u32,
 ) -> Result<SublayerHrdParameters, ParseError>
     requires { cpb_cnt_minus1 ≤ 31 }
-    ensures read { Reads plain_sublayer_hrd_parameters result r.new
-        (read (table.sub_layer_hrd_parameters by_units cpb_cnt_minus1) (bits r.old)) }
-    ensures moves { IsAhead r.old r.new }
+    ensures read { Reads plain_sublayer_hrd_parameters
+        (table.sub_layer_hrd_parameters by_units cpb_cnt_minus1) result r.old r.new }
 {
     let mut hrd = SublayerHrdParameters::new();
     let count = cpb_cnt_minus1 as usize + 1;
@@ -33,7 +31,7 @@ pub(crate) fn read_schedules(
 /// Rows 1 to 3 of table 4, for one schedule.
 #[tactic(auto, unfolding(hevc_tables::specs::HrdTable::schedule))]
 fn read_schedule(
-    r: &mut NaluReader<'_>,
+    r: &mut ElementReader<'_>,
     by_units: bool,
     i: usize,
     hrd: &mut SublayerHrdParameters,

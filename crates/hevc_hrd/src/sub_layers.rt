@@ -1,14 +1,13 @@
 //! What is said of each sub-layer (E.2.2, rows 10 to 16 of table 3).
 ghost use Rattle.std.specs.Prelude.{◌≡◌, ◌≤◌, ◌<◌};
-ghost use Rattle.hevc_elements.specs.Words.{bits, IsAhead, read, when, Reads, Fills};
+ghost use Rattle.hevc_elements.specs.Words.{read, when, Reads, Fills};
 ghost use Rattle.hevc_records.specs.SublayerHrdParameters.{default_sublayer_hrd_parameters};
 ghost use Rattle.hevc_tables.specs.HrdTable as table;
 ghost use Rattle.hevc_video_set.specs.SublayerHrdParameters.{plain_sublayer_hrd_parameters};
 ghost use Rattle.hevc_video_set.specs.HrdParams.{plain_hrd_params};
 
 use crate::schedules::read_schedules;
-use hevc_bits::NaluReader;
-use hevc_elements::ParseError;
+use hevc_elements::{ElementReader, ParseError};
 use hevc_elements::rows::{flag, flag_if, flag_or, ue_if};
 use hevc_spec::Row;
 use hevc_video_set::{HrdParams, SublayerHrdParameters};
@@ -16,7 +15,7 @@ use hevc_video_set::{HrdParams, SublayerHrdParameters};
 /// Reads each sub-layer up to the highest into a structure, by rows 10 to 16 of table 3.
 #[tactic(auto, using(hevc_elements::proofs::Loops::loops), unfolding(hevc_tables::specs::HrdTable::sub_layers))]
 pub(crate) fn read_sub_layers(
-    r: &mut NaluReader<'_>,
+    r: &mut ElementReader<'_>,
     max_sub_layers_minus1: u8,
     hrd: &mut HrdParams,
 ) -> Result<(), ParseError>
@@ -33,7 +32,7 @@ pub(crate) fn read_sub_layers(
 
 /// Rows 10 to 16 of table 3, for one sub-layer of a structure.
 #[tactic(auto, using(crate::proofs::Places::places), unfolding(hevc_tables::specs::HrdTable::sub_layer))]
-fn read_sub_layer(r: &mut NaluReader<'_>, i: usize, hrd: &mut HrdParams) -> Result<(), ParseError>
+fn read_sub_layer(r: &mut ElementReader<'_>, i: usize, hrd: &mut HrdParams) -> Result<(), ParseError>
     requires { i < 7 }
     ensures { Fills plain_hrd_params (table.sub_layer i) result hrd.old hrd.new r.old r.new }
 {
@@ -58,16 +57,14 @@ fn read_sub_layer(r: &mut NaluReader<'_>, i: usize, hrd: &mut HrdParams) -> Resu
 /// Table 4, where it is present.
 #[tactic(auto, unfolding(hevc_spec::specs::Rows::when))]
 fn schedules_if(
-    r: &mut NaluReader<'_>,
+    r: &mut ElementReader<'_>,
     present: bool,
     by_units: bool,
     cpb_cnt_minus1: u32,
 ) -> Result<SublayerHrdParameters, ParseError>
     requires { cpb_cnt_minus1 ≤ 31 }
-    ensures read { Reads plain_sublayer_hrd_parameters result r.new
-        (read (when present default_sublayer_hrd_parameters
-        (table.sub_layer_hrd_parameters by_units cpb_cnt_minus1)) (bits r.old)) }
-    ensures moves { IsAhead r.old r.new }
+    ensures read { Reads plain_sublayer_hrd_parameters (when present default_sublayer_hrd_parameters
+        (table.sub_layer_hrd_parameters by_units cpb_cnt_minus1)) result r.old r.new }
 {
     if present {
         read_schedules(r, by_units, cpb_cnt_minus1)

@@ -13,7 +13,7 @@ ghost use Rattle.hevc_bits.specs.declared.stream_limit.TheConstants.{STREAM_LIMI
 
 use crate::set_ids::with_named;
 use hevc_bits::{Nalu, NaluHeader, NaluReader};
-use hevc_elements::ParseError;
+use hevc_elements::{ElementReader, ParseError};
 use hevc_elements::rows::ue_u8;
 use hevc_spec::Row;
 use std::alloc::{AllocError, Global};
@@ -102,7 +102,7 @@ fn read_named(payload: &[u8]) -> Option<u8>
 }
 
 /// Rows 1 and 2 of table 11, of which the second names the sequence set (7.3.2.3.1).
-fn read_ids(r: &mut NaluReader<'_>) -> Result<u8, ParseError>
+fn read_ids(r: &mut ElementReader<'_>) -> Result<u8, ParseError>
     ensures { (pps : PlainPps)
         → result_ok result ≡ sequence_set_named_in (read (ids pps) (bits r.old)) }
 {

@@ -10,8 +10,7 @@ ghost use Rattle.hevc_pps.specs.Tiling.{KeepsTiles};
 
 use crate::range_extension::read_pps_range_extension;
 use crate::scc_extension::read_pps_scc_extension;
-use hevc_bits::NaluReader;
-use hevc_elements::ParseError;
+use hevc_elements::{ElementReader, ParseError};
 use hevc_elements::rows::{flag, skip, zero};
 use hevc_picture_slice::Pps;
 use hevc_sequence_set::Sps;
@@ -21,7 +20,7 @@ use hevc_spec::Row;
 /// The last flag of row 28, and rows 29 to 35 of table 11.
 #[tactic(auto, unfolding(hevc_tables::specs::PpsTable::extensions, hevc_spec::specs::Rows::when))]
 pub(crate) fn read_extensions(
-    r: &mut NaluReader<'_>,
+    r: &mut ElementReader<'_>,
     sps: &Sps,
     pps: &mut Pps,
 ) -> Result<(), ParseError>
@@ -47,7 +46,7 @@ fn set_extension_present(pps: &mut Pps, present: bool)
 
 /// Rows 29 to 35 of table 11.
 #[tactic(auto, unfolding(hevc_tables::specs::PpsTable::extension_data))]
-fn read_extension_data(r: &mut NaluReader<'_>, sps: &Sps, pps: &mut Pps) -> Result<(), ParseError>
+fn read_extension_data(r: &mut ElementReader<'_>, sps: &Sps, pps: &mut Pps) -> Result<(), ParseError>
     ensures fills { Fills plain_pps
         (table.extension_data (plain_sps sps.now)) result pps.old pps.new r.old r.new }
     ensures same { KeepsTiles pps.old pps.new }
@@ -60,7 +59,7 @@ fn read_extension_data(r: &mut NaluReader<'_>, sps: &Sps, pps: &mut Pps) -> Resu
 /// Row 34 of table 11, where its flag is set.
 #[tactic(auto, unfolding(hevc_spec::specs::Rows::when))]
 fn read_range_extension_if_present(
-    r: &mut NaluReader<'_>,
+    r: &mut ElementReader<'_>,
     sps: &Sps,
     pps: &mut Pps,
 ) -> Result<(), ParseError>
@@ -79,7 +78,7 @@ fn read_range_extension_if_present(
 /// Row 35 of table 11, where its flag is set.
 #[tactic(auto, unfolding(hevc_spec::specs::Rows::when))]
 fn read_scc_extension_if_present(
-    r: &mut NaluReader<'_>,
+    r: &mut ElementReader<'_>,
     sps: &Sps,
     pps: &mut Pps,
 ) -> Result<(), ParseError>
@@ -97,7 +96,7 @@ fn read_scc_extension_if_present(
 
 /// Rows 29 to 33 of table 11.
 #[tactic(auto, unfolding(hevc_tables::specs::PpsTable::extension_flags))]
-fn read_extension_flags(r: &mut NaluReader<'_>, pps: &mut Pps) -> Result<(), ParseError>
+fn read_extension_flags(r: &mut ElementReader<'_>, pps: &mut Pps) -> Result<(), ParseError>
     ensures fills { Fills plain_pps table.extension_flags result pps.old pps.new r.old r.new }
     ensures same { KeepsTiles pps.old pps.new }
 {
@@ -123,7 +122,7 @@ fn set_extension_flags(pps: &mut Pps, range: bool, screen_content: bool)
 
 /// Row 34 of table 11.
 #[tactic(auto, unfolding(hevc_tables::specs::PpsTable::range_extension))]
-fn read_range_extension(r: &mut NaluReader<'_>, sps: &Sps, pps: &mut Pps) -> Result<(), ParseError>
+fn read_range_extension(r: &mut ElementReader<'_>, sps: &Sps, pps: &mut Pps) -> Result<(), ParseError>
     ensures fills { Fills plain_pps
         (table.range_extension (plain_sps sps.now)) result pps.old pps.new r.old r.new }
     ensures same { KeepsTiles pps.old pps.new }
@@ -144,7 +143,7 @@ fn set_range_extension(pps: &mut Pps, range_extension: PpsRangeExtension)
 
 /// Row 35 of table 11.
 #[tactic(auto, unfolding(hevc_tables::specs::PpsTable::scc_extension))]
-fn read_scc_extension(r: &mut NaluReader<'_>, sps: &Sps, pps: &mut Pps) -> Result<(), ParseError>
+fn read_scc_extension(r: &mut ElementReader<'_>, sps: &Sps, pps: &mut Pps) -> Result<(), ParseError>
     ensures fills { Fills plain_pps
         (table.scc_extension (plain_sps sps.now)) result pps.old pps.new r.old r.new }
     ensures same { KeepsTiles pps.old pps.new }

@@ -1,7 +1,7 @@
 //! Filters, scaling lists, and what slice headers may have (7.3.2.3.1, rows 20 to 28 of table 11).
 ghost use Rattle.std.specs.Prelude.{◌≡◌, ◌≤ℤ◌, pos, neg_ℤ};
 ghost use Rattle.hevc_spec.specs.Rows.{when};
-ghost use Rattle.hevc_elements.specs.Words.{bits, IsAhead, read, Reads, Fills};
+ghost use Rattle.hevc_elements.specs.Words.{read, Reads, Fills};
 ghost use Rattle.hevc_records.specs.DefaultScalingLists.{default_lists};
 ghost use Rattle.hevc_tables.specs.PpsTable as table;
 ghost use Rattle.hevc_tables.specs.ScalingListTable.{scaling_list_data};
@@ -10,8 +10,7 @@ ghost use Rattle.hevc_sequence_set.specs.Sps.{plain_sps};
 ghost use Rattle.hevc_picture_slice.specs.Pps.{plain_pps};
 ghost use Rattle.hevc_pps.specs.Tiling.{KeepsTiles};
 
-use hevc_bits::NaluReader;
-use hevc_elements::ParseError;
+use hevc_elements::{ElementReader, ParseError};
 use hevc_elements::rows::{flag, se_i8, ue_u8};
 use hevc_picture_slice::Pps;
 use hevc_scaling::{default_scaling_lists, read_scaling_list_data};
@@ -21,7 +20,7 @@ use hevc_spec::Row;
 
 /// Rows 20 to 23 of table 11.
 #[tactic(auto, unfolding(hevc_tables::specs::PpsTable::filters, hevc_spec::specs::Rows::when))]
-pub(crate) fn read_filters(r: &mut NaluReader<'_>, pps: &mut Pps) -> Result<(), ParseError>
+pub(crate) fn read_filters(r: &mut ElementReader<'_>, pps: &mut Pps) -> Result<(), ParseError>
     ensures fills { Fills plain_pps table.filters result pps.old pps.new r.old r.new }
     ensures same { KeepsTiles pps.old pps.new }
 {
@@ -48,7 +47,7 @@ fn set_filters(pps: &mut Pps, across_slices: bool, control: bool)
 
 /// Rows 21 to 23 of table 11.
 #[tactic(auto, unfolding(hevc_tables::specs::PpsTable::deblocking, hevc_spec::specs::Rows::when))]
-fn read_deblocking(r: &mut NaluReader<'_>, pps: &mut Pps) -> Result<(), ParseError>
+fn read_deblocking(r: &mut ElementReader<'_>, pps: &mut Pps) -> Result<(), ParseError>
     ensures fills { Fills plain_pps table.deblocking result pps.old pps.new r.old r.new }
     ensures same { KeepsTiles pps.old pps.new }
 {
@@ -75,7 +74,7 @@ fn set_deblocking(pps: &mut Pps, overridden: bool, disabled: bool)
 
 /// Rows 22 and 23 of table 11.
 #[tactic(auto, unfolding(hevc_tables::specs::PpsTable::filter_offsets))]
-fn read_filter_offsets(r: &mut NaluReader<'_>, pps: &mut Pps) -> Result<(), ParseError>
+fn read_filter_offsets(r: &mut ElementReader<'_>, pps: &mut Pps) -> Result<(), ParseError>
     ensures fills { Fills plain_pps table.filter_offsets result pps.old pps.new r.old r.new }
     ensures same { KeepsTiles pps.old pps.new }
 {
@@ -102,7 +101,7 @@ fn set_filter_offsets(pps: &mut Pps, beta_div2: i8, tc_div2: i8)
 
 /// Rows 24 and 25 of table 11.
 #[tactic(auto, unfolding(hevc_tables::specs::PpsTable::scaling))]
-pub(crate) fn read_scaling(r: &mut NaluReader<'_>, pps: &mut Pps) -> Result<(), ParseError>
+pub(crate) fn read_scaling(r: &mut ElementReader<'_>, pps: &mut Pps) -> Result<(), ParseError>
     ensures fills { Fills plain_pps table.scaling result pps.old pps.new r.old r.new }
     ensures same { KeepsTiles pps.old pps.new }
 {
@@ -125,10 +124,9 @@ fn set_scaling(pps: &mut Pps, present: bool, scaling_list: ScalingLists)
 
 /// Row 25 of table 11, where it is present.
 #[tactic(auto, unfolding(hevc_spec::specs::Rows::when))]
-fn read_scaling_lists(r: &mut NaluReader<'_>, present: bool) -> Result<ScalingLists, ParseError>
-    ensures read { Reads plain_scaling_lists result r.new
-        (read (when present default_lists scaling_list_data) (bits r.old)) }
-    ensures moves { IsAhead r.old r.new }
+fn read_scaling_lists(r: &mut ElementReader<'_>, present: bool) -> Result<ScalingLists, ParseError>
+    ensures read { Reads plain_scaling_lists (when present default_lists scaling_list_data) result
+        r.old r.new }
 {
     if present {
         read_scaling_list_data(r)
@@ -140,7 +138,7 @@ fn read_scaling_lists(r: &mut NaluReader<'_>, present: bool) -> Result<ScalingLi
 /// Rows 26 to 28 of table 11, but for the last flag.
 #[tactic(auto, unfolding(hevc_tables::specs::PpsTable::merging))]
 pub(crate) fn read_merging(
-    r: &mut NaluReader<'_>,
+    r: &mut ElementReader<'_>,
     sps: &Sps,
     pps: &mut Pps,
 ) -> Result<(), ParseError>

@@ -3,7 +3,7 @@ ghost use Rattle.std.specs.Prelude.{◌≡◌, ◌==◌, ◌-◌, ◌<◌, ◌^�
 ghost use Rattle.hevc_spec.specs.Payload.{payload, payload_bits};
 ghost use Rattle.hevc_bits.specs.FoundUnit.{bytes_of};
 ghost use Rattle.hevc_bits.specs.NaluType.{nalu_type_number};
-ghost use Rattle.hevc_elements.specs.Words.{bits, read, Fills, ReadsSet, MeansSet};
+ghost use Rattle.hevc_elements.specs.Words.{read, Fills, ReadsSet, MeansSet};
 ghost use Rattle.hevc_elements.specs.Naming.{ReadsNaming};
 ghost use Rattle.hevc_records.specs.SetsById.{sets_by_id};
 ghost use Rattle.hevc_tables.specs.PpsTable as table;
@@ -17,9 +17,9 @@ use crate::extensions::read_extensions;
 use crate::filters::{read_filters, read_merging, read_scaling};
 use crate::tiles::read_tiles;
 use crate::tools::{read_presence, read_quantiser, read_tools};
-use hevc_bits::{Nalu, NaluHeader, NaluReader, NaluType};
+use hevc_bits::{Nalu, NaluHeader, NaluType};
 use hevc_boxed::Boxed;
-use hevc_elements::ParseError;
+use hevc_elements::{ElementReader, ParseError};
 use hevc_elements::rows::ue_u8;
 use hevc_picture_slice::Pps;
 use hevc_sequence_set::Sps;
@@ -87,19 +87,19 @@ fn read_payload(
     ensures names { IfErr result NamesNoOtherSet }
     ensures tiles { IfOk result (λ pps. CoverKept spses.now (plain_pps pps)) }
 {
-    read_rows(temporal_id, &mut NaluReader::new(payload), spses)
+    read_rows(temporal_id, &mut ElementReader::new(payload), spses)
 }
 
 /// Rows 1 to 35 of table 11.
 #[tactic(auto, using(crate::proofs::Names::names), unfolding(hevc_tables::specs::PpsTable::picture_parameter_set, hevc_tables::specs::PpsTable::named))]
 fn read_rows(
     temporal_id: u8,
-    r: &mut NaluReader<'_>,
+    r: &mut ElementReader<'_>,
     spses: &BTreeMap<u8, Boxed<Sps>>,
 ) -> Result<Pps, ParseError>
-    ensures read { ReadsNaming plain_pps result r.new
-        (read (table.picture_parameter_set temporal_id (sets_by_id plain_sps spses.now))
-        (bits r.old)) }
+    ensures read { ReadsNaming plain_pps
+        (table.picture_parameter_set temporal_id (sets_by_id plain_sps spses.now)) result r.old
+        r.new }
     ensures names { IfErr result NamesNoOtherSet }
     ensures tiles { IfOk result (λ pps. CoverKept spses.now (plain_pps pps)) }
 {
@@ -117,7 +117,7 @@ fn read_rows(
 
 /// Rows 1 and 2 of table 11.
 #[tactic(auto, unfolding(hevc_tables::specs::PpsTable::ids))]
-fn read_ids(r: &mut NaluReader<'_>, pps: &mut Pps) -> Result<(), ParseError>
+fn read_ids(r: &mut ElementReader<'_>, pps: &mut Pps) -> Result<(), ParseError>
     ensures { Fills plain_pps table.ids result pps.old pps.new r.old r.new }
 {
     let id = ue_u8(r, Row(11, 1), 0, 63)?;
@@ -139,7 +139,7 @@ fn set_ids(pps: &mut Pps, id: u8, sequence_set_id: u8)
 
 /// Rows 3 to 35 of table 11.
 #[tactic(auto, unfolding(hevc_tables::specs::PpsTable::picture_set_of))]
-fn read_behind_ids(r: &mut NaluReader<'_>, sps: &Sps, pps: &mut Pps) -> Result<(), ParseError>
+fn read_behind_ids(r: &mut ElementReader<'_>, sps: &Sps, pps: &mut Pps) -> Result<(), ParseError>
     ensures fills { Fills plain_pps
         (table.picture_set_of (plain_sps sps.now)) result pps.old pps.new r.old r.new }
     ensures same_sps { pps.new.seq_parameter_set_id ≡ pps.old.seq_parameter_set_id }
@@ -154,7 +154,7 @@ fn read_behind_ids(r: &mut NaluReader<'_>, sps: &Sps, pps: &mut Pps) -> Result<(
 
 /// Rows 3 to 19 of table 11.
 #[tactic(auto, unfolding(hevc_tables::specs::PpsTable::coding, hevc_spec::specs::Rows::when))]
-fn read_coding(r: &mut NaluReader<'_>, sps: &Sps, pps: &mut Pps) -> Result<(), ParseError>
+fn read_coding(r: &mut ElementReader<'_>, sps: &Sps, pps: &mut Pps) -> Result<(), ParseError>
     ensures fills { Fills plain_pps
         (table.coding (plain_sps sps.now)) result pps.old pps.new r.old r.new }
     ensures same_sps { pps.new.seq_parameter_set_id ≡ pps.old.seq_parameter_set_id }

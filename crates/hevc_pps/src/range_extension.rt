@@ -1,12 +1,11 @@
 //! The range extension (7.3.2.3.2, table 12).
 ghost use Rattle.std.specs.Prelude.{◌≤◌, ◌<◌};
-ghost use Rattle.hevc_elements.specs.Words.{bits, IsAhead, read, Reads, Fills};
+ghost use Rattle.hevc_elements.specs.Words.{read, Reads, Fills};
 ghost use Rattle.hevc_tables.specs.PpsRangeExtensionTable as table;
 ghost use Rattle.hevc_set_parts.specs.PpsRangeExtension.{plain_pps_range_extension};
 ghost use Rattle.hevc_sequence_set.specs.Sps.{plain_sps};
 
-use hevc_bits::NaluReader;
-use hevc_elements::ParseError;
+use hevc_elements::{ElementReader, ParseError};
 use hevc_elements::rows::{flag, se, ue, ue_if};
 use hevc_sequence_set::Sps;
 use hevc_set_parts::PpsRangeExtension;
@@ -15,13 +14,12 @@ use hevc_spec::Row;
 /// Table 12, of a set that allows skipped transforms or not.
 #[tactic(auto, unfolding(hevc_tables::specs::PpsRangeExtensionTable::pps_range_extension, hevc_spec::specs::Rows::when))]
 pub(crate) fn read_pps_range_extension(
-    r: &mut NaluReader<'_>,
+    r: &mut ElementReader<'_>,
     sps: &Sps,
     transform_skip: bool,
 ) -> Result<PpsRangeExtension, ParseError>
-    ensures read { Reads plain_pps_range_extension result r.new
-        (read (table.pps_range_extension (plain_sps sps.now) transform_skip) (bits r.old)) }
-    ensures moves { IsAhead r.old r.new }
+    ensures read { Reads plain_pps_range_extension
+        (table.pps_range_extension (plain_sps sps.now) transform_skip) result r.old r.new }
 {
     let most_size = sps.max_tb_log2_size_y - 2;
     let most_luma = u32::from(sps.bit_depth_luma_minus8.saturating_sub(2));
@@ -46,7 +44,7 @@ pub(crate) fn read_pps_range_extension(
 
 /// Rows 3 to 5 of table 12.
 #[tactic(auto, unfolding(hevc_tables::specs::PpsRangeExtensionTable::offset_lists))]
-fn read_offset_lists(r: &mut NaluReader<'_>, x: &mut PpsRangeExtension) -> Result<(), ParseError>
+fn read_offset_lists(r: &mut ElementReader<'_>, x: &mut PpsRangeExtension) -> Result<(), ParseError>
     ensures { Fills plain_pps_range_extension table.offset_lists result x.old x.new r.old r.new }
 {
     x.diff_cu_chroma_qp_offset_depth = ue(r, Row(12, 3), 0, 2_147_483_647)?;
@@ -58,7 +56,7 @@ fn read_offset_lists(r: &mut NaluReader<'_>, x: &mut PpsRangeExtension) -> Resul
 /// Row 5 of table 12, for each pair.
 #[tactic(auto, using(hevc_elements::proofs::Loops::loops), unfolding(hevc_tables::specs::PpsRangeExtensionTable::offset_pairs))]
 fn read_offset_pairs(
-    r: &mut NaluReader<'_>,
+    r: &mut ElementReader<'_>,
     count: usize,
     x: &mut PpsRangeExtension,
 ) -> Result<(), ParseError>
@@ -75,7 +73,7 @@ fn read_offset_pairs(
 /// Row 5 of table 12, for one pair.
 #[tactic(auto, unfolding(hevc_tables::specs::PpsRangeExtensionTable::offset_pair))]
 fn read_offset_pair(
-    r: &mut NaluReader<'_>,
+    r: &mut ElementReader<'_>,
     i: usize,
     x: &mut PpsRangeExtension,
 ) -> Result<(), ParseError>

@@ -1,6 +1,6 @@
 //! The screen content coding extension (7.3.2.3.3, table 13).
 ghost use Rattle.std.specs.Prelude.{◌≡◌, ◌≤◌, ◌<◌};
-ghost use Rattle.hevc_elements.specs.Words.{bits, IsAhead, read, Reads, Fills};
+ghost use Rattle.hevc_elements.specs.Words.{read, Reads, Fills};
 ghost use Rattle.hevc_tables.specs.PpsSccExtensionTable as table;
 ghost use Rattle.hevc_tables.specs.PpsTable.{max_palette_predictors as most_predictors};
 ghost use Rattle.hevc_tables.specs.SpsSccExtensionTable.{bit_depth as bit_depth_of};
@@ -8,8 +8,7 @@ ghost use Rattle.hevc_tables.specs.SpsTable.{sample_format};
 ghost use Rattle.hevc_set_parts.specs.PpsSccExtension.{plain_pps_scc_extension};
 ghost use Rattle.hevc_sequence_set.specs.Sps.{plain_sps};
 
-use hevc_bits::NaluReader;
-use hevc_elements::ParseError;
+use hevc_elements::{ElementReader, ParseError};
 use hevc_elements::rows::{bits_u32, flag, se_i8, ue_u8, ue_u8_if};
 use hevc_sequence_set::Sps;
 use hevc_set_parts::PpsSccExtension;
@@ -18,13 +17,12 @@ use hevc_spec::Row;
 /// Table 13.
 #[tactic(auto, unfolding(hevc_tables::specs::PpsSccExtensionTable::pps_scc_extension, hevc_spec::specs::Rows::when))]
 pub(crate) fn read_pps_scc_extension(
-    r: &mut NaluReader<'_>,
+    r: &mut ElementReader<'_>,
     sps: &Sps,
 ) -> Result<PpsSccExtension, ParseError>
-    ensures read { Reads plain_pps_scc_extension result r.new
-        (read (table.pps_scc_extension (sample_format (plain_sps sps.now))
-        (most_predictors (plain_sps sps.now))) (bits r.old)) }
-    ensures moves { IsAhead r.old r.new }
+    ensures read { Reads plain_pps_scc_extension (table.pps_scc_extension
+        (sample_format (plain_sps sps.now)) (most_predictors (plain_sps sps.now))) result r.old
+        r.new }
 {
     let mut x = PpsSccExtension::new();
     x.curr_pic_ref_enabled_flag = flag(r, Row(13, 1))?;
@@ -41,7 +39,7 @@ pub(crate) fn read_pps_scc_extension(
 
 /// Rows 2 to 5 of table 13.
 #[tactic(auto, unfolding(hevc_tables::specs::PpsSccExtensionTable::colour_transform))]
-fn read_colour_transform(r: &mut NaluReader<'_>, x: &mut PpsSccExtension) -> Result<(), ParseError>
+fn read_colour_transform(r: &mut ElementReader<'_>, x: &mut PpsSccExtension) -> Result<(), ParseError>
     ensures { Fills plain_pps_scc_extension table.colour_transform result x.old x.new r.old r.new }
 {
     x.slice_act_qp_offsets_present_flag = flag(r, Row(13, 2))?;
@@ -62,7 +60,7 @@ fn max_palette_predictors(sps: &Sps) -> u8
 /// Rows 7 to 11 of table 13.
 #[tactic(auto, unfolding(hevc_tables::specs::PpsSccExtensionTable::palettes, hevc_spec::specs::Rows::when))]
 fn read_palettes(
-    r: &mut NaluReader<'_>,
+    r: &mut ElementReader<'_>,
     sps: &Sps,
     x: &mut PpsSccExtension,
 ) -> Result<(), ParseError>
@@ -82,7 +80,7 @@ fn read_palettes(
 /// Rows 8 to 11 of table 13.
 #[tactic(auto, unfolding(hevc_tables::specs::PpsSccExtensionTable::initializers))]
 fn read_initializers(
-    r: &mut NaluReader<'_>,
+    r: &mut ElementReader<'_>,
     sps: &Sps,
     x: &mut PpsSccExtension,
 ) -> Result<(), ParseError>
@@ -102,7 +100,7 @@ fn read_initializers(
 /// Row 11 of table 13.
 #[tactic(auto, using(hevc_elements::proofs::Loops::loops), unfolding(hevc_tables::specs::PpsSccExtensionTable::predictors))]
 fn read_predictors(
-    r: &mut NaluReader<'_>,
+    r: &mut ElementReader<'_>,
     sps: &Sps,
     x: &mut PpsSccExtension,
 ) -> Result<(), ParseError>
@@ -121,7 +119,7 @@ fn read_predictors(
 /// Row 11 of table 13, for one component of so many predictors.
 #[tactic(auto, using(hevc_elements::proofs::Loops::loops), unfolding(hevc_tables::specs::PpsSccExtensionTable::component_predictors))]
 fn read_component(
-    r: &mut NaluReader<'_>,
+    r: &mut ElementReader<'_>,
     sps: &Sps,
     count: usize,
     component: usize,
@@ -142,7 +140,7 @@ fn read_component(
 /// Row 11 of table 13, for one predictor.
 #[tactic(auto, unfolding(hevc_tables::specs::PpsSccExtensionTable::predictor))]
 fn read_predictor(
-    r: &mut NaluReader<'_>,
+    r: &mut ElementReader<'_>,
     sps: &Sps,
     component: usize,
     i: usize,

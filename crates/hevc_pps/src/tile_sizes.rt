@@ -1,12 +1,11 @@
 //! The sizes of tile columns or rows (6.5.1), each in coding tree blocks and less 1.
 ghost use Rattle.std.specs.Prelude.{◌≡◌, ◌+◌, ◌<◌, ◌≤◌, IfOk, OnOk, replicate};
-ghost use Rattle.hevc_elements.specs.Words.{bits, IsAhead, read, Reads, Fills};
+ghost use Rattle.hevc_elements.specs.Words.{left, read, Reads, Fills};
 ghost use Rattle.hevc_tables.specs.PpsTable as table;
 ghost use Rattle.hevc_pps.specs.Projections.{plain_parts};
 ghost use Rattle.hevc_pps.specs.Tiling.{blocks_of, AreParts};
 
-use hevc_bits::NaluReader;
-use hevc_elements::ParseError;
+use hevc_elements::{ElementReader, ParseError};
 use hevc_elements::rows::ue;
 use hevc_spec::Row;
 
@@ -47,16 +46,14 @@ fn even_size(length: u32, count: u32, i: u32) -> u32
 /// Row 17 or 18 of table 11: the sizes of the parts before the last one are told, and the last one takes what is left.
 #[tactic(auto, using(crate::proofs::ToldSizes::told), unfolding(hevc_tables::specs::PpsTable::told_sizes))]
 pub(crate) fn read_told_sizes<const N: usize>(
-    r: &mut NaluReader<'_>,
+    r: &mut ElementReader<'_>,
     row: Row,
     length: u32,
     last: usize,
 ) -> Result<[u32; N], ParseError>
     requires length { (1 ≤ length) × (length ≤ 16888) }
     requires places { (last < N) × (N ≤ 22) }
-    ensures read { Reads (λ sizes. sizes) result r.new
-        (read (table.told_sizes row N length last) (bits r.old)) }
-    ensures moves { IsAhead r.old r.new }
+    ensures read { Reads (λ sizes. sizes) (table.told_sizes row N length last) result r.old r.new }
     ensures all { IfOk result (λ sizes. blocks_of (last + 1) sizes ≡ length) }
 {
     let parts: Parts<N> = read_told_parts(r, row, length, last)?;
@@ -68,16 +65,14 @@ pub(crate) fn read_told_sizes<const N: usize>(
 /// The parts before the last one.
 #[tactic(auto, using(hevc_elements::proofs::Loops::loops), unfolding(hevc_tables::specs::PpsTable::told_parts))]
 fn read_told_parts<const N: usize>(
-    r: &mut NaluReader<'_>,
+    r: &mut ElementReader<'_>,
     row: Row,
     length: u32,
     last: usize,
 ) -> Result<Parts<N>, ParseError>
     requires length { (1 ≤ length) × (length ≤ 16888) }
     requires places { (last < N) × (N ≤ 22) }
-    ensures read { Reads plain_parts result r.new
-        (read (table.told_parts row N length last) (bits r.old)) }
-    ensures moves { IsAhead r.old r.new }
+    ensures read { Reads plain_parts (table.told_parts row N length last) result r.old r.new }
     ensures parts { IfOk result (λ parts. AreParts length last (plain_parts parts)) }
 {
     let mut parts = Parts {
@@ -93,7 +88,7 @@ fn read_told_parts<const N: usize>(
 /// Part `i`, which leaves a block for the next.
 #[tactic(auto, using(crate::proofs::ToldSizes::told), unfolding(hevc_tables::specs::PpsTable::told_size))]
 fn read_told_size<const N: usize>(
-    r: &mut NaluReader<'_>,
+    r: &mut ElementReader<'_>,
     row: Row,
     i: usize,
     parts: &mut Parts<N>,

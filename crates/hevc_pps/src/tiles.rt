@@ -7,8 +7,7 @@ ghost use Rattle.hevc_picture_slice.specs.Pps.{plain_pps};
 ghost use Rattle.hevc_pps.specs.Tiling.{HaveBlocks, AddUp};
 
 use crate::tile_sizes::{even_sizes, read_told_sizes};
-use hevc_bits::NaluReader;
-use hevc_elements::ParseError;
+use hevc_elements::{ElementReader, ParseError};
 use hevc_elements::rows::{flag, ue_u8};
 use hevc_picture_slice::Pps;
 use hevc_sequence_set::Sps;
@@ -16,7 +15,7 @@ use hevc_spec::Row;
 
 /// Rows 14 to 19 of table 11, of a set with tiles.
 #[tactic(auto, unfolding(hevc_tables::specs::PpsTable::tiles, hevc_spec::specs::Rows::either))]
-pub(crate) fn read_tiles(r: &mut NaluReader<'_>, sps: &Sps, pps: &mut Pps) -> Result<(), ParseError>
+pub(crate) fn read_tiles(r: &mut ElementReader<'_>, sps: &Sps, pps: &mut Pps) -> Result<(), ParseError>
     ensures fills { Fills plain_pps
         (table.tiles (plain_sps sps.now)) result pps.old pps.new r.old r.new }
     ensures same_sps { pps.new.seq_parameter_set_id ≡ pps.old.seq_parameter_set_id }
@@ -42,7 +41,7 @@ fn set_filter_across_tiles(pps: &mut Pps, across: bool)
 
 /// Rows 14 to 16 of table 11.
 #[tactic(auto, unfolding(hevc_tables::specs::PpsTable::tile_counts))]
-fn read_tile_counts(r: &mut NaluReader<'_>, sps: &Sps, pps: &mut Pps) -> Result<(), ParseError>
+fn read_tile_counts(r: &mut ElementReader<'_>, sps: &Sps, pps: &mut Pps) -> Result<(), ParseError>
     ensures fills { Fills plain_pps
         (table.tile_counts (plain_sps sps.now)) result pps.old pps.new r.old r.new }
     ensures same_sps { pps.new.seq_parameter_set_id ≡ pps.old.seq_parameter_set_id }
@@ -107,7 +106,7 @@ fn set_even_tiles(sps: &Sps, pps: &mut Pps)
 
 /// Rows 17 and 18 of table 11.
 #[tactic(auto, unfolding(hevc_tables::specs::PpsTable::told_tiles))]
-fn read_told_tiles(r: &mut NaluReader<'_>, sps: &Sps, pps: &mut Pps) -> Result<(), ParseError>
+fn read_told_tiles(r: &mut ElementReader<'_>, sps: &Sps, pps: &mut Pps) -> Result<(), ParseError>
     ensures fills { Fills plain_pps
         (table.told_tiles (plain_sps sps.now)) result pps.old pps.new r.old r.new }
     ensures same_sps { pps.new.seq_parameter_set_id ≡ pps.old.seq_parameter_set_id }

@@ -1,13 +1,12 @@
 //! What slice headers have, the quantiser, and tools (7.3.2.3.1, rows 3 to 13 of table 11).
 ghost use Rattle.std.specs.Prelude.{◌≡◌, ◌+◌, ◌≤◌, ◌≤ℤ◌, pos, neg_ℤ, IfOk};
 ghost use Rattle.hevc_spec.specs.Rows.{row, ue_row};
-ghost use Rattle.hevc_elements.specs.Words.{bits, IsAhead, read, Fills};
+ghost use Rattle.hevc_elements.specs.Words.{Fills};
 ghost use Rattle.hevc_tables.specs.PpsTable as table;
 ghost use Rattle.hevc_sequence_set.specs.Sps.{plain_sps};
 ghost use Rattle.hevc_picture_slice.specs.Pps.{plain_pps};
 
-use hevc_bits::NaluReader;
-use hevc_elements::ParseError;
+use hevc_elements::{ElementReader, ParseError};
 use hevc_elements::rows::{bits_u8, flag, se_i8, ue_u8, ue_u8_if};
 use hevc_picture_slice::Pps;
 use hevc_sequence_set::Sps;
@@ -15,7 +14,7 @@ use hevc_spec::Row;
 
 /// Rows 3 to 7 of table 11.
 #[tactic(auto, unfolding(hevc_tables::specs::PpsTable::presence))]
-pub(crate) fn read_presence(r: &mut NaluReader<'_>, pps: &mut Pps) -> Result<(), ParseError>
+pub(crate) fn read_presence(r: &mut ElementReader<'_>, pps: &mut Pps) -> Result<(), ParseError>
     ensures fills { Fills plain_pps table.presence result pps.old pps.new r.old r.new }
     ensures same_sps { pps.new.seq_parameter_set_id ≡ pps.old.seq_parameter_set_id }
 {
@@ -72,7 +71,7 @@ fn set_active_counts(pps: &mut Pps, l0_minus1: u8, l1_minus1: u8)
 /// Rows 8 to 12 of table 11.
 #[tactic(auto, unfolding(hevc_tables::specs::PpsTable::quantiser))]
 pub(crate) fn read_quantiser(
-    r: &mut NaluReader<'_>,
+    r: &mut ElementReader<'_>,
     sps: &Sps,
     pps: &mut Pps,
 ) -> Result<(), ParseError>
@@ -164,7 +163,7 @@ fn least_init_qp(qp_bd_offset_y: u32) -> i8
 
 /// Row 13 of table 11.
 #[tactic(auto, unfolding(hevc_tables::specs::PpsTable::tools))]
-pub(crate) fn read_tools(r: &mut NaluReader<'_>, pps: &mut Pps) -> Result<(), ParseError>
+pub(crate) fn read_tools(r: &mut ElementReader<'_>, pps: &mut Pps) -> Result<(), ParseError>
     ensures fills { Fills plain_pps table.tools result pps.old pps.new r.old r.new }
     ensures same_sps { pps.new.seq_parameter_set_id ≡ pps.old.seq_parameter_set_id }
 {

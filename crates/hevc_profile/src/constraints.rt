@@ -7,14 +7,13 @@ ghost use Rattle.hevc_profile.specs.Scopes.{plain_scope};
 use crate::conformance::{has_14bit, has_extensions, layer_conforms_to};
 use crate::layer_profile::LayerProfile;
 use crate::scope::{Scope, row_of};
-use hevc_bits::NaluReader;
-use hevc_elements::ParseError;
+use hevc_elements::{ElementReader, ParseError};
 use hevc_elements::rows::{flag, flag_if, skip};
 
 /// Rows 6 to 13 of table 2.
 #[tactic(auto, unfolding(hevc_tables::specs::ProfileTierLevelTable::constraints, hevc_spec::specs::Rows::either))]
 pub(crate) fn read_constraints(
-    r: &mut NaluReader<'_>,
+    r: &mut ElementReader<'_>,
     scope: Scope,
     layer: &mut LayerProfile,
 ) -> Result<(), ParseError>
@@ -33,7 +32,7 @@ pub(crate) fn read_constraints(
 /// Rows 6 to 9 of table 2.
 #[tactic(auto, unfolding(hevc_tables::specs::ProfileTierLevelTable::range_extensions_flags))]
 fn read_extensions(
-    r: &mut NaluReader<'_>,
+    r: &mut ElementReader<'_>,
     scope: Scope,
     layer: &mut LayerProfile,
 ) -> Result<(), ParseError>
@@ -47,7 +46,7 @@ fn read_extensions(
 /// Row 6 of table 2.
 #[tactic(auto, unfolding(hevc_tables::specs::ProfileTierLevelTable::formats))]
 fn read_formats(
-    r: &mut NaluReader<'_>,
+    r: &mut ElementReader<'_>,
     scope: Scope,
     layer: &mut LayerProfile,
 ) -> Result<(), ParseError>
@@ -70,7 +69,7 @@ fn read_formats(
 /// Rows 7 to 9 of table 2.
 #[tactic(auto, unfolding(hevc_tables::specs::ProfileTierLevelTable::bit_depth_flag, hevc_spec::specs::Rows::either))]
 fn read_bit_depth_flag(
-    r: &mut NaluReader<'_>,
+    r: &mut ElementReader<'_>,
     scope: Scope,
     layer: &mut LayerProfile,
 ) -> Result<(), ParseError>
@@ -89,7 +88,7 @@ fn read_bit_depth_flag(
 /// Rows 10 to 12 of table 2.
 #[tactic(auto, unfolding(hevc_tables::specs::ProfileTierLevelTable::main_10_flags))]
 fn read_main_10(
-    r: &mut NaluReader<'_>,
+    r: &mut ElementReader<'_>,
     scope: Scope,
     layer: &mut LayerProfile,
 ) -> Result<(), ParseError>
@@ -104,7 +103,7 @@ fn read_main_10(
 /// Row 13 of table 2.
 #[tactic(auto, unfolding(hevc_tables::specs::ProfileTierLevelTable::reserved_bits))]
 fn skip_reserved_bits(
-    r: &mut NaluReader<'_>,
+    r: &mut ElementReader<'_>,
     scope: Scope,
     layer: &mut LayerProfile,
 ) -> Result<(), ParseError>

@@ -1,6 +1,6 @@
 //! The profile of the whole stream, or of a sub-layer (7.3.3, rows 1 to 5, 14 and 15 of table 2).
 ghost use Rattle.std.specs.Prelude.{◌<◌};
-ghost use Rattle.hevc_elements.specs.Words.{bits, IsAhead, read, Reads, Fills};
+ghost use Rattle.hevc_elements.specs.Words.{read, Reads, Fills};
 ghost use Rattle.hevc_tables.specs.ProfileTierLevelTable as table;
 ghost use Rattle.hevc_profile.specs.LayerProfile.{plain_layer_profile};
 ghost use Rattle.hevc_profile.specs.Scopes.{plain_scope};
@@ -9,19 +9,17 @@ use crate::conformance::has_inbld;
 use crate::constraints::read_constraints;
 use crate::layer_profile::LayerProfile;
 use crate::scope::{Scope, row_of};
-use hevc_bits::NaluReader;
-use hevc_elements::ParseError;
+use hevc_elements::{ElementReader, ParseError};
 use hevc_elements::rows::{bits_u8, flag, flag_if, skip};
 
 /// Rows 1 to 15 of table 2.
 #[tactic(auto, unfolding(hevc_tables::specs::ProfileTierLevelTable::layer_profile))]
 pub(crate) fn read_layer_profile(
-    r: &mut NaluReader<'_>,
+    r: &mut ElementReader<'_>,
     scope: Scope,
 ) -> Result<LayerProfile, ParseError>
-    ensures read { Reads plain_layer_profile result r.new
-        (read (table.layer_profile (plain_scope scope)) (bits r.old)) }
-    ensures moves { IsAhead r.old r.new }
+    ensures read { Reads plain_layer_profile (table.layer_profile (plain_scope scope)) result r.old
+        r.new }
 {
     let mut layer = LayerProfile::new();
     read_profiles(r, scope, &mut layer)?;
@@ -34,7 +32,7 @@ pub(crate) fn read_layer_profile(
 /// Rows 1 to 4 of table 2.
 #[tactic(auto, unfolding(hevc_tables::specs::ProfileTierLevelTable::profiles))]
 fn read_profiles(
-    r: &mut NaluReader<'_>,
+    r: &mut ElementReader<'_>,
     scope: Scope,
     layer: &mut LayerProfile,
 ) -> Result<(), ParseError>
@@ -50,7 +48,7 @@ fn read_profiles(
 /// Row 4 of table 2.
 #[tactic(auto, using(hevc_elements::proofs::Loops::loops), unfolding(hevc_tables::specs::ProfileTierLevelTable::compatibility_flags))]
 fn read_compatibility_flags(
-    r: &mut NaluReader<'_>,
+    r: &mut ElementReader<'_>,
     scope: Scope,
     layer: &mut LayerProfile,
 ) -> Result<(), ParseError>
@@ -66,7 +64,7 @@ fn read_compatibility_flags(
 /// Row 4 of table 2, for one profile.
 #[tactic(auto, unfolding(hevc_tables::specs::ProfileTierLevelTable::compatibility_flag))]
 fn read_compatibility_flag(
-    r: &mut NaluReader<'_>,
+    r: &mut ElementReader<'_>,
     scope: Scope,
     i: usize,
     layer: &mut LayerProfile,
@@ -82,7 +80,7 @@ fn read_compatibility_flag(
 /// Row 5 of table 2.
 #[tactic(auto, unfolding(hevc_tables::specs::ProfileTierLevelTable::source))]
 fn read_source(
-    r: &mut NaluReader<'_>,
+    r: &mut ElementReader<'_>,
     scope: Scope,
     layer: &mut LayerProfile,
 ) -> Result<(), ParseError>
@@ -100,7 +98,7 @@ fn read_source(
 /// Rows 14 and 15 of table 2.
 #[tactic(auto, unfolding(hevc_tables::specs::ProfileTierLevelTable::inbld, hevc_spec::specs::Rows::when))]
 fn read_inbld(
-    r: &mut NaluReader<'_>,
+    r: &mut ElementReader<'_>,
     scope: Scope,
     layer: &mut LayerProfile,
 ) -> Result<(), ParseError>

@@ -1,6 +1,6 @@
 //! Profile, tier and level (7.3.3, table 2).
 ghost use Rattle.std.specs.Prelude.{◌≤◌};
-ghost use Rattle.hevc_elements.specs.Words.{bits, IsAhead, IsReached, read, Reads, Means, Fills};
+ghost use Rattle.hevc_elements.specs.Words.{read, Reads, Fills, ReadsTable};
 ghost use Rattle.hevc_tables.specs.ProfileTierLevelTable as table;
 ghost use Rattle.hevc_tables.specs.ProfileTierLevelTable.{profile_tier_level};
 ghost use Rattle.hevc_set_parts.specs.ProfileTierLevel.{plain_profile_tier_level};
@@ -10,8 +10,7 @@ use crate::layer_profile::put_general_profile;
 use crate::level::read_level;
 use crate::scope::Scope;
 use crate::sub_layers::{read_presence, read_sub_layers, skip_absent_layers};
-use hevc_bits::NaluReader;
-use hevc_elements::ParseError;
+use hevc_elements::{ElementReader, ParseError};
 use hevc_set_parts::ProfileTierLevel;
 use hevc_spec::Row;
 
@@ -23,16 +22,12 @@ use hevc_spec::Row;
 /// of Table A.8. The reader then is where that element begins.
 #[tactic(auto, using(hevc_elements::proofs::Meaning::meanings))]
 pub fn read_profile_tier_level(
-    r: &mut NaluReader<'_>,
+    r: &mut ElementReader<'_>,
     max_sub_layers_minus1: u8,
 ) -> Result<ProfileTierLevel, ParseError>
     requires { max_sub_layers_minus1 ≤ 6 }
-    ensures read { Reads plain_profile_tier_level result r.new
-        (read (profile_tier_level max_sub_layers_minus1) (bits r.old)) }
-    ensures means { Means plain_profile_tier_level
-        (profile_tier_level max_sub_layers_minus1) result r.old r.new }
-    ensures moves { IsAhead r.old r.new }
-    ensures place { IsReached r.old r.new }
+    ensures rows { ReadsTable plain_profile_tier_level (profile_tier_level max_sub_layers_minus1)
+        result r.old r.new }
 {
     read_rows(r, max_sub_layers_minus1)
 }
@@ -40,13 +35,12 @@ pub fn read_profile_tier_level(
 /// Rows 1 to 31 of table 2.
 #[tactic(auto, unfolding(hevc_tables::specs::ProfileTierLevelTable::profile_tier_level))]
 fn read_rows(
-    r: &mut NaluReader<'_>,
+    r: &mut ElementReader<'_>,
     max_sub_layers_minus1: u8,
 ) -> Result<ProfileTierLevel, ParseError>
     requires { max_sub_layers_minus1 ≤ 6 }
-    ensures read { Reads plain_profile_tier_level result r.new
-        (read (profile_tier_level max_sub_layers_minus1) (bits r.old)) }
-    ensures moves { IsAhead r.old r.new }
+    ensures read { Reads plain_profile_tier_level (profile_tier_level max_sub_layers_minus1) result
+        r.old r.new }
 {
     let mut all = ProfileTierLevel::new();
     read_general_rows(r, &mut all)?;
@@ -58,7 +52,7 @@ fn read_rows(
 
 /// Rows 1 to 27 of table 2.
 #[tactic(auto, unfolding(hevc_tables::specs::ProfileTierLevelTable::general_rows))]
-fn read_general_rows(r: &mut NaluReader<'_>, all: &mut ProfileTierLevel) -> Result<(), ParseError>
+fn read_general_rows(r: &mut ElementReader<'_>, all: &mut ProfileTierLevel) -> Result<(), ParseError>
     ensures { Fills plain_profile_tier_level table.general_rows result all.old all.new r.old r.new }
 {
     let layer = read_layer_profile(r, Scope::General)?;

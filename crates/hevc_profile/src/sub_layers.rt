@@ -1,6 +1,6 @@
 //! The sub-layers below the highest (7.3.3, rows 28 to 31 of table 2).
 ghost use Rattle.std.specs.Prelude.{◌≤◌, ◌<◌};
-ghost use Rattle.hevc_elements.specs.Words.{bits, IsAhead, read, when, Reads, Fills};
+ghost use Rattle.hevc_elements.specs.Words.{read, when, Reads, Fills};
 ghost use Rattle.hevc_tables.specs.ProfileTierLevelTable as table;
 ghost use Rattle.hevc_set_parts.specs.ProfileTierLevel.{plain_profile_tier_level};
 
@@ -8,8 +8,7 @@ use crate::layer::read_layer_profile;
 use crate::layer_profile::put_sub_layer_profile;
 use crate::level::read_level;
 use crate::scope::Scope;
-use hevc_bits::NaluReader;
-use hevc_elements::ParseError;
+use hevc_elements::{ElementReader, ParseError};
 use hevc_elements::rows::{flag, skip};
 use hevc_set_parts::ProfileTierLevel;
 use hevc_spec::Row;
@@ -17,7 +16,7 @@ use hevc_spec::Row;
 /// Row 28 of table 2, for each sub-layer below the highest.
 #[tactic(auto, using(hevc_elements::proofs::Loops::loops), unfolding(hevc_tables::specs::ProfileTierLevelTable::presence))]
 pub(crate) fn read_presence(
-    r: &mut NaluReader<'_>,
+    r: &mut ElementReader<'_>,
     max_sub_layers_minus1: u8,
     all: &mut ProfileTierLevel,
 ) -> Result<(), ParseError>
@@ -35,7 +34,7 @@ pub(crate) fn read_presence(
 /// Row 28 of table 2, for one sub-layer.
 #[tactic(auto, unfolding(hevc_tables::specs::ProfileTierLevelTable::next_presence))]
 fn read_next_presence(
-    r: &mut NaluReader<'_>,
+    r: &mut ElementReader<'_>,
     i: usize,
     all: &mut ProfileTierLevel,
 ) -> Result<(), ParseError>
@@ -51,13 +50,11 @@ fn read_next_presence(
 /// Row 29 of table 2.
 #[tactic(auto, unfolding(hevc_tables::specs::ProfileTierLevelTable::absent_layers, hevc_spec::specs::Rows::when))]
 pub(crate) fn skip_absent_layers(
-    r: &mut NaluReader<'_>,
+    r: &mut ElementReader<'_>,
     max_sub_layers_minus1: u8,
 ) -> Result<(), ParseError>
     requires { max_sub_layers_minus1 ≤ 6 }
-    ensures read { Reads (λ _. 0) result r.new
-        (read (table.absent_layers max_sub_layers_minus1) (bits r.old)) }
-    ensures moves { IsAhead r.old r.new }
+    ensures read { Reads (λ _. 0) (table.absent_layers max_sub_layers_minus1) result r.old r.new }
 {
     if max_sub_layers_minus1 > 0 {
         skip(r, Row(2, 29), 2 * (8 - usize::from(max_sub_layers_minus1)))?;
@@ -68,7 +65,7 @@ pub(crate) fn skip_absent_layers(
 /// Rows 30 and 31 of table 2, for each sub-layer below the highest.
 #[tactic(auto, using(hevc_elements::proofs::Loops::loops), unfolding(hevc_tables::specs::ProfileTierLevelTable::sub_layers))]
 pub(crate) fn read_sub_layers(
-    r: &mut NaluReader<'_>,
+    r: &mut ElementReader<'_>,
     max_sub_layers_minus1: u8,
     all: &mut ProfileTierLevel,
 ) -> Result<(), ParseError>
@@ -86,7 +83,7 @@ pub(crate) fn read_sub_layers(
 /// Rows 30 and 31 of table 2, for one sub-layer.
 #[tactic(auto, unfolding(hevc_tables::specs::ProfileTierLevelTable::next_sub_layer))]
 fn read_next_sub_layer(
-    r: &mut NaluReader<'_>,
+    r: &mut ElementReader<'_>,
     i: usize,
     all: &mut ProfileTierLevel,
 ) -> Result<(), ParseError>
@@ -101,7 +98,7 @@ fn read_next_sub_layer(
 /// Row 30 of table 2, where its flag is set.
 #[tactic(auto, unfolding(hevc_spec::specs::Rows::when))]
 fn read_profile_if_present(
-    r: &mut NaluReader<'_>,
+    r: &mut ElementReader<'_>,
     i: usize,
     all: &mut ProfileTierLevel,
 ) -> Result<(), ParseError>
@@ -120,7 +117,7 @@ fn read_profile_if_present(
 /// Row 31 of table 2, where its flag is set.
 #[tactic(auto, unfolding(hevc_spec::specs::Rows::when))]
 fn read_level_if_present(
-    r: &mut NaluReader<'_>,
+    r: &mut ElementReader<'_>,
     i: usize,
     all: &mut ProfileTierLevel,
 ) -> Result<(), ParseError>
@@ -139,7 +136,7 @@ fn read_level_if_present(
 /// Row 30 of table 2.
 #[tactic(auto, unfolding(hevc_tables::specs::ProfileTierLevelTable::sub_layer_profile))]
 fn read_sub_layer_profile(
-    r: &mut NaluReader<'_>,
+    r: &mut ElementReader<'_>,
     i: usize,
     all: &mut ProfileTierLevel,
 ) -> Result<(), ParseError>
@@ -155,7 +152,7 @@ fn read_sub_layer_profile(
 /// Row 31 of table 2.
 #[tactic(auto, using(crate::proofs::ArrayPlaces::places), unfolding(hevc_tables::specs::ProfileTierLevelTable::sub_layer_level))]
 fn read_sub_layer_level(
-    r: &mut NaluReader<'_>,
+    r: &mut ElementReader<'_>,
     i: usize,
     all: &mut ProfileTierLevel,
 ) -> Result<(), ParseError>

@@ -2,22 +2,21 @@
 ghost use Rattle.std.specs.Prelude.{pos, negsuc, ◌≤ℤ◌};
 ghost use Rattle.hevc_spec.specs.Rows.{row, se_row};
 ghost use Rattle.std.specs.Prelude.{◌≡◌, ◌<◌, IfOk};
-ghost use Rattle.hevc_elements.specs.Words.{bits, IsAhead, read, when, Reads, Fills};
+ghost use Rattle.hevc_elements.specs.Words.{read, when, Reads, Fills};
 ghost use Rattle.hevc_tables.specs.ScalingListTable as table;
 ghost use Rattle.hevc_scaling.specs.Projections.{plain_size, plain_coefs, plain_matrices};
 
 use crate::matrices::put_matrix;
 use crate::records::{Coefs, Matrices};
 use crate::size::{Size, has_dc_coef};
-use hevc_bits::NaluReader;
-use hevc_elements::ParseError;
+use hevc_elements::{ElementReader, ParseError};
 use hevc_elements::rows::{se, se_i8};
 use hevc_spec::Row;
 
 /// Rows 3 and 4 of table 6: a matrix whose entries are coded.
 #[tactic(auto, unfolding(hevc_tables::specs::ScalingListTable::coded_matrix))]
 pub(crate) fn read_coded<const N: usize>(
-    r: &mut NaluReader<'_>,
+    r: &mut ElementReader<'_>,
     size: Size,
     matrix_id: u8,
     all: &mut Matrices<N>,
@@ -35,10 +34,9 @@ pub(crate) fn read_coded<const N: usize>(
 
 /// Row 3 of table 6, where it is present.
 #[tactic(auto, unfolding(hevc_spec::specs::Rows::when))]
-fn read_dc_if(r: &mut NaluReader<'_>, present: bool) -> Result<i16, ParseError>
-    ensures read { Reads (λ n. n) result r.new
-        (read (when present (pos 0) (se_row (row 6 3) (negsuc 6) (pos 247))) (bits r.old)) }
-    ensures moves { IsAhead r.old r.new }
+fn read_dc_if(r: &mut ElementReader<'_>, present: bool) -> Result<i16, ParseError>
+    ensures read { Reads (λ n. n) (when present (pos 0) (se_row (row 6 3) (negsuc 6) (pos 247)))
+        result r.old r.new }
     ensures bounds { IfOk result (λ n. (negsuc 6 ≤ℤ n) × (n ≤ℤ pos 247)) }
 {
     if present {
@@ -50,9 +48,8 @@ fn read_dc_if(r: &mut NaluReader<'_>, present: bool) -> Result<i16, ParseError>
 
 /// Row 4 of table 6, for `N` entries that are summed up from `start`.
 #[tactic(auto, using(hevc_elements::proofs::Loops::loops), unfolding(hevc_tables::specs::ScalingListTable::coefs))]
-fn read_coefs<const N: usize>(r: &mut NaluReader<'_>, start: u8) -> Result<Coefs<N>, ParseError>
-    ensures read { Reads plain_coefs result r.new (read (table.coefs N start) (bits r.old)) }
-    ensures moves { IsAhead r.old r.new }
+fn read_coefs<const N: usize>(r: &mut ElementReader<'_>, start: u8) -> Result<Coefs<N>, ParseError>
+    ensures read { Reads plain_coefs (table.coefs N start) result r.old r.new }
 {
     let mut coefs = Coefs {
         next_coef: start,
@@ -67,7 +64,7 @@ fn read_coefs<const N: usize>(r: &mut NaluReader<'_>, start: u8) -> Result<Coefs
 /// Row 4 of table 6, for one entry.
 #[tactic(auto, unfolding(hevc_tables::specs::ScalingListTable::next_entry))]
 fn read_entry<const N: usize>(
-    r: &mut NaluReader<'_>,
+    r: &mut ElementReader<'_>,
     i: usize,
     coefs: &mut Coefs<N>,
 ) -> Result<(), ParseError>

@@ -1,29 +1,27 @@
 //! The matrices of a size (7.3.4, table 6).
 ghost use Rattle.std.specs.Prelude.{pos, negsuc, ◌≤ℤ◌};
 ghost use Rattle.std.specs.Prelude.{◌≡◌, ◌<◌};
-ghost use Rattle.hevc_elements.specs.Words.{bits, IsAhead, read, Reads, Fills};
+ghost use Rattle.hevc_elements.specs.Words.{read, Reads, Fills};
 ghost use Rattle.hevc_tables.specs.ScalingListTable as table;
 ghost use Rattle.hevc_scaling.specs.Projections.{plain_size, plain_matrices};
 
 use crate::coded::read_coded;
 use crate::records::Matrices;
 use crate::size::{Size, has_matrix, max_delta, ref_matrix};
-use hevc_bits::NaluReader;
-use hevc_elements::ParseError;
+use hevc_elements::{ElementReader, ParseError};
 use hevc_elements::rows::{flag, ue_u8};
 use hevc_spec::Row;
 
 /// Reads the matrices of a size, whose default lists are these, by table 6.
 #[tactic(auto, using(hevc_elements::proofs::Loops::loops), unfolding(hevc_tables::specs::ScalingListTable::matrices))]
 pub(crate) fn read_matrices<const N: usize>(
-    r: &mut NaluReader<'_>,
+    r: &mut ElementReader<'_>,
     size: Size,
     defaults: &[[u8; N]; 6],
 ) -> Result<Matrices<N>, ParseError>
     requires { N ≡ table.coef_num (plain_size size) }
-    ensures read { Reads plain_matrices result r.new
-        (read (table.matrices (plain_size size) defaults.now) (bits r.old)) }
-    ensures moves { IsAhead r.old r.new }
+    ensures read { Reads plain_matrices (table.matrices (plain_size size) defaults.now) result r.old
+        r.new }
 {
     let mut all = Matrices {
         dc_coef_minus8: [0; 6],
@@ -38,7 +36,7 @@ pub(crate) fn read_matrices<const N: usize>(
 /// The matrix of this matrixId, where the size has it.
 #[tactic(auto, unfolding(hevc_tables::specs::ScalingListTable::next_matrix, hevc_spec::specs::Rows::when))]
 fn read_next<const N: usize>(
-    r: &mut NaluReader<'_>,
+    r: &mut ElementReader<'_>,
     size: Size,
     defaults: &[[u8; N]; 6],
     matrix_id: u8,
@@ -59,7 +57,7 @@ fn read_next<const N: usize>(
 /// Rows 1 to 4 of table 6, for one matrix.
 #[tactic(auto, unfolding(hevc_tables::specs::ScalingListTable::matrix, hevc_spec::specs::Rows::either))]
 fn read_matrix<const N: usize>(
-    r: &mut NaluReader<'_>,
+    r: &mut ElementReader<'_>,
     size: Size,
     defaults: &[[u8; N]; 6],
     matrix_id: u8,
@@ -80,7 +78,7 @@ fn read_matrix<const N: usize>(
 /// Row 2 of table 6, for one matrix.
 #[tactic(auto, unfolding(hevc_tables::specs::ScalingListTable::predicted_matrix))]
 fn read_predicted<const N: usize>(
-    r: &mut NaluReader<'_>,
+    r: &mut ElementReader<'_>,
     size: Size,
     defaults: &[[u8; N]; 6],
     matrix_id: u8,

@@ -1,13 +1,12 @@
 //! Scaling lists (7.3.4, table 6).
-ghost use Rattle.hevc_elements.specs.Words.{bits, IsAhead, IsReached, read, Reads, Means};
+ghost use Rattle.hevc_elements.specs.Words.{read, Reads, ReadsTable};
 ghost use Rattle.hevc_tables.specs.ScalingListTable.{scaling_list_data};
 ghost use Rattle.hevc_set_parts.specs.ScalingLists.{plain_scaling_lists};
 
 use crate::default_lists::{FLAT_LISTS, LARGER_LISTS};
 use crate::matrices::read_matrices;
 use crate::size::Size;
-use hevc_bits::NaluReader;
-use hevc_elements::ParseError;
+use hevc_elements::{ElementReader, ParseError};
 use hevc_set_parts::ScalingLists;
 
 /// Reads scaling lists, by table 6 (7.3.4).
@@ -18,20 +17,16 @@ use hevc_set_parts::ScalingLists;
 /// Errors: `OutOfBits` where the payload ends within an element, and `OutOfRange` with table and row of the first element that
 /// isn't allowed. The reader then is where that element begins.
 #[tactic(auto, using(hevc_elements::proofs::Meaning::meanings))]
-pub fn read_scaling_list_data(r: &mut NaluReader<'_>) -> Result<ScalingLists, ParseError>
-    ensures read { Reads plain_scaling_lists result r.new (read scaling_list_data (bits r.old)) }
-    ensures means { Means plain_scaling_lists scaling_list_data result r.old r.new }
-    ensures moves { IsAhead r.old r.new }
-    ensures place { IsReached r.old r.new }
+pub fn read_scaling_list_data(r: &mut ElementReader<'_>) -> Result<ScalingLists, ParseError>
+    ensures rows { ReadsTable plain_scaling_lists scaling_list_data result r.old r.new }
 {
     read_sizes(r)
 }
 
 /// Table 6, size by size.
 #[tactic(auto, unfolding(hevc_tables::specs::ScalingListTable::scaling_list_data))]
-fn read_sizes(r: &mut NaluReader<'_>) -> Result<ScalingLists, ParseError>
-    ensures read { Reads plain_scaling_lists result r.new (read scaling_list_data (bits r.old)) }
-    ensures moves { IsAhead r.old r.new }
+fn read_sizes(r: &mut ElementReader<'_>) -> Result<ScalingLists, ParseError>
+    ensures read { Reads plain_scaling_lists scaling_list_data result r.old r.new }
 {
     let of_4x4 = read_matrices(r, Size::S4x4, &FLAT_LISTS)?;
     let of_8x8 = read_matrices(r, Size::S8x8, &LARGER_LISTS)?;

@@ -7,8 +7,7 @@ ghost use Rattle.hevc_tables.specs.ShortTermTable.{member_before, member_after, 
 ghost use Rattle.hevc_short_term_laws.specs.Sides.{LieBefore, LieAfter};
 
 use crate::side::Side;
-use hevc_bits::NaluReader;
-use hevc_elements::ParseError;
+use hevc_elements::{ElementReader, ParseError};
 use hevc_elements::rows::{flag, ue};
 use hevc_spec::Row;
 use hevc_tables::ShortTermMember;
@@ -16,15 +15,13 @@ use hevc_tables::ShortTermMember;
 /// Rows 9 and 10 of table 7, for so many members, into an empty list.
 #[tactic(auto, using(hevc_elements::proofs::Loops::loops, hevc_short_term_laws::proofs::Listed::listed), unfolding(hevc_tables::specs::ShortTermTable::listed_before, hevc_tables::specs::ShortTermTable::next_member_before))]
 pub(crate) fn read_listed_before(
-    r: &mut NaluReader<'_>,
+    r: &mut ElementReader<'_>,
     count: u8,
     members: &mut Side,
 ) -> Result<(), ParseError>
     requires few { count ≤ 16 }
     requires none { members.old ≡ [] }
-    ensures read { Reads (λ _. members.new) result r.new
-        (read (listed_before count) (bits r.old)) }
-    ensures moves { IsAhead r.old r.new }
+    ensures read { Reads (λ _. members.new) (listed_before count) result r.old r.new }
     ensures all { OnOk result (length members.new ≡ count) }
     ensures before { OnOk result (LieBefore members.new) }
 {
@@ -37,10 +34,8 @@ pub(crate) fn read_listed_before(
 
 /// Rows 9 and 10 of table 7, for the member after these.
 #[tactic(auto, unfolding(hevc_tables::specs::ShortTermTable::member_before))]
-fn read_member_before(r: &mut NaluReader<'_>, members: &Side) -> Result<ShortTermMember, ParseError>
-    ensures read { Reads (λ m. m) result r.new
-        (read (member_before (last_delta members.now)) (bits r.old)) }
-    ensures moves { IsAhead r.old r.new }
+fn read_member_before(r: &mut ElementReader<'_>, members: &Side) -> Result<ShortTermMember, ParseError>
+    ensures read { Reads (λ m. m) (member_before (last_delta members.now)) result r.old r.new }
     ensures below { IfOk result (λ m. m.delta_poc <ℤ last_delta members.now) }
     ensures near { IfOk result (λ m. (last_delta members.now -ℤ pos 32768) ≤ℤ m.delta_poc) }
 {
@@ -55,15 +50,13 @@ fn read_member_before(r: &mut NaluReader<'_>, members: &Side) -> Result<ShortTer
 /// Rows 11 and 12 of table 7, for so many members, into an empty list.
 #[tactic(auto, using(hevc_elements::proofs::Loops::loops, hevc_short_term_laws::proofs::Listed::listed), unfolding(hevc_tables::specs::ShortTermTable::listed_after, hevc_tables::specs::ShortTermTable::next_member_after))]
 pub(crate) fn read_listed_after(
-    r: &mut NaluReader<'_>,
+    r: &mut ElementReader<'_>,
     count: u8,
     members: &mut Side,
 ) -> Result<(), ParseError>
     requires few { count ≤ 16 }
     requires none { members.old ≡ [] }
-    ensures read { Reads (λ _. members.new) result r.new
-        (read (listed_after count) (bits r.old)) }
-    ensures moves { IsAhead r.old r.new }
+    ensures read { Reads (λ _. members.new) (listed_after count) result r.old r.new }
     ensures all { OnOk result (length members.new ≡ count) }
     ensures after { OnOk result (LieAfter members.new) }
 {
@@ -76,10 +69,8 @@ pub(crate) fn read_listed_after(
 
 /// Rows 11 and 12 of table 7, for the member after these.
 #[tactic(auto, unfolding(hevc_tables::specs::ShortTermTable::member_after))]
-fn read_member_after(r: &mut NaluReader<'_>, members: &Side) -> Result<ShortTermMember, ParseError>
-    ensures read { Reads (λ m. m) result r.new
-        (read (member_after (last_delta members.now)) (bits r.old)) }
-    ensures moves { IsAhead r.old r.new }
+fn read_member_after(r: &mut ElementReader<'_>, members: &Side) -> Result<ShortTermMember, ParseError>
+    ensures read { Reads (λ m. m) (member_after (last_delta members.now)) result r.old r.new }
     ensures above { IfOk result (λ m. last_delta members.now <ℤ m.delta_poc) }
     ensures near { IfOk result (λ m. m.delta_poc ≤ℤ (last_delta members.now +ℤ pos 32768)) }
 {

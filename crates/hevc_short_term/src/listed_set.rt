@@ -7,8 +7,7 @@ ghost use Rattle.hevc_set_parts.specs.ShortTermRefPicSet.{plain_short_term_ref_p
 use crate::listed_members::{read_listed_after, read_listed_before};
 use crate::set_of_members::put_members;
 use crate::side::Side;
-use hevc_bits::NaluReader;
-use hevc_elements::ParseError;
+use hevc_elements::{ElementReader, ParseError};
 use hevc_elements::rows::ue_u8;
 use hevc_set_parts::ShortTermRefPicSet;
 use hevc_spec::Row;
@@ -16,7 +15,7 @@ use hevc_spec::Row;
 /// Rows 7 to 12 of table 7.
 #[tactic(auto, unfolding(hevc_tables::specs::ShortTermTable::listed_set))]
 pub(crate) fn read_listed_set(
-    r: &mut NaluReader<'_>,
+    r: &mut ElementReader<'_>,
     buffering: u8,
     set: &mut ShortTermRefPicSet,
 ) -> Result<(), ParseError>

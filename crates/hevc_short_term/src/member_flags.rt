@@ -6,8 +6,7 @@ ghost use Rattle.hevc_elements.specs.Reads.{Reads};
 ghost use Rattle.hevc_tables.specs.ShortTermTable.{member_flags as member_flags_table, all_member_flags};
 
 use arrayvec::ArrayVec;
-use hevc_bits::NaluReader;
-use hevc_elements::ParseError;
+use hevc_elements::{ElementReader, ParseError};
 use hevc_elements::rows::{flag, flag_or};
 use hevc_spec::Row;
 use hevc_tables::MemberFlags;
@@ -15,13 +14,12 @@ use hevc_tables::MemberFlags;
 /// Row 5 of table 7, for each member of a set of so many, and for the set's own picture.
 #[tactic(auto, using(hevc_elements::proofs::Loops::loops), unfolding(hevc_tables::specs::ShortTermTable::all_member_flags, hevc_tables::specs::ShortTermTable::next_member_flags))]
 pub(crate) fn read_all_flags(
-    r: &mut NaluReader<'_>,
+    r: &mut ElementReader<'_>,
     num_delta_pocs: u32,
 ) -> Result<ArrayVec<MemberFlags, 17>, ParseError>
     requires { num_delta_pocs ≤ 16 }
-    ensures read { Reads (λ flags. flags.items) result r.new
-        (read (all_member_flags num_delta_pocs) (bits r.old)) }
-    ensures moves { IsAhead r.old r.new }
+    ensures read { Reads (λ flags. flags.items) (all_member_flags num_delta_pocs) result r.old r.new
+        }
     ensures all { IfOk result (λ flags. length flags.items ≡ num_delta_pocs + 1) }
 {
     let mut flags = ArrayVec::new();
@@ -33,9 +31,8 @@ pub(crate) fn read_all_flags(
 
 /// Row 5 of table 7, for one member.
 #[tactic(auto, unfolding(hevc_tables::specs::ShortTermTable::member_flags))]
-fn read_flags(r: &mut NaluReader<'_>) -> Result<MemberFlags, ParseError>
-    ensures read { Reads (λ f. f) result r.new (read member_flags_table (bits r.old)) }
-    ensures moves { IsAhead r.old r.new }
+fn read_flags(r: &mut ElementReader<'_>) -> Result<MemberFlags, ParseError>
+    ensures read { Reads (λ f. f) member_flags_table result r.old r.new }
 {
     let used_by_curr_pic_flag = flag(r, Row(7, 5))?;
     let use_delta_flag = flag_or(r, !used_by_curr_pic_flag, true, Row(7, 5))?;

@@ -12,8 +12,7 @@ use crate::predicted_members::predicted_members;
 use crate::prediction::{read_prediction, shift_of};
 use crate::set_of_members::put_members;
 use crate::sides::{has_room, members_after, members_before};
-use hevc_bits::NaluReader;
-use hevc_elements::ParseError;
+use hevc_elements::{ElementReader, ParseError};
 use hevc_elements::rows::check;
 use hevc_set_parts::ShortTermRefPicSet;
 use hevc_spec::Row;
@@ -22,7 +21,7 @@ use hevc_tables::ShortTermMember;
 /// Rows 2 to 6 of table 7, for number `st_rps_idx` of `count` sets or for one after them.
 #[tactic(auto, using(crate::proofs::Parts::set_at), unfolding(hevc_tables::specs::ShortTermTable::predicted_set))]
 pub(crate) fn read_predicted_set(
-    r: &mut NaluReader<'_>,
+    r: &mut ElementReader<'_>,
     sets: &[ShortTermRefPicSet],
     count: u8,
     st_rps_idx: u8,
@@ -44,7 +43,7 @@ pub(crate) fn read_predicted_set(
 /// Row 6 of table 7; then the set has these members.
 #[tactic(auto, using(hevc_short_term_laws::proofs::Parts::room), unfolding(hevc_tables::specs::ShortTermTable::fitting_set))]
 fn fit_members(
-    r: &mut NaluReader<'_>,
+    r: &mut ElementReader<'_>,
     members: &[ShortTermMember],
     set: &mut ShortTermRefPicSet,
 ) -> Result<(), ParseError>

@@ -5,8 +5,7 @@ ghost use Rattle.hevc_elements.specs.Words.{Fills};
 ghost use Rattle.hevc_tables.specs.ShortTermTable as table;
 ghost use Rattle.hevc_set_parts.specs.ShortTermRefPicSet.{plain_short_term_ref_pic_set};
 
-use hevc_bits::NaluReader;
-use hevc_elements::ParseError;
+use hevc_elements::{ElementReader, ParseError};
 use hevc_elements::rows::{flag, ue_u8, ue_u16};
 use hevc_set_parts::ShortTermRefPicSet;
 use hevc_spec::Row;
@@ -14,7 +13,7 @@ use hevc_spec::Row;
 /// Rows 2 to 4 of table 7.
 #[tactic(auto, unfolding(hevc_tables::specs::ShortTermTable::prediction, hevc_spec::specs::Rows::when))]
 pub(crate) fn read_prediction(
-    r: &mut NaluReader<'_>,
+    r: &mut ElementReader<'_>,
     count: u8,
     st_rps_idx: u8,
     set: &mut ShortTermRefPicSet,

@@ -1,14 +1,13 @@
 //! Short-term reference picture sets (7.3.7, table 7).
 ghost use Rattle.std.specs.Prelude.{length, map};
 ghost use Rattle.std.specs.Prelude.{◌≤◌};
-ghost use Rattle.hevc_elements.specs.Words.{bits, IsAhead, IsReached, read, Reads, Means};
+ghost use Rattle.hevc_elements.specs.Words.{read, Reads, ReadsTable};
 ghost use Rattle.hevc_tables.specs.ShortTermTable.{short_term_ref_pic_set};
 ghost use Rattle.hevc_set_parts.specs.ShortTermRefPicSet.{plain_short_term_ref_pic_set};
 
 use crate::listed_set::read_listed_set;
 use crate::predicted_set::read_predicted_set;
-use hevc_bits::NaluReader;
-use hevc_elements::ParseError;
+use hevc_elements::{ElementReader, ParseError};
 use hevc_elements::rows::flag_if;
 use hevc_set_parts::ShortTermRefPicSet;
 use hevc_spec::Row;
@@ -27,7 +26,7 @@ use hevc_spec::Row;
 /// is where that element begins.
 #[tactic(auto, using(hevc_elements::proofs::Meaning::meanings))]
 pub fn read_short_term_set(
-    r: &mut NaluReader<'_>,
+    r: &mut ElementReader<'_>,
     sets: &[ShortTermRefPicSet],
     count: u8,
     buffering: u8,
@@ -37,14 +36,8 @@ pub fn read_short_term_set(
     requires few { count ≤ 64 }
     requires known { st_rps_idx ≤ length sets.now }
     requires room { buffering ≤ 16 }
-    ensures read { Reads plain_short_term_ref_pic_set result r.new
-        (read (short_term_ref_pic_set
-        (map plain_short_term_ref_pic_set sets.now) count buffering st_rps_idx) (bits r.old)) }
-    ensures means { Means plain_short_term_ref_pic_set
-        (short_term_ref_pic_set
+    ensures rows { ReadsTable plain_short_term_ref_pic_set (short_term_ref_pic_set
         (map plain_short_term_ref_pic_set sets.now) count buffering st_rps_idx) result r.old r.new }
-    ensures moves { IsAhead r.old r.new }
-    ensures place { IsReached r.old r.new }
 {
     read_rows(r, sets, count, buffering, st_rps_idx)
 }
@@ -52,7 +45,7 @@ pub fn read_short_term_set(
 /// Rows 1 to 12 of table 7.
 #[tactic(auto, unfolding(hevc_tables::specs::ShortTermTable::short_term_ref_pic_set, hevc_spec::specs::Rows::either))]
 fn read_rows(
-    r: &mut NaluReader<'_>,
+    r: &mut ElementReader<'_>,
     sets: &[ShortTermRefPicSet],
     count: u8,
     buffering: u8,
@@ -60,10 +53,8 @@ fn read_rows(
 ) -> Result<ShortTermRefPicSet, ParseError>
     requires known { st_rps_idx ≤ length sets.now }
     requires room { buffering ≤ 16 }
-    ensures read { Reads plain_short_term_ref_pic_set result r.new
-        (read (short_term_ref_pic_set
-        (map plain_short_term_ref_pic_set sets.now) count buffering st_rps_idx) (bits r.old)) }
-    ensures moves { IsAhead r.old r.new }
+    ensures read { Reads plain_short_term_ref_pic_set (short_term_ref_pic_set
+        (map plain_short_term_ref_pic_set sets.now) count buffering st_rps_idx) result r.old r.new }
 {
     let mut set = ShortTermRefPicSet::new();
     set.inter_ref_pic_set_prediction_flag = flag_if(r, st_rps_idx != 0, Row(7, 1))?;

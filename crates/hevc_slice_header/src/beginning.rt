@@ -7,8 +7,8 @@ ghost use Rattle.hevc_sequence_set.specs.Sps.{plain_sps};
 ghost use Rattle.hevc_picture_slice.specs.Pps.{plain_pps};
 ghost use Rattle.hevc_picture_slice.specs.SliceHeader.{plain_slice_header};
 
-use hevc_bits::{NaluReader, NaluType};
-use hevc_elements::ParseError;
+use hevc_bits::NaluType;
+use hevc_elements::{ElementReader, ParseError};
 use hevc_elements::rows::{bits_u32, flag, flag_if, ue_u8};
 use hevc_picture_slice::{Pps, SliceHeader};
 use hevc_sequence_set::Sps;
@@ -18,7 +18,7 @@ use hevc_spec::Row;
 /// Rows 1 to 3 of table 14.
 #[tactic(auto, unfolding(hevc_tables::specs::SliceHeaderTable::beginning))]
 pub(crate) fn read_beginning(
-    r: &mut NaluReader<'_>,
+    r: &mut ElementReader<'_>,
     nalu_type: NaluType,
     h: &mut SliceHeader,
 ) -> Result<(), ParseError>
@@ -48,7 +48,7 @@ fn set_beginning(h: &mut SliceHeader, first: bool, no_output_of_prior: bool, pic
 /// Rows 4 and 5 of table 14.
 #[tactic(auto, unfolding(hevc_tables::specs::SliceHeaderTable::later_segment))]
 pub(crate) fn read_later_segment(
-    r: &mut NaluReader<'_>,
+    r: &mut ElementReader<'_>,
     sps: &Sps,
     pps: &Pps,
     h: &mut SliceHeader,

@@ -1,14 +1,13 @@
 //! Entry points and the header's extension (7.3.6.1, rows 48 to 52 of table 14).
 ghost use Rattle.std.specs.Prelude.{◌≡◌, ◌+◌, ◌-◌, ◌^◌, ◌≤◌, ◌<◌, if◌then◌else◌};
 ghost use Rattle.hevc_spec.specs.Rows.{row, bits_row};
-ghost use Rattle.hevc_elements.specs.Words.{bits, IsAhead, read, Reads, Fills, ReadsGrowing, FillsGrowing};
+ghost use Rattle.hevc_elements.specs.Words.{read, Reads, Fills, ReadsGrowing, FillsGrowing};
 ghost use Rattle.hevc_tables.specs.SliceHeaderTable as table;
 ghost use Rattle.hevc_sequence_set.specs.Sps.{plain_sps};
 ghost use Rattle.hevc_picture_slice.specs.Pps.{plain_pps};
 ghost use Rattle.hevc_picture_slice.specs.SliceHeader.{plain_slice_header};
 
-use hevc_bits::NaluReader;
-use hevc_elements::ParseError;
+use hevc_elements::{ElementReader, ParseError};
 use hevc_elements::rows::{bits_32, bits_u32, skip, ue, ue_u8};
 use hevc_picture_slice::{Pps, SliceHeader};
 use hevc_sequence_set::Sps;
@@ -20,7 +19,7 @@ use std::alloc::Global;
 #[tactic(auto, unfolding(hevc_tables::specs::SliceHeaderTable::ending, hevc_spec::specs::Rows::when))]
 pub(crate) fn read_ending(
     alloc: Global,
-    r: &mut NaluReader<'_>,
+    r: &mut ElementReader<'_>,
     sps: &Sps,
     pps: &Pps,
     h: &mut SliceHeader,
@@ -41,7 +40,7 @@ pub(crate) fn read_ending(
 #[tactic(auto, unfolding(hevc_tables::specs::SliceHeaderTable::parallel_parts, hevc_spec::specs::Rows::when))]
 fn read_parallel_parts(
     alloc: Global,
-    r: &mut NaluReader<'_>,
+    r: &mut ElementReader<'_>,
     sps: &Sps,
     pps: &Pps,
     h: &mut SliceHeader,
@@ -97,7 +96,7 @@ fn parts_down(sps: &Sps, pps: &Pps) -> u32
 #[tactic(auto, unfolding(hevc_tables::specs::SliceHeaderTable::entry_point_offsets))]
 fn read_offsets(
     alloc: Global,
-    r: &mut NaluReader<'_>,
+    r: &mut ElementReader<'_>,
     h: &mut SliceHeader,
 ) -> Result<(), ParseError>
     ensures { FillsGrowing plain_slice_header table.entry_point_offsets result
@@ -118,14 +117,13 @@ const USUAL_COUNT: u32 = 63;
 #[tactic(auto, using(hevc_elements::proofs::Loops::growing_loops), unfolding(hevc_tables::specs::SliceHeaderTable::entry_points, hevc_tables::specs::SliceHeaderTable::entry_point))]
 fn read_entry_points(
     alloc: Global,
-    r: &mut NaluReader<'_>,
+    r: &mut ElementReader<'_>,
     num_bits: usize,
     count: u32,
 ) -> Result<Items<u32>, ParseError>
     requires { num_bits ≤ 32 }
-    ensures read { ReadsGrowing (λ offsets. offsets) result r.new
-        (read (table.entry_points num_bits count) (bits r.old)) }
-    ensures moves { IsAhead r.old r.new }
+    ensures read { ReadsGrowing (λ offsets. offsets) (table.entry_points num_bits count) result
+        r.old r.new }
 {
     let mut offsets = Items::new(alloc);
     offsets.reserve(count.min(USUAL_COUNT) as usize)?;
@@ -137,11 +135,10 @@ fn read_entry_points(
 }
 
 /// Row 50 of table 14, for one entry point.
-fn read_entry_point(r: &mut NaluReader<'_>, num_bits: usize) -> Result<u32, ParseError>
+fn read_entry_point(r: &mut ElementReader<'_>, num_bits: usize) -> Result<u32, ParseError>
     requires { num_bits ≤ 32 }
-    ensures read { Reads (λ n. n) result r.new
-        (read (bits_row (row 14 50) num_bits 0 (2 ^ num_bits - 1)) (bits r.old)) }
-    ensures moves { IsAhead r.old r.new }
+    ensures read { Reads (λ n. n) (bits_row (row 14 50) num_bits 0 (2 ^ num_bits - 1)) result r.old
+        r.new }
 {
     if num_bits == 32 {
         bits_32(r, Row(14, 50))
@@ -152,7 +149,7 @@ fn read_entry_point(r: &mut NaluReader<'_>, num_bits: usize) -> Result<u32, Pars
 
 /// Rows 51 and 52 of table 14.
 #[tactic(auto, unfolding(hevc_tables::specs::SliceHeaderTable::header_extension))]
-fn skip_extension(r: &mut NaluReader<'_>, h: &mut SliceHeader) -> Result<(), ParseError>
+fn skip_extension(r: &mut ElementReader<'_>, h: &mut SliceHeader) -> Result<(), ParseError>
     ensures fills { Fills plain_slice_header table.header_extension result h.old h.new r.old r.new }
 {
     let _ = h;

@@ -5,8 +5,7 @@ ghost use Rattle.hevc_tables.specs.SliceHeaderTable as table;
 ghost use Rattle.hevc_picture_slice.specs.Pps.{plain_pps};
 ghost use Rattle.hevc_picture_slice.specs.SliceHeader.{plain_slice_header};
 
-use hevc_bits::NaluReader;
-use hevc_elements::ParseError;
+use hevc_elements::{ElementReader, ParseError};
 use hevc_elements::rows::{flag, flag_if, flag_or, se_i8};
 use hevc_picture_slice::{Pps, SliceHeader};
 use hevc_spec::Row;
@@ -14,7 +13,7 @@ use hevc_spec::Row;
 /// Rows 43 to 47 of table 14.
 #[tactic(auto, unfolding(hevc_tables::specs::SliceHeaderTable::filters, hevc_spec::specs::Rows::when))]
 pub(crate) fn read_filters(
-    r: &mut NaluReader<'_>,
+    r: &mut ElementReader<'_>,
     pps: &Pps,
     h: &mut SliceHeader,
 ) -> Result<(), ParseError>
@@ -31,7 +30,7 @@ pub(crate) fn read_filters(
 
 /// Rows 44 to 46 of table 14.
 #[tactic(auto, unfolding(hevc_tables::specs::SliceHeaderTable::own_deblocking, hevc_spec::specs::Rows::when))]
-fn read_own_deblocking(r: &mut NaluReader<'_>, h: &mut SliceHeader) -> Result<(), ParseError>
+fn read_own_deblocking(r: &mut ElementReader<'_>, h: &mut SliceHeader) -> Result<(), ParseError>
     ensures { Fills plain_slice_header table.own_deblocking result h.old h.new r.old r.new }
 {
     let disabled = flag(r, Row(14, 44))?;
@@ -45,7 +44,7 @@ fn read_own_deblocking(r: &mut NaluReader<'_>, h: &mut SliceHeader) -> Result<()
 
 /// Rows 45 and 46 of table 14.
 #[tactic(auto, unfolding(hevc_tables::specs::SliceHeaderTable::filter_offsets))]
-fn read_filter_offsets(r: &mut NaluReader<'_>, h: &mut SliceHeader) -> Result<(), ParseError>
+fn read_filter_offsets(r: &mut ElementReader<'_>, h: &mut SliceHeader) -> Result<(), ParseError>
     ensures { Fills plain_slice_header table.filter_offsets result h.old h.new r.old r.new }
 {
     let beta = se_i8(r, Row(14, 45), -6, 6)?;
@@ -68,7 +67,7 @@ fn set_filter_offsets(h: &mut SliceHeader, beta: i8, tc: i8)
 /// Row 47 of table 14.
 #[tactic(auto, unfolding(hevc_tables::specs::SliceHeaderTable::across_slices))]
 fn read_across_slices(
-    r: &mut NaluReader<'_>,
+    r: &mut ElementReader<'_>,
     pps: &Pps,
     h: &mut SliceHeader,
 ) -> Result<(), ParseError>

@@ -1,15 +1,14 @@
 //! Of which kind a slice is, and its sample adaptive offset (7.3.6.1, rows 6 to 9, 22 and 23 of table 14).
 ghost use Rattle.std.specs.Prelude.{◌≡◌};
 ghost use Rattle.hevc_spec.specs.Rows.{row, ue_row};
-ghost use Rattle.hevc_elements.specs.Words.{bits, IsAhead, read, Reads, Fills};
+ghost use Rattle.hevc_elements.specs.Words.{read, Reads, Fills};
 ghost use Rattle.hevc_tables.specs.SliceHeaderTable as table;
 ghost use Rattle.hevc_set_parts.specs.SliceType.{slice_type_number};
 ghost use Rattle.hevc_sequence_set.specs.Sps.{plain_sps};
 ghost use Rattle.hevc_picture_slice.specs.Pps.{plain_pps};
 ghost use Rattle.hevc_picture_slice.specs.SliceHeader.{plain_slice_header};
 
-use hevc_bits::NaluReader;
-use hevc_elements::ParseError;
+use hevc_elements::{ElementReader, ParseError};
 use hevc_elements::rows::{bits_u8_if, flag_if, flag_or, skip, ue};
 use hevc_picture_slice::{Pps, SliceHeader};
 use hevc_sequence_set::Sps;
@@ -19,7 +18,7 @@ use hevc_spec::Row;
 /// Rows 6 to 9 of table 14.
 #[tactic(auto, unfolding(hevc_tables::specs::SliceHeaderTable::kind))]
 pub(crate) fn read_kind(
-    r: &mut NaluReader<'_>,
+    r: &mut ElementReader<'_>,
     sps: &Sps,
     pps: &Pps,
     h: &mut SliceHeader,
@@ -49,10 +48,8 @@ fn set_kind(h: &mut SliceHeader, slice_type: SliceType, is_output: bool, colour_
 }
 
 /// Row 7 of table 14.
-fn read_slice_type(r: &mut NaluReader<'_>) -> Result<SliceType, ParseError>
-    ensures read { Reads slice_type_number result r.new
-        (read (ue_row (row 14 7) 0 2) (bits r.old)) }
-    ensures moves { IsAhead r.old r.new }
+fn read_slice_type(r: &mut ElementReader<'_>) -> Result<SliceType, ParseError>
+    ensures read { Reads slice_type_number (ue_row (row 14 7) 0 2) result r.old r.new }
 {
     match ue(r, Row(14, 7), 0, 2)? {
         0 => Ok(SliceType::B),
@@ -64,7 +61,7 @@ fn read_slice_type(r: &mut NaluReader<'_>) -> Result<SliceType, ParseError>
 /// Rows 22 and 23 of table 14.
 #[tactic(auto, unfolding(hevc_tables::specs::SliceHeaderTable::adaptive_offset))]
 pub(crate) fn read_adaptive_offset(
-    r: &mut NaluReader<'_>,
+    r: &mut ElementReader<'_>,
     sps: &Sps,
     h: &mut SliceHeader,
 ) -> Result<(), ParseError>

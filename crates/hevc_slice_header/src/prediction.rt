@@ -1,6 +1,6 @@
 //! How a P or B slice is predicted (7.3.6.1, rows 24 to 34 of table 14).
 ghost use Rattle.std.specs.Prelude.{◌≡◌, OnErr};
-ghost use Rattle.hevc_elements.specs.Words.{bits, IsAhead, IsReached, read, Reads, Means, Fills};
+ghost use Rattle.hevc_elements.specs.Words.{read, Reads, Fills, ReadsTable};
 ghost use Rattle.hevc_tables.specs.SliceHeaderTable as table;
 ghost use Rattle.hevc_tables.specs.SliceTypes.{is_i as is_i_type};
 ghost use Rattle.hevc_slice_header.specs.Weights.{weights_of, weights_if_weighted};
@@ -9,8 +9,7 @@ ghost use Rattle.hevc_sequence_set.specs.Sps.{plain_sps};
 ghost use Rattle.hevc_picture_slice.specs.Pps.{plain_pps};
 ghost use Rattle.hevc_picture_slice.specs.SliceHeader.{plain_slice_header};
 
-use hevc_bits::NaluReader;
-use hevc_elements::ParseError;
+use hevc_elements::{ElementReader, ParseError};
 use hevc_elements::rows::{flag_if, flag_or, ue_u8, ue_u8_if};
 use hevc_picture_slice::{Pps, SliceHeader};
 use hevc_sequence_set::Sps;
@@ -22,7 +21,7 @@ use hevc_video_set::PredWeightTable;
 /// Rows 24 to 34 of table 14.
 #[tactic(auto, unfolding(hevc_tables::specs::SliceHeaderTable::prediction))]
 pub(crate) fn read_prediction(
-    r: &mut NaluReader<'_>,
+    r: &mut ElementReader<'_>,
     sps: &Sps,
     pps: &Pps,
     h: &mut SliceHeader,
@@ -37,7 +36,7 @@ pub(crate) fn read_prediction(
 
 /// Rows 28 to 31 of table 14.
 #[tactic(auto, unfolding(hevc_tables::specs::SliceHeaderTable::motion))]
-fn read_motion(r: &mut NaluReader<'_>, pps: &Pps, h: &mut SliceHeader) -> Result<(), ParseError>
+fn read_motion(r: &mut ElementReader<'_>, pps: &Pps, h: &mut SliceHeader) -> Result<(), ParseError>
     ensures { Fills plain_slice_header
         (table.motion (plain_pps pps.now)) result h.old h.new r.old r.new }
 {
@@ -72,7 +71,7 @@ fn last_collocated(h: &SliceHeader) -> u8
 /// Rows 32 to 34 of table 14.
 #[tactic(auto, unfolding(hevc_tables::specs::SliceHeaderTable::weights, hevc_spec::specs::Rows::when))]
 fn read_weights(
-    r: &mut NaluReader<'_>,
+    r: &mut ElementReader<'_>,
     sps: &Sps,
     pps: &Pps,
     h: &mut SliceHeader,
@@ -97,13 +96,12 @@ fn is_weighted(pps: &Pps, h: &SliceHeader) -> bool
 
 /// Row 32 of table 14.
 fn read_table(
-    r: &mut NaluReader<'_>,
+    r: &mut ElementReader<'_>,
     sps: &Sps,
     h: &SliceHeader,
 ) -> Result<PredWeightTable, ParseError>
-    ensures read { Reads plain_pred_weight_table result r.new
-        (read (weights_of (plain_sps sps.now) (plain_slice_header h.now)) (bits r.old)) }
-    ensures moves { IsAhead r.old r.new }
+    ensures read { Reads plain_pred_weight_table
+        (weights_of (plain_sps sps.now) (plain_slice_header h.now)) result r.old r.new }
 {
     read_pred_weight_table(
         r,
@@ -122,15 +120,11 @@ fn read_table(
 #[tactic(auto, using(hevc_elements::proofs::Meaning::meanings))]
 pub fn parse_pred_weight_table(
     hdr: &mut SliceHeader,
-    r: &mut NaluReader<'_>,
+    r: &mut ElementReader<'_>,
     sps: &Sps,
 ) -> Result<(), ParseError>
-    ensures read { Reads (λ _. plain_pred_weight_table hdr.new.pred_weight_table) result r.new
-        (read (weights_of (plain_sps sps.now) (plain_slice_header hdr.old)) (bits r.old)) }
-    ensures means { Means (λ _. plain_pred_weight_table hdr.new.pred_weight_table)
-        (weights_of (plain_sps sps.now) (plain_slice_header hdr.old)) result r.old r.new }
-    ensures moves { IsAhead r.old r.new }
-    ensures place { IsReached r.old r.new }
+    ensures rows { ReadsTable (λ _. plain_pred_weight_table hdr.new.pred_weight_table) (weights_of
+        (plain_sps sps.now) (plain_slice_header hdr.old)) result r.old r.new }
     ensures same { plain_slice_header hdr.new ≡ record (plain_slice_header hdr.old) {
       pred_weight_table = plain_pred_weight_table hdr.new.pred_weight_table;
     } }
@@ -142,15 +136,14 @@ pub fn parse_pred_weight_table(
 /// Row 32 of table 14: table 16 where the slice is weighted, else its default weights.
 #[tactic(auto, unfolding(hevc_spec::specs::Rows::when))]
 fn read_weight_table(
-    r: &mut NaluReader<'_>,
+    r: &mut ElementReader<'_>,
     sps: &Sps,
     pps: &Pps,
     h: &mut SliceHeader,
 ) -> Result<(), ParseError>
-    ensures read { Reads (λ _. plain_pred_weight_table h.new.pred_weight_table) result r.new
-        (read (weights_if_weighted (plain_sps sps.now) (plain_pps pps.now)
-        (plain_slice_header h.old)) (bits r.old)) }
-    ensures moves { IsAhead r.old r.new }
+    ensures read { Reads (λ _. plain_pred_weight_table h.new.pred_weight_table)
+        (weights_if_weighted (plain_sps sps.now) (plain_pps pps.now) (plain_slice_header h.old))
+        result r.old r.new }
     ensures same { plain_slice_header h.new ≡ record (plain_slice_header h.old) {
       pred_weight_table = plain_pred_weight_table h.new.pred_weight_table;
     } }
@@ -163,10 +156,9 @@ fn read_weight_table(
 }
 
 /// Table 16, into a header that stays where it is refused.
-fn read_into(hdr: &mut SliceHeader, r: &mut NaluReader<'_>, sps: &Sps) -> Result<(), ParseError>
-    ensures read { Reads (λ _. plain_pred_weight_table hdr.new.pred_weight_table) result r.new
-        (read (weights_of (plain_sps sps.now) (plain_slice_header hdr.old)) (bits r.old)) }
-    ensures moves { IsAhead r.old r.new }
+fn read_into(hdr: &mut SliceHeader, r: &mut ElementReader<'_>, sps: &Sps) -> Result<(), ParseError>
+    ensures read { Reads (λ _. plain_pred_weight_table hdr.new.pred_weight_table)
+        (weights_of (plain_sps sps.now) (plain_slice_header hdr.old)) result r.old r.new }
     ensures same { plain_slice_header hdr.new ≡ record (plain_slice_header hdr.old) {
       pred_weight_table = plain_pred_weight_table hdr.new.pred_weight_table;
     } }

@@ -1,12 +1,11 @@
 //! What a slice adds to the picture set's quantisers (7.3.6.1, rows 35 to 42 of table 14).
 ghost use Rattle.std.specs.Prelude.{◌≡◌, ◌≤◌, ◌+ℤ◌, neg_ℤ, pos};
-ghost use Rattle.hevc_elements.specs.Words.{bits, IsAhead, read, Reads, Fills};
+ghost use Rattle.hevc_elements.specs.Words.{read, Reads, Fills};
 ghost use Rattle.hevc_tables.specs.SliceHeaderTable as table;
 ghost use Rattle.hevc_picture_slice.specs.Pps.{plain_pps};
 ghost use Rattle.hevc_picture_slice.specs.SliceHeader.{plain_slice_header};
 
-use hevc_bits::NaluReader;
-use hevc_elements::ParseError;
+use hevc_elements::{ElementReader, ParseError};
 use hevc_elements::rows::{check, flag_if, se_i8};
 use hevc_picture_slice::{Pps, SliceHeader};
 use hevc_spec::Row;
@@ -14,7 +13,7 @@ use hevc_spec::Row;
 /// Rows 35 to 42 of table 14.
 #[tactic(auto, unfolding(hevc_tables::specs::SliceHeaderTable::quantisers))]
 pub(crate) fn read_quantisers(
-    r: &mut NaluReader<'_>,
+    r: &mut ElementReader<'_>,
     pps: &Pps,
     h: &mut SliceHeader,
 ) -> Result<(), ParseError>
@@ -27,7 +26,7 @@ pub(crate) fn read_quantisers(
 
 /// Rows 35 to 40 of table 14.
 #[tactic(auto, unfolding(hevc_tables::specs::SliceHeaderTable::quantiser, hevc_spec::specs::Rows::when))]
-fn read_quantiser(r: &mut NaluReader<'_>, pps: &Pps, h: &mut SliceHeader) -> Result<(), ParseError>
+fn read_quantiser(r: &mut ElementReader<'_>, pps: &Pps, h: &mut SliceHeader) -> Result<(), ParseError>
     ensures { Fills plain_slice_header
         (table.quantiser (plain_pps pps.now)) result h.old h.new r.old r.new }
 {
@@ -44,7 +43,7 @@ fn read_quantiser(r: &mut NaluReader<'_>, pps: &Pps, h: &mut SliceHeader) -> Res
 /// Rows 41 and 42 of table 14.
 #[tactic(auto, unfolding(hevc_tables::specs::SliceHeaderTable::extension_offsets, hevc_spec::specs::Rows::when))]
 fn read_extension_offsets(
-    r: &mut NaluReader<'_>,
+    r: &mut ElementReader<'_>,
     pps: &Pps,
     h: &mut SliceHeader,
 ) -> Result<(), ParseError>
@@ -84,7 +83,7 @@ fn least_qp(pps: &Pps) -> i32
 /// Rows 37 to 40 of table 14.
 #[tactic(auto, unfolding(hevc_tables::specs::SliceHeaderTable::chroma_offsets))]
 fn read_chroma_offsets(
-    r: &mut NaluReader<'_>,
+    r: &mut ElementReader<'_>,
     pps: &Pps,
     h: &mut SliceHeader,
 ) -> Result<(), ParseError>
@@ -111,14 +110,13 @@ fn set_chroma_offsets(h: &mut SliceHeader, cb: i8, cr: i8)
 /// A row of a chroma offset, and the check after it.
 #[tactic(auto, unfolding(hevc_tables::specs::SliceHeaderTable::chroma_offset))]
 fn read_chroma_offset(
-    r: &mut NaluReader<'_>,
+    r: &mut ElementReader<'_>,
     number: u8,
     of_picture_set: i8,
 ) -> Result<i8, ParseError>
     requires { number ≤ 254 }
-    ensures read { Reads (λ offset. offset) result r.new
-        (read (table.chroma_offset number of_picture_set) (bits r.old)) }
-    ensures moves { IsAhead r.old r.new }
+    ensures read { Reads (λ offset. offset) (table.chroma_offset number of_picture_set) result r.old
+        r.new }
 {
     let offset = se_i8(r, Row(14, number), -12, 12)?;
     let row_behind = Row(14, number + 1);
@@ -137,7 +135,7 @@ fn is_chroma_offset(offset: i8, of_picture_set: i8) -> bool
 /// Row 41 of table 14.
 #[tactic(auto, unfolding(hevc_tables::specs::SliceHeaderTable::colour_transform_offsets))]
 fn read_colour_transform_offsets(
-    r: &mut NaluReader<'_>,
+    r: &mut ElementReader<'_>,
     h: &mut SliceHeader,
 ) -> Result<(), ParseError>
     ensures { Fills plain_slice_header table.colour_transform_offsets result

@@ -13,8 +13,8 @@ use crate::filters::read_filters;
 use crate::kind::{read_adaptive_offset, read_kind};
 use crate::prediction::{is_i, read_prediction};
 use crate::quantiser::read_quantisers;
-use hevc_bits::{NaluReader, NaluType};
-use hevc_elements::ParseError;
+use hevc_bits::NaluType;
+use hevc_elements::{ElementReader, ParseError};
 use hevc_picture_slice::{Pps, SliceHeader};
 use hevc_sequence_set::Sps;
 use hevc_slice_references::read_reference_pictures;
@@ -24,7 +24,7 @@ use std::alloc::Global;
 #[tactic(auto, unfolding(hevc_tables::specs::SliceHeaderTable::header_of, hevc_spec::specs::Rows::when))]
 pub(crate) fn read_behind_sets(
     alloc: Global,
-    r: &mut NaluReader<'_>,
+    r: &mut ElementReader<'_>,
     nalu_type: NaluType,
     sps: &Sps,
     pps: &Pps,
@@ -60,7 +60,7 @@ pub fn slice_header_set_defaults(hdr: &mut SliceHeader, sps: &Sps, pps: &Pps)
 /// Rows 6 to 47 of table 14.
 #[tactic(auto, unfolding(hevc_tables::specs::SliceHeaderTable::independent_segment))]
 fn read_independent(
-    r: &mut NaluReader<'_>,
+    r: &mut ElementReader<'_>,
     nalu_type: NaluType,
     sps: &Sps,
     pps: &Pps,
@@ -81,7 +81,7 @@ fn read_independent(
 /// Rows 10 to 21 of table 14, where they are present.
 #[tactic(auto, unfolding(hevc_spec::specs::Rows::when))]
 fn read_reference_pictures_if(
-    r: &mut NaluReader<'_>,
+    r: &mut ElementReader<'_>,
     present: bool,
     sps: &Sps,
     h: &mut SliceHeader,
@@ -100,7 +100,7 @@ fn read_reference_pictures_if(
 /// Rows 24 to 34 of table 14, where they are present.
 #[tactic(auto, unfolding(hevc_spec::specs::Rows::when))]
 fn read_prediction_if(
-    r: &mut NaluReader<'_>,
+    r: &mut ElementReader<'_>,
     present: bool,
     sps: &Sps,
     pps: &Pps,

@@ -5,7 +5,7 @@ ghost use Rattle.hevc_spec.specs.UnitTypes.{is_slice as is_slice_number};
 ghost use Rattle.hevc_bits.specs.FoundUnit.{bytes_of};
 ghost use Rattle.hevc_bits.specs.NaluType.{nalu_type_number};
 ghost use Rattle.hevc_records.specs.SliceHeader.{default_slice_header};
-ghost use Rattle.hevc_elements.specs.Words.{bits, IsAhead, read, Fills, FillsGrowing, ReadsSet, MeansSet};
+ghost use Rattle.hevc_elements.specs.Words.{read, ReadsSet};
 ghost use Rattle.hevc_tables.specs.SliceHeaderTable as table;
 ghost use Rattle.hevc_short_term.specs.Predictions.{IsInOrder};
 ghost use Rattle.hevc_sequence_set.specs.Sps.{plain_sps};
@@ -21,9 +21,9 @@ ghost use Rattle.hevc_bits.specs.declared.stream_limit.TheConstants.{STREAM_LIMI
 use crate::active_sets::ActiveSets;
 use crate::beginning::read_beginning;
 use crate::segment::read_behind_sets;
-use hevc_bits::{Nalu, NaluHeader, NaluReader, NaluType};
+use hevc_bits::{Nalu, NaluHeader, NaluType};
 use hevc_boxed::Boxed;
-use hevc_elements::ParseError;
+use hevc_elements::{ElementReader, ParseError};
 use hevc_elements::rows::skip;
 use hevc_picture_slice::{Pps, SliceHeader};
 use hevc_sequence_set::Sps;
@@ -91,7 +91,7 @@ fn read_payload<'a>(
     ensures sets { IfOk result
         (λ sets. AreFound ppses.now spses.now h.new.pic_parameter_set_id sets) }
 {
-    let start = NaluReader::new(payload);
+    let start = ElementReader::new(payload);
     let mut r = start.fork();
     match read_aligned(alloc, &mut r, nalu_type, spses, ppses, h) {
         Ok(sets) => {
@@ -103,7 +103,7 @@ fn read_payload<'a>(
 }
 
 /// The sizes of a header of so many payload bits, after which the reader is.
-fn set_sizes(size: u32, r: &NaluReader<'_>, h: &mut SliceHeader)
+fn set_sizes(size: u32, r: &ElementReader<'_>, h: &mut SliceHeader)
     requires few { size < 2 ^ 32 - 16 }
     requires dropped { r.now.dropped ≤ size }
     ensures set { plain_slice_header h.new ≡ record (plain_slice_header h.old) {
@@ -120,7 +120,7 @@ fn set_sizes(size: u32, r: &NaluReader<'_>, h: &mut SliceHeader)
 #[tactic(auto, unfolding(hevc_tables::specs::SliceHeaderTable::aligned))]
 fn read_aligned<'a>(
     alloc: Global,
-    r: &mut NaluReader<'_>,
+    r: &mut ElementReader<'_>,
     nalu_type: NaluType,
     spses: &'a BTreeMap<u8, Boxed<Sps>>,
     ppses: &'a BTreeMap<u8, Pps>,
@@ -132,7 +132,6 @@ fn read_aligned<'a>(
         (read (table.aligned
         (table.elements (nalu_type_number nalu_type) (kept_active_sets ppses.now spses.now)))
         (bits r.old)) }
-    ensures moves { IsAhead r.old r.new }
     ensures few { OnOk result (length (bits r.old) ≤ 2 ^ 31 + 8 + length (bits r.new)) }
     ensures names { IfErr result NamesNoSequenceSet }
     ensures current { OnOk result (HasCurrentSet
@@ -152,7 +151,7 @@ fn read_aligned<'a>(
 #[tactic(auto, using(crate::proofs::Answered::answered), unfolding(hevc_tables::specs::SliceHeaderTable::elements, hevc_tables::specs::PpsTable::named))]
 fn read_elements<'a>(
     alloc: Global,
-    r: &mut NaluReader<'_>,
+    r: &mut ElementReader<'_>,
     nalu_type: NaluType,
     spses: &'a BTreeMap<u8, Boxed<Sps>>,
     ppses: &'a BTreeMap<u8, Pps>,
@@ -162,7 +161,6 @@ fn read_elements<'a>(
     ensures read { ReadsHeader (λ _. plain_slice_header h.new) result r.new
         (read (table.elements (nalu_type_number nalu_type) (kept_active_sets ppses.now spses.now))
         (bits r.old)) }
-    ensures moves { IsAhead r.old r.new }
     ensures few { OnOk result (length (bits r.old) ≤ 2 ^ 31 + length (bits r.new)) }
     ensures names { IfErr result NamesNoSequenceSet }
     ensures current { OnOk result (HasCurrentSet

@@ -1,14 +1,13 @@
 //! Modifications of reference picture lists (7.3.6.2, table 15).
 ghost use Rattle.std.specs.Prelude.{◌≡◌, ◌+◌, ◌≤◌, ◌^◌, [], IfOk, OnOk, IsTrue};
-ghost use Rattle.hevc_elements.specs.Words.{bits, IsAhead, IsReached, read, when, Reads, Means, Fills};
+ghost use Rattle.hevc_elements.specs.Words.{read, when, Reads, Fills, ReadsTable};
 ghost use Rattle.hevc_tables.specs.RefPicListModificationTable as table;
 ghost use Rattle.hevc_set_parts.specs.RefPicListModification.{plain_ref_pic_list_modification};
 ghost use Rattle.hevc_slice_parts.specs.Entries.{HasEntries};
 
 use crate::logarithm::ceil_log2;
 use arrayvec::ArrayVec;
-use hevc_bits::NaluReader;
-use hevc_elements::ParseError;
+use hevc_elements::{ElementReader, ParseError};
 use hevc_elements::rows::{bits_u32, flag};
 use hevc_set_parts::RefPicListModification;
 use hevc_spec::Row;
@@ -22,7 +21,7 @@ use hevc_spec::Row;
 /// `num_pic_total_curr`. The reader then is where that element begins.
 #[tactic(auto, using(hevc_elements::proofs::Meaning::meanings))]
 pub fn read_ref_pic_list_modification(
-    r: &mut NaluReader<'_>,
+    r: &mut ElementReader<'_>,
     is_b: bool,
     num_pic_total_curr: u32,
     num_ref_idx_l0_active_minus1: u8,
@@ -30,14 +29,9 @@ pub fn read_ref_pic_list_modification(
 ) -> Result<RefPicListModification, ParseError>
     requires pictures { (1 ≤ num_pic_total_curr) × (num_pic_total_curr ≤ 2 ^ 31) }
     requires places { (num_ref_idx_l0_active_minus1 ≤ 14) × (num_ref_idx_l1_active_minus1 ≤ 14) }
-    ensures read { Reads plain_ref_pic_list_modification result r.new
-        (read (table.ref_pic_list_modification is_b num_pic_total_curr
-        num_ref_idx_l0_active_minus1 num_ref_idx_l1_active_minus1) (bits r.old)) }
-    ensures means { Means plain_ref_pic_list_modification
-        (table.ref_pic_list_modification is_b num_pic_total_curr
-        num_ref_idx_l0_active_minus1 num_ref_idx_l1_active_minus1) result r.old r.new }
-    ensures moves { IsAhead r.old r.new }
-    ensures place { IsReached r.old r.new }
+    ensures rows { ReadsTable plain_ref_pic_list_modification (table.ref_pic_list_modification is_b
+        num_pic_total_curr num_ref_idx_l0_active_minus1 num_ref_idx_l1_active_minus1) result r.old
+        r.new }
     // A list whose order is signalled has an entry for each active place, each below NumPicTotalCurr.
     ensures entries_l0 { IfOk result
         (λ m. IsTrue m.ref_pic_list_modification_flag_l0
@@ -58,7 +52,7 @@ pub fn read_ref_pic_list_modification(
 /// Rows 1 to 4 of table 15.
 #[tactic(auto, unfolding(hevc_tables::specs::RefPicListModificationTable::ref_pic_list_modification, hevc_spec::specs::Rows::when))]
 fn read_rows(
-    r: &mut NaluReader<'_>,
+    r: &mut ElementReader<'_>,
     is_b: bool,
     num_pic_total_curr: u32,
     active_l0: u8,
@@ -66,10 +60,9 @@ fn read_rows(
 ) -> Result<RefPicListModification, ParseError>
     requires pictures { (1 ≤ num_pic_total_curr) × (num_pic_total_curr ≤ 2 ^ 31) }
     requires places { (active_l0 ≤ 14) × (active_l1 ≤ 14) }
-    ensures read { Reads plain_ref_pic_list_modification result r.new
-        (read (table.ref_pic_list_modification is_b num_pic_total_curr active_l0 active_l1)
-        (bits r.old)) }
-    ensures moves { IsAhead r.old r.new }
+    ensures read { Reads plain_ref_pic_list_modification
+        (table.ref_pic_list_modification is_b num_pic_total_curr active_l0 active_l1) result r.old
+        r.new }
     ensures entries_l0 { IfOk result
         (λ m. IsTrue m.ref_pic_list_modification_flag_l0
         → HasEntries num_pic_total_curr active_l0 m.list_entry_l0.items) }
@@ -88,7 +81,7 @@ fn read_rows(
 /// Rows 1 and 2 of table 15.
 #[tactic(auto, unfolding(hevc_tables::specs::RefPicListModificationTable::modification_l0))]
 fn read_l0(
-    r: &mut NaluReader<'_>,
+    r: &mut ElementReader<'_>,
     num_pic_total_curr: u32,
     active_minus1: u8,
     m: &mut RefPicListModification,
@@ -113,7 +106,7 @@ fn read_l0(
 /// Rows 3 and 4 of table 15.
 #[tactic(auto, unfolding(hevc_tables::specs::RefPicListModificationTable::modification_l1))]
 fn read_l1(
-    r: &mut NaluReader<'_>,
+    r: &mut ElementReader<'_>,
     num_pic_total_curr: u32,
     active_minus1: u8,
     m: &mut RefPicListModification,
@@ -139,7 +132,7 @@ fn read_l1(
 /// The entries of a list, where its order is signalled.
 #[tactic(auto, unfolding(hevc_spec::specs::Rows::when))]
 fn read_entries_if(
-    r: &mut NaluReader<'_>,
+    r: &mut ElementReader<'_>,
     told: bool,
     row: Row,
     num_pic_total_curr: u32,
@@ -147,10 +140,9 @@ fn read_entries_if(
 ) -> Result<ArrayVec<u32, 15>, ParseError>
     requires pictures { (1 ≤ num_pic_total_curr) × (num_pic_total_curr ≤ 2 ^ 31) }
     requires places { active_minus1 ≤ 14 }
-    ensures read { Reads (λ entries. entries.items) result r.new
-        (read (when told [] (table.list_entries row num_pic_total_curr (active_minus1 + 1)))
-        (bits r.old)) }
-    ensures moves { IsAhead r.old r.new }
+    ensures read { Reads (λ entries. entries.items)
+        (when told [] (table.list_entries row num_pic_total_curr (active_minus1 + 1))) result r.old
+        r.new }
     ensures entries { IfOk result
         (λ entries. IsTrue told → HasEntries num_pic_total_curr active_minus1 entries.items) }
 {
@@ -164,16 +156,15 @@ fn read_entries_if(
 /// The entries of a list, one for each active place.
 #[tactic(auto, using(hevc_elements::proofs::Loops::loops), unfolding(hevc_tables::specs::RefPicListModificationTable::list_entries, hevc_tables::specs::RefPicListModificationTable::list_entry))]
 fn read_entries(
-    r: &mut NaluReader<'_>,
+    r: &mut ElementReader<'_>,
     row: Row,
     num_pic_total_curr: u32,
     active_minus1: u8,
 ) -> Result<ArrayVec<u32, 15>, ParseError>
     requires pictures { (1 ≤ num_pic_total_curr) × (num_pic_total_curr ≤ 2 ^ 31) }
     requires places { active_minus1 ≤ 14 }
-    ensures read { Reads (λ entries. entries.items) result r.new
-        (read (table.list_entries row num_pic_total_curr (active_minus1 + 1)) (bits r.old)) }
-    ensures moves { IsAhead r.old r.new }
+    ensures read { Reads (λ entries. entries.items)
+        (table.list_entries row num_pic_total_curr (active_minus1 + 1)) result r.old r.new }
     ensures entries { IfOk result
         (λ entries. HasEntries num_pic_total_curr active_minus1 entries.items) }
 {

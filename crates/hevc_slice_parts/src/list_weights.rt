@@ -1,14 +1,13 @@
 //! The weights of one reference picture list (7.3.6.3, rows 3 to 14 of table 16).
 ghost use Rattle.std.specs.Prelude.{◌≡◌, ◌-◌, ◌≤◌, ◌<◌, pos, neg_ℤ, ◌≤ℤ◌, IfOk};
 ghost use Rattle.hevc_spec.specs.Rows.{se_row};
-ghost use Rattle.hevc_elements.specs.Words.{bits, IsAhead, read, Reads, Fills};
+ghost use Rattle.hevc_elements.specs.Words.{read, Reads, Fills};
 ghost use Rattle.hevc_tables.specs.WeightedPredictionTable as table;
 ghost use Rattle.hevc_sequence_set.specs.Sps.{plain_sps};
 ghost use Rattle.hevc_slice_parts.specs.Projections.{plain_list_weights};
 
 use crate::records::ListWeights;
-use hevc_bits::NaluReader;
-use hevc_elements::ParseError;
+use hevc_elements::{ElementReader, ParseError};
 use hevc_elements::rows::{flag, se, se_i8};
 use hevc_sequence_set::Sps;
 use hevc_spec::Row;
@@ -37,16 +36,15 @@ pub(crate) fn has_chroma(sps: &Sps) -> bool
 /// Rows 3 to 8 of table 16 for list 0, or rows 9 to 14 for list 1, of so many places.
 #[tactic(auto, unfolding(hevc_tables::specs::WeightedPredictionTable::list_weights))]
 pub(crate) fn read_list_weights(
-    r: &mut NaluReader<'_>,
+    r: &mut ElementReader<'_>,
     sps: &Sps,
     list: u8,
     count: usize,
 ) -> Result<ListWeights, ParseError>
     requires list { list ≤ 1 }
     requires places { count ≤ 15 }
-    ensures read { Reads plain_list_weights result r.new
-        (read (table.list_weights (plain_sps sps.now) list count) (bits r.old)) }
-    ensures moves { IsAhead r.old r.new }
+    ensures read { Reads plain_list_weights (table.list_weights (plain_sps sps.now) list count)
+        result r.old r.new }
 {
     let mut w = read_flags(r, sps, list, count)?;
     read_weights(r, sps, list, count, &mut w)?;
@@ -56,16 +54,15 @@ pub(crate) fn read_list_weights(
 /// Rows 3 and 4 of table 16, or 9 and 10 for list 1.
 #[tactic(auto, unfolding(hevc_tables::specs::WeightedPredictionTable::flags, hevc_spec::specs::Rows::when))]
 fn read_flags(
-    r: &mut NaluReader<'_>,
+    r: &mut ElementReader<'_>,
     sps: &Sps,
     list: u8,
     count: usize,
 ) -> Result<ListWeights, ParseError>
     requires list { list ≤ 1 }
     requires places { count ≤ 15 }
-    ensures read { Reads plain_list_weights result r.new
-        (read (table.flags (plain_sps sps.now) list count) (bits r.old)) }
-    ensures moves { IsAhead r.old r.new }
+    ensures read { Reads plain_list_weights (table.flags (plain_sps sps.now) list count) result
+        r.old r.new }
 {
     let mut w = no_weights();
     read_luma_flags(r, list, count, &mut w)?;
@@ -78,7 +75,7 @@ fn read_flags(
 /// Row 3 of table 16, or 9 for list 1.
 #[tactic(auto, using(hevc_elements::proofs::Loops::loops), unfolding(hevc_tables::specs::WeightedPredictionTable::luma_flags))]
 fn read_luma_flags(
-    r: &mut NaluReader<'_>,
+    r: &mut ElementReader<'_>,
     list: u8,
     count: usize,
     w: &mut ListWeights,
@@ -97,7 +94,7 @@ fn read_luma_flags(
 /// Row 3 of table 16, or 9 for list 1, for one place.
 #[tactic(auto, unfolding(hevc_tables::specs::WeightedPredictionTable::luma_flag))]
 fn read_luma_flag(
-    r: &mut NaluReader<'_>,
+    r: &mut ElementReader<'_>,
     list: u8,
     i: usize,
     w: &mut ListWeights,
@@ -114,7 +111,7 @@ fn read_luma_flag(
 /// Row 4 of table 16, or 10 for list 1.
 #[tactic(auto, using(hevc_elements::proofs::Loops::loops), unfolding(hevc_tables::specs::WeightedPredictionTable::chroma_flags))]
 fn read_chroma_flags(
-    r: &mut NaluReader<'_>,
+    r: &mut ElementReader<'_>,
     list: u8,
     count: usize,
     w: &mut ListWeights,
@@ -133,7 +130,7 @@ fn read_chroma_flags(
 /// Row 4 of table 16, or 10 for list 1, for one place.
 #[tactic(auto, unfolding(hevc_tables::specs::WeightedPredictionTable::chroma_flag))]
 fn read_chroma_flag(
-    r: &mut NaluReader<'_>,
+    r: &mut ElementReader<'_>,
     list: u8,
     i: usize,
     w: &mut ListWeights,
@@ -150,7 +147,7 @@ fn read_chroma_flag(
 /// Rows 5 to 8 of table 16, or 11 to 14 for list 1.
 #[tactic(auto, using(hevc_elements::proofs::Loops::loops), unfolding(hevc_tables::specs::WeightedPredictionTable::weights))]
 fn read_weights(
-    r: &mut NaluReader<'_>,
+    r: &mut ElementReader<'_>,
     sps: &Sps,
     list: u8,
     count: usize,
@@ -170,7 +167,7 @@ fn read_weights(
 /// Rows 5 to 8 of table 16, or 11 to 14 for list 1, for one place.
 #[tactic(auto, unfolding(hevc_tables::specs::WeightedPredictionTable::place_weights, hevc_spec::specs::Rows::when))]
 fn read_place_weights(
-    r: &mut NaluReader<'_>,
+    r: &mut ElementReader<'_>,
     sps: &Sps,
     list: u8,
     i: usize,
@@ -193,7 +190,7 @@ fn read_place_weights(
 /// Rows 5 and 6 of table 16, or 11 and 12 for list 1, for one place.
 #[tactic(auto, using(crate::proofs::Ranges::ranges), unfolding(hevc_tables::specs::WeightedPredictionTable::luma_weight))]
 fn read_luma_weight(
-    r: &mut NaluReader<'_>,
+    r: &mut ElementReader<'_>,
     sps: &Sps,
     list: u8,
     i: usize,
@@ -223,7 +220,7 @@ fn luma_half_range(sps: &Sps) -> u32
 /// Rows 7 and 8 of table 16, or 13 and 14 for list 1, for one place.
 #[tactic(auto, unfolding(hevc_tables::specs::WeightedPredictionTable::chroma_weight))]
 fn read_chroma_weight(
-    r: &mut NaluReader<'_>,
+    r: &mut ElementReader<'_>,
     sps: &Sps,
     list: u8,
     i: usize,
@@ -241,7 +238,7 @@ fn read_chroma_weight(
 /// Rows 7 and 8 of table 16, or 13 and 14 for list 1, for component `j` of one place: Cb or Cr.
 #[tactic(auto, using(crate::proofs::Ranges::ranges), unfolding(hevc_tables::specs::WeightedPredictionTable::chroma_component))]
 fn read_chroma_component(
-    r: &mut NaluReader<'_>,
+    r: &mut ElementReader<'_>,
     sps: &Sps,
     list: u8,
     i: usize,
@@ -271,11 +268,10 @@ fn chroma_half_range(sps: &Sps) -> u32
 }
 
 /// An offset from `-half_range` to `half_range - 1`.
-fn read_offset(r: &mut NaluReader<'_>, row: Row, half_range: u32) -> Result<i16, ParseError>
+fn read_offset(r: &mut ElementReader<'_>, row: Row, half_range: u32) -> Result<i16, ParseError>
     requires range { (1 ≤ half_range) × (half_range ≤ 32768) }
-    ensures read { Reads (λ n. n) result r.new
-        (read (se_row row (neg_ℤ (pos half_range)) (pos (half_range - 1))) (bits r.old)) }
-    ensures moves { IsAhead r.old r.new }
+    ensures read { Reads (λ n. n) (se_row row (neg_ℤ (pos half_range)) (pos (half_range - 1)))
+        result r.old r.new }
     ensures bounds { IfOk result
         (λ n. (neg_ℤ (pos half_range) ≤ℤ n) × (n ≤ℤ pos (half_range - 1))) }
 {

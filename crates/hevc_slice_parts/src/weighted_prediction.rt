@@ -1,7 +1,7 @@
 //! Weighted prediction (7.3.6.3, table 16).
 ghost use Rattle.std.specs.Prelude.{◌≡◌, ◌≤◌, ◌+◌, pos, neg_ℤ, ◌+ℤ◌, IfOk, ◌≤ℤ◌, if◌then◌else◌, unsigned_abs};
 ghost use Rattle.hevc_spec.specs.Rows.{row, se_row};
-ghost use Rattle.hevc_elements.specs.Words.{bits, IsAhead, IsReached, read, when, Reads, Means, Fills};
+ghost use Rattle.hevc_elements.specs.Words.{read, when, Reads, Fills, ReadsTable};
 ghost use Rattle.hevc_tables.specs.WeightedPredictionTable as table;
 ghost use Rattle.hevc_video_set.specs.PredWeightTable.{plain_pred_weight_table};
 ghost use Rattle.hevc_sequence_set.specs.Sps.{plain_sps};
@@ -9,8 +9,7 @@ ghost use Rattle.hevc_slice_parts.specs.Projections.{plain_list_weights};
 
 use crate::list_weights::{has_chroma, no_weights, read_list_weights};
 use crate::records::ListWeights;
-use hevc_bits::NaluReader;
-use hevc_elements::ParseError;
+use hevc_elements::{ElementReader, ParseError};
 use hevc_elements::rows::{se_i8, ue_u8};
 use hevc_sequence_set::Sps;
 use hevc_spec::Row;
@@ -24,22 +23,15 @@ use hevc_video_set::PredWeightTable;
 /// isn't allowed. The reader then is where that element begins.
 #[tactic(auto, using(hevc_elements::proofs::Meaning::meanings))]
 pub fn read_pred_weight_table(
-    r: &mut NaluReader<'_>,
+    r: &mut ElementReader<'_>,
     sps: &Sps,
     is_b: bool,
     num_ref_idx_l0_active_minus1: u8,
     num_ref_idx_l1_active_minus1: u8,
 ) -> Result<PredWeightTable, ParseError>
     requires places { (num_ref_idx_l0_active_minus1 ≤ 14) × (num_ref_idx_l1_active_minus1 ≤ 14) }
-    ensures read { Reads plain_pred_weight_table result r.new
-        (read (table.pred_weight_table
-        (plain_sps sps.now) is_b num_ref_idx_l0_active_minus1 num_ref_idx_l1_active_minus1)
-        (bits r.old)) }
-    ensures means { Means plain_pred_weight_table
-        (table.pred_weight_table (plain_sps sps.now) is_b
-        num_ref_idx_l0_active_minus1 num_ref_idx_l1_active_minus1) result r.old r.new }
-    ensures moves { IsAhead r.old r.new }
-    ensures place { IsReached r.old r.new }
+    ensures rows { ReadsTable plain_pred_weight_table (table.pred_weight_table (plain_sps sps.now)
+        is_b num_ref_idx_l0_active_minus1 num_ref_idx_l1_active_minus1) result r.old r.new }
 {
     read_rows(
         r,
@@ -53,16 +45,15 @@ pub fn read_pred_weight_table(
 /// Rows 1 to 14 of table 16.
 #[tactic(auto, unfolding(hevc_tables::specs::WeightedPredictionTable::pred_weight_table))]
 fn read_rows(
-    r: &mut NaluReader<'_>,
+    r: &mut ElementReader<'_>,
     sps: &Sps,
     is_b: bool,
     active_l0: u8,
     active_l1: u8,
 ) -> Result<PredWeightTable, ParseError>
     requires places { (active_l0 ≤ 14) × (active_l1 ≤ 14) }
-    ensures read { Reads plain_pred_weight_table result r.new
-        (read (table.pred_weight_table (plain_sps sps.now) is_b active_l0 active_l1) (bits r.old)) }
-    ensures moves { IsAhead r.old r.new }
+    ensures read { Reads plain_pred_weight_table
+        (table.pred_weight_table (plain_sps sps.now) is_b active_l0 active_l1) result r.old r.new }
 {
     let mut t = PredWeightTable::new();
     read_denominators(r, sps, &mut t)?;
@@ -76,7 +67,7 @@ fn read_rows(
 /// Rows 1 and 2 of table 16.
 #[tactic(auto, unfolding(hevc_tables::specs::WeightedPredictionTable::denominators))]
 fn read_denominators(
-    r: &mut NaluReader<'_>,
+    r: &mut ElementReader<'_>,
     sps: &Sps,
     t: &mut PredWeightTable,
 ) -> Result<(), ParseError>
@@ -93,12 +84,10 @@ fn read_denominators(
 
 /// Row 2 of table 16, where it is present.
 #[tactic(auto, unfolding(hevc_spec::specs::Rows::when))]
-fn read_delta_if(r: &mut NaluReader<'_>, present: bool, luma: u8) -> Result<i8, ParseError>
+fn read_delta_if(r: &mut ElementReader<'_>, present: bool, luma: u8) -> Result<i8, ParseError>
     requires { luma ≤ 7 }
-    ensures read { Reads (λ n. n) result r.new
-        (read (when present (pos 0) (se_row (row 16 2) (neg_ℤ (pos luma)) (pos 127)))
-        (bits r.old)) }
-    ensures moves { IsAhead r.old r.new }
+    ensures read { Reads (λ n. n)
+        (when present (pos 0) (se_row (row 16 2) (neg_ℤ (pos luma)) (pos 127))) result r.old r.new }
     ensures least { IfOk result (λ n. pos 0 ≤ℤ (pos luma +ℤ n)) }
 {
     if present {
@@ -124,16 +113,15 @@ fn chroma_denominator(present: bool, luma: u8, delta: i8) -> u8
 /// Rows 9 to 14 of table 16, of a B slice; else no weights.
 #[tactic(auto, unfolding(hevc_spec::specs::Rows::when))]
 fn read_list1(
-    r: &mut NaluReader<'_>,
+    r: &mut ElementReader<'_>,
     sps: &Sps,
     is_b: bool,
     count: usize,
 ) -> Result<ListWeights, ParseError>
     requires { count ≤ 15 }
-    ensures read { Reads plain_list_weights result r.new
-        (read (when is_b table.no_weights (table.list_weights (plain_sps sps.now) 1 count))
-        (bits r.old)) }
-    ensures moves { IsAhead r.old r.new }
+    ensures read { Reads plain_list_weights
+        (when is_b table.no_weights (table.list_weights (plain_sps sps.now) 1 count)) result r.old
+        r.new }
 {
     if is_b {
         read_list_weights(r, sps, 1, count)

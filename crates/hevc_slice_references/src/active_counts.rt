@@ -7,8 +7,7 @@ ghost use Rattle.hevc_picture_slice.specs.Pps.{plain_pps};
 ghost use Rattle.hevc_picture_slice.specs.SliceHeader.{plain_slice_header};
 ghost use Rattle.hevc_slice_references.specs.Unordered.{IsUnordered};
 
-use hevc_bits::NaluReader;
-use hevc_elements::ParseError;
+use hevc_elements::{ElementReader, ParseError};
 use hevc_elements::rows::{flag, ue_if, ue_u8};
 use hevc_picture_slice::{Pps, SliceHeader};
 use hevc_spec::Row;
@@ -16,7 +15,7 @@ use hevc_spec::Row;
 /// Rows 24 to 26 of table 14.
 #[tactic(auto, unfolding(hevc_tables::specs::SliceHeaderTable::active_counts, hevc_spec::specs::Rows::either))]
 pub(crate) fn read_active_counts(
-    r: &mut NaluReader<'_>,
+    r: &mut ElementReader<'_>,
     pps: &Pps,
     h: &mut SliceHeader,
 ) -> Result<(), ParseError>
@@ -37,7 +36,7 @@ pub(crate) fn read_active_counts(
 
 /// Rows 25 and 26 of table 14.
 #[tactic(auto, unfolding(hevc_tables::specs::SliceHeaderTable::own_active_counts))]
-fn read_own(r: &mut NaluReader<'_>, h: &mut SliceHeader) -> Result<(), ParseError>
+fn read_own(r: &mut ElementReader<'_>, h: &mut SliceHeader) -> Result<(), ParseError>
     requires { IsUnordered h.old.ref_pic_list_modification }
     ensures fills { Fills plain_slice_header table.own_active_counts result
         h.old h.new r.old r.new }

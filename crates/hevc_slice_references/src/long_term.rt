@@ -7,8 +7,7 @@ ghost use Rattle.hevc_picture_slice.specs.SliceHeader.{plain_slice_header};
 
 use crate::index::read_index;
 use crate::short_term::lsb_bits;
-use hevc_bits::NaluReader;
-use hevc_elements::ParseError;
+use hevc_elements::{ElementReader, ParseError};
 use hevc_elements::rows::{bits_u32, flag, ue_if, ue_u8};
 use hevc_picture_slice::SliceHeader;
 use hevc_sequence_set::Sps;
@@ -17,7 +16,7 @@ use hevc_spec::Row;
 /// Rows 14 to 20 of table 14.
 #[tactic(auto, unfolding(hevc_tables::specs::SliceHeaderTable::long_term))]
 pub(crate) fn read_long_term(
-    r: &mut NaluReader<'_>,
+    r: &mut ElementReader<'_>,
     sps: &Sps,
     h: &mut SliceHeader,
 ) -> Result<(), ParseError>
@@ -30,7 +29,7 @@ pub(crate) fn read_long_term(
 
 /// Rows 14 and 15 of table 14.
 #[tactic(auto, unfolding(hevc_tables::specs::SliceHeaderTable::long_term_counts))]
-fn read_counts(r: &mut NaluReader<'_>, sps: &Sps, h: &mut SliceHeader) -> Result<(), ParseError>
+fn read_counts(r: &mut ElementReader<'_>, sps: &Sps, h: &mut SliceHeader) -> Result<(), ParseError>
     ensures { Fills plain_slice_header
         (table.long_term_counts (plain_sps sps.now)) result h.old h.new r.old r.new }
 {
@@ -45,7 +44,7 @@ fn read_counts(r: &mut NaluReader<'_>, sps: &Sps, h: &mut SliceHeader) -> Result
 
 /// Rows 16 to 20 of table 14, for each picture.
 #[tactic(auto, using(hevc_elements::proofs::Loops::loops), unfolding(hevc_tables::specs::SliceHeaderTable::long_term_pictures))]
-fn read_pictures(r: &mut NaluReader<'_>, sps: &Sps, h: &mut SliceHeader) -> Result<(), ParseError>
+fn read_pictures(r: &mut ElementReader<'_>, sps: &Sps, h: &mut SliceHeader) -> Result<(), ParseError>
     ensures { Fills plain_slice_header
         (table.long_term_pictures (plain_sps sps.now)) result h.old h.new r.old r.new }
 {
@@ -59,7 +58,7 @@ fn read_pictures(r: &mut NaluReader<'_>, sps: &Sps, h: &mut SliceHeader) -> Resu
 /// Rows 16 to 20 of table 14, for picture `i`.
 #[tactic(auto, unfolding(hevc_tables::specs::SliceHeaderTable::long_term_picture, hevc_spec::specs::Rows::either))]
 fn read_picture(
-    r: &mut NaluReader<'_>,
+    r: &mut ElementReader<'_>,
     sps: &Sps,
     i: usize,
     h: &mut SliceHeader,
@@ -81,7 +80,7 @@ fn read_picture(
 /// Row 16 of table 14, for picture `i`, one of the sequence set's.
 #[tactic(auto, unfolding(hevc_tables::specs::SliceHeaderTable::candidate_long_term_picture))]
 fn read_candidate(
-    r: &mut NaluReader<'_>,
+    r: &mut ElementReader<'_>,
     sps: &Sps,
     i: usize,
     h: &mut SliceHeader,
@@ -104,7 +103,7 @@ fn read_candidate(
 /// Rows 17 and 18 of table 14, for picture `i`, one that isn't the sequence set's.
 #[tactic(auto, unfolding(hevc_tables::specs::SliceHeaderTable::other_long_term_picture))]
 fn read_other(
-    r: &mut NaluReader<'_>,
+    r: &mut ElementReader<'_>,
     sps: &Sps,
     i: usize,
     h: &mut SliceHeader,
@@ -126,7 +125,7 @@ fn read_other(
 /// Rows 19 and 20 of table 14, for picture `i`.
 #[tactic(auto, unfolding(hevc_tables::specs::SliceHeaderTable::msb_cycles))]
 fn read_cycles(
-    r: &mut NaluReader<'_>,
+    r: &mut ElementReader<'_>,
     sps: &Sps,
     i: usize,
     h: &mut SliceHeader,

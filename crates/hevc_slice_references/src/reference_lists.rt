@@ -11,8 +11,7 @@ ghost use Rattle.hevc_slice_references.specs.Unordered.{IsUnordered};
 
 use crate::active_counts::{is_b, read_active_counts};
 use crate::pictures::num_pic_total_curr;
-use hevc_bits::NaluReader;
-use hevc_elements::ParseError;
+use hevc_elements::{ElementReader, ParseError};
 use hevc_picture_slice::{Pps, SliceHeader};
 use hevc_sequence_set::Sps;
 use hevc_set_parts::RefPicListModification;
@@ -25,7 +24,7 @@ use hevc_slice_parts::read_ref_pic_list_modification;
 /// isn't allowed. The reader then is where that element begins.
 #[tactic(auto, unfolding(hevc_tables::specs::SliceHeaderTable::reference_lists, hevc_spec::specs::Rows::when))]
 pub fn read_reference_lists(
-    r: &mut NaluReader<'_>,
+    r: &mut ElementReader<'_>,
     sps: &Sps,
     pps: &Pps,
     h: &mut SliceHeader,
@@ -68,7 +67,7 @@ fn clear(modification: &mut RefPicListModification)
 
 /// Row 27 of table 14.
 #[tactic(auto, unfolding(hevc_tables::specs::SliceHeaderTable::list_modification))]
-fn read_list_modification(r: &mut NaluReader<'_>, h: &mut SliceHeader) -> Result<(), ParseError>
+fn read_list_modification(r: &mut ElementReader<'_>, h: &mut SliceHeader) -> Result<(), ParseError>
     requires { (1 ≤ h.old.num_pic_total_curr) × (h.old.num_pic_total_curr ≤ 33) }
     ensures { Fills plain_slice_header table.list_modification result h.old h.new r.old r.new }
 {

@@ -6,8 +6,7 @@ ghost use Rattle.hevc_picture_slice.specs.SliceHeader.{plain_slice_header};
 
 use crate::long_term::read_long_term;
 use crate::short_term::read_short_term;
-use hevc_bits::NaluReader;
-use hevc_elements::ParseError;
+use hevc_elements::{ElementReader, ParseError};
 use hevc_elements::rows::flag_if;
 use hevc_picture_slice::SliceHeader;
 use hevc_sequence_set::Sps;
@@ -20,7 +19,7 @@ use hevc_spec::Row;
 /// isn't allowed. The reader then is where that element begins.
 #[tactic(auto, unfolding(hevc_tables::specs::SliceHeaderTable::reference_pictures, hevc_spec::specs::Rows::when))]
 pub fn read_reference_pictures(
-    r: &mut NaluReader<'_>,
+    r: &mut ElementReader<'_>,
     sps: &Sps,
     h: &mut SliceHeader,
 ) -> Result<(), ParseError>

@@ -1,6 +1,6 @@
 //! The order count and the short-term set (7.3.6.1, rows 10 to 13 of table 14).
 ghost use Rattle.std.specs.Prelude.{◌≡◌, ◌≤◌};
-ghost use Rattle.hevc_elements.specs.Words.{bits, IsAhead, read, Reads, Fills};
+ghost use Rattle.hevc_elements.specs.Words.{read, Reads, Fills};
 ghost use Rattle.hevc_tables.specs.SliceHeaderTable as table;
 ghost use Rattle.hevc_tables.specs.SpsTable.{highest_buffering as buffering_of_highest};
 ghost use Rattle.hevc_sequence_set.specs.Sps.{plain_sps};
@@ -8,8 +8,7 @@ ghost use Rattle.hevc_picture_slice.specs.SliceHeader.{plain_slice_header};
 
 use crate::index::read_index;
 use crate::size::bits_between;
-use hevc_bits::NaluReader;
-use hevc_elements::ParseError;
+use hevc_elements::{ElementReader, ParseError};
 use hevc_elements::rows::{bits_u32, flag, zero};
 use hevc_picture_slice::SliceHeader;
 use hevc_sequence_set::Sps;
@@ -19,7 +18,7 @@ use hevc_spec::Row;
 /// Rows 10 to 13 of table 14.
 #[tactic(auto, unfolding(hevc_tables::specs::SliceHeaderTable::short_term, hevc_spec::specs::Rows::either))]
 pub(crate) fn read_short_term(
-    r: &mut NaluReader<'_>,
+    r: &mut ElementReader<'_>,
     sps: &Sps,
     h: &mut SliceHeader,
 ) -> Result<(), ParseError>
@@ -48,10 +47,8 @@ pub(crate) fn lsb_bits(sps: &Sps) -> usize
 
 /// Row 11 of table 14.
 #[tactic(auto, unfolding(hevc_tables::specs::SliceHeaderTable::short_term_flag, hevc_spec::specs::Rows::either))]
-fn read_short_term_flag(r: &mut NaluReader<'_>, sps: &Sps) -> Result<bool, ParseError>
-    ensures read { Reads (λ b. b) result r.new
-        (read (table.short_term_flag (plain_sps sps.now)) (bits r.old)) }
-    ensures moves { IsAhead r.old r.new }
+fn read_short_term_flag(r: &mut ElementReader<'_>, sps: &Sps) -> Result<bool, ParseError>
+    ensures read { Reads (λ b. b) (table.short_term_flag (plain_sps sps.now)) result r.old r.new }
 {
     if sps.num_short_term_ref_pic_sets == 0 {
         zero(r, Row(14, 11))?;
@@ -64,7 +61,7 @@ fn read_short_term_flag(r: &mut NaluReader<'_>, sps: &Sps) -> Result<bool, Parse
 /// Row 13 of table 14.
 #[tactic(auto, unfolding(hevc_tables::specs::SliceHeaderTable::candidate_short_term_set))]
 fn read_candidate_set(
-    r: &mut NaluReader<'_>,
+    r: &mut ElementReader<'_>,
     sps: &Sps,
     h: &mut SliceHeader,
 ) -> Result<(), ParseError>
@@ -79,7 +76,7 @@ fn read_candidate_set(
 
 /// Row 12 of table 14.
 #[tactic(auto, unfolding(hevc_tables::specs::SliceHeaderTable::own_short_term_set))]
-fn read_own_set(r: &mut NaluReader<'_>, sps: &Sps, h: &mut SliceHeader) -> Result<(), ParseError>
+fn read_own_set(r: &mut ElementReader<'_>, sps: &Sps, h: &mut SliceHeader) -> Result<(), ParseError>
     ensures { Fills plain_slice_header
         (table.own_short_term_set (plain_sps sps.now)) result h.old h.new r.old r.new }
 {

@@ -4,15 +4,14 @@ ghost use Rattle.hevc_elements.specs.Words.{Fills};
 ghost use Rattle.hevc_tables.specs.SpsTable as table;
 ghost use Rattle.hevc_sequence_set.specs.Sps.{plain_sps};
 
-use hevc_bits::NaluReader;
-use hevc_elements::ParseError;
+use hevc_elements::{ElementReader, ParseError};
 use hevc_elements::rows::{check, ue_u8};
 use hevc_sequence_set::Sps;
 use hevc_spec::Row;
 
 /// Rows 20 to 24 of table 5.
 #[tactic(auto, unfolding(hevc_tables::specs::SpsTable::blocks, hevc_tables::specs::SpsTable::with_block_sizes, hevc_tables::specs::SpsTable::with_picture_size))]
-pub(crate) fn read_blocks(r: &mut NaluReader<'_>, sps: &mut Sps) -> Result<(), ParseError>
+pub(crate) fn read_blocks(r: &mut ElementReader<'_>, sps: &mut Sps) -> Result<(), ParseError>
     ensures { Fills plain_sps table.blocks result sps.old sps.new r.old r.new }
 {
     let min_cb_minus3 = ue_u8(r, Row(5, 20), 0, 3)?;

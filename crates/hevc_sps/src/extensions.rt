@@ -10,15 +10,14 @@ use crate::frame::half_range;
 use crate::range_extension::read_sps_range_extension;
 use crate::sample_format::SampleFormat;
 use crate::scc_extension::read_sps_scc_extension;
-use hevc_bits::NaluReader;
-use hevc_elements::ParseError;
+use hevc_elements::{ElementReader, ParseError};
 use hevc_elements::rows::{flag, skip, zero};
 use hevc_sequence_set::{Sps, SpsRangeExtension, SpsSccExtension};
 use hevc_spec::Row;
 
 /// Rows 43 to 50 of table 5.
 #[tactic(auto, unfolding(hevc_tables::specs::SpsTable::extensions, hevc_spec::specs::Rows::when))]
-pub(crate) fn read_extensions(r: &mut NaluReader<'_>, sps: &mut Sps) -> Result<(), ParseError>
+pub(crate) fn read_extensions(r: &mut ElementReader<'_>, sps: &mut Sps) -> Result<(), ParseError>
     ensures { Fills plain_sps table.extensions result sps.old sps.new r.old r.new }
 {
     let present = flag(r, Row(5, 43))?;
@@ -39,7 +38,7 @@ fn set_extension_present(sps: &mut Sps, present: bool)
 
 /// Rows 44 to 50 of table 5.
 #[tactic(auto, unfolding(hevc_tables::specs::SpsTable::extension_data))]
-fn read_extension_data(r: &mut NaluReader<'_>, sps: &mut Sps) -> Result<(), ParseError>
+fn read_extension_data(r: &mut ElementReader<'_>, sps: &mut Sps) -> Result<(), ParseError>
     ensures { Fills plain_sps table.extension_data result sps.old sps.new r.old r.new }
 {
     read_extension_flags(r, sps)?;
@@ -49,7 +48,7 @@ fn read_extension_data(r: &mut NaluReader<'_>, sps: &mut Sps) -> Result<(), Pars
 
 /// Row 49 of table 5, where its flag is set.
 #[tactic(auto, unfolding(hevc_spec::specs::Rows::when))]
-fn read_range_extension_if_present(r: &mut NaluReader<'_>, sps: &mut Sps) -> Result<(), ParseError>
+fn read_range_extension_if_present(r: &mut ElementReader<'_>, sps: &mut Sps) -> Result<(), ParseError>
     ensures { Fills plain_sps (λ s. when s.range_extension_flag s (table.range_extension s))
         result sps.old sps.new r.old r.new }
 {
@@ -62,7 +61,7 @@ fn read_range_extension_if_present(r: &mut NaluReader<'_>, sps: &mut Sps) -> Res
 
 /// Row 50 of table 5, where its flag is set.
 #[tactic(auto, unfolding(hevc_spec::specs::Rows::when))]
-fn read_scc_extension_if_present(r: &mut NaluReader<'_>, sps: &mut Sps) -> Result<(), ParseError>
+fn read_scc_extension_if_present(r: &mut ElementReader<'_>, sps: &mut Sps) -> Result<(), ParseError>
     ensures { Fills plain_sps (λ s. when s.scc_extension_flag s (table.scc_extension s))
         result sps.old sps.new r.old r.new }
 {
@@ -75,7 +74,7 @@ fn read_scc_extension_if_present(r: &mut NaluReader<'_>, sps: &mut Sps) -> Resul
 
 /// Rows 44 to 48 of table 5.
 #[tactic(auto, unfolding(hevc_tables::specs::SpsTable::extension_flags))]
-fn read_extension_flags(r: &mut NaluReader<'_>, sps: &mut Sps) -> Result<(), ParseError>
+fn read_extension_flags(r: &mut ElementReader<'_>, sps: &mut Sps) -> Result<(), ParseError>
     ensures { Fills plain_sps table.extension_flags result sps.old sps.new r.old r.new }
 {
     let range = flag(r, Row(5, 44))?;
@@ -100,7 +99,7 @@ fn set_extension_flags(sps: &mut Sps, range: bool, screen_content: bool)
 
 /// Row 49 of table 5.
 #[tactic(auto, unfolding(hevc_tables::specs::SpsTable::range_extension))]
-fn read_range_extension(r: &mut NaluReader<'_>, sps: &mut Sps) -> Result<(), ParseError>
+fn read_range_extension(r: &mut ElementReader<'_>, sps: &mut Sps) -> Result<(), ParseError>
     ensures { Fills plain_sps table.range_extension result sps.old sps.new r.old r.new }
 {
     let range_extension = read_sps_range_extension(r)?;
@@ -123,7 +122,7 @@ fn set_range_extension(sps: &mut Sps, range_extension: SpsRangeExtension)
 
 /// Row 50 of table 5.
 #[tactic(auto, unfolding(hevc_tables::specs::SpsTable::scc_extension))]
-fn read_scc_extension(r: &mut NaluReader<'_>, sps: &mut Sps) -> Result<(), ParseError>
+fn read_scc_extension(r: &mut ElementReader<'_>, sps: &mut Sps) -> Result<(), ParseError>
     ensures { Fills plain_sps table.scc_extension result sps.old sps.new r.old r.new }
 {
     let format = SampleFormat {

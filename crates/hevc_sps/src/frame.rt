@@ -5,15 +5,14 @@ ghost use Rattle.hevc_records.specs.SpsSizes.{leaves_some, sub_width_c, sub_heig
 ghost use Rattle.hevc_tables.specs.SpsTable as table;
 ghost use Rattle.hevc_sequence_set.specs.Sps.{plain_sps};
 
-use hevc_bits::NaluReader;
-use hevc_elements::ParseError;
+use hevc_elements::{ElementReader, ParseError};
 use hevc_elements::rows::{check, flag, flag_if, ue, ue_u8, ue_u16};
 use hevc_sequence_set::Sps;
 use hevc_spec::Row;
 
 /// Rows 6 to 9 of table 5.
 #[tactic(auto, unfolding(hevc_tables::specs::SpsTable::samples))]
-pub(crate) fn read_samples(r: &mut NaluReader<'_>, sps: &mut Sps) -> Result<(), ParseError>
+pub(crate) fn read_samples(r: &mut ElementReader<'_>, sps: &mut Sps) -> Result<(), ParseError>
     ensures { Fills plain_sps table.samples result sps.old sps.new r.old r.new }
 {
     let chroma_format_idc = ue_u8(r, Row(5, 6), 0, 3)?;
@@ -57,7 +56,7 @@ fn set_samples(sps: &mut Sps, chroma_format_idc: u8, separate: bool, width: u16,
 
 /// Rows 10 to 12 of table 5.
 #[tactic(auto, unfolding(hevc_tables::specs::SpsTable::cropping, hevc_spec::specs::Rows::when))]
-pub(crate) fn read_cropping(r: &mut NaluReader<'_>, sps: &mut Sps) -> Result<(), ParseError>
+pub(crate) fn read_cropping(r: &mut ElementReader<'_>, sps: &mut Sps) -> Result<(), ParseError>
     ensures { Fills plain_sps table.cropping result sps.old sps.new r.old r.new }
 {
     if flag(r, Row(5, 10))? {
@@ -68,7 +67,7 @@ pub(crate) fn read_cropping(r: &mut NaluReader<'_>, sps: &mut Sps) -> Result<(),
 
 /// Rows 11 and 12 of table 5.
 #[tactic(auto, unfolding(hevc_tables::specs::SpsTable::window))]
-fn read_window(r: &mut NaluReader<'_>, sps: &mut Sps) -> Result<(), ParseError>
+fn read_window(r: &mut ElementReader<'_>, sps: &mut Sps) -> Result<(), ParseError>
     ensures { Fills plain_sps table.window result sps.old sps.new r.old r.new }
 {
     let left = ue(r, Row(5, 11), 0, 2_147_483_647)?;
@@ -133,7 +132,7 @@ fn sub_height(chroma_array_type: u8) -> u64
 
 /// Rows 13 to 15 of table 5.
 #[tactic(auto, unfolding(hevc_tables::specs::SpsTable::depths))]
-pub(crate) fn read_depths(r: &mut NaluReader<'_>, sps: &mut Sps) -> Result<(), ParseError>
+pub(crate) fn read_depths(r: &mut ElementReader<'_>, sps: &mut Sps) -> Result<(), ParseError>
     ensures { Fills plain_sps table.depths result sps.old sps.new r.old r.new }
 {
     let luma = ue_u8(r, Row(5, 13), 0, 6)?;

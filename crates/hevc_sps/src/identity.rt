@@ -5,8 +5,7 @@ ghost use Rattle.hevc_tables.specs.SpsTable as table;
 ghost use Rattle.hevc_set_parts.specs.ProfileTierLevel.{plain_profile_tier_level};
 ghost use Rattle.hevc_sequence_set.specs.Sps.{plain_sps};
 
-use hevc_bits::NaluReader;
-use hevc_elements::ParseError;
+use hevc_elements::{ElementReader, ParseError};
 use hevc_elements::rows::{bits_u8, flag, ue_u8};
 use hevc_profile::read_profile_tier_level;
 use hevc_sequence_set::Sps;
@@ -15,7 +14,7 @@ use hevc_spec::Row;
 
 /// Rows 1 to 5 of table 5.
 #[tactic(auto, unfolding(hevc_tables::specs::SpsTable::identity))]
-pub(crate) fn read_identity(r: &mut NaluReader<'_>, sps: &mut Sps) -> Result<(), ParseError>
+pub(crate) fn read_identity(r: &mut ElementReader<'_>, sps: &mut Sps) -> Result<(), ParseError>
     ensures { Fills plain_sps table.identity result sps.old sps.new r.old r.new }
 {
     let video_parameter_set_id = bits_u8(r, Row(5, 1), 4, 0, 15)?;

@@ -4,15 +4,14 @@ ghost use Rattle.hevc_elements.specs.Words.{Fills};
 ghost use Rattle.hevc_tables.specs.SpsTable as table;
 ghost use Rattle.hevc_sequence_set.specs.Sps.{plain_sps};
 
-use hevc_bits::NaluReader;
-use hevc_elements::ParseError;
+use hevc_elements::{ElementReader, ParseError};
 use hevc_elements::rows::{bits_u32, flag, ue_u8_if};
 use hevc_sequence_set::Sps;
 use hevc_spec::Row;
 
 /// Rows 37 to 40 of table 5.
 #[tactic(auto, unfolding(hevc_tables::specs::SpsTable::long_term))]
-pub(crate) fn read_long_term(r: &mut NaluReader<'_>, sps: &mut Sps) -> Result<(), ParseError>
+pub(crate) fn read_long_term(r: &mut ElementReader<'_>, sps: &mut Sps) -> Result<(), ParseError>
     ensures { Fills plain_sps table.long_term result sps.old sps.new r.old r.new }
 {
     let present = flag(r, Row(5, 37))?;
@@ -35,7 +34,7 @@ fn set_long_term(sps: &mut Sps, present: bool, count: u8)
 
 /// Rows 39 and 40 of table 5, for each picture.
 #[tactic(auto, using(hevc_elements::proofs::Loops::loops), unfolding(hevc_tables::specs::SpsTable::long_term_pictures))]
-fn read_pictures(r: &mut NaluReader<'_>, sps: &mut Sps) -> Result<(), ParseError>
+fn read_pictures(r: &mut ElementReader<'_>, sps: &mut Sps) -> Result<(), ParseError>
     ensures { Fills plain_sps table.long_term_pictures result sps.old sps.new r.old r.new }
 {
     let count = usize::from(sps.num_long_term_ref_pics_sps);
@@ -47,7 +46,7 @@ fn read_pictures(r: &mut NaluReader<'_>, sps: &mut Sps) -> Result<(), ParseError
 
 /// Rows 39 and 40 of table 5, for one picture.
 #[tactic(auto, unfolding(hevc_tables::specs::SpsTable::long_term_picture))]
-fn read_picture(r: &mut NaluReader<'_>, i: usize, sps: &mut Sps) -> Result<(), ParseError>
+fn read_picture(r: &mut ElementReader<'_>, i: usize, sps: &mut Sps) -> Result<(), ParseError>
     requires { i < 32 }
     ensures { Fills plain_sps (table.long_term_picture i) result sps.old sps.new r.old r.new }
 {

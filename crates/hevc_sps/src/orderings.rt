@@ -5,15 +5,14 @@ ghost use Rattle.hevc_tables.specs.SpsTable as table;
 ghost use Rattle.hevc_tables.specs.VpsTable.{up_to_highest as up_to_highest_sub_layer};
 ghost use Rattle.hevc_sequence_set.specs.Sps.{plain_sps};
 
-use hevc_bits::NaluReader;
-use hevc_elements::ParseError;
+use hevc_elements::{ElementReader, ParseError};
 use hevc_elements::rows::{flag, ue_u8};
 use hevc_sequence_set::Sps;
 use hevc_spec::Row;
 
 /// Rows 16 to 19 of table 5.
 #[tactic(auto, unfolding(hevc_tables::specs::SpsTable::orderings, hevc_spec::specs::Rows::either))]
-pub(crate) fn read_orderings(r: &mut NaluReader<'_>, sps: &mut Sps) -> Result<(), ParseError>
+pub(crate) fn read_orderings(r: &mut ElementReader<'_>, sps: &mut Sps) -> Result<(), ParseError>
     ensures { Fills plain_sps table.orderings result sps.old sps.new r.old r.new }
 {
     let own = flag(r, Row(5, 16))?;
@@ -36,7 +35,7 @@ fn set_ordering_info_present(sps: &mut Sps, own: bool)
 
 /// Rows 17 to 19 of table 5, for each sub-layer.
 #[tactic(auto, using(hevc_elements::proofs::Loops::loops), unfolding(hevc_tables::specs::SpsTable::own_orderings))]
-fn read_own_orderings(r: &mut NaluReader<'_>, sps: &mut Sps) -> Result<(), ParseError>
+fn read_own_orderings(r: &mut ElementReader<'_>, sps: &mut Sps) -> Result<(), ParseError>
     ensures { Fills plain_sps table.own_orderings result sps.old sps.new r.old r.new }
 {
     let count = usize::from(sps.max_sub_layers_minus1) + 1;
@@ -48,7 +47,7 @@ fn read_own_orderings(r: &mut NaluReader<'_>, sps: &mut Sps) -> Result<(), Parse
 
 /// Rows 17 to 19 of table 5, for one sub-layer.
 #[tactic(auto, unfolding(hevc_tables::specs::SpsTable::own_ordering))]
-fn read_own_ordering(r: &mut NaluReader<'_>, i: usize, sps: &mut Sps) -> Result<(), ParseError>
+fn read_own_ordering(r: &mut ElementReader<'_>, i: usize, sps: &mut Sps) -> Result<(), ParseError>
     requires { i < 7 }
     ensures { Fills plain_sps (table.own_ordering i) result sps.old sps.new r.old r.new }
 {
@@ -78,7 +77,7 @@ fn set_own_ordering(sps: &mut Sps, i: usize, buffering: u8, reordering: u8, late
 
 /// Rows 17 to 19 of table 5, for all sub-layers.
 #[tactic(auto, unfolding(hevc_tables::specs::SpsTable::common_ordering))]
-fn read_common_ordering(r: &mut NaluReader<'_>, sps: &mut Sps) -> Result<(), ParseError>
+fn read_common_ordering(r: &mut ElementReader<'_>, sps: &mut Sps) -> Result<(), ParseError>
     ensures { Fills plain_sps table.common_ordering result sps.old sps.new r.old r.new }
 {
     let buffering = ue_u8(r, Row(5, 17), 0, 16)?;

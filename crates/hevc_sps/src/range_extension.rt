@@ -1,10 +1,9 @@
 //! The range extension (7.3.2.2.2, table 9).
-ghost use Rattle.hevc_elements.specs.Words.{bits, IsAhead, read, Reads};
+ghost use Rattle.hevc_elements.specs.Words.{read, Reads};
 ghost use Rattle.hevc_tables.specs.SpsRangeExtensionTable.{sps_range_extension};
 ghost use Rattle.hevc_sequence_set.specs.SpsRangeExtension.{plain_sps_range_extension};
 
-use hevc_bits::NaluReader;
-use hevc_elements::ParseError;
+use hevc_elements::{ElementReader, ParseError};
 use hevc_elements::rows::flag;
 use hevc_sequence_set::SpsRangeExtension;
 use hevc_spec::Row;
@@ -12,11 +11,9 @@ use hevc_spec::Row;
 /// Table 9.
 #[tactic(auto, unfolding(hevc_tables::specs::SpsRangeExtensionTable::sps_range_extension))]
 pub(crate) fn read_sps_range_extension(
-    r: &mut NaluReader<'_>,
+    r: &mut ElementReader<'_>,
 ) -> Result<SpsRangeExtension, ParseError>
-    ensures read { Reads plain_sps_range_extension result r.new
-        (read sps_range_extension (bits r.old)) }
-    ensures moves { IsAhead r.old r.new }
+    ensures read { Reads plain_sps_range_extension sps_range_extension result r.old r.new }
 {
     let row = Row(9, 1);
     let mut x = SpsRangeExtension::new();

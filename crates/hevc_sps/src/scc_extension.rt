@@ -1,13 +1,12 @@
 //! The screen content coding extension (7.3.2.2.3, table 10).
 ghost use Rattle.std.specs.Prelude.{◌≡◌, ◌≤◌, ◌<◌};
-ghost use Rattle.hevc_elements.specs.Words.{bits, IsAhead, read, Reads, Fills};
+ghost use Rattle.hevc_elements.specs.Words.{read, Reads, Fills};
 ghost use Rattle.hevc_tables.specs.SpsSccExtensionTable as table;
 ghost use Rattle.hevc_sequence_set.specs.SpsSccExtension.{plain_sps_scc_extension};
 ghost use Rattle.hevc_sps.specs.Projections.{plain_format};
 
 use crate::sample_format::SampleFormat;
-use hevc_bits::NaluReader;
-use hevc_elements::ParseError;
+use hevc_elements::{ElementReader, ParseError};
 use hevc_elements::rows::{bits_u8, bits_u32, flag, ue_u8};
 use hevc_sequence_set::SpsSccExtension;
 use hevc_spec::Row;
@@ -15,12 +14,11 @@ use hevc_spec::Row;
 /// Table 10.
 #[tactic(auto, unfolding(hevc_tables::specs::SpsSccExtensionTable::sps_scc_extension, hevc_spec::specs::Rows::when))]
 pub(crate) fn read_sps_scc_extension(
-    r: &mut NaluReader<'_>,
+    r: &mut ElementReader<'_>,
     format: SampleFormat,
 ) -> Result<SpsSccExtension, ParseError>
-    ensures read { Reads plain_sps_scc_extension result r.new
-        (read (table.sps_scc_extension (plain_format format)) (bits r.old)) }
-    ensures moves { IsAhead r.old r.new }
+    ensures read { Reads plain_sps_scc_extension (table.sps_scc_extension (plain_format format))
+        result r.old r.new }
 {
     let mut x = SpsSccExtension::new();
     x.curr_pic_ref_enabled_flag = flag(r, Row(10, 1))?;
@@ -36,7 +34,7 @@ pub(crate) fn read_sps_scc_extension(
 /// Rows 2 to 6 of table 10.
 #[tactic(auto, unfolding(hevc_tables::specs::SpsSccExtensionTable::palettes, hevc_spec::specs::Rows::when))]
 fn read_palettes(
-    r: &mut NaluReader<'_>,
+    r: &mut ElementReader<'_>,
     format: SampleFormat,
     x: &mut SpsSccExtension,
 ) -> Result<(), ParseError>
@@ -59,7 +57,7 @@ fn read_palettes(
 /// Rows 5 and 6 of table 10.
 #[tactic(auto, unfolding(hevc_tables::specs::SpsSccExtensionTable::initializers))]
 fn read_initializers(
-    r: &mut NaluReader<'_>,
+    r: &mut ElementReader<'_>,
     format: SampleFormat,
     x: &mut SpsSccExtension,
 ) -> Result<(), ParseError>
@@ -76,7 +74,7 @@ fn read_initializers(
 /// Row 6 of table 10, for so many predictors of each component.
 #[tactic(auto, using(hevc_elements::proofs::Loops::loops), unfolding(hevc_tables::specs::SpsSccExtensionTable::predictors))]
 fn read_predictors(
-    r: &mut NaluReader<'_>,
+    r: &mut ElementReader<'_>,
     format: SampleFormat,
     count: usize,
     x: &mut SpsSccExtension,
@@ -95,7 +93,7 @@ fn read_predictors(
 /// Row 6 of table 10, for so many predictors of one component.
 #[tactic(auto, using(hevc_elements::proofs::Loops::loops), unfolding(hevc_tables::specs::SpsSccExtensionTable::component_predictors))]
 fn read_component(
-    r: &mut NaluReader<'_>,
+    r: &mut ElementReader<'_>,
     format: SampleFormat,
     count: usize,
     component: usize,
@@ -116,7 +114,7 @@ fn read_component(
 /// Row 6 of table 10, for one predictor.
 #[tactic(auto, unfolding(hevc_tables::specs::SpsSccExtensionTable::predictor))]
 fn read_predictor(
-    r: &mut NaluReader<'_>,
+    r: &mut ElementReader<'_>,
     format: SampleFormat,
     component: usize,
     i: usize,

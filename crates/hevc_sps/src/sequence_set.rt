@@ -3,7 +3,7 @@ ghost use Rattle.std.specs.Prelude.{◌≡◌, ◌==◌, ◌<◌, ◌≤◌, ◌
 ghost use Rattle.hevc_spec.specs.Payload.{payload, payload_bits};
 ghost use Rattle.hevc_bits.specs.FoundUnit.{bytes_of};
 ghost use Rattle.hevc_bits.specs.NaluType.{nalu_type_number};
-ghost use Rattle.hevc_elements.specs.Words.{bits, IsAhead, read, Fills, FillsGrowing, ReadsGrowing, ReadsSet, MeansSet, NamesNoSet};
+ghost use Rattle.hevc_elements.specs.Words.{read, Fills, FillsGrowing, ReadsGrowing, ReadsSet, MeansSet, NamesNoSet};
 ghost use Rattle.hevc_records.specs.Sps.{default_sps};
 ghost use Rattle.hevc_tables.specs.SpsTable as table;
 ghost use Rattle.hevc_sequence_set.specs.Sps.{plain_sps};
@@ -19,9 +19,9 @@ use crate::orderings::read_orderings;
 use crate::short_term::read_short_term;
 use crate::tools::{read_scaling, read_tools};
 use crate::usability::read_usability;
-use hevc_bits::{Nalu, NaluHeader, NaluReader, NaluType};
+use hevc_bits::{Nalu, NaluHeader, NaluType};
 use hevc_boxed::Boxed;
-use hevc_elements::ParseError;
+use hevc_elements::{ElementReader, ParseError};
 use hevc_sequence_set::Sps;
 use std::alloc::{AllocError, Global};
 
@@ -70,15 +70,13 @@ fn read_payload(alloc: Global, payload: &[u8]) -> Result<Boxed<Sps>, ParseError>
         (read table.sequence_parameter_set (payload_bits 0 payload.now)) }
     ensures names_no_set { IfErr result NamesNoSet }
 {
-    read_rows(alloc, &mut NaluReader::new(payload))
+    read_rows(alloc, &mut ElementReader::new(payload))
 }
 
 /// Rows 1 to 50 of table 5.
 #[tactic(auto, unfolding(hevc_tables::specs::SpsTable::sequence_parameter_set))]
-fn read_rows(alloc: Global, r: &mut NaluReader<'_>) -> Result<Boxed<Sps>, ParseError>
-    ensures read { ReadsGrowing plain_sps result r.new
-        (read table.sequence_parameter_set (bits r.old)) }
-    ensures moves { IsAhead r.old r.new }
+fn read_rows(alloc: Global, r: &mut ElementReader<'_>) -> Result<Boxed<Sps>, ParseError>
+    ensures read { ReadsGrowing plain_sps table.sequence_parameter_set result r.old r.new }
 {
     let mut sps = new_set(alloc)?;
     read_format(r, &mut sps)?;
@@ -95,7 +93,7 @@ fn new_set(alloc: Global) -> Result<Box<Sps>, AllocError>
 
 /// Rows 1 to 24 of table 5.
 #[tactic(auto, unfolding(hevc_tables::specs::SpsTable::format))]
-fn read_format(r: &mut NaluReader<'_>, sps: &mut Sps) -> Result<(), ParseError>
+fn read_format(r: &mut ElementReader<'_>, sps: &mut Sps) -> Result<(), ParseError>
     ensures { Fills plain_sps table.format result sps.old sps.new r.old r.new }
 {
     read_identity(r, sps)?;
@@ -108,7 +106,7 @@ fn read_format(r: &mut NaluReader<'_>, sps: &mut Sps) -> Result<(), ParseError>
 
 /// Rows 25 to 50 of table 5.
 #[tactic(auto, unfolding(hevc_tables::specs::SpsTable::coding))]
-fn read_coding(alloc: Global, r: &mut NaluReader<'_>, sps: &mut Sps) -> Result<(), ParseError>
+fn read_coding(alloc: Global, r: &mut ElementReader<'_>, sps: &mut Sps) -> Result<(), ParseError>
     ensures { FillsGrowing plain_sps table.coding result sps.old sps.new r.old r.new }
 {
     read_scaling(r, sps)?;

@@ -1,13 +1,12 @@
 //! The short-term reference picture sets (7.3.2.2.1, rows 35 and 36 of table 5).
 ghost use Rattle.std.specs.Prelude.{length, map, IfOk};
 ghost use Rattle.std.specs.Prelude.{◌≡◌, ◌≤◌, ◌<◌};
-ghost use Rattle.hevc_elements.specs.Words.{bits, IsAhead, read, ReadsGrowing, FillsGrowing};
+ghost use Rattle.hevc_elements.specs.Words.{read, ReadsGrowing, FillsGrowing};
 ghost use Rattle.hevc_tables.specs.SpsTable as table;
 ghost use Rattle.hevc_set_parts.specs.ShortTermRefPicSet.{plain_short_term_ref_pic_set};
 ghost use Rattle.hevc_sequence_set.specs.Sps.{plain_sps};
 
-use hevc_bits::NaluReader;
-use hevc_elements::ParseError;
+use hevc_elements::{ElementReader, ParseError};
 use hevc_elements::rows::ue_u8;
 use hevc_sequence_set::Sps;
 use hevc_set_parts::{Items, ShortTermRefPicSet};
@@ -19,7 +18,7 @@ use std::alloc::Global;
 #[tactic(auto, unfolding(hevc_tables::specs::SpsTable::short_term))]
 pub(crate) fn read_short_term(
     alloc: Global,
-    r: &mut NaluReader<'_>,
+    r: &mut ElementReader<'_>,
     sps: &mut Sps,
 ) -> Result<(), ParseError>
     ensures { FillsGrowing plain_sps table.short_term result sps.old sps.new r.old r.new }
@@ -47,15 +46,14 @@ fn set_short_term(sps: &mut Sps, count: u8, sets: Items<ShortTermRefPicSet>)
 #[tactic(auto, using(hevc_elements::proofs::Loops::growing_loops, crate::proofs::Places::appended), unfolding(hevc_tables::specs::SpsTable::short_term_sets, hevc_tables::specs::SpsTable::short_term_set))]
 fn read_sets(
     alloc: Global,
-    r: &mut NaluReader<'_>,
+    r: &mut ElementReader<'_>,
     count: u8,
     buffering: u8,
 ) -> Result<Items<ShortTermRefPicSet>, ParseError>
     requires few { count ≤ 64 }
     requires room { buffering ≤ 16 }
-    ensures read { ReadsGrowing (λ sets. map plain_short_term_ref_pic_set sets) result r.new
-        (read (table.short_term_sets count buffering) (bits r.old)) }
-    ensures moves { IsAhead r.old r.new }
+    ensures read { ReadsGrowing (λ sets. map plain_short_term_ref_pic_set sets)
+        (table.short_term_sets count buffering) result r.old r.new }
     ensures all { IfOk result (λ sets. length sets ≡ count) }
 {
     let mut sets = Items::new(alloc);

@@ -5,8 +5,7 @@ ghost use Rattle.hevc_tables.specs.SpsTable as table;
 ghost use Rattle.hevc_set_parts.specs.ScalingLists.{plain_scaling_lists};
 ghost use Rattle.hevc_sequence_set.specs.Sps.{plain_sps};
 
-use hevc_bits::NaluReader;
-use hevc_elements::ParseError;
+use hevc_elements::{ElementReader, ParseError};
 use hevc_elements::rows::{bits_u8, flag, flag_if, ue_u8};
 use hevc_scaling::read_scaling_list_data;
 use hevc_sequence_set::Sps;
@@ -15,7 +14,7 @@ use hevc_spec::Row;
 
 /// Rows 25 to 29 of table 5.
 #[tactic(auto, unfolding(hevc_tables::specs::SpsTable::scaling, hevc_spec::specs::Rows::when))]
-pub(crate) fn read_scaling(r: &mut NaluReader<'_>, sps: &mut Sps) -> Result<(), ParseError>
+pub(crate) fn read_scaling(r: &mut ElementReader<'_>, sps: &mut Sps) -> Result<(), ParseError>
     ensures { Fills plain_sps table.scaling result sps.old sps.new r.old r.new }
 {
     let inter = ue_u8(r, Row(5, 25), 0, 4)?;
@@ -47,7 +46,7 @@ fn set_scaling(sps: &mut Sps, inter: u8, intra: u8, enabled: bool, present: bool
 
 /// Row 29 of table 5.
 #[tactic(auto, unfolding(hevc_tables::specs::SpsTable::scaling_lists))]
-fn read_scaling_lists(r: &mut NaluReader<'_>, sps: &mut Sps) -> Result<(), ParseError>
+fn read_scaling_lists(r: &mut ElementReader<'_>, sps: &mut Sps) -> Result<(), ParseError>
     ensures { Fills plain_sps table.scaling_lists result sps.old sps.new r.old r.new }
 {
     let scaling_list = read_scaling_list_data(r)?;
@@ -66,7 +65,7 @@ fn set_scaling_lists(sps: &mut Sps, scaling_list: ScalingLists)
 
 /// Rows 30 to 34 of table 5.
 #[tactic(auto, unfolding(hevc_tables::specs::SpsTable::tools, hevc_spec::specs::Rows::when))]
-pub(crate) fn read_tools(r: &mut NaluReader<'_>, sps: &mut Sps) -> Result<(), ParseError>
+pub(crate) fn read_tools(r: &mut ElementReader<'_>, sps: &mut Sps) -> Result<(), ParseError>
     ensures { Fills plain_sps table.tools result sps.old sps.new r.old r.new }
 {
     let amp = flag(r, Row(5, 30))?;
@@ -95,7 +94,7 @@ fn set_tools(sps: &mut Sps, amp: bool, sample_adaptive_offset: bool, pcm: bool)
 
 /// Rows 31 to 34 of table 5.
 #[tactic(auto, unfolding(hevc_tables::specs::SpsTable::pulse_code_modulation))]
-fn read_pulse_code_modulation(r: &mut NaluReader<'_>, sps: &mut Sps) -> Result<(), ParseError>
+fn read_pulse_code_modulation(r: &mut ElementReader<'_>, sps: &mut Sps) -> Result<(), ParseError>
     ensures { Fills plain_sps table.pulse_code_modulation result sps.old sps.new r.old r.new }
 {
     let luma = bits_u8(r, Row(5, 31), 4, 0, 15)?;

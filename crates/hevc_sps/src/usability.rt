@@ -4,8 +4,7 @@ ghost use Rattle.hevc_elements.specs.Words.{Fills};
 ghost use Rattle.hevc_tables.specs.SpsTable as table;
 ghost use Rattle.hevc_sequence_set.specs.Sps.{plain_sps};
 
-use hevc_bits::NaluReader;
-use hevc_elements::ParseError;
+use hevc_elements::{ElementReader, ParseError};
 use hevc_elements::rows::flag;
 use hevc_sequence_set::Sps;
 use hevc_spec::Row;
@@ -13,7 +12,7 @@ use hevc_vui::read_vui_parameters;
 
 /// Rows 41 and 42 of table 5.
 #[tactic(auto, unfolding(hevc_tables::specs::SpsTable::usability, hevc_spec::specs::Rows::when))]
-pub(crate) fn read_usability(r: &mut NaluReader<'_>, sps: &mut Sps) -> Result<(), ParseError>
+pub(crate) fn read_usability(r: &mut ElementReader<'_>, sps: &mut Sps) -> Result<(), ParseError>
     ensures { Fills plain_sps table.usability result sps.old sps.new r.old r.new }
 {
     let temporal = flag(r, Row(5, 41))?;
@@ -42,7 +41,7 @@ fn set_usability(sps: &mut Sps, temporal: bool, strong: bool, present: bool)
 
 /// Row 42 of table 5.
 #[tactic(auto, unfolding(hevc_tables::specs::SpsTable::usability_information))]
-fn read_information(r: &mut NaluReader<'_>, sps: &mut Sps) -> Result<(), ParseError>
+fn read_information(r: &mut ElementReader<'_>, sps: &mut Sps) -> Result<(), ParseError>
     ensures { Fills plain_sps table.usability_information result sps.old sps.new r.old r.new }
 {
     let highest = sps.max_sub_layers_minus1;

@@ -3,8 +3,7 @@ ghost use Rattle.hevc_elements.specs.Words.{Fills};
 ghost use Rattle.hevc_tables.specs.VpsTable as table;
 ghost use Rattle.hevc_video_set.specs.Vps.{plain_vps};
 
-use hevc_bits::NaluReader;
-use hevc_elements::ParseError;
+use hevc_elements::{ElementReader, ParseError};
 use hevc_elements::rows::{bits_u8, flag, skip, ue};
 use hevc_profile::read_profile_tier_level;
 use hevc_spec::Row;
@@ -12,7 +11,7 @@ use hevc_video_set::Vps;
 
 /// Rows 1 to 7 of table 1.
 #[tactic(auto, unfolding(hevc_tables::specs::VpsTable::identity))]
-pub(crate) fn read_identity(r: &mut NaluReader<'_>, vps: &mut Vps) -> Result<(), ParseError>
+pub(crate) fn read_identity(r: &mut ElementReader<'_>, vps: &mut Vps) -> Result<(), ParseError>
     ensures { Fills plain_vps table.identity result vps.old vps.new r.old r.new }
 {
     vps.video_parameter_set_id = bits_u8(r, Row(1, 1), 4, 0, 15)?;
@@ -28,7 +27,7 @@ pub(crate) fn read_identity(r: &mut NaluReader<'_>, vps: &mut Vps) -> Result<(),
 
 /// Rows 14 to 16 of table 1.
 #[tactic(auto, unfolding(hevc_tables::specs::VpsTable::layer_sets))]
-pub(crate) fn read_layer_sets(r: &mut NaluReader<'_>, vps: &mut Vps) -> Result<(), ParseError>
+pub(crate) fn read_layer_sets(r: &mut ElementReader<'_>, vps: &mut Vps) -> Result<(), ParseError>
     ensures { Fills plain_vps table.layer_sets result vps.old vps.new r.old r.new }
 {
     let max_layer_id = bits_u8(r, Row(1, 14), 6, 0, 62)?;
@@ -44,7 +43,7 @@ pub(crate) fn read_layer_sets(r: &mut NaluReader<'_>, vps: &mut Vps) -> Result<(
 
 /// Row 25 of table 1.
 #[tactic(auto, unfolding(hevc_tables::specs::VpsTable::extension))]
-pub(crate) fn read_extension_flag(r: &mut NaluReader<'_>, vps: &mut Vps) -> Result<(), ParseError>
+pub(crate) fn read_extension_flag(r: &mut ElementReader<'_>, vps: &mut Vps) -> Result<(), ParseError>
     ensures { Fills plain_vps table.extension result vps.old vps.new r.old r.new }
 {
     vps.extension_flag = flag(r, Row(1, 25))?;

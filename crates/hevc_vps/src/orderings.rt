@@ -2,19 +2,18 @@
 ghost use Rattle.std.specs.Prelude.{◌==◌, not};
 ghost use Rattle.hevc_spec.specs.Rows.{check_row};
 ghost use Rattle.std.specs.Prelude.{◌≡◌, ◌≤◌, ◌<◌};
-ghost use Rattle.hevc_elements.specs.Words.{bits, IsAhead, read, when, Reads, Fills};
+ghost use Rattle.hevc_elements.specs.Words.{read, when, Reads, Fills};
 ghost use Rattle.hevc_tables.specs.VpsTable as table;
 ghost use Rattle.hevc_video_set.specs.Vps.{plain_vps};
 
-use hevc_bits::NaluReader;
-use hevc_elements::ParseError;
+use hevc_elements::{ElementReader, ParseError};
 use hevc_elements::rows::{check, flag, ue};
 use hevc_spec::Row;
 use hevc_video_set::Vps;
 
 /// Rows 8 to 13 of table 1.
 #[tactic(auto, unfolding(hevc_tables::specs::VpsTable::orderings, hevc_spec::specs::Rows::either))]
-pub(crate) fn read_orderings(r: &mut NaluReader<'_>, vps: &mut Vps) -> Result<(), ParseError>
+pub(crate) fn read_orderings(r: &mut ElementReader<'_>, vps: &mut Vps) -> Result<(), ParseError>
     ensures { Fills plain_vps table.orderings result vps.old vps.new r.old r.new }
 {
     vps.sub_layer_ordering_info_present_flag = flag(r, Row(1, 8))?;
@@ -27,7 +26,7 @@ pub(crate) fn read_orderings(r: &mut NaluReader<'_>, vps: &mut Vps) -> Result<()
 
 /// Rows 9 to 13 of table 1, for each sub-layer.
 #[tactic(auto, using(hevc_elements::proofs::Loops::loops), unfolding(hevc_tables::specs::VpsTable::own_orderings))]
-fn read_own_orderings(r: &mut NaluReader<'_>, vps: &mut Vps) -> Result<(), ParseError>
+fn read_own_orderings(r: &mut ElementReader<'_>, vps: &mut Vps) -> Result<(), ParseError>
     ensures { Fills plain_vps table.own_orderings result vps.old vps.new r.old r.new }
 {
     let count = usize::from(vps.max_sub_layers_minus1) + 1;
@@ -39,7 +38,7 @@ fn read_own_orderings(r: &mut NaluReader<'_>, vps: &mut Vps) -> Result<(), Parse
 
 /// Rows 9 to 13 of table 1, for one sub-layer.
 #[tactic(auto, unfolding(hevc_tables::specs::VpsTable::own_ordering))]
-fn read_own_ordering(r: &mut NaluReader<'_>, i: usize, vps: &mut Vps) -> Result<(), ParseError>
+fn read_own_ordering(r: &mut ElementReader<'_>, i: usize, vps: &mut Vps) -> Result<(), ParseError>
     requires { i < 7 }
     ensures { Fills plain_vps (table.own_ordering i) result vps.old vps.new r.old r.new }
 {
@@ -63,17 +62,16 @@ fn read_own_ordering(r: &mut NaluReader<'_>, i: usize, vps: &mut Vps) -> Result<
 /// Checks that the number of a sub-layer isn't below that of the one below it.
 #[tactic(auto, unfolding(hevc_spec::specs::Rows::when))]
 fn check_risen(
-    r: &mut NaluReader<'_>,
+    r: &mut ElementReader<'_>,
     row: Row,
     numbers: &[u32; 7],
     i: usize,
     number: u32,
 ) -> Result<(), ParseError>
     requires { i < 7 }
-    ensures read { Reads (λ _. 0) result r.new
-        (read (when (not (i == 0)) 0 (check_row row (table.is_risen numbers.now i number)))
-        (bits r.old)) }
-    ensures moves { IsAhead r.old r.new }
+    ensures read { Reads (λ _. 0)
+        (when (not (i == 0)) 0 (check_row row (table.is_risen numbers.now i number))) result r.old
+        r.new }
 {
     if i != 0 {
         check(r, row, numbers[i - 1] <= number)?;
@@ -83,7 +81,7 @@ fn check_risen(
 
 /// Rows 9 to 11 of table 1, for all sub-layers.
 #[tactic(auto, unfolding(hevc_tables::specs::VpsTable::common_ordering))]
-fn read_common_ordering(r: &mut NaluReader<'_>, vps: &mut Vps) -> Result<(), ParseError>
+fn read_common_ordering(r: &mut ElementReader<'_>, vps: &mut Vps) -> Result<(), ParseError>
     ensures { Fills plain_vps table.common_ordering result vps.old vps.new r.old r.new }
 {
     let buffering = ue(r, Row(1, 9), 0, 15)?;

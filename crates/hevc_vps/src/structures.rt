@@ -6,8 +6,7 @@ ghost use Rattle.hevc_tables.specs.VpsTable as table;
 ghost use Rattle.hevc_video_set.specs.HrdParams.{plain_hrd_params};
 ghost use Rattle.hevc_video_set.specs.Vps.{plain_vps};
 
-use hevc_bits::NaluReader;
-use hevc_elements::ParseError;
+use hevc_elements::{ElementReader, ParseError};
 use hevc_elements::rows::{bits_32, flag, flag_or, ue, ue_if, ue_u16};
 use hevc_hrd::read_hrd_parameters;
 use hevc_spec::Row;
@@ -15,7 +14,7 @@ use hevc_video_set::{HrdParams, Vps};
 
 /// Rows 17 to 24 of table 1.
 #[tactic(auto, unfolding(hevc_tables::specs::VpsTable::timing_info, hevc_spec::specs::Rows::when))]
-pub(crate) fn read_timing_info(r: &mut NaluReader<'_>, vps: &mut Vps) -> Result<(), ParseError>
+pub(crate) fn read_timing_info(r: &mut ElementReader<'_>, vps: &mut Vps) -> Result<(), ParseError>
     ensures { FillsGrowing plain_vps table.timing_info result vps.old vps.new r.old r.new }
 {
     vps.timing_info_present_flag = flag(r, Row(1, 17))?;
@@ -27,7 +26,7 @@ pub(crate) fn read_timing_info(r: &mut NaluReader<'_>, vps: &mut Vps) -> Result<
 
 /// Rows 18 to 24 of table 1.
 #[tactic(auto, unfolding(hevc_tables::specs::VpsTable::timing))]
-fn read_timing(r: &mut NaluReader<'_>, vps: &mut Vps) -> Result<(), ParseError>
+fn read_timing(r: &mut ElementReader<'_>, vps: &mut Vps) -> Result<(), ParseError>
     ensures { FillsGrowing plain_vps table.timing result vps.old vps.new r.old r.new }
 {
     vps.num_units_in_tick = bits_32(r, Row(1, 18))?;
@@ -41,7 +40,7 @@ fn read_timing(r: &mut NaluReader<'_>, vps: &mut Vps) -> Result<(), ParseError>
 
 /// Rows 22 to 24 of table 1, for each structure.
 #[tactic(auto, using(hevc_elements::proofs::Loops::growing_loops), unfolding(hevc_tables::specs::VpsTable::structures))]
-fn read_structures(r: &mut NaluReader<'_>, vps: &mut Vps) -> Result<(), ParseError>
+fn read_structures(r: &mut ElementReader<'_>, vps: &mut Vps) -> Result<(), ParseError>
     ensures { FillsGrowing plain_vps table.structures result vps.old vps.new r.old r.new }
 {
     let count = vps.num_hrd_parameters;
@@ -55,7 +54,7 @@ fn read_structures(r: &mut NaluReader<'_>, vps: &mut Vps) -> Result<(), ParseErr
 #[tactic(auto, using(crate::proofs::StructureLists::pushes), unfolding(hevc_tables::specs::VpsTable::structure))]
 // Its frame has whole structures: the stack of its callers stays small without it.
 #[inline(never)]
-fn read_structure(r: &mut NaluReader<'_>, i: u32, vps: &mut Vps) -> Result<(), ParseError>
+fn read_structure(r: &mut ElementReader<'_>, i: u32, vps: &mut Vps) -> Result<(), ParseError>
     ensures { FillsGrowing plain_vps (table.structure i) result vps.old vps.new r.old r.new }
 {
     let layer_set = ue_u16(r, Row(1, 22), 0, 65_535)?;

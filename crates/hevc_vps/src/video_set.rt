@@ -3,7 +3,7 @@ ghost use Rattle.std.specs.Prelude.{◌≡◌, ◌==◌, ◌<◌, ◌^◌, ◌�
 ghost use Rattle.hevc_spec.specs.Payload.{payload, payload_bits};
 ghost use Rattle.hevc_bits.specs.FoundUnit.{bytes_of};
 ghost use Rattle.hevc_bits.specs.NaluType.{nalu_type_number};
-ghost use Rattle.hevc_elements.specs.Words.{bits, IsAhead, read, ReadsGrowing, ReadsSet, MeansSet, NamesNoSet};
+ghost use Rattle.hevc_elements.specs.Words.{read, ReadsGrowing, ReadsSet, MeansSet, NamesNoSet};
 ghost use Rattle.hevc_tables.specs.VpsTable.{video_parameter_set};
 ghost use Rattle.hevc_video_set.specs.Vps.{plain_vps};
 ghost use Rattle.hevc_bits.specs.declared.stream_limit.TheConstants.{STREAM_LIMIT};
@@ -11,8 +11,8 @@ ghost use Rattle.hevc_bits.specs.declared.stream_limit.TheConstants.{STREAM_LIMI
 use crate::identity::{read_extension_flag, read_identity, read_layer_sets};
 use crate::orderings::read_orderings;
 use crate::structures::read_timing_info;
-use hevc_bits::{Nalu, NaluHeader, NaluReader, NaluType};
-use hevc_elements::ParseError;
+use hevc_bits::{Nalu, NaluHeader, NaluType};
+use hevc_elements::{ElementReader, ParseError};
 use hevc_video_set::Vps;
 use std::alloc::Global;
 
@@ -57,14 +57,13 @@ fn read_payload(alloc: Global, payload: &[u8]) -> Result<Vps, ParseError>
         (read video_parameter_set (payload_bits 0 payload.now)) }
     ensures names_no_set { IfErr result NamesNoSet }
 {
-    read_rows(alloc, &mut NaluReader::new(payload))
+    read_rows(alloc, &mut ElementReader::new(payload))
 }
 
 /// Rows 1 to 25 of table 1.
 #[tactic(auto, unfolding(hevc_tables::specs::VpsTable::video_parameter_set))]
-fn read_rows(alloc: Global, r: &mut NaluReader<'_>) -> Result<Vps, ParseError>
-    ensures read { ReadsGrowing plain_vps result r.new (read video_parameter_set (bits r.old)) }
-    ensures moves { IsAhead r.old r.new }
+fn read_rows(alloc: Global, r: &mut ElementReader<'_>) -> Result<Vps, ParseError>
+    ensures read { ReadsGrowing plain_vps video_parameter_set result r.old r.new }
 {
     let mut vps = Vps::new(alloc)?;
     read_identity(r, &mut vps)?;

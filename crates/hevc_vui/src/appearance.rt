@@ -3,8 +3,7 @@ ghost use Rattle.hevc_elements.specs.Words.{Fills};
 ghost use Rattle.hevc_tables.specs.VuiTable as table;
 ghost use Rattle.hevc_video_set.specs.VuiParams.{plain_vui_params};
 
-use hevc_bits::NaluReader;
-use hevc_elements::ParseError;
+use hevc_elements::{ElementReader, ParseError};
 use hevc_elements::rows::{bits_u32_if, flag, flag_if, ue, ue_if};
 use hevc_spec::Row;
 use hevc_video_set::VuiParams;
@@ -12,7 +11,7 @@ use hevc_video_set::VuiParams;
 /// Rows 1 to 3 of table 8.
 #[tactic(auto, unfolding(hevc_tables::specs::VuiTable::aspect_ratio))]
 pub(crate) fn read_aspect_ratio(
-    r: &mut NaluReader<'_>,
+    r: &mut ElementReader<'_>,
     vui: &mut VuiParams,
 ) -> Result<(), ParseError>
     ensures { Fills plain_vui_params table.aspect_ratio result vui.old vui.new r.old r.new }
@@ -28,7 +27,7 @@ pub(crate) fn read_aspect_ratio(
 
 /// Rows 4 and 5 of table 8.
 #[tactic(auto, unfolding(hevc_tables::specs::VuiTable::overscan))]
-pub(crate) fn read_overscan(r: &mut NaluReader<'_>, vui: &mut VuiParams) -> Result<(), ParseError>
+pub(crate) fn read_overscan(r: &mut ElementReader<'_>, vui: &mut VuiParams) -> Result<(), ParseError>
     ensures { Fills plain_vui_params table.overscan result vui.old vui.new r.old r.new }
 {
     vui.overscan_info_present_flag = flag(r, Row(8, 4))?;
@@ -39,7 +38,7 @@ pub(crate) fn read_overscan(r: &mut NaluReader<'_>, vui: &mut VuiParams) -> Resu
 /// Rows 10 to 12 of table 8.
 #[tactic(auto, unfolding(hevc_tables::specs::VuiTable::chroma_places))]
 pub(crate) fn read_chroma_places(
-    r: &mut NaluReader<'_>,
+    r: &mut ElementReader<'_>,
     vui: &mut VuiParams,
 ) -> Result<(), ParseError>
     ensures { Fills plain_vui_params table.chroma_places result vui.old vui.new r.old r.new }
@@ -53,7 +52,7 @@ pub(crate) fn read_chroma_places(
 
 /// Rows 13 and 14 of table 8.
 #[tactic(auto, unfolding(hevc_tables::specs::VuiTable::display, hevc_spec::specs::Rows::when))]
-pub(crate) fn read_display(r: &mut NaluReader<'_>, vui: &mut VuiParams) -> Result<(), ParseError>
+pub(crate) fn read_display(r: &mut ElementReader<'_>, vui: &mut VuiParams) -> Result<(), ParseError>
     ensures { Fills plain_vui_params table.display result vui.old vui.new r.old r.new }
 {
     vui.neutral_chroma_indication_flag = flag(r, Row(8, 13))?;
@@ -68,7 +67,7 @@ pub(crate) fn read_display(r: &mut NaluReader<'_>, vui: &mut VuiParams) -> Resul
 
 /// Row 14 of table 8.
 #[tactic(auto, unfolding(hevc_tables::specs::VuiTable::display_window))]
-fn read_window(r: &mut NaluReader<'_>, vui: &mut VuiParams) -> Result<(), ParseError>
+fn read_window(r: &mut ElementReader<'_>, vui: &mut VuiParams) -> Result<(), ParseError>
     ensures { Fills plain_vui_params table.display_window result vui.old vui.new r.old r.new }
 {
     vui.def_disp_win_left_offset = ue(r, Row(8, 14), 0, 2_147_483_647)?;

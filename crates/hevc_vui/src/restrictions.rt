@@ -3,8 +3,7 @@ ghost use Rattle.hevc_elements.specs.Words.{Fills};
 ghost use Rattle.hevc_tables.specs.VuiTable as table;
 ghost use Rattle.hevc_video_set.specs.VuiParams.{plain_vui_params};
 
-use hevc_bits::NaluReader;
-use hevc_elements::ParseError;
+use hevc_elements::{ElementReader, ParseError};
 use hevc_elements::rows::{flag, ue};
 use hevc_spec::Row;
 use hevc_video_set::VuiParams;
@@ -12,7 +11,7 @@ use hevc_video_set::VuiParams;
 /// Rows 21 to 26 of table 8.
 #[tactic(auto, unfolding(hevc_tables::specs::VuiTable::stream_restrictions, hevc_spec::specs::Rows::when))]
 pub(crate) fn read_stream_restrictions(
-    r: &mut NaluReader<'_>,
+    r: &mut ElementReader<'_>,
     vui: &mut VuiParams,
 ) -> Result<(), ParseError>
     ensures { Fills plain_vui_params table.stream_restrictions result vui.old vui.new r.old r.new }
@@ -26,7 +25,7 @@ pub(crate) fn read_stream_restrictions(
 
 /// Rows 22 to 26 of table 8.
 #[tactic(auto, unfolding(hevc_tables::specs::VuiTable::restrictions))]
-fn read_restrictions(r: &mut NaluReader<'_>, vui: &mut VuiParams) -> Result<(), ParseError>
+fn read_restrictions(r: &mut ElementReader<'_>, vui: &mut VuiParams) -> Result<(), ParseError>
     ensures { Fills plain_vui_params table.restrictions result vui.old vui.new r.old r.new }
 {
     vui.tiles_fixed_structure_flag = flag(r, Row(8, 22))?;

@@ -3,8 +3,7 @@ ghost use Rattle.hevc_elements.specs.Words.{Fills};
 ghost use Rattle.hevc_tables.specs.VuiTable as table;
 ghost use Rattle.hevc_video_set.specs.VuiParams.{plain_vui_params};
 
-use hevc_bits::NaluReader;
-use hevc_elements::ParseError;
+use hevc_elements::{ElementReader, ParseError};
 use hevc_elements::rows::{bits_u8, bits_u32, flag};
 use hevc_spec::Row;
 use hevc_video_set::VuiParams;
@@ -12,7 +11,7 @@ use hevc_video_set::VuiParams;
 /// Rows 6 to 9 of table 8.
 #[tactic(auto, unfolding(hevc_tables::specs::VuiTable::signal_type, hevc_spec::specs::Rows::when))]
 pub(crate) fn read_signal_type(
-    r: &mut NaluReader<'_>,
+    r: &mut ElementReader<'_>,
     vui: &mut VuiParams,
 ) -> Result<(), ParseError>
     ensures { Fills plain_vui_params table.signal_type result vui.old vui.new r.old r.new }
@@ -26,7 +25,7 @@ pub(crate) fn read_signal_type(
 
 /// Rows 7 to 9 of table 8.
 #[tactic(auto, unfolding(hevc_tables::specs::VuiTable::signal, hevc_spec::specs::Rows::when))]
-fn read_signal(r: &mut NaluReader<'_>, vui: &mut VuiParams) -> Result<(), ParseError>
+fn read_signal(r: &mut ElementReader<'_>, vui: &mut VuiParams) -> Result<(), ParseError>
     ensures { Fills plain_vui_params table.signal result vui.old vui.new r.old r.new }
 {
     vui.video_format = bits_u8(r, Row(8, 7), 3, 0, 7)?;
@@ -40,7 +39,7 @@ fn read_signal(r: &mut NaluReader<'_>, vui: &mut VuiParams) -> Result<(), ParseE
 
 /// Row 9 of table 8.
 #[tactic(auto, unfolding(hevc_tables::specs::VuiTable::colours))]
-fn read_colours(r: &mut NaluReader<'_>, vui: &mut VuiParams) -> Result<(), ParseError>
+fn read_colours(r: &mut ElementReader<'_>, vui: &mut VuiParams) -> Result<(), ParseError>
     ensures { Fills plain_vui_params table.colours result vui.old vui.new r.old r.new }
 {
     vui.colour_primaries = bits_u32(r, Row(8, 9), 8, 0, 255)?;

@@ -4,8 +4,7 @@ ghost use Rattle.hevc_elements.specs.Words.{Fills};
 ghost use Rattle.hevc_tables.specs.VuiTable as table;
 ghost use Rattle.hevc_video_set.specs.VuiParams.{plain_vui_params};
 
-use hevc_bits::NaluReader;
-use hevc_elements::ParseError;
+use hevc_elements::{ElementReader, ParseError};
 use hevc_elements::rows::{bits_32, flag, ue_if};
 use hevc_hrd::read_hrd_parameters;
 use hevc_spec::Row;
@@ -14,7 +13,7 @@ use hevc_video_set::VuiParams;
 /// Rows 15 to 20 of table 8.
 #[tactic(auto, unfolding(hevc_tables::specs::VuiTable::timing_info, hevc_spec::specs::Rows::when))]
 pub(crate) fn read_timing_info(
-    r: &mut NaluReader<'_>,
+    r: &mut ElementReader<'_>,
     max_sub_layers_minus1: u8,
     vui: &mut VuiParams,
 ) -> Result<(), ParseError>
@@ -32,7 +31,7 @@ pub(crate) fn read_timing_info(
 /// Rows 16 to 20 of table 8.
 #[tactic(auto, unfolding(hevc_tables::specs::VuiTable::timing, hevc_spec::specs::Rows::when))]
 fn read_timing(
-    r: &mut NaluReader<'_>,
+    r: &mut ElementReader<'_>,
     max_sub_layers_minus1: u8,
     vui: &mut VuiParams,
 ) -> Result<(), ParseError>
@@ -55,7 +54,7 @@ fn read_timing(
 /// Row 20 of table 8.
 #[tactic(auto, unfolding(hevc_tables::specs::VuiTable::hrd, hevc_tables::specs::HrdTable::hrd_parameters, hevc_spec::specs::Rows::when))]
 fn read_hrd(
-    r: &mut NaluReader<'_>,
+    r: &mut ElementReader<'_>,
     max_sub_layers_minus1: u8,
     vui: &mut VuiParams,
 ) -> Result<(), ParseError>

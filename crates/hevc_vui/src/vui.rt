@@ -1,6 +1,6 @@
 //! Video usability information (E.2.1, table 8).
 ghost use Rattle.std.specs.Prelude.{◌≡◌, ◌≤◌, OnErr};
-ghost use Rattle.hevc_elements.specs.Words.{bits, IsAhead, IsReached, read, Fills, Reads, Means};
+ghost use Rattle.hevc_elements.specs.Words.{Fills, Reads, ReadsTable};
 ghost use Rattle.hevc_records.specs.VuiParams.{default_vui_params};
 ghost use Rattle.hevc_tables.specs.VuiTable.{vui_parameters};
 ghost use Rattle.hevc_video_set.specs.VuiParams.{plain_vui_params};
@@ -9,8 +9,7 @@ use crate::appearance::{read_aspect_ratio, read_chroma_places, read_display, rea
 use crate::restrictions::read_stream_restrictions;
 use crate::signal::read_signal_type;
 use crate::timing::read_timing_info;
-use hevc_bits::NaluReader;
-use hevc_elements::ParseError;
+use hevc_elements::{ElementReader, ParseError};
 use hevc_video_set::VuiParams;
 
 /// Reads video usability information of a set whose highest sub-layer is `max_sub_layers_minus1`, by table 8 (E.2.1), into `vui`.
@@ -21,17 +20,13 @@ use hevc_video_set::VuiParams;
 /// isn't allowed. The reader then is where that element begins, and `vui` is that of `VuiParams::new`.
 #[tactic(auto, using(hevc_elements::proofs::Meaning::meanings))]
 pub fn read_vui_parameters(
-    r: &mut NaluReader<'_>,
+    r: &mut ElementReader<'_>,
     max_sub_layers_minus1: u8,
     vui: &mut VuiParams,
 ) -> Result<(), ParseError>
     requires { max_sub_layers_minus1 ≤ 6 }
-    ensures read { Reads (λ _. plain_vui_params vui.new) result r.new
-        (read (vui_parameters max_sub_layers_minus1) (bits r.old)) }
-    ensures means { Means (λ _. plain_vui_params vui.new)
-        (vui_parameters max_sub_layers_minus1) result r.old r.new }
-    ensures moves { IsAhead r.old r.new }
-    ensures place { IsReached r.old r.new }
+    ensures rows { ReadsTable (λ _. plain_vui_params vui.new) (vui_parameters max_sub_layers_minus1)
+        result r.old r.new }
     ensures refused { OnErr result (plain_vui_params vui.new ≡ default_vui_params) }
 {
     let result = read_rows(r, max_sub_layers_minus1, vui);
@@ -44,7 +39,7 @@ pub fn read_vui_parameters(
 /// Rows 1 to 26 of table 8.
 #[tactic(auto, unfolding(hevc_tables::specs::VuiTable::vui_parameters))]
 fn read_rows(
-    r: &mut NaluReader<'_>,
+    r: &mut ElementReader<'_>,
     max_sub_layers_minus1: u8,
     vui: &mut VuiParams,
 ) -> Result<(), ParseError>

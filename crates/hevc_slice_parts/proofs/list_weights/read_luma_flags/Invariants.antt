@@ -1,6 +1,6 @@
 use Rattle.std.proofs.Common.{◌≡◌, ◌-◌}
-use Rattle.hevc_spec.specs.Payload.{bits, IsAhead}
-use Rattle.hevc_spec.specs.Table.{read}
+use Rattle.hevc_spec.specs.Payload.{IsAhead}
+use Rattle.hevc_elements.specs.Scan.{scanned}
 use Rattle.hevc_spec.specs.Rows.{repeat}
 use Rattle.hevc_tables.specs.WeightedPredictionTable.{luma_flag, luma_flags}
 use Rattle.hevc_slice_parts.specs.Projections.{plain_list_weights}
@@ -8,6 +8,6 @@ use Rattle.hevc_slice_parts.proofs.list_weights.read_luma_flags.Given as goal
 
 abbrev pub invariant-loop-i : goal.invariant-loop-i
 invariant-loop-i l = record {
-  same : read (repeat (luma_flag l.list) l.i (l.count - l.i) (plain_list_weights l.w)) (bits l.r) ≡ read (luma_flags l.list l.count (plain_list_weights l.fn.w)) (bits l.fn.r);
-  ahead : IsAhead l.fn.r l.r;
+  same : scanned (repeat (luma_flag l.list) l.i (l.count - l.i) (plain_list_weights l.w)) l.r ≡ scanned (luma_flags l.list l.count (plain_list_weights l.fn.w)) l.fn.r;
+  ahead : IsAhead l.fn.r.place l.r.place;
 }

@@ -1,6 +1,6 @@
 use Rattle.std.proofs.Common.{◌≡◌, ◌-◌}
-use Rattle.hevc_spec.specs.Payload.{bits, IsAhead}
-use Rattle.hevc_spec.specs.Table.{read}
+use Rattle.hevc_spec.specs.Payload.{IsAhead}
+use Rattle.hevc_elements.specs.Scan.{scanned}
 use Rattle.hevc_spec.specs.Rows.{repeat}
 use Rattle.hevc_tables.specs.VpsTable.{own_ordering, own_orderings}
 use Rattle.hevc_video_set.specs.Vps.{plain_vps}
@@ -8,6 +8,6 @@ use Rattle.hevc_vps.proofs.orderings.read_own_orderings.Given as goal
 
 abbrev pub invariant-loop-i : goal.invariant-loop-i
 invariant-loop-i l = record {
-  same : read (repeat own_ordering l.i (l.count - l.i) (plain_vps l.vps)) (bits l.r) ≡ read (own_orderings (plain_vps l.fn.vps)) (bits l.fn.r);
-  ahead : IsAhead l.fn.r l.r;
+  same : scanned (repeat own_ordering l.i (l.count - l.i) (plain_vps l.vps)) l.r ≡ scanned (own_orderings (plain_vps l.fn.vps)) l.fn.r;
+  ahead : IsAhead l.fn.r.place l.r.place;
 }
