@@ -12,7 +12,7 @@ use Rattle.hevc_elements.specs.declared.parse_error.ParseError.{ParseError}
 use Rattle.hevc_elements.specs.declared.parse_error.ParseError.TheVariants.{WrongNaluType, OutOfBits, OutOfRange, MissingSps, MissingPps, NoMemory}
 use Rattle.hevc_elements.specs.declared.told.Descriptor.TheVariants.{U}
 use Rattle.hevc_elements.specs.Telling.{Telling, told_of, bits_told, and_one, and_told, told, told_then}
-use Rattle.hevc_elements.specs.Scan.{Position, Scan, gave, refused, telling_by, scan_then, scan}
+use Rattle.hevc_elements.specs.Scan.{Position, left, Scan, gave, refused, telling_by, scan_then, scan, scanned}
 use Rattle.hevc_elements.specs.Reads.{IsAnswer, Answers}
 use Rattle.hevc_elements.specs.Naming.{IsAnswerNaming, AnswersNaming, names_sequence_set, names_picture_set}
 
@@ -107,13 +107,13 @@ scan_is (part table k) t bits =
 
 module _ {A : Type 0} (table : Table A) (t new : Telling) (bits rest : List Bool) where
   given_by : (x : A) (s : Telling) (r : Reading A) → telling_by s r ≡ gave x new rest → r ≡ gives x rest
-  given_by x s (gives y left) e = cc
-  given_by x s (refuses fault left) e = absurd cc
+  given_by x s (gives y bits_left) e = cc
+  given_by x s (refuses fault bits_left) e = absurd cc
 
   refused_by : (fault : Fault) (s : Telling) (r : Reading A) → telling_by s r ≡ refused fault new rest
       → r ≡ refuses fault rest
-  refused_by fault s (gives y left) e = absurd cc
-  refused_by fault s (refuses other left) e = cc
+  refused_by fault s (gives y bits_left) e = absurd cc
+  refused_by fault s (refuses other bits_left) e = cc
 
   -- what a scan gives is read
   pub gave_is_read : (x : A) → scan table t bits ≡ gave x new rest → read table bits ≡ gives x rest
@@ -125,11 +125,17 @@ module _ {A : Type 0} (table : Table A) (t new : Telling) (bits rest : List Bool
   refused_is_read fault e =
       refused_by fault (and_told (told table bits) t) (read table bits) (sym (scan_is table t bits) ∙ e)
 
+-- the same between two positions
+pub given_is_read : {A : Type 0} (table : Table A) (old new : Position) (x : A)
+    → scanned table old ≡ gave x new.telling (left new) → read table (left old) ≡ gives x (left new)
+given_is_read table old new x e =
+    gave_is_read table old.telling new.telling (left old) (left new) x e
+
 -- ---- answers
 
 module _ {X A : Type 0} (view : X → A) (new : Position) (table : Table A) (t : Telling) (bits : List Bool) where
   rest : List Bool
-  rest = Rattle.hevc_elements.specs.Scan.left new
+  rest = left new
 
   given : (x : A) → scan table t bits ≡ gave x new.telling rest → read table bits ≡ gives x rest
   unfolding rest

@@ -4,8 +4,8 @@ ghost use Rattle.hevc_elements.specs.Words.{Fills};
 ghost use Rattle.hevc_tables.specs.HrdTable as table;
 ghost use Rattle.hevc_video_set.specs.HrdParams.{plain_hrd_params};
 
-use hevc_elements::{ElementReader, ParseError};
 use hevc_elements::rows::{bits_u8, bits_u8_if, flag};
+use hevc_elements::{ElementReader, ParseError};
 use hevc_spec::Row;
 use hevc_video_set::{HrdParams, SublayerHrdParameters};
 

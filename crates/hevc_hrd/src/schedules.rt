@@ -4,8 +4,8 @@ ghost use Rattle.hevc_elements.specs.Words.{read, Reads, Fills};
 ghost use Rattle.hevc_tables.specs.HrdTable as table;
 ghost use Rattle.hevc_video_set.specs.SublayerHrdParameters.{plain_sublayer_hrd_parameters};
 
-use hevc_elements::{ElementReader, ParseError};
 use hevc_elements::rows::{flag, ue, ue_if};
+use hevc_elements::{ElementReader, ParseError};
 use hevc_spec::Row;
 use hevc_video_set::SublayerHrdParameters;
 

@@ -7,8 +7,8 @@ ghost use Rattle.hevc_video_set.specs.SublayerHrdParameters.{plain_sublayer_hrd_
 ghost use Rattle.hevc_video_set.specs.HrdParams.{plain_hrd_params};
 
 use crate::schedules::read_schedules;
-use hevc_elements::{ElementReader, ParseError};
 use hevc_elements::rows::{flag, flag_if, flag_or, ue_if};
+use hevc_elements::{ElementReader, ParseError};
 use hevc_spec::Row;
 use hevc_video_set::{HrdParams, SublayerHrdParameters};
 
@@ -32,7 +32,11 @@ pub(crate) fn read_sub_layers(
 
 /// Rows 10 to 16 of table 3, for one sub-layer of a structure.
 #[tactic(auto, using(crate::proofs::Places::places), unfolding(hevc_tables::specs::HrdTable::sub_layer))]
-fn read_sub_layer(r: &mut ElementReader<'_>, i: usize, hrd: &mut HrdParams) -> Result<(), ParseError>
+fn read_sub_layer(
+    r: &mut ElementReader<'_>,
+    i: usize,
+    hrd: &mut HrdParams,
+) -> Result<(), ParseError>
     requires { i < 7 }
     ensures { Fills plain_hrd_params (table.sub_layer i) result hrd.old hrd.new r.old r.new }
 {

@@ -7,8 +7,8 @@ ghost use Rattle.hevc_profile.specs.Scopes.{plain_scope};
 use crate::conformance::{has_14bit, has_extensions, layer_conforms_to};
 use crate::layer_profile::LayerProfile;
 use crate::scope::{Scope, row_of};
-use hevc_elements::{ElementReader, ParseError};
 use hevc_elements::rows::{flag, flag_if, skip};
+use hevc_elements::{ElementReader, ParseError};
 
 /// Rows 6 to 13 of table 2.
 #[tactic(auto, unfolding(hevc_tables::specs::ProfileTierLevelTable::constraints, hevc_spec::specs::Rows::either))]

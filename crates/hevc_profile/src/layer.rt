@@ -9,8 +9,8 @@ use crate::conformance::has_inbld;
 use crate::constraints::read_constraints;
 use crate::layer_profile::LayerProfile;
 use crate::scope::{Scope, row_of};
-use hevc_elements::{ElementReader, ParseError};
 use hevc_elements::rows::{bits_u8, flag, flag_if, skip};
+use hevc_elements::{ElementReader, ParseError};
 
 /// Rows 1 to 15 of table 2.
 #[tactic(auto, unfolding(hevc_tables::specs::ProfileTierLevelTable::layer_profile))]

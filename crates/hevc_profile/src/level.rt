@@ -1,12 +1,10 @@
 //! Levels (7.3.3, rows 27 and 31 of table 2).
-ghost use Rattle.hevc_spec.specs.Payload.{bits, IsAhead};
-ghost use Rattle.hevc_spec.specs.Table.{read};
 ghost use Rattle.hevc_elements.specs.Reads.{Reads};
 ghost use Rattle.hevc_tables.specs.ProfileTierLevelTable.{level as level_table};
 ghost use Rattle.hevc_set_parts.specs.Level.{level_number};
 
-use hevc_elements::{ElementReader, ParseError};
 use hevc_elements::rows::{out_of_range, refusal};
+use hevc_elements::{Descriptor, ElementReader, ParseError};
 use hevc_set_parts::Level;
 use hevc_spec::Row;
 

@@ -52,7 +52,10 @@ fn read_rows(
 
 /// Rows 1 to 27 of table 2.
 #[tactic(auto, unfolding(hevc_tables::specs::ProfileTierLevelTable::general_rows))]
-fn read_general_rows(r: &mut ElementReader<'_>, all: &mut ProfileTierLevel) -> Result<(), ParseError>
+fn read_general_rows(
+    r: &mut ElementReader<'_>,
+    all: &mut ProfileTierLevel,
+) -> Result<(), ParseError>
     ensures { Fills plain_profile_tier_level table.general_rows result all.old all.new r.old r.new }
 {
     let layer = read_layer_profile(r, Scope::General)?;

@@ -8,8 +8,8 @@ use crate::layer::read_layer_profile;
 use crate::layer_profile::put_sub_layer_profile;
 use crate::level::read_level;
 use crate::scope::Scope;
-use hevc_elements::{ElementReader, ParseError};
 use hevc_elements::rows::{flag, skip};
+use hevc_elements::{ElementReader, ParseError};
 use hevc_set_parts::ProfileTierLevel;
 use hevc_spec::Row;
 

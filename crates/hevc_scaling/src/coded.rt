@@ -9,8 +9,8 @@ ghost use Rattle.hevc_scaling.specs.Projections.{plain_size, plain_coefs, plain_
 use crate::matrices::put_matrix;
 use crate::records::{Coefs, Matrices};
 use crate::size::{Size, has_dc_coef};
-use hevc_elements::{ElementReader, ParseError};
 use hevc_elements::rows::{se, se_i8};
+use hevc_elements::{ElementReader, ParseError};
 use hevc_spec::Row;
 
 /// Rows 3 and 4 of table 6: a matrix whose entries are coded.

@@ -8,8 +8,8 @@ ghost use Rattle.hevc_scaling.specs.Projections.{plain_size, plain_matrices};
 use crate::coded::read_coded;
 use crate::records::Matrices;
 use crate::size::{Size, has_matrix, max_delta, ref_matrix};
-use hevc_elements::{ElementReader, ParseError};
 use hevc_elements::rows::{flag, ue_u8};
+use hevc_elements::{ElementReader, ParseError};
 use hevc_spec::Row;
 
 /// Reads the matrices of a size, whose default lists are these, by table 6.

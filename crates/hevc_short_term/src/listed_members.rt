@@ -7,8 +7,8 @@ ghost use Rattle.hevc_tables.specs.ShortTermTable.{member_before, member_after, 
 ghost use Rattle.hevc_short_term_laws.specs.Sides.{LieBefore, LieAfter};
 
 use crate::side::Side;
-use hevc_elements::{ElementReader, ParseError};
 use hevc_elements::rows::{flag, ue};
+use hevc_elements::{ElementReader, ParseError};
 use hevc_spec::Row;
 use hevc_tables::ShortTermMember;
 
@@ -34,7 +34,10 @@ pub(crate) fn read_listed_before(
 
 /// Rows 9 and 10 of table 7, for the member after these.
 #[tactic(auto, unfolding(hevc_tables::specs::ShortTermTable::member_before))]
-fn read_member_before(r: &mut ElementReader<'_>, members: &Side) -> Result<ShortTermMember, ParseError>
+fn read_member_before(
+    r: &mut ElementReader<'_>,
+    members: &Side,
+) -> Result<ShortTermMember, ParseError>
     ensures read { Reads (λ m. m) (member_before (last_delta members.now)) result r.old r.new }
     ensures below { IfOk result (λ m. m.delta_poc <ℤ last_delta members.now) }
     ensures near { IfOk result (λ m. (last_delta members.now -ℤ pos 32768) ≤ℤ m.delta_poc) }
@@ -69,7 +72,10 @@ pub(crate) fn read_listed_after(
 
 /// Rows 11 and 12 of table 7, for the member after these.
 #[tactic(auto, unfolding(hevc_tables::specs::ShortTermTable::member_after))]
-fn read_member_after(r: &mut ElementReader<'_>, members: &Side) -> Result<ShortTermMember, ParseError>
+fn read_member_after(
+    r: &mut ElementReader<'_>,
+    members: &Side,
+) -> Result<ShortTermMember, ParseError>
     ensures read { Reads (λ m. m) (member_after (last_delta members.now)) result r.old r.new }
     ensures above { IfOk result (λ m. last_delta members.now <ℤ m.delta_poc) }
     ensures near { IfOk result (λ m. m.delta_poc ≤ℤ (last_delta members.now +ℤ pos 32768)) }

@@ -7,8 +7,8 @@ ghost use Rattle.hevc_set_parts.specs.ShortTermRefPicSet.{plain_short_term_ref_p
 use crate::listed_members::{read_listed_after, read_listed_before};
 use crate::set_of_members::put_members;
 use crate::side::Side;
-use hevc_elements::{ElementReader, ParseError};
 use hevc_elements::rows::ue_u8;
+use hevc_elements::{ElementReader, ParseError};
 use hevc_set_parts::ShortTermRefPicSet;
 use hevc_spec::Row;
 

@@ -6,8 +6,8 @@ ghost use Rattle.hevc_elements.specs.Reads.{Reads};
 ghost use Rattle.hevc_tables.specs.ShortTermTable.{member_flags as member_flags_table, all_member_flags};
 
 use arrayvec::ArrayVec;
-use hevc_elements::{ElementReader, ParseError};
 use hevc_elements::rows::{flag, flag_or};
+use hevc_elements::{ElementReader, ParseError};
 use hevc_spec::Row;
 use hevc_tables::MemberFlags;
 
@@ -18,8 +18,7 @@ pub(crate) fn read_all_flags(
     num_delta_pocs: u32,
 ) -> Result<ArrayVec<MemberFlags, 17>, ParseError>
     requires { num_delta_pocs ≤ 16 }
-    ensures read { Reads (λ flags. flags.items) (all_member_flags num_delta_pocs) result r.old r.new
-        }
+    ensures read { Reads (λ flags. flags.items) (all_member_flags num_delta_pocs) result r.old r.new }
     ensures all { IfOk result (λ flags. length flags.items ≡ num_delta_pocs + 1) }
 {
     let mut flags = ArrayVec::new();

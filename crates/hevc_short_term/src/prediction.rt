@@ -5,8 +5,8 @@ ghost use Rattle.hevc_elements.specs.Words.{Fills};
 ghost use Rattle.hevc_tables.specs.ShortTermTable as table;
 ghost use Rattle.hevc_set_parts.specs.ShortTermRefPicSet.{plain_short_term_ref_pic_set};
 
-use hevc_elements::{ElementReader, ParseError};
 use hevc_elements::rows::{flag, ue_u8, ue_u16};
+use hevc_elements::{ElementReader, ParseError};
 use hevc_set_parts::ShortTermRefPicSet;
 use hevc_spec::Row;
 

@@ -7,8 +7,8 @@ ghost use Rattle.hevc_set_parts.specs.ShortTermRefPicSet.{plain_short_term_ref_p
 
 use crate::listed_set::read_listed_set;
 use crate::predicted_set::read_predicted_set;
-use hevc_elements::{ElementReader, ParseError};
 use hevc_elements::rows::flag_if;
+use hevc_elements::{ElementReader, ParseError};
 use hevc_set_parts::ShortTermRefPicSet;
 use hevc_spec::Row;
 

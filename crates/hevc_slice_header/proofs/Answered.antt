@@ -1,7 +1,12 @@
 -- What the rows of a header refuse, and what follows for the header with its sizes.
 use Rattle.std.proofs.Common.{◌≡◌, ℕ, ◌-◌, Bool, List, length, Option, Result, refl}
-use Rattle.hevc_spec.specs.Payload.{Place, bits}
-use Rattle.hevc_spec.specs.Table.{Table, Reading, read, gives}
+use Rattle.hevc_spec.specs.Table.{Table, Fault, read, gives, refuses, out_of_bits, out_of_range, not_kept}
+use Rattle.hevc_spec.specs.Rows.{row}
+use Rattle.hevc_elements.specs.Telling.{Telling}
+use Rattle.hevc_elements.specs.Naming.{names_sequence_set, names_picture_set}
+use Rattle.hevc_elements.specs.Scan.{Position, left, Scan, gave, refused, scan}
+use Rattle.hevc_elements.proofs.ScanLaws.{gave_is_read, refused_is_read}
+use Rattle.hevc_elements.specs.Sets.{IsRefused}
 use Rattle.hevc_records.specs.SliceHeader.{PlainSliceSegmentHeader}
 use Rattle.hevc_elements.specs.declared.parse_error.ParseError.{ParseError}
 use Rattle.hevc_elements.specs.declared.parse_error.ParseError.TheVariants.{WrongNaluType, OutOfBits, OutOfRange, MissingSps, MissingPps, NoMemory}
@@ -12,7 +17,7 @@ use Rattle.hevc_elements.proofs.SetMeaning.{set_found, set_only, set_refused, se
 use Rattle.hevc_tables.specs.SliceHeaderTable.{ActiveSets, elements, aligned, with_sizes, slice_segment_header}
 use Rattle.hevc_slice_header.specs.Answers.{RefusesHeader, NamesNoSequenceSet}
 
-module _ {A : Type 0} (new : Place) (reading : Reading A) where
+module _ {A : Type 0} (new : Position) (reading : Scan A) where
   pub names_none : (e : ParseError) → Refuses e new reading → NamesNoSequenceSet e
   names_none WrongNaluType h = tt
   names_none OutOfBits h = tt
@@ -31,20 +36,30 @@ module _ {A : Type 0} (new : Place) (reading : Reading A) where
 
 pub ruleset answered = (names_none, names_none_growing)
 
-module _ (nal_unit_type : ℕ) (payload : List ℕ) (kept : ℕ → Option ActiveSets) (all : List Bool) (new : Place) where
-  pub header_refused : (e : ParseError) → RefusesHeader e new (read (aligned (elements nal_unit_type kept)) all) → RefusesSet e (read (slice_segment_header nal_unit_type payload kept) all)
+module _ (nal_unit_type : ℕ) (payload : List ℕ) (kept : ℕ → Option ActiveSets) (all : List Bool) (t : Telling) (new : Position) where
+  sized_refused : (fault : Fault) → scan (aligned (elements nal_unit_type kept)) t all ≡ refused fault new.telling (left new)
+      → IsRefused fault (read (slice_segment_header nal_unit_type payload kept) all)
   unfolding slice_segment_header
+  sized_refused fault h =
+      let e : read (aligned (elements nal_unit_type kept)) all ≡ refuses fault (left new) =
+        refused_is_read (aligned (elements nal_unit_type kept)) t new.telling all (left new) fault h in
+      (left new, rw e refl)
+
+  pub header_refused : (e : ParseError) → RefusesHeader e new (scan (aligned (elements nal_unit_type kept)) t all) → RefusesSet e (read (slice_segment_header nal_unit_type payload kept) all)
   header_refused WrongNaluType h = absurd h
-  header_refused OutOfBits h = (bits new, rw h refl)
-  header_refused (OutOfRange table number) h = (bits new, rw h refl)
-  header_refused (MissingSps id) h = (bits new, rw h refl)
-  header_refused (MissingPps id) h = (bits new, rw h refl)
+  header_refused OutOfBits h = sized_refused out_of_bits h
+  header_refused (OutOfRange table number) h = sized_refused (out_of_range (row table number)) h
+  header_refused (MissingSps id) h = sized_refused (not_kept names_sequence_set id) h
+  header_refused (MissingPps id) h = sized_refused (not_kept names_picture_set id) h
   header_refused NoMemory h = tt
 
-  pub header_read : (h : PlainSliceSegmentHeader) → read (aligned (elements nal_unit_type kept)) all ≡ gives h (bits new)
-      → read (slice_segment_header nal_unit_type payload kept) all ≡ gives (with_sizes payload h (length all - length (bits new))) (bits new)
+  pub header_read : (h : PlainSliceSegmentHeader) → scan (aligned (elements nal_unit_type kept)) t all ≡ gave h new.telling (left new)
+      → read (slice_segment_header nal_unit_type payload kept) all ≡ gives (with_sizes payload h (length all - length (left new))) (left new)
   unfolding slice_segment_header
-  header_read h e = rw e refl
+  header_read h s =
+      let e : read (aligned (elements nal_unit_type kept)) all ≡ gives h (left new) =
+        gave_is_read (aligned (elements nal_unit_type kept)) t new.telling all (left new) h s in
+      rw e refl
 
 -- what was read means what the lines of the payload say
 pub means_as_read : {X A : Type 0} (view : X → A) (t : Table A) (r : Result X ParseError) (payload : List Bool) → ReadsSet view r (read t payload) → MeansSet view t r payload

@@ -25,6 +25,8 @@ use Rattle.hevc_picture_slice.specs.declared.pps.Pps.{Pps}
 use Rattle.hevc_picture_slice.specs.Pps.{plain_pps}
 use Rattle.hevc_slice_references.proofs.SetSize.{HaveFew, have_few, set_takes}
 use Rattle.hevc_slice_references.proofs.Sizes.{Takes, Any, UpTo, takes_element, takes_done, takes_part, takes_more, takes_any, takes_sized, takes_when, takes_either, takes_repeat, takes_flag, takes_bits, takes_ue, takes_se, takes_skip, takes_check}
+use Rattle.hevc_elements.specs.Scan.{Position, left, gave, scanned}
+use Rattle.hevc_elements.proofs.ScanLaws.{given_is_read}
 use Rattle.hevc_slice_header.specs.CurrentSet.{IsCurrent}
 use Rattle.hevc_slice_header.specs.Lists.{HasLists}
 use Rattle.hevc_slice_header.proofs.PartSizes.{few_index_bits, index_takes, modification_takes, weights_take}
@@ -388,7 +390,7 @@ module _ (sps : PlainSps) (pps : PlainPps) (small : AreSmall sps pps) (id : ℕ)
       (λ a p. takes_part 17431 33556669 (takes_when (not a.dependent_slice_segment_flag) a (fresh_whole id count a p) (independent_takes t a p)) (λ b q. ending_takes b q))
 
 -- rows 1 to 52, of a header that begins as a new one: how many bits they take, and what the header is after them
-pub rows_take : (nal_unit_type : ℕ) (sps : PlainSps) (pps : PlainPps) → AreSmall sps pps → (h begun read_whole : PlainSliceSegmentHeader) (all behind rest : List Bool) → h ≡ default_slice_header
+rows_take : (nal_unit_type : ℕ) (sps : PlainSps) (pps : PlainPps) → AreSmall sps pps → (h begun read_whole : PlainSliceSegmentHeader) (all behind rest : List Bool) → h ≡ default_slice_header
     → read (table.beginning nal_unit_type h) all ≡ gives begun behind
     → read (table.header_of nal_unit_type sps pps begun) behind ≡ gives read_whole rest
     → (length all ≤ 65 + (33574133 + length rest)) × IsWhole begun.pic_parameter_set_id sps.num_short_term_ref_pic_sets read_whole
@@ -397,3 +399,13 @@ rows_take t sps pps small h begun read_whole all behind rest new first second =
     let one = (beginning_takes t h begins).taken all begun behind first in
     let two = (header_takes sps pps small begun.pic_parameter_set_id t begun one.1 refl).taken behind read_whole rest second in
     (grind (arith, one.0, two.0), two.1)
+
+-- the same of a reader's three positions
+pub rows_taken : (nal_unit_type : ℕ) (sps : PlainSps) (pps : PlainPps) → AreSmall sps pps → (h begun read_whole : PlainSliceSegmentHeader) (old mid new : Position) → h ≡ default_slice_header
+    → scanned (table.beginning nal_unit_type h) old ≡ gave begun mid.telling (left mid)
+    → scanned (table.header_of nal_unit_type sps pps begun) mid ≡ gave read_whole new.telling (left new)
+    → (length (left old) ≤ 65 + (33574133 + length (left new))) × IsWhole begun.pic_parameter_set_id sps.num_short_term_ref_pic_sets read_whole
+rows_taken t sps pps small h begun read_whole old mid new fresh first second =
+    rows_take t sps pps small h begun read_whole (left old) (left mid) (left new) fresh
+    (given_is_read (table.beginning t h) old mid begun first)
+    (given_is_read (table.header_of t sps pps begun) mid new read_whole second)

@@ -1,6 +1,5 @@
 pub mod Answered
 pub mod Dropped
-pub mod Means
 pub mod PictureSizes
 pub mod PartSizes
 pub mod HeaderSize

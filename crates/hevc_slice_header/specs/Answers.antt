@@ -1,8 +1,9 @@
 -- What reading the rows of a header answered, and where it left the reader:
 -- they name a picture set, and want memory.
-use Rattle.std.specs.Prelude.{◌≡◌, ◌↔◌, ℕ, drop, Option, Result, Ok, Err, IfErr, OnOk, OnErr, IsErrOf, IsTrue, IsFalse}
-use Rattle.hevc_spec.specs.Payload.{Place, bits, payload}
-use Rattle.hevc_spec.specs.Table.{Table, Reading, gives, read}
+use Rattle.std.specs.Prelude.{◌≡◌, ◌↔◌, ℕ, drop, Option, Result, Ok, Err, IfOk, IfErr, OnOk, OnErr, IsErrOf, IsTrue, IsFalse}
+use Rattle.std.specs.BTreeMap.{BTreeMap}
+use Rattle.hevc_spec.specs.Payload.{payload}
+use Rattle.hevc_spec.specs.Table.{Table, read}
 use Rattle.hevc_spec.specs.UnitHeader.{UnitHeader}
 use Rattle.hevc_spec.specs.UnitTypes.{is_slice}
 use Rattle.hevc_records.specs.SliceHeader.{PlainSliceSegmentHeader, default_slice_header}
@@ -13,27 +14,44 @@ use Rattle.hevc_picture_slice.specs.declared.slice_header.SliceHeader.{SliceHead
 use Rattle.hevc_picture_slice.specs.SliceHeader.{plain_slice_header}
 use Rattle.hevc_elements.specs.declared.parse_error.ParseError.{ParseError}
 use Rattle.hevc_elements.specs.declared.parse_error.ParseError.TheVariants.{WrongNaluType, MissingSps, NoMemory}
+use Rattle.hevc_elements.specs.Scan.{Position, left, Scan, gave}
 use Rattle.hevc_elements.specs.Naming.{RefusesNaming}
 use Rattle.hevc_elements.specs.Sets.{ReadsSet, MeansSet}
+use Rattle.hevc_sequence_set.specs.declared.sps.Sps.{Sps}
+use Rattle.hevc_picture_slice.specs.declared.pps.Pps.{Pps}
+use Rattle.hevc_slice_header.specs.declared.active_sets.ActiveSets as declared
+use Rattle.hevc_slice_header.specs.ActiveSets.{AreFound}
+use Rattle.hevc_slice_header.specs.Kept.{kept_active_sets}
 use Rattle.hevc_slice_header.specs.CurrentSet.{HasCurrentSet}
 use Rattle.hevc_slice_header.specs.Lists.{HasLists}
 
 -- The error is the refusal of an element or of a set that isn't kept, and the reader is where
 -- the element began, or after the one that names the set; or an allocation fails.
-abbrev pub RefusesHeader : {A : Type 0} → ParseError → Place → Reading A → Type 0
-RefusesHeader NoMemory new reading = Unit {0}
-RefusesHeader e new reading = RefusesNaming e new reading
+abbrev pub RefusesHeader : {A : Type 0} → ParseError → Position → Scan A → Type 0
+RefusesHeader NoMemory new scan = Unit {0}
+RefusesHeader e new scan = RefusesNaming e new scan
 
 -- The result, seen by a view, is the value that reading gives,
 -- and the reader is after its last bit.
-abbrev pub ReadsHeader : {X A : Type 0} → (X → A) → Result X ParseError → Place → Reading A → Type 0
-ReadsHeader view (Ok x) new reading = reading ≡ gives (view x) (bits new)
-ReadsHeader view (Err e) new reading = RefusesHeader e new reading
+abbrev pub AnswersHeader : {X A : Type 0} → (X → A) → Result X ParseError → Position → Scan A
+    → Type 0
+AnswersHeader view (Ok x) new scan = scan ≡ gave (view x) new.telling (left new)
+AnswersHeader view (Err e) new scan = RefusesHeader e new scan
 
 -- The answer names no sequence set.
 abbrev pub NamesNoSequenceSet : ParseError → Type 0
 NamesNoSequenceSet (MissingSps id) = ⊥
 NamesNoSequenceSet e = Unit {0}
+
+-- What a header's reader says of the sets that it makes active, of those that are kept.
+pub record FindsSets (picture_sets : BTreeMap ℕ Pps) (sequence_sets : BTreeMap ℕ Sps)
+    (result : Result declared.ActiveSets ParseError) (header : SliceHeader) : Type 0 where
+  pub names : IfErr result NamesNoSequenceSet
+  pub current : OnOk result (HasCurrentSet (kept_active_sets picture_sets sequence_sets)
+      (plain_slice_header header))
+  pub lists : OnOk result (HasLists (plain_slice_header header))
+  pub sets : IfOk result (λ sets.
+      AreFound picture_sets sequence_sets header.pic_parameter_set_id sets)
 
 -- table 14 over the payload of a slice's unit, with the sets that are kept (7.3.6.1)
 abbrev pub slice_table : (ℕ → Option ActiveSets) → FoundUnit UnitHeader

@@ -1,6 +1,6 @@
 //! Slice segment headers (7.3.6.1, table 14).
 ghost use Rattle.std.specs.Prelude.{◌≡◌, ◌==◌, ◌+◌, ◌-◌, ◌<◌, ◌%◌, ◌^◌, ◌↔◌, IfErr, IfOk, OnOk, OnErr, IsErrOf, IsFalse, IsTrue, ◌≤◌, drop, length};
-ghost use Rattle.hevc_spec.specs.Payload.{payload, payload_bits, bits_left};
+ghost use Rattle.hevc_spec.specs.Payload.{payload, payload_bits, bits_left, IsAhead};
 ghost use Rattle.hevc_spec.specs.UnitTypes.{is_slice as is_slice_number};
 ghost use Rattle.hevc_bits.specs.FoundUnit.{bytes_of};
 ghost use Rattle.hevc_bits.specs.NaluType.{nalu_type_number};
@@ -12,8 +12,8 @@ ghost use Rattle.hevc_sequence_set.specs.Sps.{plain_sps};
 ghost use Rattle.hevc_picture_slice.specs.Pps.{plain_pps};
 ghost use Rattle.hevc_picture_slice.specs.SliceHeader.{plain_slice_header};
 ghost use Rattle.hevc_slice_header.specs.ActiveSets.{AreFound};
-ghost use Rattle.hevc_slice_header.specs.Answers.{ReadsHeader, ReadsSlice, NamesNoSequenceSet};
-ghost use Rattle.hevc_slice_header.specs.CurrentSet.{HasCurrentSet};
+ghost use Rattle.hevc_elements.specs.Scan.{left, scanned};
+ghost use Rattle.hevc_slice_header.specs.Answers.{AnswersHeader, FindsSets, ReadsSlice};
 ghost use Rattle.hevc_slice_header.specs.Kept.{kept_active_sets};
 ghost use Rattle.hevc_slice_header.specs.Lists.{HasLists};
 ghost use Rattle.hevc_bits.specs.declared.stream_limit.TheConstants.{STREAM_LIMIT};
@@ -23,8 +23,8 @@ use crate::beginning::read_beginning;
 use crate::segment::read_behind_sets;
 use hevc_bits::{Nalu, NaluHeader, NaluType};
 use hevc_boxed::Boxed;
-use hevc_elements::{ElementReader, ParseError};
 use hevc_elements::rows::skip;
+use hevc_elements::{ElementReader, ParseError};
 use hevc_picture_slice::{Pps, SliceHeader};
 use hevc_sequence_set::Sps;
 use hevc_slice_references::bits_between;
@@ -84,36 +84,30 @@ fn read_payload<'a>(
     ensures read { ReadsSet (λ _. plain_slice_header h.new) result
         (read (table.slice_segment_header (nalu_type_number nalu_type) payload.now
         (kept_active_sets ppses.now spses.now)) (payload_bits 0 payload.now)) }
-    ensures names { IfErr result NamesNoSequenceSet }
-    ensures current { OnOk result (HasCurrentSet
-        (kept_active_sets ppses.now spses.now) (plain_slice_header h.new)) }
-    ensures lists { OnOk result (HasLists (plain_slice_header h.new)) }
-    ensures sets { IfOk result
-        (λ sets. AreFound ppses.now spses.now h.new.pic_parameter_set_id sets) }
+    ensures sets { FindsSets ppses.now spses.now result h.new }
 {
-    let start = ElementReader::new(payload);
-    let mut r = start.fork();
+    let mut r = ElementReader::new(payload);
+    let start = r.fork();
     match read_aligned(alloc, &mut r, nalu_type, spses, ppses, h) {
         Ok(sets) => {
-            set_sizes(bits_between(&start, &r), &r, h);
+            set_sizes(bits_between(&start, &r.fork()), r.num_epb() as u32, h);
             Ok(sets)
         }
         Err(error) => Err(error),
     }
 }
 
-/// The sizes of a header of so many payload bits, after which the reader is.
-fn set_sizes(size: u32, r: &ElementReader<'_>, h: &mut SliceHeader)
+/// The sizes of a header of so many payload bits, in which so many 03 bytes are dropped.
+fn set_sizes(size: u32, dropped: u32, h: &mut SliceHeader)
     requires few { size < 2 ^ 32 - 16 }
-    requires dropped { r.now.dropped ≤ size }
     ensures set { plain_slice_header h.new ≡ record (plain_slice_header h.old) {
       header_bit_size = 16 + size;
-      n_emulation_prevention_bytes = r.now.dropped;
+      n_emulation_prevention_bytes = dropped;
     } }
     ensures lists { HasLists (plain_slice_header h.old) → HasLists (plain_slice_header h.new) }
 {
     h.header_bit_size = 16 + size;
-    h.n_emulation_prevention_bytes = r.num_epb() as u32;
+    h.n_emulation_prevention_bytes = dropped;
 }
 
 /// Rows 1 to 53 of table 14, from a whole byte on.
@@ -126,19 +120,14 @@ fn read_aligned<'a>(
     ppses: &'a BTreeMap<u8, Pps>,
     h: &mut SliceHeader,
 ) -> Result<ActiveSets<'a>, ParseError>
-    requires whole { bits_left r.old % 8 ≡ 0 }
+    requires whole { bits_left r.old.place % 8 ≡ 0 }
     requires new { plain_slice_header h.old ≡ default_slice_header }
-    ensures read { ReadsHeader (λ _. plain_slice_header h.new) result r.new
-        (read (table.aligned
-        (table.elements (nalu_type_number nalu_type) (kept_active_sets ppses.now spses.now)))
-        (bits r.old)) }
-    ensures few { OnOk result (length (bits r.old) ≤ 2 ^ 31 + 8 + length (bits r.new)) }
-    ensures names { IfErr result NamesNoSequenceSet }
-    ensures current { OnOk result (HasCurrentSet
-        (kept_active_sets ppses.now spses.now) (plain_slice_header h.new)) }
-    ensures lists { OnOk result (HasLists (plain_slice_header h.new)) }
-    ensures sets { IfOk result
-        (λ sets. AreFound ppses.now spses.now h.new.pic_parameter_set_id sets) }
+    ensures read { AnswersHeader (λ _. plain_slice_header h.new) result r.new (scanned
+        (table.aligned
+        (table.elements (nalu_type_number nalu_type) (kept_active_sets ppses.now spses.now))) r.old) }
+    ensures moves { IsAhead r.old.place r.new.place }
+    ensures few { OnOk result (length (left r.old) ≤ 2 ^ 31 + 8 + length (left r.new)) }
+    ensures sets { FindsSets ppses.now spses.now result h.new }
 {
     let sets = read_elements(alloc, r, nalu_type, spses, ppses, h)?;
     skip(r, Row(14, 53), 1)?;
@@ -158,16 +147,11 @@ fn read_elements<'a>(
     h: &mut SliceHeader,
 ) -> Result<ActiveSets<'a>, ParseError>
     requires { plain_slice_header h.old ≡ default_slice_header }
-    ensures read { ReadsHeader (λ _. plain_slice_header h.new) result r.new
-        (read (table.elements (nalu_type_number nalu_type) (kept_active_sets ppses.now spses.now))
-        (bits r.old)) }
-    ensures few { OnOk result (length (bits r.old) ≤ 2 ^ 31 + length (bits r.new)) }
-    ensures names { IfErr result NamesNoSequenceSet }
-    ensures current { OnOk result (HasCurrentSet
-        (kept_active_sets ppses.now spses.now) (plain_slice_header h.new)) }
-    ensures lists { OnOk result (HasLists (plain_slice_header h.new)) }
-    ensures sets { IfOk result
-        (λ sets. AreFound ppses.now spses.now h.new.pic_parameter_set_id sets) }
+    ensures read { AnswersHeader (λ _. plain_slice_header h.new) result r.new (scanned
+        (table.elements (nalu_type_number nalu_type) (kept_active_sets ppses.now spses.now)) r.old) }
+    ensures moves { IsAhead r.old.place r.new.place }
+    ensures few { OnOk result (length (left r.old) ≤ 2 ^ 31 + length (left r.new)) }
+    ensures sets { FindsSets ppses.now spses.now result h.new }
 {
     read_beginning(r, nalu_type, h)?;
     let missing = ParseError::MissingPps(h.pic_parameter_set_id);

@@ -84,7 +84,7 @@ fn read_own_set(r: &mut ElementReader<'_>, sps: &Sps, h: &mut SliceHeader) -> Re
     let count = sps.num_short_term_ref_pic_sets;
     let sets = sps.short_term_ref_pic_set.as_slice();
     let set = read_short_term_set(r, sets, count, highest_buffering(sps), count)?;
-    h.st_rps_bits = bits_between(&before, r);
+    h.st_rps_bits = bits_between(&before, &r.fork());
     h.short_term_ref_pic_set = set;
     Ok(())
 }
