@@ -8,3 +8,4 @@ pub mod Views
 pub mod Lending
 pub mod Sought
 pub mod Pictures
+pub mod Sizes

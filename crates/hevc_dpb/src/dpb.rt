@@ -52,6 +52,7 @@ impl<T: Copy> Dpb<T> {
     ghost use Rattle.hevc_dpb.specs.Sublists.{IsSublist};
     ghost use Rattle.hevc_dpb.specs.Plain.{plain_entry, plain_output, HaveLatency};
     ghost use Rattle.hevc_dpb.specs.Views.{stored_entries, max_num_pics_of, room_of, is_stale, buffer_of};
+    ghost use Rattle.hevc_dpb.specs.Sizes.{KeepsSizes};
     ghost use Rattle.hevc_dpb.specs.Lending.{LendsPicture};
     ghost use Rattle.hevc_dpb.specs.declared.entry.DpbEntry.{DpbEntry};
 
@@ -195,11 +196,8 @@ impl<T: Copy> Dpb<T> {
         ensures buffer { (d : walk.Entry) → buffer_of self.new
             ≡ slice_set (buffer_of self.old) position
             (record (slice_index_or (buffer_of self.old) position d) { mark = mark_of reference }) }
-        ensures size { max_num_pics_of self.new ≡ max_num_pics_of self.old }
-        ensures room { room_of self.new ≡ room_of self.old }
+        ensures keeps { KeepsSizes self.old self.new }
         ensures handles { tickets (stored_entries self.new) ≡ tickets (stored_entries self.old) }
-        ensures latency { HaveLatency (stored_entries self.old)
-            → HaveLatency (stored_entries self.new) }
         ensures same_order { is_stale self.new ≡ is_stale self.old }
     {
         mark_at(&mut self.entries, position, reference);
@@ -211,11 +209,8 @@ impl<T: Copy> Dpb<T> {
         ensures buffer { buffer_of self.new ≡ map walk_sets.unmarked (buffer_of self.old) }
         ensures others { map unmarked (stored_entries self.new)
             ≡ map unmarked (stored_entries self.old) }
-        ensures size { max_num_pics_of self.new ≡ max_num_pics_of self.old }
-        ensures room { room_of self.new ≡ room_of self.old }
+        ensures keeps { KeepsSizes self.old self.new }
         ensures handles { tickets (stored_entries self.new) ≡ tickets (stored_entries self.old) }
-        ensures latency { HaveLatency (stored_entries self.old)
-            → HaveLatency (stored_entries self.new) }
         ensures same_order { is_stale self.new ≡ is_stale self.old }
     {
         unmark_all(&mut self.entries);
@@ -225,14 +220,11 @@ impl<T: Copy> Dpb<T> {
     pub fn remove_unused(&mut self)
         ensures entries { stored_entries self.new ≡ filter is_needed (stored_entries self.old) }
         ensures buffer { buffer_of self.new ≡ needed_entries (buffer_of self.old) }
-        ensures size { max_num_pics_of self.new ≡ max_num_pics_of self.old }
-        ensures room { room_of self.new ≡ room_of self.old }
+        ensures keeps { KeepsSizes self.old self.new }
         ensures handles { IsSublist (tickets (stored_entries self.new))
             (tickets (stored_entries self.old)) }
         ensures references { reference_numbers (stored_entries self.new)
             ≡ reference_numbers (stored_entries self.old) }
-        ensures latency { HaveLatency (stored_entries self.old)
-            → HaveLatency (stored_entries self.new) }
         ensures fresh { is_stale self.new ≡ false }
     {
         self.stale = true;
@@ -273,15 +265,12 @@ impl<T: Copy> Dpb<T> {
             ≡ option_map plain_output (first_in (walk.in_output_order (buffer_of self.old))) }
         ensures given { IfSome result
             (λ e. Contains (tickets (stored_entries self.old)) (ticket e)) }
-        ensures size { max_num_pics_of self.new ≡ max_num_pics_of self.old }
-        ensures room { room_of self.new ≡ room_of self.old }
+        ensures keeps { KeepsSizes self.old self.new }
         ensures handles { IsSublist (tickets (stored_entries self.new))
             (tickets (stored_entries self.old)) }
         ensures references { flush ≡ false
             → reference_numbers (stored_entries self.new)
             ≡ reference_numbers (stored_entries self.old) }
-        ensures latency { HaveLatency (stored_entries self.old)
-            → HaveLatency (stored_entries self.new) }
         ensures fresh { is_stale self.new ≡ false }
     {
         self.order_if_stale();
@@ -304,12 +293,9 @@ impl<T: Copy> Dpb<T> {
         ensures out_stays { OnErr result (out.new.items ≡ out.old.items) }
         ensures stays { OnErr result (self.new ≡ self.old) }
         ensures full { OnErr result (vec_capacity out.old < vec_len out.old + 16) }
-        ensures size { max_num_pics_of self.new ≡ max_num_pics_of self.old }
-        ensures room { room_of self.new ≡ room_of self.old }
+        ensures keeps { KeepsSizes self.old self.new }
         ensures handles { IsSublist (tickets (stored_entries self.new))
             (tickets (stored_entries self.old)) }
-        ensures latency { HaveLatency (stored_entries self.old)
-            → HaveLatency (stored_entries self.new) }
         ensures fresh { OnOk result (is_stale self.new ≡ false) }
     {
         out.reserve(16)?;
@@ -341,14 +327,11 @@ impl<T: Copy> Dpb<T> {
             → HaveLatency (stored_entries self.old)
             → OnOk result (buffer_of self.new ≡ walk.with_stored p (buffer_of self.old)) }
         ensures stays { OnErr result (self.new ≡ self.old) }
-        ensures size { max_num_pics_of self.new ≡ max_num_pics_of self.old }
+        ensures keeps { KeepsSizes self.old self.new }
         ensures fits { OnOk result (length (stored_entries self.new) ≤ max_num_pics_of self.new) }
-        ensures room { room_of self.new ≡ room_of self.old }
         ensures handles { OnOk result
             (tickets (stored_entries self.new)
             ≡ tickets (stored_entries self.old) ++ (number, handle) ∷ []) }
-        ensures latency { HaveLatency (stored_entries self.old)
-            → HaveLatency (stored_entries self.new) }
         ensures fresh { OnOk result (is_stale self.new ≡ false) }
     {
         if self.entries.len() >= self.max_num_pics {

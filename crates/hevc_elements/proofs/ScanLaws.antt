@@ -1,4 +1,5 @@
 -- What is scanned is what is read, with what is told.
+use Rattle.std.specs.Prelude.{IsErrOf}
 use Rattle.std.proofs.Common.{◌≡◌, ℕ, zero, suc, ◌+◌, ◌-◌, ◌<◌, ◌≤◌, pos, arith, take, Bool, if◌then◌else◌, List, [], ◌∷◌, ◌++◌, length, refl, sym, ◌∙◌, ap, append-nil, Result, Ok, Err}
 use Rattle.hevc_spec.specs.Table.{Table, done, missing, element, sized, part, Fault, Reading, gives, refuses, read, reading_then, out_of_bits, out_of_range, not_kept}
 use Rattle.hevc_spec.specs.declared.Row.{Row}
@@ -14,6 +15,7 @@ use Rattle.hevc_elements.specs.declared.told.Descriptor.TheVariants.{U}
 use Rattle.hevc_elements.specs.Telling.{Telling, told_of, bits_told, and_one, and_told, told, told_then}
 use Rattle.hevc_elements.specs.Scan.{Position, left, Scan, gave, refused, telling_by, scan_then, scan, scanned}
 use Rattle.hevc_elements.specs.Reads.{IsAnswer, Answers}
+use Rattle.hevc_elements.specs.Growing.{AnswersGrowing}
 use Rattle.hevc_elements.specs.Naming.{IsAnswerNaming, AnswersNaming, names_sequence_set, names_picture_set}
 
 -- ---- what is told
@@ -167,3 +169,49 @@ module _ {X A : Type 0} (view : X → A) (new : Position) (table : Table A) (t :
   naming_is_read (Err (MissingSps id)) h = refusing (not_kept names_sequence_set id) h
   naming_is_read (Err (MissingPps id)) h = refusing (not_kept names_picture_set id) h
   naming_is_read (Err NoMemory) h = absurd h
+
+-- ---- what was told
+
+module _ {A : Type 0} (table : Table A) (t new : Telling) (bits rest : List Bool) where
+  told_given : (x : A) (s : Telling) (r : Reading A) → telling_by s r ≡ gave x new rest → new ≡ s
+  told_given x s (gives y bits_left) e = cc
+  told_given x s (refuses fault bits_left) e = absurd cc
+
+  told_refused : (fault : Fault) (s : Telling) (r : Reading A) → telling_by s r ≡ refused fault new rest → new ≡ s
+  told_refused fault s (gives y bits_left) e = absurd cc
+  told_refused fault s (refuses other bits_left) e = cc
+
+  pub gave_tells : (x : A) → scan table t bits ≡ gave x new rest → new ≡ and_told (told table bits) t
+  gave_tells x e = told_given x (and_told (told table bits) t) (read table bits) (sym (scan_is table t bits) ∙ e)
+
+  pub refused_tells : (fault : Fault) → scan table t bits ≡ refused fault new rest → new ≡ and_told (told table bits) t
+  refused_tells fault e = told_refused fault (and_told (told table bits) t) (read table bits) (sym (scan_is table t bits) ∙ e)
+
+-- What a reader told is what reading the table tells, unless memory was wanted.
+module _ {X A : Type 0} (view : X → A) (new : Position) (table : Table A) (t : Telling) (bits : List Bool) where
+  pub growing_tells : (r : Result X ParseError) → AnswersGrowing view r new (scan table t bits)
+      → (IsErrOf r NoMemory → ⊥) → new.telling ≡ and_told (told table bits) t
+  growing_tells (Ok x) h some = gave_tells table t new.telling bits (left new) (view x) h
+  growing_tells (Err WrongNaluType) h some = absurd h
+  growing_tells (Err OutOfBits) h some = refused_tells table t new.telling bits (left new) out_of_bits h
+  growing_tells (Err (OutOfRange number r)) h some =
+      refused_tells table t new.telling bits (left new) (out_of_range (row number r)) h
+  growing_tells (Err (MissingSps id)) h some = absurd h
+  growing_tells (Err (MissingPps id)) h some = absurd h
+  growing_tells (Err NoMemory) h some = absurd (some refl)
+
+  pub naming_tells : (r : Result X ParseError) → AnswersNaming view r new (scan table t bits)
+      → new.telling ≡ and_told (told table bits) t
+  naming_tells (Ok x) h = gave_tells table t new.telling bits (left new) (view x) h
+  naming_tells (Err WrongNaluType) h = absurd h
+  naming_tells (Err OutOfBits) h = refused_tells table t new.telling bits (left new) out_of_bits h
+  naming_tells (Err (OutOfRange number r)) h =
+      refused_tells table t new.telling bits (left new) (out_of_range (row number r)) h
+  naming_tells (Err (MissingSps id)) h =
+      refused_tells table t new.telling bits (left new) (not_kept names_sequence_set id) h
+  naming_tells (Err (MissingPps id)) h =
+      refused_tells table t new.telling bits (left new) (not_kept names_picture_set id) h
+  naming_tells (Err NoMemory) h = absurd h
+
+-- what a call that tells follows from
+pub ruleset tells = (growing_tells, naming_tells)

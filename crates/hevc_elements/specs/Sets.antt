@@ -1,7 +1,10 @@
 -- What reading a parameter set out of its unit answered: nothing is left of the reader, and what it
 -- read is the unit's payload.
-use Rattle.std.specs.Prelude.{◌≡◌, List, Bool, Result, Ok, Err, IfOk, IfErr}
-use Rattle.hevc_spec.specs.Table.{Table, Fault, Reading, gives, refuses, out_of_bits, out_of_range, not_kept}
+use Rattle.std.specs.Prelude.{◌≡◌, ◌↔◌, ℕ, List, Bool, Result, Ok, Err, IfOk, IfErr, IsErrOf}
+use Rattle.hevc_spec.specs.Payload.{payload}
+use Rattle.hevc_spec.specs.UnitHeader.{UnitHeader}
+use Rattle.hevc_bits.specs.FoundUnit.{FoundUnit, bytes_of}
+use Rattle.hevc_spec.specs.Table.{Table, Fault, Reading, read, gives, refuses, out_of_bits, out_of_range, not_kept}
 use Rattle.hevc_spec.specs.Lines.{Spells, BreaksOff}
 use Rattle.hevc_spec.specs.Rows.{row}
 use Rattle.hevc_elements.specs.declared.parse_error.ParseError.{ParseError}
@@ -58,3 +61,13 @@ abbrev pub NamesNoSet : ParseError → Type 0
 NamesNoSet (MissingSps id) = ⊥
 NamesNoSet (MissingPps id) = ⊥
 NamesNoSet e = Unit {0}
+
+-- What reading a parameter set out of a unit answered, by its table and the type of its units.
+pub record ReadsSetUnit {X A : Type 0} (view : X → A) (table : Table A) (nal_unit_type : ℕ)
+    (unit : FoundUnit UnitHeader) (result : Result X ParseError) : Type 0 where
+  -- the type of the unit is looked at first
+  pub wrong_type : IsErrOf result WrongNaluType ↔ ¬ (unit.header.nal_unit_type ≡ nal_unit_type)
+  pub read : unit.header.nal_unit_type ≡ nal_unit_type
+      → ReadsSet view result (read table (payload (bytes_of unit)))
+  pub means : unit.header.nal_unit_type ≡ nal_unit_type
+      → MeansSet view table result (payload (bytes_of unit))

@@ -6,4 +6,4 @@ pub use Rattle.hevc_spec.specs.Rows.{when}
 pub use Rattle.hevc_elements.specs.Scan.{left}
 pub use Rattle.hevc_elements.specs.Reads.{Reads, ReadsTable, Means, Fills}
 pub use Rattle.hevc_elements.specs.Growing.{ReadsGrowing, FillsGrowing}
-pub use Rattle.hevc_elements.specs.Sets.{ReadsSet, MeansSet, NamesNoSet}
+pub use Rattle.hevc_elements.specs.Sets.{ReadsSet, ReadsSetUnit, MeansSet, NamesNoSet}

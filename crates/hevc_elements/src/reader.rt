@@ -6,12 +6,13 @@ ghost use Rattle.hevc_spec.specs.Bits.{skip};
 ghost use Rattle.hevc_bits.specs.declared.stream_limit.TheConstants.{STREAM_LIMIT};
 ghost use Rattle.hevc_elements.specs.declared.told.Descriptor.TheVariants.{U};
 ghost use Rattle.hevc_elements.specs.Telling.{and_told, told_of, element_told, bits_told, form_of, IsShort, no_telling};
-ghost use Rattle.hevc_elements.specs.Kept.{telling_in, telling_of};
+ghost use Rattle.hevc_elements.specs.Kept.{telling_in};
 ghost use Rattle.hevc_elements.specs.Scan.{left};
 
 use crate::told::{Descriptor, Told, told_ahead};
 use hevc_bits::NaluReader;
 use hevc_spec::Row;
+use std::alloc::Global;
 use std::marker::Model;
 
 /// A reader of the elements of a payload. With a list it tells each element that is read, in order, and one that is refused too
@@ -58,12 +59,15 @@ impl<'a> ElementReader<'a> {
         }
     }
 
-    /// Takes the list of what was told; after it nothing more is told.
-    pub fn take_told(&mut self) -> Option<Vec<Told>>
-        ensures told { telling_of result ≡ self.old.telling }
+    /// Takes the list of what was told, which is empty where none was given; after it nothing more is told.
+    pub fn take_told(&mut self, alloc: Global) -> Vec<Told>
+        ensures told { telling_in result ≡ self.old.telling }
         ensures rest { self.new ≡ record self.old { telling = no_telling } }
     {
-        self.list.take()
+        match self.list.take() {
+            Some(list) => list,
+            None => Vec::new(alloc),
+        }
     }
 
     /// How many bits are left: eight for each byte after the one being read, a 03 that isn't passed yet among them, and the unread bits of that one.

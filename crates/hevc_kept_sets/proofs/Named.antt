@@ -3,13 +3,14 @@ use Rattle.std.proofs.Common.{◌≡◌, ℕ, ◌<◌, Bool, List, None, Result,
 use Rattle.std.specs.Prelude.{IfSome}
 use Rattle.std.specs.Result.{result_ok}
 use Rattle.hevc_spec.specs.Rows.{row, ue_row}
-use Rattle.hevc_spec.specs.Payload.{Place, bits, payload}
+use Rattle.hevc_spec.specs.Payload.{payload}
 use Rattle.hevc_spec.specs.Table.{Fault, out_of_bits, out_of_range, Reading, gives, refuses, reading_then, read}
 use Rattle.hevc_records.specs.Pps.{PlainPps, default_pps}
 use Rattle.hevc_tables.specs.PpsTable.{ids}
 use Rattle.hevc_elements.specs.declared.parse_error.ParseError.{ParseError}
 use Rattle.hevc_elements.specs.declared.parse_error.ParseError.TheVariants.{WrongNaluType, OutOfBits, OutOfRange, MissingSps, MissingPps, NoMemory}
-use Rattle.hevc_elements.specs.Reads.{Refuses, Reads}
+use Rattle.hevc_elements.specs.Scan.{Position, left}
+use Rattle.hevc_elements.specs.Reads.{IsRefusal, IsAnswer}
 use Rattle.hevc_stream_laws.specs.KeptWell.{sequence_set_named_in, sequence_set_named}
 use Rattle.hevc_stream_laws.proofs.Gives.{Gives, free, of_done, of_part, of_ue}
 use Rattle.hevc_kept_sets.specs.Settled.{named_set}
@@ -51,19 +52,19 @@ any_temporal_id temporal_id bytes = same_named (record default_pps { temporal_id
 
 -- ---- what reading the two rows answered
 
-refused : {A : Type 0} (e : ParseError) (new : Place) (r : Reading A) → Refuses e new r → (fault : Fault) × (rest : List Bool) × (r ≡ refuses fault rest)
+refused : {A : Type 0} (e : ParseError) (new : Position) (r : Reading A) → IsRefusal e new r → (fault : Fault) × (rest : List Bool) × (r ≡ refuses fault rest)
 refused WrongNaluType new r h = absurd h
-refused OutOfBits new r h = (out_of_bits, bits new, h)
-refused (OutOfRange table number) new r h = (out_of_range (row table number), bits new, h)
+refused OutOfBits new r h = (out_of_bits, left new, h)
+refused (OutOfRange table number) new r h = (out_of_range (row table number), left new, h)
 refused (MissingSps id) new r h = absurd h
 refused (MissingPps id) new r h = absurd h
 refused NoMemory new r h = absurd h
 
-pub none_named : (p : PlainPps) (payload : List Bool) (e : ParseError) (new : Place) → Refuses e new (read (ue_row (row 11 1) 0 63) payload) → None ≡ sequence_set_named_in (read (ids p) payload)
+pub none_named : (p : PlainPps) (payload : List Bool) (e : ParseError) (new : Position) → IsRefusal e new (read (ue_row (row 11 1) 0 63) payload) → None ≡ sequence_set_named_in (read (ids p) payload)
 unfolding ids
 none_named p payload e new h = let first = refused e new (read (ue_row (row 11 1) 0 63) payload) h in rw (first.2) refl
 
-pub id_named : (p : PlainPps) (payload mid : List Bool) (own : ℕ) (r : Result ℕ ParseError) (new : Place) → read (ue_row (row 11 1) 0 63) payload ≡ gives own mid → Reads (λ n. n) r new (read (ue_row (row 11 2) 0 15) mid) → result_ok r ≡ sequence_set_named_in (read (ids p) payload)
+pub id_named : (p : PlainPps) (payload mid : List Bool) (own : ℕ) (r : Result ℕ ParseError) (new : Position) → read (ue_row (row 11 1) 0 63) payload ≡ gives own mid → IsAnswer (λ n. n) r new (read (ue_row (row 11 2) 0 15) mid) → result_ok r ≡ sequence_set_named_in (read (ids p) payload)
 unfolding ids
 id_named p payload mid own (Ok id) new first second = rw (first, second) refl
 id_named p payload mid own (Err e) new first second = let h = refused e new (read (ue_row (row 11 2) 0 15) mid) second in rw (first, h.2) refl

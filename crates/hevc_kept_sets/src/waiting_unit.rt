@@ -2,7 +2,8 @@
 ghost use Rattle.std.specs.Prelude.{◌≡◌, ◌<◌, ◌∷◌, ℕ, length, Ok, IfOk, IfSome};
 ghost use Rattle.std.specs.Result.{result_ok};
 ghost use Rattle.hevc_spec.specs.UnitHeader.{unit_header};
-ghost use Rattle.hevc_spec.specs.Payload.{bits, payload_bits};
+ghost use Rattle.hevc_spec.specs.Payload.{payload_bits};
+ghost use Rattle.hevc_elements.specs.Scan.{left};
 ghost use Rattle.hevc_spec.specs.Table.{read};
 ghost use Rattle.hevc_bits.specs.FoundUnit.{bytes_of};
 ghost use Rattle.hevc_records.specs.Pps.{PlainPps};
@@ -12,9 +13,9 @@ ghost use Rattle.hevc_kept_sets.specs.Settled.{named_set, has_id, is_named_by};
 ghost use Rattle.hevc_bits.specs.declared.stream_limit.TheConstants.{STREAM_LIMIT};
 
 use crate::set_ids::with_named;
-use hevc_bits::{Nalu, NaluHeader, NaluReader};
-use hevc_elements::{ElementReader, ParseError};
+use hevc_bits::{Nalu, NaluHeader};
 use hevc_elements::rows::ue_u8;
+use hevc_elements::{ElementReader, ParseError};
 use hevc_spec::Row;
 use std::alloc::{AllocError, Global};
 use std::collections::VecDeque;
@@ -98,13 +99,13 @@ fn read_named(payload: &[u8]) -> Option<u8>
     ensures { (pps : PlainPps)
         → result ≡ sequence_set_named_in (read (ids pps) (payload_bits 0 payload.now)) }
 {
-    read_ids(&mut NaluReader::new(payload)).ok()
+    read_ids(&mut ElementReader::new(payload)).ok()
 }
 
 /// Rows 1 and 2 of table 11, of which the second names the sequence set (7.3.2.3.1).
 fn read_ids(r: &mut ElementReader<'_>) -> Result<u8, ParseError>
     ensures { (pps : PlainPps)
-        → result_ok result ≡ sequence_set_named_in (read (ids pps) (bits r.old)) }
+        → result_ok result ≡ sequence_set_named_in (read (ids pps) (left r.old)) }
 {
     ue_u8(r, Row(11, 1), 0, 63)?;
     ue_u8(r, Row(11, 2), 0, 15)

@@ -3,3 +3,4 @@ pub mod OwnIds
 pub mod Kept
 pub mod Lending
 pub mod Slices
+pub mod Telling

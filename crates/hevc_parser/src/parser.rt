@@ -1,11 +1,17 @@
 //! The parameter sets that are kept (7.4.2.4.2).
-ghost use Rattle.std.specs.Prelude.{◌≡◌, ◌-◌, ◌<◌, ◌^◌, ◌↔◌, length, true, IsTrue, IfErr, IfOk, IfSome, IsFalse, IsErrOf, IsSome, OnErr, OnOk, option_map, Some, None};
+ghost use Rattle.std.specs.Prelude.{◌≡◌, ◌-◌, ◌<◌, ◌^◌, ◌↔◌, length, true, IsTrue, IfErr, IfOk, IfSome, IsFalse, IsErrOf, IsSome, OnErr, OnOk, option_map, Some, None, [], if◌then◌else◌};
 ghost use Rattle.std.specs.Ordering.{nat_cmp};
 ghost use Rattle.std.specs.BTreeMap.{get};
-ghost use Rattle.hevc_spec.specs.Payload.{payload};
+ghost use Rattle.hevc_spec.specs.Payload.{payload, payload_bits};
 ghost use Rattle.hevc_records.specs.SliceHeader.{default_slice_header};
 ghost use Rattle.hevc_bits.specs.FoundUnit.{bytes_of};
-ghost use Rattle.hevc_elements.specs.Words.{read, ReadsSet, MeansSet, NamesNoSet};
+ghost use Rattle.hevc_elements.specs.Kept.{telling_in};
+ghost use Rattle.hevc_elements.specs.Telling.{and_told, told};
+ghost use Rattle.hevc_tables.specs.SliceHeaderTable.{slice_segment_header};
+ghost use Rattle.hevc_bits.specs.NaluType.{nalu_type_number};
+ghost use Rattle.hevc_spec.specs.UnitTypes.{is_slice};
+ghost use Rattle.hevc_parser.specs.Telling.{told_of_unit};
+ghost use Rattle.hevc_elements.specs.Words.{read, NamesNoSet, ReadsSetUnit};
 ghost use Rattle.hevc_tables.specs.VpsTable.{video_parameter_set};
 ghost use Rattle.hevc_tables.specs.SpsTable.{sequence_parameter_set};
 ghost use Rattle.hevc_tables.specs.PpsTable.{picture_parameter_set};
@@ -21,13 +27,14 @@ ghost use Rattle.hevc_parser.specs.Answers.{NamesNoPictureSet};
 ghost use Rattle.hevc_parser.specs.OwnIds.{HasOwnIds, HasOwnIds-prop, HasNamedSets, HasNamedSets-prop};
 ghost use Rattle.hevc_bits.specs.declared.stream_limit.TheConstants.{STREAM_LIMIT};
 
-use hevc_bits::{Nalu, NaluHeader};
+use hevc_bits::{Nalu, NaluHeader, NaluType};
 use hevc_boxed::Boxed;
+use hevc_elements::Told;
 use hevc_picture_slice::{Pps, Slice, SliceHeader};
-use hevc_readers::{ParseError, read_pps, read_sps, read_vps};
+use hevc_readers::{ParseError, read_pps, read_sps, read_vps, tell_pps, tell_sps, tell_vps};
 use hevc_sequence_set::Sps;
 use hevc_sequence_set::comparisons::sps_eq;
-use hevc_slice_header::{ActiveSets, read_slice_header};
+use hevc_slice_header::{ActiveSets, read_slice_header, tell_slice_header};
 use hevc_video_set::Vps;
 use std::alloc::{AllocError, Global};
 use std::collections::BTreeMap;
@@ -73,14 +80,7 @@ impl Parser {
         requires { length nalu.now.stream < STREAM_LIMIT }
         ensures* keeps { sem 𝓛 (LeavesParser self.entry
             (Keeps (λ set. with_video_set (plain_vps set.now)) result self.old)) }
-        ensures wrong_type { IsErrOf result ParseError.WrongNaluType
-            ↔ ¬ (nalu.now.header.nal_unit_type ≡ 32) }
-        ensures read { nalu.now.header.nal_unit_type ≡ 32
-            → ReadsSet (λ set. plain_vps set.now) result
-            (read video_parameter_set (payload (bytes_of nalu.now))) }
-        ensures means { nalu.now.header.nal_unit_type ≡ 32
-            → MeansSet (λ set. plain_vps set.now) video_parameter_set result
-            (payload (bytes_of nalu.now)) }
+        ensures unit { ReadsSetUnit (λ set. plain_vps set.now) video_parameter_set 32 nalu.now result }
         ensures names_no_set { IfErr result NamesNoSet }
     {
         let set = read_vps(self.alloc, nalu)?;
@@ -120,14 +120,8 @@ impl Parser {
         requires { length nalu.now.stream < STREAM_LIMIT }
         ensures* keeps { sem 𝓛 (LeavesParser self.entry
             (Keeps (λ set. with_sequence_set (plain_sps set.now)) result self.old)) }
-        ensures wrong_type { IsErrOf result ParseError.WrongNaluType
-            ↔ ¬ (nalu.now.header.nal_unit_type ≡ 33) }
-        ensures read { nalu.now.header.nal_unit_type ≡ 33
-            → ReadsSet (λ set. plain_sps set.now) result
-            (read sequence_parameter_set (payload (bytes_of nalu.now))) }
-        ensures means { nalu.now.header.nal_unit_type ≡ 33
-            → MeansSet (λ set. plain_sps set.now) sequence_parameter_set result
-            (payload (bytes_of nalu.now)) }
+        ensures unit { ReadsSetUnit (λ set. plain_sps set.now) sequence_parameter_set 33 nalu.now
+            result }
         ensures names_no_set { IfErr result NamesNoSet }
     {
         let set = read_sps(self.alloc, nalu)?;
@@ -194,17 +188,9 @@ impl Parser {
         requires { length nalu.now.stream < STREAM_LIMIT }
         ensures* keeps { sem 𝓛 (LeavesParser self.entry
             (Keeps (λ set. with_picture_set (plain_pps set.now)) result self.old)) }
-        ensures wrong_type { IsErrOf result ParseError.WrongNaluType
-            ↔ ¬ (nalu.now.header.nal_unit_type ≡ 34) }
-        ensures read { nalu.now.header.nal_unit_type ≡ 34
-            → ReadsSet (λ set. plain_pps set.now) result
-            (read (picture_parameter_set (nalu.now.header.nuh_temporal_id_plus1 - 1)
-            (kept_by self.old).sequence_sets) (payload (bytes_of nalu.now))) }
-        ensures means { nalu.now.header.nal_unit_type ≡ 34
-            → MeansSet (λ set. plain_pps set.now)
-            (picture_parameter_set (nalu.now.header.nuh_temporal_id_plus1 - 1)
-            (kept_by self.old).sequence_sets) result
-            (payload (bytes_of nalu.now)) }
+        ensures unit { ReadsSetUnit (λ set. plain_pps set.now) (picture_parameter_set
+            (nalu.now.header.nuh_temporal_id_plus1 - 1) (kept_by self.old).sequence_sets) 34
+            nalu.now result }
         ensures names { IfErr result NamesNoPictureSet }
         // With tiles, the columns and the rows take all blocks of the picture (6.5.1).
         ensures tiles { IfOk result (λ set. TilesCoverKept self.old (plain_pps set.now)) }
@@ -289,6 +275,60 @@ impl Parser {
         let mut slice = self.new_slice(nalu);
         self.read_slice(&mut slice)?;
         Ok(slice)
+    }
+
+    /// Tells the elements of a unit, of a stream of less than 2^60 bytes, with the sets that are kept, after what is in the list and as
+    /// long as it has room: those of a parameter set or of a slice segment header, of a refused one up to the element that is refused,
+    /// and none of another unit. What is kept stays.
+    ///
+    /// Errors: reading wants memory that isn't there.
+    pub fn tell(
+        &self,
+        nalu: &Nalu<'_, NaluHeader>,
+        list: Vec<Told>,
+    ) -> Result<Vec<Told>, AllocError>
+        requires { length nalu.now.stream < STREAM_LIMIT }
+        ensures { IfOk result (λ told_list. telling_in told_list
+            ≡ and_told (told_of_unit (kept_by self.now) nalu.now) (telling_in list)) }
+    {
+        let header = nalu.header();
+        let payload = nalu.payload();
+        match header.nalu_type() as u8 {
+            32 => tell_vps(self.alloc, payload, list),
+            33 => tell_sps(self.alloc, payload, list),
+            34 => {
+                let temporal_id = header.temporal_id_plus1() - 1;
+                Ok(tell_pps(self.alloc, temporal_id, payload, &self.sequence_sets, list))
+            }
+            _ => self.tell_other(header.nalu_type(), payload, list),
+        }
+    }
+
+    /// Tells the elements of a unit that has no parameter set.
+    fn tell_other(
+        &self,
+        nalu_type: NaluType,
+        payload: &[u8],
+        list: Vec<Told>,
+    ) -> Result<Vec<Told>, AllocError>
+        requires { length payload.now < STREAM_LIMIT }
+        ensures { IfOk result (λ told_list. telling_in told_list ≡ and_told
+            (if is_slice (nalu_type_number nalu_type) then
+            told (slice_segment_header (nalu_type_number nalu_type) payload.now
+            (active_of (kept_by self.now))) (payload_bits 0 payload.now) else [])
+            (telling_in list)) }
+    {
+        if !nalu_type.is_slice() {
+            return Ok(list);
+        }
+        tell_slice_header(
+            self.alloc,
+            nalu_type,
+            payload,
+            &self.sequence_sets,
+            &self.picture_sets,
+            list,
+        )
     }
 
     /// The video parameter set of an id, if it is kept.

@@ -10,8 +10,8 @@ ghost use Rattle.hevc_pps.specs.Tiling.{KeepsTiles};
 
 use crate::range_extension::read_pps_range_extension;
 use crate::scc_extension::read_pps_scc_extension;
-use hevc_elements::{ElementReader, ParseError};
 use hevc_elements::rows::{flag, skip, zero};
+use hevc_elements::{ElementReader, ParseError};
 use hevc_picture_slice::Pps;
 use hevc_sequence_set::Sps;
 use hevc_set_parts::{PpsRangeExtension, PpsSccExtension};
@@ -46,7 +46,11 @@ fn set_extension_present(pps: &mut Pps, present: bool)
 
 /// Rows 29 to 35 of table 11.
 #[tactic(auto, unfolding(hevc_tables::specs::PpsTable::extension_data))]
-fn read_extension_data(r: &mut ElementReader<'_>, sps: &Sps, pps: &mut Pps) -> Result<(), ParseError>
+fn read_extension_data(
+    r: &mut ElementReader<'_>,
+    sps: &Sps,
+    pps: &mut Pps,
+) -> Result<(), ParseError>
     ensures fills { Fills plain_pps
         (table.extension_data (plain_sps sps.now)) result pps.old pps.new r.old r.new }
     ensures same { KeepsTiles pps.old pps.new }
@@ -122,7 +126,11 @@ fn set_extension_flags(pps: &mut Pps, range: bool, screen_content: bool)
 
 /// Row 34 of table 11.
 #[tactic(auto, unfolding(hevc_tables::specs::PpsTable::range_extension))]
-fn read_range_extension(r: &mut ElementReader<'_>, sps: &Sps, pps: &mut Pps) -> Result<(), ParseError>
+fn read_range_extension(
+    r: &mut ElementReader<'_>,
+    sps: &Sps,
+    pps: &mut Pps,
+) -> Result<(), ParseError>
     ensures fills { Fills plain_pps
         (table.range_extension (plain_sps sps.now)) result pps.old pps.new r.old r.new }
     ensures same { KeepsTiles pps.old pps.new }

@@ -10,8 +10,8 @@ ghost use Rattle.hevc_sequence_set.specs.Sps.{plain_sps};
 ghost use Rattle.hevc_picture_slice.specs.Pps.{plain_pps};
 ghost use Rattle.hevc_pps.specs.Tiling.{KeepsTiles};
 
-use hevc_elements::{ElementReader, ParseError};
 use hevc_elements::rows::{flag, se_i8, ue_u8};
+use hevc_elements::{ElementReader, ParseError};
 use hevc_picture_slice::Pps;
 use hevc_scaling::{default_scaling_lists, read_scaling_list_data};
 use hevc_sequence_set::Sps;

@@ -10,4 +10,4 @@ mod tile_sizes;
 mod tiles;
 mod tools;
 
-pub use picture_set::read_pps;
+pub use picture_set::{read_pps, tell_pps};

@@ -3,7 +3,9 @@ ghost use Rattle.std.specs.Prelude.{◌≡◌, ◌==◌, ◌-◌, ◌<◌, ◌^�
 ghost use Rattle.hevc_spec.specs.Payload.{payload, payload_bits};
 ghost use Rattle.hevc_bits.specs.FoundUnit.{bytes_of};
 ghost use Rattle.hevc_bits.specs.NaluType.{nalu_type_number};
-ghost use Rattle.hevc_elements.specs.Words.{read, Fills, ReadsSet, MeansSet};
+ghost use Rattle.hevc_elements.specs.Kept.{telling_in};
+ghost use Rattle.hevc_elements.specs.Telling.{and_told, told};
+ghost use Rattle.hevc_elements.specs.Words.{read, Fills, ReadsSet, ReadsSetUnit};
 ghost use Rattle.hevc_elements.specs.Naming.{ReadsNaming};
 ghost use Rattle.hevc_records.specs.SetsById.{sets_by_id};
 ghost use Rattle.hevc_tables.specs.PpsTable as table;
@@ -19,8 +21,8 @@ use crate::tiles::read_tiles;
 use crate::tools::{read_presence, read_quantiser, read_tools};
 use hevc_bits::{Nalu, NaluHeader, NaluType};
 use hevc_boxed::Boxed;
-use hevc_elements::{ElementReader, ParseError};
 use hevc_elements::rows::ue_u8;
+use hevc_elements::{ElementReader, ParseError, Told};
 use hevc_picture_slice::Pps;
 use hevc_sequence_set::Sps;
 use hevc_spec::Row;
@@ -45,16 +47,9 @@ pub fn read_pps(
     spses: &BTreeMap<u8, Boxed<Sps>>,
 ) -> Result<Pps, ParseError>
     requires { length nalu.now.stream < STREAM_LIMIT }
-    ensures wrong_type { IsErrOf result ParseError.WrongNaluType
-        ↔ ¬ (nalu.now.header.nal_unit_type ≡ 34) }
-    ensures read { nalu.now.header.nal_unit_type ≡ 34
-        → ReadsSet plain_pps result
-        (read (table.picture_parameter_set (nalu.now.header.nuh_temporal_id_plus1 - 1)
-        (sets_by_id plain_sps spses.now)) (payload (bytes_of nalu.now))) }
-    ensures means { nalu.now.header.nal_unit_type ≡ 34
-        → MeansSet plain_pps
-        (table.picture_parameter_set (nalu.now.header.nuh_temporal_id_plus1 - 1)
-        (sets_by_id plain_sps spses.now)) result (payload (bytes_of nalu.now)) }
+    ensures unit { ReadsSetUnit plain_pps (table.picture_parameter_set
+        (nalu.now.header.nuh_temporal_id_plus1 - 1) (sets_by_id plain_sps spses.now)) 34 nalu.now
+        result }
     ensures names { IfErr result NamesNoOtherSet }
     // With tiles, the columns and the rows take all blocks of the picture.
     ensures tiles { IfOk result (λ pps. CoverKept spses.now (plain_pps pps)) }
@@ -88,6 +83,27 @@ fn read_payload(
     ensures tiles { IfOk result (λ pps. CoverKept spses.now (plain_pps pps)) }
 {
     read_rows(temporal_id, &mut ElementReader::new(payload), spses)
+}
+
+/// Tells the elements of a picture parameter set's payload (7.3.1.1) by table 11, in a unit of this temporal id, those of a refused one up
+/// to the element that is refused, after what is in the list and as long as it has room.
+#[tactic(auto, using(hevc_elements::proofs::ScanLaws::tells))]
+#[inline(never)]
+pub fn tell_pps(
+    alloc: Global,
+    temporal_id: u8,
+    payload: &[u8],
+    spses: &BTreeMap<u8, Boxed<Sps>>,
+    list: Vec<Told>,
+) -> Vec<Told>
+    requires { length payload.now < STREAM_LIMIT }
+    ensures { telling_in result ≡ and_told
+        (told (table.picture_parameter_set temporal_id (sets_by_id plain_sps spses.now))
+        (payload_bits 0 payload.now)) (telling_in list) }
+{
+    let mut r = ElementReader::telling(payload, list);
+    let _result = read_rows(temporal_id, &mut r, spses);
+    r.take_told(alloc)
 }
 
 /// Rows 1 to 35 of table 11.

@@ -5,8 +5,8 @@ ghost use Rattle.hevc_tables.specs.PpsRangeExtensionTable as table;
 ghost use Rattle.hevc_set_parts.specs.PpsRangeExtension.{plain_pps_range_extension};
 ghost use Rattle.hevc_sequence_set.specs.Sps.{plain_sps};
 
-use hevc_elements::{ElementReader, ParseError};
 use hevc_elements::rows::{flag, se, ue, ue_if};
+use hevc_elements::{ElementReader, ParseError};
 use hevc_sequence_set::Sps;
 use hevc_set_parts::PpsRangeExtension;
 use hevc_spec::Row;

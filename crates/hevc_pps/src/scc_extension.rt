@@ -8,8 +8,8 @@ ghost use Rattle.hevc_tables.specs.SpsTable.{sample_format};
 ghost use Rattle.hevc_set_parts.specs.PpsSccExtension.{plain_pps_scc_extension};
 ghost use Rattle.hevc_sequence_set.specs.Sps.{plain_sps};
 
-use hevc_elements::{ElementReader, ParseError};
 use hevc_elements::rows::{bits_u32, flag, se_i8, ue_u8, ue_u8_if};
+use hevc_elements::{ElementReader, ParseError};
 use hevc_sequence_set::Sps;
 use hevc_set_parts::PpsSccExtension;
 use hevc_spec::Row;
@@ -39,7 +39,10 @@ pub(crate) fn read_pps_scc_extension(
 
 /// Rows 2 to 5 of table 13.
 #[tactic(auto, unfolding(hevc_tables::specs::PpsSccExtensionTable::colour_transform))]
-fn read_colour_transform(r: &mut ElementReader<'_>, x: &mut PpsSccExtension) -> Result<(), ParseError>
+fn read_colour_transform(
+    r: &mut ElementReader<'_>,
+    x: &mut PpsSccExtension,
+) -> Result<(), ParseError>
     ensures { Fills plain_pps_scc_extension table.colour_transform result x.old x.new r.old r.new }
 {
     x.slice_act_qp_offsets_present_flag = flag(r, Row(13, 2))?;

@@ -5,8 +5,8 @@ ghost use Rattle.hevc_tables.specs.PpsTable as table;
 ghost use Rattle.hevc_pps.specs.Projections.{plain_parts};
 ghost use Rattle.hevc_pps.specs.Tiling.{blocks_of, AreParts};
 
-use hevc_elements::{ElementReader, ParseError};
 use hevc_elements::rows::ue;
+use hevc_elements::{ElementReader, ParseError};
 use hevc_spec::Row;
 
 /// The sizes of some parts of a length, and how many blocks they leave.

@@ -7,15 +7,19 @@ ghost use Rattle.hevc_picture_slice.specs.Pps.{plain_pps};
 ghost use Rattle.hevc_pps.specs.Tiling.{HaveBlocks, AddUp};
 
 use crate::tile_sizes::{even_sizes, read_told_sizes};
-use hevc_elements::{ElementReader, ParseError};
 use hevc_elements::rows::{flag, ue_u8};
+use hevc_elements::{ElementReader, ParseError};
 use hevc_picture_slice::Pps;
 use hevc_sequence_set::Sps;
 use hevc_spec::Row;
 
 /// Rows 14 to 19 of table 11, of a set with tiles.
 #[tactic(auto, unfolding(hevc_tables::specs::PpsTable::tiles, hevc_spec::specs::Rows::either))]
-pub(crate) fn read_tiles(r: &mut ElementReader<'_>, sps: &Sps, pps: &mut Pps) -> Result<(), ParseError>
+pub(crate) fn read_tiles(
+    r: &mut ElementReader<'_>,
+    sps: &Sps,
+    pps: &mut Pps,
+) -> Result<(), ParseError>
     ensures fills { Fills plain_pps
         (table.tiles (plain_sps sps.now)) result pps.old pps.new r.old r.new }
     ensures same_sps { pps.new.seq_parameter_set_id ≡ pps.old.seq_parameter_set_id }

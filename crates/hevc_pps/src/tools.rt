@@ -6,8 +6,8 @@ ghost use Rattle.hevc_tables.specs.PpsTable as table;
 ghost use Rattle.hevc_sequence_set.specs.Sps.{plain_sps};
 ghost use Rattle.hevc_picture_slice.specs.Pps.{plain_pps};
 
-use hevc_elements::{ElementReader, ParseError};
 use hevc_elements::rows::{bits_u8, flag, se_i8, ue_u8, ue_u8_if};
+use hevc_elements::{ElementReader, ParseError};
 use hevc_picture_slice::Pps;
 use hevc_sequence_set::Sps;
 use hevc_spec::Row;

@@ -1,4 +1,5 @@
 pub use Rattle.hevc_elements.specs.Reads
+pub use Rattle.hevc_elements.specs.Telling
 pub use Rattle.hevc_elements.specs.Sets
 pub use Rattle.hevc_tables.specs.ProfileTierLevelTable
 pub use Rattle.hevc_tables.specs.HrdTable

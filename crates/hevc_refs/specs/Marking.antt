@@ -1,5 +1,5 @@
 -- Deriving a reference picture set, and the marks that it leaves (8.3.2).
-use Rattle.std.specs.Prelude.{◌≡◌, ℤ, pos, Bool, not, ◌&&◌, map, if◌then◌else◌}
+use Rattle.std.specs.Prelude.{◌≡◌, ℕ, ℤ, pos, Bool, true, false, not, ◌&&◌, map, All, if◌then◌else◌}
 use Rattle.hevc_bits.specs.NaluType.{nalu_type_number}
 use Rattle.hevc_walk_inputs.specs.Headers.{short_term_set_of, long_term_members}
 use Rattle.hevc_set_parts.specs.declared.short_term_ref_pic_set.ShortTermRefPicSet.{ShortTermRefPicSet}
@@ -9,7 +9,10 @@ use Rattle.hevc_picture_slice.specs.SliceHeader.{plain_slice_header}
 use Rattle.hevc_pictures.specs.declared.picture_data.PictureData.{PictureData}
 use Rattle.hevc_walk.specs.Meanings as walk
 use Rattle.hevc_walk.specs.Pictures.{Head}
-use Rattle.hevc_walk.specs.ReferenceSets.{short_term_set}
+use Rattle.hevc_walk.specs.Buffer.{Buffer, is_reference}
+use Rattle.hevc_walk.specs.ReferenceSets.{RefPicSet, short_term_set, reference_set, with_marks, five_lists, with_long_term, marked_if, all_members, names}
+use Rattle.hevc_walk_marks.specs.Marked.{has_reference, short_term_members}
+use Rattle.hevc_walk_marks.specs.Marked as marked
 use Rattle.hevc_dpb.specs.declared.dpb.Dpb.{Dpb}
 use Rattle.hevc_dpb.specs.Entries.{tickets, unmarked}
 use Rattle.hevc_dpb.specs.Plain.{HaveLatency}
@@ -29,6 +32,39 @@ pub record HasMembers (first : walk.Slice) (header : SliceHeader) (set : ShortTe
   pub long_term : first.long_term_pics ≡ long_term_members (plain_slice_header header)
   pub short_term : short_term_set first ≡ short_term_set_of (plain_short_term_ref_pic_set set)
   pub max_pic_order_cnt_lsb : max_lsb ≡ pos first.max_pic_order_cnt_lsb
+
+-- So it is of each head that the picture has, and each first slice of the walk with these members.
+abbrev pub OfPicture : PictureData → SliceHeader → ShortTermRefPicSet → ℤ
+    → (Head → walk.Slice → Type 0) → Type 0
+OfPicture pic header set max_lsb Fact =
+    (p : Head) (first : walk.Slice) → RefersAs p pic → HasMembers first header set max_lsb
+    → Fact p first
+
+-- the members of a picture's set among what is stored, and the marks that they leave
+pub record FindsMembers (p : Head) (first : walk.Slice) (found : RefPicSet) (old new : Buffer)
+    : Type 0 where
+  pub lists : found ≡ five_lists p first (short_term_set first) old (with_long_term p first old)
+  pub marks : new ≡ map (marked_if (all_members found)) (with_long_term p first old)
+
+-- the reference picture set of a picture over what is stored, and the marks that it leaves
+pub record DerivesSet (p : Head) (first : walk.Slice) (found : RefPicSet) (old new : Buffer)
+    : Type 0 where
+  pub set : found ≡ reference_set p first old
+  pub marks : new ≡ with_marks p first old
+
+-- What a list names is used for reference, and nothing else is; no picture is a short-term and a
+-- long-term member.
+pub record MarksItsMembers (found : RefPicSet) (new : Buffer) : Type 0 where
+  pub named : (n : ℕ) → names n (all_members found) ≡ true → has_reference n new ≡ true
+  pub exactly : All (λ e. is_reference e.mark ≡ names e.number (all_members found)) new
+  pub apart : (n : ℕ) → names n (short_term_members found) ≡ true
+      → names n (marked.long_term_members found) ≡ false
+
+-- both
+pub record Derives (p : Head) (first : walk.Slice) (found : RefPicSet) (old new : Buffer)
+    : Type 0 where
+  pub derives : DerivesSet p first found old new
+  pub members : MarksItsMembers found new
 
 -- nothing of a buffer but its marks has changed
 pub record KeepsAllButMarks {T : Type 0} (old new : Dpb T) : Type 0 where

@@ -1,15 +1,12 @@
 //! Deriving the reference picture set of a picture (8.3.2).
-ghost use Rattle.std.specs.Prelude.{◌≡◌, ℕ, true, false, map, All};
+ghost use Rattle.std.specs.Prelude.{◌≡◌};
 ghost use Rattle.hevc_spec.specs.UnitTypes.{is_idr};
-ghost use Rattle.hevc_walk.specs.Meanings.{Slice};
 ghost use Rattle.hevc_walk.specs.Pictures.{Head};
-ghost use Rattle.hevc_walk.specs.Buffer.{is_reference};
-ghost use Rattle.hevc_walk_marks.specs.Marked.{has_reference, short_term_members, long_term_members};
-ghost use Rattle.hevc_walk.specs.ReferenceSets.{names, reference_set, with_marks, references_before, five_lists, short_term_set, with_long_term, marked_if, all_members};
+ghost use Rattle.hevc_walk.specs.ReferenceSets.{references_before};
 ghost use Rattle.hevc_pictures.specs.OrderCounts.{IsMaxPicOrderCntLsb};
 ghost use Rattle.hevc_dpb.specs.Views.{buffer_of};
 ghost use Rattle.hevc_refs.specs.Sets.{plain_set};
-ghost use Rattle.hevc_refs.specs.Marking.{RefersAs, HasMembers, KeepsAllButMarks};
+ghost use Rattle.hevc_refs.specs.Marking.{RefersAs, OfPicture, FindsMembers, DerivesSet, Derives, KeepsAllButMarks};
 
 use crate::long_term::find_long_term;
 use crate::marking::{mark_long_term, unmark_others};
@@ -47,16 +44,8 @@ fn derive_members<T: Copy>(
     out: &mut RefPicSet,
 )
     requires { IsMaxPicOrderCntLsb max_pic_order_cnt_lsb }
-    ensures lists { (p : Head) (first : Slice) → RefersAs p pic.now
-        → HasMembers first header.now set.now max_pic_order_cnt_lsb
-        → plain_set out.new
-        ≡ five_lists p first (short_term_set first) (buffer_of dpb.old)
-        (with_long_term p first (buffer_of dpb.old)) }
-    ensures marks { (p : Head) (first : Slice) → RefersAs p pic.now
-        → HasMembers first header.now set.now max_pic_order_cnt_lsb
-        → buffer_of dpb.new
-        ≡ map (marked_if (all_members (plain_set out.new)))
-        (with_long_term p first (buffer_of dpb.old)) }
+    ensures finds { OfPicture pic.now header.now set.now max_pic_order_cnt_lsb (λ p first.
+        FindsMembers p first (plain_set out.new) (buffer_of dpb.old) (buffer_of dpb.new)) }
     ensures kept { KeepsAllButMarks dpb.old dpb.new }
 {
     let order_count = pic.pic_order_cnt_val;
@@ -76,12 +65,8 @@ fn derive<T: Copy>(
     out: &mut RefPicSet,
 )
     requires { IsMaxPicOrderCntLsb max_pic_order_cnt_lsb }
-    ensures set { (p : Head) (first : Slice) → RefersAs p pic.now
-        → HasMembers first header.now set.now max_pic_order_cnt_lsb
-        → plain_set out.new ≡ reference_set p first (buffer_of dpb.old) }
-    ensures marks { (p : Head) (first : Slice) → RefersAs p pic.now
-        → HasMembers first header.now set.now max_pic_order_cnt_lsb
-        → buffer_of dpb.new ≡ with_marks p first (buffer_of dpb.old) }
+    ensures derives { OfPicture pic.now header.now set.now max_pic_order_cnt_lsb (λ p first.
+        DerivesSet p first (plain_set out.new) (buffer_of dpb.old) (buffer_of dpb.new)) }
     ensures kept { KeepsAllButMarks dpb.old dpb.new }
 {
     unmark_before_sequence(dpb, pic);
@@ -107,26 +92,9 @@ pub fn derive_into<T: Copy>(
     out: &mut RefPicSet,
 )
     requires { IsMaxPicOrderCntLsb max_pic_order_cnt_lsb }
-    ensures set { (p : Head) (first : Slice) → RefersAs p pic.now
-        → HasMembers first header.now set.now max_pic_order_cnt_lsb
-        → plain_set out.new ≡ reference_set p first (buffer_of dpb.old) }
-    ensures marks { (p : Head) (first : Slice) → RefersAs p pic.now
-        → HasMembers first header.now set.now max_pic_order_cnt_lsb
-        → buffer_of dpb.new ≡ with_marks p first (buffer_of dpb.old) }
+    ensures derives { OfPicture pic.now header.now set.now max_pic_order_cnt_lsb (λ p first.
+        Derives p first (plain_set out.new) (buffer_of dpb.old) (buffer_of dpb.new)) }
     ensures kept { KeepsAllButMarks dpb.old dpb.new }
-    // What a list names is used for reference, and nothing else is; no picture is a short-term and a long-term member.
-    ensures named { (p : Head) (first : Slice) → RefersAs p pic.now
-        → HasMembers first header.now set.now max_pic_order_cnt_lsb
-        → (n : ℕ) → names n (all_members (plain_set out.new)) ≡ true
-        → has_reference n (buffer_of dpb.new) ≡ true }
-    ensures exactly { (p : Head) (first : Slice) → RefersAs p pic.now
-        → HasMembers first header.now set.now max_pic_order_cnt_lsb
-        → All (λ e. is_reference e.mark ≡ names e.number (all_members (plain_set out.new)))
-        (buffer_of dpb.new) }
-    ensures apart { (p : Head) (first : Slice) → RefersAs p pic.now
-        → HasMembers first header.now set.now max_pic_order_cnt_lsb
-        → (n : ℕ) → names n (short_term_members (plain_set out.new)) ≡ true
-        → names n (long_term_members (plain_set out.new)) ≡ false }
 {
     derive(dpb, pic, header, set, max_pic_order_cnt_lsb, out);
 }
@@ -144,26 +112,9 @@ pub fn derive_and_mark<T: Copy>(
     max_pic_order_cnt_lsb: i32,
 ) -> RefPicSet
     requires { IsMaxPicOrderCntLsb max_pic_order_cnt_lsb }
-    ensures set { (p : Head) (first : Slice) → RefersAs p pic.now
-        → HasMembers first header.now set.now max_pic_order_cnt_lsb
-        → plain_set result ≡ reference_set p first (buffer_of dpb.old) }
-    ensures marks { (p : Head) (first : Slice) → RefersAs p pic.now
-        → HasMembers first header.now set.now max_pic_order_cnt_lsb
-        → buffer_of dpb.new ≡ with_marks p first (buffer_of dpb.old) }
+    ensures derives { OfPicture pic.now header.now set.now max_pic_order_cnt_lsb (λ p first.
+        Derives p first (plain_set result) (buffer_of dpb.old) (buffer_of dpb.new)) }
     ensures kept { KeepsAllButMarks dpb.old dpb.new }
-    // What a list names is used for reference, and nothing else is; no picture is a short-term and a long-term member.
-    ensures named { (p : Head) (first : Slice) → RefersAs p pic.now
-        → HasMembers first header.now set.now max_pic_order_cnt_lsb
-        → (n : ℕ) → names n (all_members (plain_set result)) ≡ true
-        → has_reference n (buffer_of dpb.new) ≡ true }
-    ensures exactly { (p : Head) (first : Slice) → RefersAs p pic.now
-        → HasMembers first header.now set.now max_pic_order_cnt_lsb
-        → All (λ e. is_reference e.mark ≡ names e.number (all_members (plain_set result)))
-        (buffer_of dpb.new) }
-    ensures apart { (p : Head) (first : Slice) → RefersAs p pic.now
-        → HasMembers first header.now set.now max_pic_order_cnt_lsb
-        → (n : ℕ) → names n (short_term_members (plain_set result)) ≡ true
-        → names n (long_term_members (plain_set result)) ≡ false }
 {
     let mut out = RefPicSet::new();
     derive_into(dpb, pic, header, set, max_pic_order_cnt_lsb, &mut out);

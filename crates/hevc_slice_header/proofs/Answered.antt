@@ -1,11 +1,12 @@
 -- What the rows of a header refuse, and what follows for the header with its sizes.
-use Rattle.std.proofs.Common.{◌≡◌, ℕ, ◌-◌, Bool, List, length, Option, Result, refl}
+use Rattle.std.proofs.Common.{◌≡◌, ℕ, ◌-◌, Bool, List, length, Option, Result, Ok, Err, refl}
 use Rattle.hevc_spec.specs.Table.{Table, Fault, read, gives, refuses, out_of_bits, out_of_range, not_kept}
 use Rattle.hevc_spec.specs.Rows.{row}
-use Rattle.hevc_elements.specs.Telling.{Telling}
+use Rattle.std.specs.Prelude.{IsErrOf}
+use Rattle.hevc_elements.specs.Telling.{Telling, and_told, told}
 use Rattle.hevc_elements.specs.Naming.{names_sequence_set, names_picture_set}
 use Rattle.hevc_elements.specs.Scan.{Position, left, Scan, gave, refused, scan}
-use Rattle.hevc_elements.proofs.ScanLaws.{gave_is_read, refused_is_read}
+use Rattle.hevc_elements.proofs.ScanLaws.{gave_is_read, refused_is_read, naming_tells}
 use Rattle.hevc_elements.specs.Sets.{IsRefused}
 use Rattle.hevc_records.specs.SliceHeader.{PlainSliceSegmentHeader}
 use Rattle.hevc_elements.specs.declared.parse_error.ParseError.{ParseError}
@@ -15,7 +16,7 @@ use Rattle.hevc_elements.specs.Growing.{RefusesGrowing}
 use Rattle.hevc_elements.specs.Sets.{RefusesSet, ReadsSet, MeansSet}
 use Rattle.hevc_elements.proofs.SetMeaning.{set_found, set_only, set_refused, set_broken}
 use Rattle.hevc_tables.specs.SliceHeaderTable.{ActiveSets, elements, aligned, with_sizes, slice_segment_header}
-use Rattle.hevc_slice_header.specs.Answers.{RefusesHeader, NamesNoSequenceSet}
+use Rattle.hevc_slice_header.specs.Answers.{RefusesHeader, AnswersHeader, NamesNoSequenceSet}
 
 module _ {A : Type 0} (new : Position) (reading : Scan A) where
   pub names_none : (e : ParseError) → Refuses e new reading → NamesNoSequenceSet e
@@ -60,6 +61,21 @@ module _ (nal_unit_type : ℕ) (payload : List ℕ) (kept : ℕ → Option Activ
       let e : read (aligned (elements nal_unit_type kept)) all ≡ gives h (left new) =
         gave_is_read (aligned (elements nal_unit_type kept)) t new.telling all (left new) h s in
       rw e refl
+
+-- What is told, but where memory is wanted.
+module _ (nal_unit_type : ℕ) (payload : List ℕ) (kept : ℕ → Option ActiveSets) (all : List Bool) (t : Telling) (new : Position) where
+  pub header_tells : {X : Type 0} (view : X → PlainSliceSegmentHeader) (r : Result X ParseError)
+      → AnswersHeader view r new (scan (aligned (elements nal_unit_type kept)) t all)
+      → (IsErrOf r NoMemory → ⊥)
+      → new.telling ≡ and_told (told (slice_segment_header nal_unit_type payload kept) all) t
+  unfolding slice_segment_header
+  header_tells view (Err NoMemory) h some = absurd (some refl)
+  header_tells view (Ok x) h some = naming_tells view new (aligned (elements nal_unit_type kept)) t all (Ok x) h
+  header_tells view (Err WrongNaluType) h some = absurd h
+  header_tells view (Err OutOfBits) h some = naming_tells view new (aligned (elements nal_unit_type kept)) t all (Err OutOfBits) h
+  header_tells view (Err (OutOfRange a b)) h some = naming_tells view new (aligned (elements nal_unit_type kept)) t all (Err (OutOfRange a b)) h
+  header_tells view (Err (MissingSps id)) h some = naming_tells view new (aligned (elements nal_unit_type kept)) t all (Err (MissingSps id)) h
+  header_tells view (Err (MissingPps id)) h some = naming_tells view new (aligned (elements nal_unit_type kept)) t all (Err (MissingPps id)) h
 
 -- what was read means what the lines of the payload say
 pub means_as_read : {X A : Type 0} (view : X → A) (t : Table A) (r : Result X ParseError) (payload : List Bool) → ReadsSet view r (read t payload) → MeansSet view t r payload

@@ -14,4 +14,4 @@ mod slice_header;
 pub use active_sets::ActiveSets;
 pub use prediction::parse_pred_weight_table;
 pub use segment::slice_header_set_defaults;
-pub use slice_header::read_slice_header;
+pub use slice_header::{read_slice_header, tell_slice_header};

@@ -5,6 +5,8 @@ ghost use Rattle.hevc_spec.specs.UnitTypes.{is_slice as is_slice_number};
 ghost use Rattle.hevc_bits.specs.FoundUnit.{bytes_of};
 ghost use Rattle.hevc_bits.specs.NaluType.{nalu_type_number};
 ghost use Rattle.hevc_records.specs.SliceHeader.{default_slice_header};
+ghost use Rattle.hevc_elements.specs.Kept.{telling_in};
+ghost use Rattle.hevc_elements.specs.Telling.{and_told, told};
 ghost use Rattle.hevc_elements.specs.Words.{read, ReadsSet};
 ghost use Rattle.hevc_tables.specs.SliceHeaderTable as table;
 ghost use Rattle.hevc_short_term.specs.Predictions.{IsInOrder};
@@ -24,12 +26,12 @@ use crate::segment::read_behind_sets;
 use hevc_bits::{Nalu, NaluHeader, NaluType};
 use hevc_boxed::Boxed;
 use hevc_elements::rows::skip;
-use hevc_elements::{ElementReader, ParseError};
+use hevc_elements::{ElementReader, ParseError, Told, wants_memory};
 use hevc_picture_slice::{Pps, SliceHeader};
 use hevc_sequence_set::Sps;
 use hevc_slice_references::bits_between;
 use hevc_spec::Row;
-use std::alloc::Global;
+use std::alloc::{AllocError, Global};
 use std::collections::BTreeMap;
 
 /// Reads a slice segment header out of its unit, of a stream of less than 2^60 bytes, by table 14 (7.3.6.1), with the parameter sets
@@ -95,6 +97,33 @@ fn read_payload<'a>(
         }
         Err(error) => Err(error),
     }
+}
+
+/// Tells the elements of a slice segment header by table 14, in a unit of this type whose payload bytes these are (7.3.1.1), those of a
+/// refused one up to the element that is refused, after what is in the list and as long as it has room. `AllocError` where reading
+/// wants memory that isn't there.
+#[tactic(auto, using(crate::proofs::Answered::header_tells), unfolding(hevc_spec::specs::Payload::bits_left))]
+#[inline(never)]
+pub fn tell_slice_header(
+    alloc: Global,
+    nalu_type: NaluType,
+    payload: &[u8],
+    spses: &BTreeMap<u8, Boxed<Sps>>,
+    ppses: &BTreeMap<u8, Pps>,
+    list: Vec<Told>,
+) -> Result<Vec<Told>, AllocError>
+    requires { length payload.now < STREAM_LIMIT }
+    ensures { IfOk result (λ told_list. telling_in told_list ≡ and_told
+        (told (table.slice_segment_header (nalu_type_number nalu_type) payload.now
+        (kept_active_sets ppses.now spses.now)) (payload_bits 0 payload.now)) (telling_in list)) }
+{
+    let mut header = SliceHeader::new(alloc);
+    let mut r = ElementReader::telling(payload, list);
+    let answer = read_aligned(alloc, &mut r, nalu_type, spses, ppses, &mut header);
+    if wants_memory(&answer) {
+        return Err(AllocError);
+    }
+    Ok(r.take_told(alloc))
 }
 
 /// The sizes of a header of so many payload bits, in which so many 03 bytes are dropped.

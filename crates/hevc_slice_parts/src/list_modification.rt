@@ -7,8 +7,8 @@ ghost use Rattle.hevc_slice_parts.specs.Entries.{HasEntries};
 
 use crate::logarithm::ceil_log2;
 use arrayvec::ArrayVec;
-use hevc_elements::{ElementReader, ParseError};
 use hevc_elements::rows::{bits_u32, flag};
+use hevc_elements::{ElementReader, ParseError};
 use hevc_set_parts::RefPicListModification;
 use hevc_spec::Row;
 

@@ -7,8 +7,8 @@ ghost use Rattle.hevc_sequence_set.specs.Sps.{plain_sps};
 ghost use Rattle.hevc_slice_parts.specs.Projections.{plain_list_weights};
 
 use crate::records::ListWeights;
-use hevc_elements::{ElementReader, ParseError};
 use hevc_elements::rows::{flag, se, se_i8};
+use hevc_elements::{ElementReader, ParseError};
 use hevc_sequence_set::Sps;
 use hevc_spec::Row;
 

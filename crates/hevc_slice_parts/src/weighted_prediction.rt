@@ -9,8 +9,8 @@ ghost use Rattle.hevc_slice_parts.specs.Projections.{plain_list_weights};
 
 use crate::list_weights::{has_chroma, no_weights, read_list_weights};
 use crate::records::ListWeights;
-use hevc_elements::{ElementReader, ParseError};
 use hevc_elements::rows::{se_i8, ue_u8};
+use hevc_elements::{ElementReader, ParseError};
 use hevc_sequence_set::Sps;
 use hevc_spec::Row;
 use hevc_video_set::PredWeightTable;

@@ -7,8 +7,8 @@ ghost use Rattle.hevc_picture_slice.specs.Pps.{plain_pps};
 ghost use Rattle.hevc_picture_slice.specs.SliceHeader.{plain_slice_header};
 ghost use Rattle.hevc_slice_references.specs.Unordered.{IsUnordered};
 
-use hevc_elements::{ElementReader, ParseError};
 use hevc_elements::rows::{flag, ue_if, ue_u8};
+use hevc_elements::{ElementReader, ParseError};
 use hevc_picture_slice::{Pps, SliceHeader};
 use hevc_spec::Row;
 

@@ -7,8 +7,8 @@ ghost use Rattle.hevc_picture_slice.specs.SliceHeader.{plain_slice_header};
 
 use crate::index::read_index;
 use crate::short_term::lsb_bits;
-use hevc_elements::{ElementReader, ParseError};
 use hevc_elements::rows::{bits_u32, flag, ue_if, ue_u8};
+use hevc_elements::{ElementReader, ParseError};
 use hevc_picture_slice::SliceHeader;
 use hevc_sequence_set::Sps;
 use hevc_spec::Row;
@@ -44,7 +44,11 @@ fn read_counts(r: &mut ElementReader<'_>, sps: &Sps, h: &mut SliceHeader) -> Res
 
 /// Rows 16 to 20 of table 14, for each picture.
 #[tactic(auto, using(hevc_elements::proofs::Loops::loops), unfolding(hevc_tables::specs::SliceHeaderTable::long_term_pictures))]
-fn read_pictures(r: &mut ElementReader<'_>, sps: &Sps, h: &mut SliceHeader) -> Result<(), ParseError>
+fn read_pictures(
+    r: &mut ElementReader<'_>,
+    sps: &Sps,
+    h: &mut SliceHeader,
+) -> Result<(), ParseError>
     ensures { Fills plain_slice_header
         (table.long_term_pictures (plain_sps sps.now)) result h.old h.new r.old r.new }
 {

@@ -6,8 +6,8 @@ ghost use Rattle.hevc_picture_slice.specs.SliceHeader.{plain_slice_header};
 
 use crate::long_term::read_long_term;
 use crate::short_term::read_short_term;
-use hevc_elements::{ElementReader, ParseError};
 use hevc_elements::rows::flag_if;
+use hevc_elements::{ElementReader, ParseError};
 use hevc_picture_slice::SliceHeader;
 use hevc_sequence_set::Sps;
 use hevc_spec::Row;

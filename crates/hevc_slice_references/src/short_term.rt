@@ -8,8 +8,8 @@ ghost use Rattle.hevc_picture_slice.specs.SliceHeader.{plain_slice_header};
 
 use crate::index::read_index;
 use crate::size::bits_between;
-use hevc_elements::{ElementReader, ParseError};
 use hevc_elements::rows::{bits_u32, flag, zero};
+use hevc_elements::{ElementReader, ParseError};
 use hevc_picture_slice::SliceHeader;
 use hevc_sequence_set::Sps;
 use hevc_short_term::read_short_term_set;

@@ -3,7 +3,6 @@ ghost use Rattle.std.specs.Prelude.{◌≡◌, ◌+◌, ◌-◌, ◌*◌, ◌<�
 ghost use Rattle.hevc_spec.specs.Payload.{bits_left};
 ghost use Rattle.hevc_elements.specs.Words.{left};
 
-
 /// The payload bits between two places, less than 2^32.
 pub fn bits_between(before: &ElementReader<'_>, after: &ElementReader<'_>) -> u32
     requires ahead { IsAhead before.now after.now }

@@ -10,8 +10,8 @@ use crate::frame::half_range;
 use crate::range_extension::read_sps_range_extension;
 use crate::sample_format::SampleFormat;
 use crate::scc_extension::read_sps_scc_extension;
-use hevc_elements::{ElementReader, ParseError};
 use hevc_elements::rows::{flag, skip, zero};
+use hevc_elements::{ElementReader, ParseError};
 use hevc_sequence_set::{Sps, SpsRangeExtension, SpsSccExtension};
 use hevc_spec::Row;
 
@@ -48,7 +48,10 @@ fn read_extension_data(r: &mut ElementReader<'_>, sps: &mut Sps) -> Result<(), P
 
 /// Row 49 of table 5, where its flag is set.
 #[tactic(auto, unfolding(hevc_spec::specs::Rows::when))]
-fn read_range_extension_if_present(r: &mut ElementReader<'_>, sps: &mut Sps) -> Result<(), ParseError>
+fn read_range_extension_if_present(
+    r: &mut ElementReader<'_>,
+    sps: &mut Sps,
+) -> Result<(), ParseError>
     ensures { Fills plain_sps (λ s. when s.range_extension_flag s (table.range_extension s))
         result sps.old sps.new r.old r.new }
 {

@@ -5,8 +5,8 @@ ghost use Rattle.hevc_records.specs.SpsSizes.{leaves_some, sub_width_c, sub_heig
 ghost use Rattle.hevc_tables.specs.SpsTable as table;
 ghost use Rattle.hevc_sequence_set.specs.Sps.{plain_sps};
 
-use hevc_elements::{ElementReader, ParseError};
 use hevc_elements::rows::{check, flag, flag_if, ue, ue_u8, ue_u16};
+use hevc_elements::{ElementReader, ParseError};
 use hevc_sequence_set::Sps;
 use hevc_spec::Row;
 

@@ -15,4 +15,4 @@ mod short_term;
 mod tools;
 mod usability;
 
-pub use sequence_set::read_sps;
+pub use sequence_set::{read_sps, tell_sps};

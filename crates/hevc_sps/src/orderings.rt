@@ -5,8 +5,8 @@ ghost use Rattle.hevc_tables.specs.SpsTable as table;
 ghost use Rattle.hevc_tables.specs.VpsTable.{up_to_highest as up_to_highest_sub_layer};
 ghost use Rattle.hevc_sequence_set.specs.Sps.{plain_sps};
 
-use hevc_elements::{ElementReader, ParseError};
 use hevc_elements::rows::{flag, ue_u8};
+use hevc_elements::{ElementReader, ParseError};
 use hevc_sequence_set::Sps;
 use hevc_spec::Row;
 

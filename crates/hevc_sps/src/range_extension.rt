@@ -3,8 +3,8 @@ ghost use Rattle.hevc_elements.specs.Words.{read, Reads};
 ghost use Rattle.hevc_tables.specs.SpsRangeExtensionTable.{sps_range_extension};
 ghost use Rattle.hevc_sequence_set.specs.SpsRangeExtension.{plain_sps_range_extension};
 
-use hevc_elements::{ElementReader, ParseError};
 use hevc_elements::rows::flag;
+use hevc_elements::{ElementReader, ParseError};
 use hevc_sequence_set::SpsRangeExtension;
 use hevc_spec::Row;
 

@@ -6,8 +6,8 @@ ghost use Rattle.hevc_sequence_set.specs.SpsSccExtension.{plain_sps_scc_extensio
 ghost use Rattle.hevc_sps.specs.Projections.{plain_format};
 
 use crate::sample_format::SampleFormat;
-use hevc_elements::{ElementReader, ParseError};
 use hevc_elements::rows::{bits_u8, bits_u32, flag, ue_u8};
+use hevc_elements::{ElementReader, ParseError};
 use hevc_sequence_set::SpsSccExtension;
 use hevc_spec::Row;
 

@@ -3,7 +3,9 @@ ghost use Rattle.std.specs.Prelude.{◌≡◌, ◌==◌, ◌<◌, ◌≤◌, ◌
 ghost use Rattle.hevc_spec.specs.Payload.{payload, payload_bits};
 ghost use Rattle.hevc_bits.specs.FoundUnit.{bytes_of};
 ghost use Rattle.hevc_bits.specs.NaluType.{nalu_type_number};
-ghost use Rattle.hevc_elements.specs.Words.{read, Fills, FillsGrowing, ReadsGrowing, ReadsSet, MeansSet, NamesNoSet};
+ghost use Rattle.hevc_elements.specs.Kept.{telling_in};
+ghost use Rattle.hevc_elements.specs.Telling.{and_told, told};
+ghost use Rattle.hevc_elements.specs.Words.{read, Fills, FillsGrowing, ReadsGrowing, ReadsSet, NamesNoSet, ReadsSetUnit};
 ghost use Rattle.hevc_records.specs.Sps.{default_sps};
 ghost use Rattle.hevc_tables.specs.SpsTable as table;
 ghost use Rattle.hevc_sequence_set.specs.Sps.{plain_sps};
@@ -21,7 +23,7 @@ use crate::tools::{read_scaling, read_tools};
 use crate::usability::read_usability;
 use hevc_bits::{Nalu, NaluHeader, NaluType};
 use hevc_boxed::Boxed;
-use hevc_elements::{ElementReader, ParseError};
+use hevc_elements::{ElementReader, ParseError, Told, wants_memory};
 use hevc_sequence_set::Sps;
 use std::alloc::{AllocError, Global};
 
@@ -38,13 +40,7 @@ use std::alloc::{AllocError, Global};
 #[inline(never)]
 pub fn read_sps(alloc: Global, nalu: &Nalu<'_, NaluHeader>) -> Result<Boxed<Sps>, ParseError>
     requires { length nalu.now.stream < STREAM_LIMIT }
-    ensures wrong_type { IsErrOf result ParseError.WrongNaluType
-        ↔ ¬ (nalu.now.header.nal_unit_type ≡ 33) }
-    ensures read { nalu.now.header.nal_unit_type ≡ 33
-        → ReadsSet plain_sps result
-        (read table.sequence_parameter_set (payload (bytes_of nalu.now))) }
-    ensures means { nalu.now.header.nal_unit_type ≡ 33
-        → MeansSet plain_sps table.sequence_parameter_set result (payload (bytes_of nalu.now)) }
+    ensures unit { ReadsSetUnit plain_sps table.sequence_parameter_set 33 nalu.now result }
     ensures names_no_set { IfErr result NamesNoSet }
     // Along every chain of predictions negatives fall, positives rise, and none is 0.
     ensures predictions { IfOk result (λ sps. AreInOrder sps.short_term_ref_pic_set) }
@@ -71,6 +67,23 @@ fn read_payload(alloc: Global, payload: &[u8]) -> Result<Boxed<Sps>, ParseError>
     ensures names_no_set { IfErr result NamesNoSet }
 {
     read_rows(alloc, &mut ElementReader::new(payload))
+}
+
+/// Tells the elements of a sequence parameter set's payload (7.3.1.1) by table 5, those of a refused one up to the element that is refused, after what is
+/// in the list and as long as it has room. `AllocError` where reading wants memory that isn't there.
+#[tactic(auto, using(hevc_elements::proofs::ScanLaws::tells))]
+#[inline(never)]
+pub fn tell_sps(alloc: Global, payload: &[u8], list: Vec<Told>) -> Result<Vec<Told>, AllocError>
+    requires { length payload.now < STREAM_LIMIT }
+    ensures { IfOk result (λ told_list. telling_in told_list
+        ≡ and_told (told table.sequence_parameter_set (payload_bits 0 payload.now)) (telling_in list)) }
+{
+    let mut r = ElementReader::telling(payload, list);
+    let answer = read_rows(alloc, &mut r);
+    if wants_memory(&answer) {
+        return Err(AllocError);
+    }
+    Ok(r.take_told(alloc))
 }
 
 /// Rows 1 to 50 of table 5.

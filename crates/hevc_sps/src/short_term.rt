@@ -6,8 +6,8 @@ ghost use Rattle.hevc_tables.specs.SpsTable as table;
 ghost use Rattle.hevc_set_parts.specs.ShortTermRefPicSet.{plain_short_term_ref_pic_set};
 ghost use Rattle.hevc_sequence_set.specs.Sps.{plain_sps};
 
-use hevc_elements::{ElementReader, ParseError};
 use hevc_elements::rows::ue_u8;
+use hevc_elements::{ElementReader, ParseError};
 use hevc_sequence_set::Sps;
 use hevc_set_parts::{Items, ShortTermRefPicSet};
 use hevc_short_term::read_short_term_set;

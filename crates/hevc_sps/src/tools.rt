@@ -5,8 +5,8 @@ ghost use Rattle.hevc_tables.specs.SpsTable as table;
 ghost use Rattle.hevc_set_parts.specs.ScalingLists.{plain_scaling_lists};
 ghost use Rattle.hevc_sequence_set.specs.Sps.{plain_sps};
 
-use hevc_elements::{ElementReader, ParseError};
 use hevc_elements::rows::{bits_u8, flag, flag_if, ue_u8};
+use hevc_elements::{ElementReader, ParseError};
 use hevc_scaling::read_scaling_list_data;
 use hevc_sequence_set::Sps;
 use hevc_set_parts::ScalingLists;

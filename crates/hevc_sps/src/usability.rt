@@ -4,8 +4,8 @@ ghost use Rattle.hevc_elements.specs.Words.{Fills};
 ghost use Rattle.hevc_tables.specs.SpsTable as table;
 ghost use Rattle.hevc_sequence_set.specs.Sps.{plain_sps};
 
-use hevc_elements::{ElementReader, ParseError};
 use hevc_elements::rows::flag;
+use hevc_elements::{ElementReader, ParseError};
 use hevc_sequence_set::Sps;
 use hevc_spec::Row;
 use hevc_vui::read_vui_parameters;

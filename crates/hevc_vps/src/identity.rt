@@ -3,8 +3,8 @@ ghost use Rattle.hevc_elements.specs.Words.{Fills};
 ghost use Rattle.hevc_tables.specs.VpsTable as table;
 ghost use Rattle.hevc_video_set.specs.Vps.{plain_vps};
 
-use hevc_elements::{ElementReader, ParseError};
 use hevc_elements::rows::{bits_u8, flag, skip, ue};
+use hevc_elements::{ElementReader, ParseError};
 use hevc_profile::read_profile_tier_level;
 use hevc_spec::Row;
 use hevc_video_set::Vps;
@@ -43,7 +43,10 @@ pub(crate) fn read_layer_sets(r: &mut ElementReader<'_>, vps: &mut Vps) -> Resul
 
 /// Row 25 of table 1.
 #[tactic(auto, unfolding(hevc_tables::specs::VpsTable::extension))]
-pub(crate) fn read_extension_flag(r: &mut ElementReader<'_>, vps: &mut Vps) -> Result<(), ParseError>
+pub(crate) fn read_extension_flag(
+    r: &mut ElementReader<'_>,
+    vps: &mut Vps,
+) -> Result<(), ParseError>
     ensures { Fills plain_vps table.extension result vps.old vps.new r.old r.new }
 {
     vps.extension_flag = flag(r, Row(1, 25))?;

@@ -6,4 +6,4 @@ mod orderings;
 mod structures;
 mod video_set;
 
-pub use video_set::read_vps;
+pub use video_set::{read_vps, tell_vps};

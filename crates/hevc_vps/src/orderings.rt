@@ -6,8 +6,8 @@ ghost use Rattle.hevc_elements.specs.Words.{read, when, Reads, Fills};
 ghost use Rattle.hevc_tables.specs.VpsTable as table;
 ghost use Rattle.hevc_video_set.specs.Vps.{plain_vps};
 
-use hevc_elements::{ElementReader, ParseError};
 use hevc_elements::rows::{check, flag, ue};
+use hevc_elements::{ElementReader, ParseError};
 use hevc_spec::Row;
 use hevc_video_set::Vps;
 

@@ -6,8 +6,8 @@ ghost use Rattle.hevc_tables.specs.VpsTable as table;
 ghost use Rattle.hevc_video_set.specs.HrdParams.{plain_hrd_params};
 ghost use Rattle.hevc_video_set.specs.Vps.{plain_vps};
 
-use hevc_elements::{ElementReader, ParseError};
 use hevc_elements::rows::{bits_32, flag, flag_or, ue, ue_if, ue_u16};
+use hevc_elements::{ElementReader, ParseError};
 use hevc_hrd::read_hrd_parameters;
 use hevc_spec::Row;
 use hevc_video_set::{HrdParams, Vps};

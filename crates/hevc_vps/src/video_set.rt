@@ -3,7 +3,9 @@ ghost use Rattle.std.specs.Prelude.{◌≡◌, ◌==◌, ◌<◌, ◌^◌, ◌�
 ghost use Rattle.hevc_spec.specs.Payload.{payload, payload_bits};
 ghost use Rattle.hevc_bits.specs.FoundUnit.{bytes_of};
 ghost use Rattle.hevc_bits.specs.NaluType.{nalu_type_number};
-ghost use Rattle.hevc_elements.specs.Words.{read, ReadsGrowing, ReadsSet, MeansSet, NamesNoSet};
+ghost use Rattle.hevc_elements.specs.Kept.{telling_in};
+ghost use Rattle.hevc_elements.specs.Telling.{and_told, told};
+ghost use Rattle.hevc_elements.specs.Words.{read, ReadsGrowing, ReadsSet, NamesNoSet, ReadsSetUnit};
 ghost use Rattle.hevc_tables.specs.VpsTable.{video_parameter_set};
 ghost use Rattle.hevc_video_set.specs.Vps.{plain_vps};
 ghost use Rattle.hevc_bits.specs.declared.stream_limit.TheConstants.{STREAM_LIMIT};
@@ -12,9 +14,9 @@ use crate::identity::{read_extension_flag, read_identity, read_layer_sets};
 use crate::orderings::read_orderings;
 use crate::structures::read_timing_info;
 use hevc_bits::{Nalu, NaluHeader, NaluType};
-use hevc_elements::{ElementReader, ParseError};
+use hevc_elements::{ElementReader, ParseError, Told, wants_memory};
 use hevc_video_set::Vps;
-use std::alloc::Global;
+use std::alloc::{AllocError, Global};
 
 /// Reads a video parameter set out of its unit, of a stream of less than 2^60 bytes, by table 1 (7.3.2.1).
 ///
@@ -28,12 +30,7 @@ use std::alloc::Global;
 #[inline(never)]
 pub fn read_vps(alloc: Global, nalu: &Nalu<'_, NaluHeader>) -> Result<Vps, ParseError>
     requires { length nalu.now.stream < STREAM_LIMIT }
-    ensures wrong_type { IsErrOf result ParseError.WrongNaluType
-        ↔ ¬ (nalu.now.header.nal_unit_type ≡ 32) }
-    ensures read { nalu.now.header.nal_unit_type ≡ 32
-        → ReadsSet plain_vps result (read video_parameter_set (payload (bytes_of nalu.now))) }
-    ensures means { nalu.now.header.nal_unit_type ≡ 32
-        → MeansSet plain_vps video_parameter_set result (payload (bytes_of nalu.now)) }
+    ensures unit { ReadsSetUnit plain_vps video_parameter_set 32 nalu.now result }
     ensures names_no_set { IfErr result NamesNoSet }
 {
     if !is_video_set(nalu.header().nalu_type()) {
@@ -58,6 +55,23 @@ fn read_payload(alloc: Global, payload: &[u8]) -> Result<Vps, ParseError>
     ensures names_no_set { IfErr result NamesNoSet }
 {
     read_rows(alloc, &mut ElementReader::new(payload))
+}
+
+/// Tells the elements of a video parameter set's payload (7.3.1.1) by table 1, those of a refused one up to the element that is refused, after what is
+/// in the list and as long as it has room. `AllocError` where reading wants memory that isn't there.
+#[tactic(auto, using(hevc_elements::proofs::ScanLaws::tells))]
+#[inline(never)]
+pub fn tell_vps(alloc: Global, payload: &[u8], list: Vec<Told>) -> Result<Vec<Told>, AllocError>
+    requires { length payload.now < STREAM_LIMIT }
+    ensures { IfOk result (λ told_list. telling_in told_list
+        ≡ and_told (told video_parameter_set (payload_bits 0 payload.now)) (telling_in list)) }
+{
+    let mut r = ElementReader::telling(payload, list);
+    let answer = read_rows(alloc, &mut r);
+    if wants_memory(&answer) {
+        return Err(AllocError);
+    }
+    Ok(r.take_told(alloc))
 }
 
 /// Rows 1 to 25 of table 1.

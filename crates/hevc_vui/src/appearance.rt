@@ -3,8 +3,8 @@ ghost use Rattle.hevc_elements.specs.Words.{Fills};
 ghost use Rattle.hevc_tables.specs.VuiTable as table;
 ghost use Rattle.hevc_video_set.specs.VuiParams.{plain_vui_params};
 
-use hevc_elements::{ElementReader, ParseError};
 use hevc_elements::rows::{bits_u32_if, flag, flag_if, ue, ue_if};
+use hevc_elements::{ElementReader, ParseError};
 use hevc_spec::Row;
 use hevc_video_set::VuiParams;
 
@@ -27,7 +27,10 @@ pub(crate) fn read_aspect_ratio(
 
 /// Rows 4 and 5 of table 8.
 #[tactic(auto, unfolding(hevc_tables::specs::VuiTable::overscan))]
-pub(crate) fn read_overscan(r: &mut ElementReader<'_>, vui: &mut VuiParams) -> Result<(), ParseError>
+pub(crate) fn read_overscan(
+    r: &mut ElementReader<'_>,
+    vui: &mut VuiParams,
+) -> Result<(), ParseError>
     ensures { Fills plain_vui_params table.overscan result vui.old vui.new r.old r.new }
 {
     vui.overscan_info_present_flag = flag(r, Row(8, 4))?;

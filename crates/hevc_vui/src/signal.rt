@@ -3,8 +3,8 @@ ghost use Rattle.hevc_elements.specs.Words.{Fills};
 ghost use Rattle.hevc_tables.specs.VuiTable as table;
 ghost use Rattle.hevc_video_set.specs.VuiParams.{plain_vui_params};
 
-use hevc_elements::{ElementReader, ParseError};
 use hevc_elements::rows::{bits_u8, bits_u32, flag};
+use hevc_elements::{ElementReader, ParseError};
 use hevc_spec::Row;
 use hevc_video_set::VuiParams;
 

@@ -2,7 +2,7 @@
 use crate::expect::{expect, expect_eq, expect_fewer, ok};
 use crate::written::assert_written;
 use hevc_bit_writer::BitWriter;
-use hevc_bits::NaluReader;
+use hevc_elements::ElementReader;
 use hevc_readers::{default_scaling_lists, read_scaling_list_data, read_short_term_set};
 use hevc_set_parts::ShortTermRefPicSet;
 use hevc_write_scaling::write_scaling_list_data;
@@ -20,7 +20,7 @@ fn predicted_lists_get_entries_of_their_own(rt: HostRuntime) {
     assert!(rt; !bytes.is_empty());
     expect_fewer(rt, bytes, 10_000);
     expect_eq(rt, bytes[0], 0x84);
-    let mut r = NaluReader::new(bytes);
+    let mut r = ElementReader::new(bytes);
     let read = ok(rt, read_scaling_list_data(&mut r));
     expect(rt, read == lists);
 }
@@ -57,7 +57,7 @@ fn neighbours() -> ShortTermRefPicSet {
 fn a_shift_onto_the_picture_is_no_member(rt: HostRuntime) {
     let rt = &rt;
     // 1 | 0 | 1 | 1 1 1: the member that is shifted onto the picture itself is used, which means nothing.
-    let mut r = NaluReader::new(&[0xbc]);
+    let mut r = ElementReader::new(&[0xbc]);
     let mut w = BitWriter::new(rt.alloc());
     let set = ok(rt, read_short_term_set(&mut r, &[neighbours()], 2, 16, 1));
     ok(

@@ -2,7 +2,7 @@
 use crate::expect::ok;
 use crate::written::assert_written;
 use hevc_bit_writer::BitWriter;
-use hevc_bits::NaluReader;
+use hevc_elements::ElementReader;
 use hevc_readers::{read_hrd_parameters, read_profile_tier_level, read_vui_parameters};
 use hevc_video_set::{HrdParams, VuiParams};
 use hevc_write_parts::{write_hrd_parameters, write_profile_tier_level, write_vui_parameters};
@@ -37,7 +37,7 @@ const WRITTEN_PROFILE: &[u8] = &[
 #[test]
 fn usability_is_written_as_it_was(rt: HostRuntime) {
     let rt = &rt;
-    let mut r = NaluReader::new(USABILITY);
+    let mut r = ElementReader::new(USABILITY);
     let mut w = BitWriter::new(rt.alloc());
     let mut vui = VuiParams::new();
     ok(rt, read_vui_parameters(&mut r, 0, &mut vui));
@@ -48,7 +48,7 @@ fn usability_is_written_as_it_was(rt: HostRuntime) {
 #[test]
 fn schedules_are_written_as_they_were(rt: HostRuntime) {
     let rt = &rt;
-    let mut r = NaluReader::new(SCHEDULES);
+    let mut r = ElementReader::new(SCHEDULES);
     let mut w = BitWriter::new(rt.alloc());
     let mut hrd = HrdParams::new();
     ok(rt, read_hrd_parameters(&mut r, true, 1, &mut hrd));
@@ -59,7 +59,7 @@ fn schedules_are_written_as_they_were(rt: HostRuntime) {
 #[test]
 fn reserved_bits_of_a_profile_are_zeros(rt: HostRuntime) {
     let rt = &rt;
-    let mut r = NaluReader::new(PROFILE);
+    let mut r = ElementReader::new(PROFILE);
     let mut w = BitWriter::new(rt.alloc());
     let profile = ok(rt, read_profile_tier_level(&mut r, 1));
     ok(rt, write_profile_tier_level(&mut w, 1, &profile));

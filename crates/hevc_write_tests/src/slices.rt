@@ -2,7 +2,7 @@
 use crate::expect::ok;
 use crate::written::assert_written;
 use hevc_bit_writer::BitWriter;
-use hevc_bits::NaluReader;
+use hevc_elements::ElementReader;
 use hevc_slice_parts::read_ref_pic_list_modification;
 use hevc_video_set::PredWeightTable;
 use hevc_write_slices::{write_pred_weight_table, write_ref_pic_list_modification};
@@ -13,7 +13,7 @@ const BOTH_LISTS: &[u8] = &[0xc1, 0x70];
 #[test]
 fn lists_are_written_as_they_were(rt: HostRuntime) {
     let rt = &rt;
-    let mut r = NaluReader::new(BOTH_LISTS);
+    let mut r = ElementReader::new(BOTH_LISTS);
     let mut w = BitWriter::new(rt.alloc());
     let lists = ok(rt, read_ref_pic_list_modification(&mut r, true, 5, 1, 0));
     ok(rt, write_ref_pic_list_modification(&mut w, true, 5, &lists));

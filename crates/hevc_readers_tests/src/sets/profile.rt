@@ -1,6 +1,6 @@
 //! Worked structures, and the values that 7.3.3 gives for their bits.
 use crate::expect::{expect, expect_eq};
-use hevc_bits::NaluReader;
+use hevc_elements::ElementReader;
 use hevc_readers::{ParseError, read_profile_tier_level};
 use hevc_set_parts::{Level, ProfileTierLevel};
 
@@ -52,7 +52,7 @@ fn range_extensions_with_a_sub_layer(rt: HostRuntime) {
     want.sub_layer_one_picture_only_constraint_flag[0] = true;
     want.sub_layer_inbld_flag[0] = true;
     want.sub_layer_level_idc[0] = Level::L3_1;
-    let mut r = NaluReader::new(RANGE_EXTENSIONS);
+    let mut r = ElementReader::new(RANGE_EXTENSIONS);
     expect(rt, read_profile_tier_level(&mut r, 1) == Ok(want));
     expect_eq(rt, r.num_bits_left(), 8);
 }
@@ -76,7 +76,7 @@ fn a_level_or_a_profile_alone(rt: HostRuntime) {
     want.sub_layer_max_8bit_constraint_flag[1] = true;
     want.sub_layer_max_14bit_constraint_flag[1] = true;
     want.sub_layer_inbld_flag[1] = true;
-    let mut r = NaluReader::new(LEVEL_OR_PROFILE);
+    let mut r = ElementReader::new(LEVEL_OR_PROFILE);
     expect(rt, read_profile_tier_level(&mut r, 2) == Ok(want));
     expect_eq(rt, r.num_bits_left(), 0);
 }
@@ -85,7 +85,7 @@ fn a_level_or_a_profile_alone(rt: HostRuntime) {
 fn a_refusal_stands_before_its_element(rt: HostRuntime) {
     let rt = &rt;
     // 00 0 00001, the flag of profile 1 of 32, 1001, 43 zeros, 0, and level 0
-    let mut r = NaluReader::new(&[
+    let mut r = ElementReader::new(&[
         0x01, 0x40, 0x00, 0x00, 0x03, 0x00, 0x90, 0x00, 0x00, 0x03, 0x00, 0x00, 0x03, 0x00, 0x00,
     ]);
     let read = read_profile_tier_level(&mut r, 0);
@@ -94,7 +94,7 @@ fn a_refusal_stands_before_its_element(rt: HostRuntime) {
         read == Err(ParseError::OutOfRange { table: 2, row: 27 }),
     );
     expect_eq(rt, r.num_bits_left(), 8);
-    let mut r = NaluReader::new(&[0xc6]);
+    let mut r = ElementReader::new(&[0xc6]);
     expect(
         rt,
         read_profile_tier_level(&mut r, 0) == Err(ParseError::OutOfBits),

@@ -1,6 +1,6 @@
 //! Worked scaling lists, and the values that 7.3.4 and 7.4.5 give for their bits.
 use crate::expect::{expect, expect_eq};
-use hevc_bits::NaluReader;
+use hevc_elements::ElementReader;
 use hevc_readers::{ParseError, default_scaling_lists, read_scaling_list_data};
 use hevc_set_parts::ScalingLists;
 
@@ -55,7 +55,7 @@ fn each_kind_of_matrix(rt: HostRuntime) {
     ];
     want.scaling_list_32x32[0] = of_32x32;
     want.scaling_list_32x32[3] = of_32x32;
-    let mut r = NaluReader::new(EACH_KIND);
+    let mut r = ElementReader::new(EACH_KIND);
     let read = read_scaling_list_data(&mut r);
     expect(rt, read == Ok(want));
     expect_eq(rt, r.num_bits_left(), 4);
@@ -65,7 +65,7 @@ fn each_kind_of_matrix(rt: HostRuntime) {
 fn default_lists_are_read_and_given(rt: HostRuntime) {
     let rt = &rt;
     // 20 times 0 1
-    let mut r = NaluReader::new(&[0x55, 0x55, 0x55, 0x55, 0x55]);
+    let mut r = ElementReader::new(&[0x55, 0x55, 0x55, 0x55, 0x55]);
     let read = read_scaling_list_data(&mut r);
     expect(rt, read == Ok(default_scaling_lists()));
     expect_eq(rt, r.num_bits_left(), 0);
@@ -75,12 +75,12 @@ fn default_lists_are_read_and_given(rt: HostRuntime) {
 fn a_difference_above_its_matrix(rt: HostRuntime) {
     let rt = &rt;
     // 0 | 010: matrix 0 as the one before it
-    let mut r = NaluReader::new(&[0x20]);
+    let mut r = ElementReader::new(&[0x20]);
     let read = read_scaling_list_data(&mut r);
     expect(rt, read == Err(ParseError::OutOfRange { table: 6, row: 2 }));
     expect_eq(rt, r.num_bits_left(), 7);
     // 19 times 0 1, then 0 | 011: at 32x32 matrix 3 as the second one before it
-    let mut r = NaluReader::new(&[0x55, 0x55, 0x55, 0x55, 0x54, 0xc0]);
+    let mut r = ElementReader::new(&[0x55, 0x55, 0x55, 0x55, 0x54, 0xc0]);
     let read = read_scaling_list_data(&mut r);
     expect(rt, read == Err(ParseError::OutOfRange { table: 6, row: 2 }));
     expect_eq(rt, r.num_bits_left(), 9);
@@ -90,16 +90,16 @@ fn a_difference_above_its_matrix(rt: HostRuntime) {
 fn refusals_stand_before_their_element(rt: HostRuntime) {
     let rt = &rt;
     // 12 times 0 1, then 1 | 000010001: -8
-    let mut r = NaluReader::new(&[0x55, 0x55, 0x55, 0x84, 0x40]);
+    let mut r = ElementReader::new(&[0x55, 0x55, 0x55, 0x84, 0x40]);
     let read = read_scaling_list_data(&mut r);
     expect(rt, read == Err(ParseError::OutOfRange { table: 6, row: 3 }));
     expect_eq(rt, r.num_bits_left(), 15);
     // 1 | 00000000100000000: 128
-    let mut r = NaluReader::new(&[0x80, 0x40, 0x00]);
+    let mut r = ElementReader::new(&[0x80, 0x40, 0x00]);
     let read = read_scaling_list_data(&mut r);
     expect(rt, read == Err(ParseError::OutOfRange { table: 6, row: 4 }));
     expect_eq(rt, r.num_bits_left(), 23);
-    let mut r = NaluReader::new(&[]);
+    let mut r = ElementReader::new(&[]);
     let read = read_scaling_list_data(&mut r);
     expect(rt, read == Err(ParseError::OutOfBits));
     expect_eq(rt, r.num_bits_left(), 0);

@@ -1,8 +1,10 @@
 //! Worked sets, and the values that 7.3.7 and 7.4.8 give for their bits.
 use crate::expect::{expect, expect_eq};
-use hevc_bits::NaluReader;
+use hevc_elements::ElementReader;
+use hevc_elements::rows::skip;
 use hevc_readers::{ParseError, read_short_term_set};
 use hevc_set_parts::ShortTermRefPicSet;
+use hevc_spec::Row;
 
 /// Sixteen members before the picture: 000010001 | 1 | sixteen times 1 1.
 const SIXTEEN_BEFORE: &[u8] = &[0x08, 0xff, 0xff, 0xff, 0xff, 0xc0];
@@ -35,7 +37,7 @@ fn neighbours() -> ShortTermRefPicSet {
 fn members_that_are_written_out(rt: HostRuntime) {
     let rt = &rt;
     // 011 | 010 | 1 1 | 00100 0 | 010 1
-    let mut r = NaluReader::new(&[0x6b, 0x21, 0x40]);
+    let mut r = ElementReader::new(&[0x6b, 0x21, 0x40]);
     let mut want = ShortTermRefPicSet::new();
     want.num_negative_pics = 2;
     want.num_positive_pics = 1;
@@ -54,7 +56,7 @@ fn members_that_are_written_out(rt: HostRuntime) {
 fn a_shift_backwards(rt: HostRuntime) {
     let rt = &rt;
     // 1 | 1 | 1 | 1 1 1
-    let mut r = NaluReader::new(&[0xfc]);
+    let mut r = ElementReader::new(&[0xfc]);
     let mut want = ShortTermRefPicSet::new();
     want.inter_ref_pic_set_prediction_flag = true;
     want.delta_rps_sign = true;
@@ -76,7 +78,7 @@ fn a_shift_backwards(rt: HostRuntime) {
 fn a_shift_forwards_onto_the_picture(rt: HostRuntime) {
     let rt = &rt;
     // 1 | 0 | 1 | 1 1 1
-    let mut r = NaluReader::new(&[0xbc]);
+    let mut r = ElementReader::new(&[0xbc]);
     let mut want = ShortTermRefPicSet::new();
     want.inter_ref_pic_set_prediction_flag = true;
     want.num_positive_pics = 2;
@@ -94,7 +96,7 @@ fn a_shift_forwards_onto_the_picture(rt: HostRuntime) {
 fn a_slice_header_names_the_first_of_two_sets(rt: HostRuntime) {
     let rt = &rt;
     // 1 | 010 | 0 | 1 | 0 1, 0 0, 1
-    let mut r = NaluReader::new(&[0xa5, 0x20]);
+    let mut r = ElementReader::new(&[0xa5, 0x20]);
     let mut want = ShortTermRefPicSet::new();
     want.inter_ref_pic_set_prediction_flag = true;
     want.delta_idx_minus1 = 1;
@@ -112,7 +114,7 @@ fn a_slice_header_names_the_first_of_two_sets(rt: HostRuntime) {
 #[test]
 fn a_predicted_set_of_seventeen(rt: HostRuntime) {
     let rt = &rt;
-    let mut r = NaluReader::new(SIXTEEN_BEFORE);
+    let mut r = ElementReader::new(SIXTEEN_BEFORE);
     let mut other = ShortTermRefPicSet::new();
     if let Ok(set) = read_short_term_set(&mut r, &[], 1, 16, 0) {
         other = set;
@@ -120,7 +122,7 @@ fn a_predicted_set_of_seventeen(rt: HostRuntime) {
     let differences = other.delta_poc_s0();
     expect(rt, differences[15] == -16);
     // 1 | 1 | 1 | seventeen times 1
-    let mut r = NaluReader::new(&[0xff, 0xff, 0xf0]);
+    let mut r = ElementReader::new(&[0xff, 0xff, 0xf0]);
     let read = read_short_term_set(&mut r, &[other], 2, 16, 1);
     expect(rt, read == Err(ParseError::OutOfRange { table: 7, row: 6 }));
     expect_eq(rt, r.num_bits_left(), 4);
@@ -134,7 +136,7 @@ fn a_difference_of_more_than_32_bits(rt: HostRuntime) {
     other.num_delta_pocs = 1;
     other.delta_poc_s1[0] = i32::MAX;
     // 1 | 0 | 1 | 1 1
-    let mut r = NaluReader::new(&[0xb8]);
+    let mut r = ElementReader::new(&[0xb8]);
     let read = read_short_term_set(&mut r, &[other], 2, 16, 1);
     expect(rt, read == Err(ParseError::OutOfRange { table: 7, row: 6 }));
     expect_eq(rt, r.num_bits_left(), 3);
@@ -144,18 +146,18 @@ fn a_difference_of_more_than_32_bits(rt: HostRuntime) {
 fn a_refusal_stands_before_its_element(rt: HostRuntime) {
     let rt = &rt;
     // 000010010: 17 members before the picture
-    let mut r = NaluReader::new(&[0x09, 0x40]);
+    let mut r = ElementReader::new(&[0x09, 0x40]);
     let read = read_short_term_set(&mut r, &[], 0, 16, 0);
     expect(rt, read == Err(ParseError::OutOfRange { table: 7, row: 7 }));
     expect_eq(rt, r.num_bits_left(), 16);
-    let mut r = NaluReader::new(&[]);
+    let mut r = ElementReader::new(&[]);
     expect(
         rt,
         read_short_term_set(&mut r, &[], 0, 16, 0) == Err(ParseError::OutOfBits),
     );
     // three bits before the set, 010 | 1 | 1, and no row 10
-    let mut r = NaluReader::new(&[0x0b]);
-    let _ = r.skip_bits(3);
+    let mut r = ElementReader::new(&[0x0b]);
+    let _ = skip(&mut r, Row(7, 1), 3);
     expect(
         rt,
         read_short_term_set(&mut r, &[], 0, 16, 0) == Err(ParseError::OutOfBits),

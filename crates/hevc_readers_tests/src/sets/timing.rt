@@ -1,6 +1,6 @@
 //! Worked structures, and the values that E.2.2 and E.2.3 give for their bits.
 use crate::expect::{expect, expect_eq, ok};
-use hevc_bits::NaluReader;
+use hevc_elements::ElementReader;
 use hevc_readers::{ParseError, read_hrd_parameters};
 use hevc_video_set::HrdParams;
 
@@ -78,7 +78,7 @@ fn both_kinds_with_decoding_units(rt: HostRuntime) {
     want.dpb_output_delay_length_minus1 = 20;
     put_first_sub_layer(&mut want);
     put_second_sub_layer(&mut want);
-    let mut r = NaluReader::new(BOTH_KINDS);
+    let mut r = ElementReader::new(BOTH_KINDS);
     let mut read = HrdParams::new();
     ok(rt, read_hrd_parameters(&mut r, true, 1, &mut read));
     expect(rt, read == want);
@@ -89,7 +89,7 @@ fn both_kinds_with_decoding_units(rt: HostRuntime) {
 fn a_structure_without_common_elements(rt: HostRuntime) {
     let rt = &rt;
     // 0 | 1 | 1 | 1 | 00100 00101 | 1
-    let mut r = NaluReader::new(&[0x72, 0x16]);
+    let mut r = ElementReader::new(&[0x72, 0x16]);
     let mut before = HrdParams::new();
     before.vcl_hrd_parameters_present_flag = true;
     before.bit_rate_scale = 9;
@@ -110,7 +110,7 @@ fn a_structure_without_common_elements(rt: HostRuntime) {
 fn refusals_stand_before_their_element(rt: HostRuntime) {
     let rt = &rt;
     // 0 0 | 1 | 1 | 00000100001: 33 schedules
-    let mut r = NaluReader::new(&[0x30, 0x42]);
+    let mut r = ElementReader::new(&[0x30, 0x42]);
     let mut hrd = HrdParams::new();
     let read = read_hrd_parameters(&mut r, true, 0, &mut hrd);
     expect(
@@ -119,7 +119,7 @@ fn refusals_stand_before_their_element(rt: HostRuntime) {
     );
     expect_eq(rt, r.num_bits_left(), 12);
     // 1 0 | 0 | 0000, and one bit of the second row 7
-    let mut r = NaluReader::new(&[0x80]);
+    let mut r = ElementReader::new(&[0x80]);
     let read = read_hrd_parameters(&mut r, true, 0, &mut hrd);
     expect(rt, read == Err(ParseError::OutOfBits));
     expect_eq(rt, r.num_bits_left(), 1);

@@ -1,6 +1,6 @@
 //! Worked structures, and the values that E.2.1 gives for their bits.
 use crate::expect::{expect, expect_eq, ok};
-use hevc_bits::NaluReader;
+use hevc_elements::ElementReader;
 use hevc_readers::{ParseError, read_vui_parameters};
 use hevc_video_set::{HrdParams, VuiParams};
 
@@ -103,7 +103,7 @@ fn every_group_with_both_kinds_of_schedules(rt: HostRuntime) {
     put_appearance(&mut want);
     put_timing(&mut want);
     put_hrd(&mut want.hrd);
-    let mut r = NaluReader::new(EVERY_GROUP);
+    let mut r = ElementReader::new(EVERY_GROUP);
     let mut read = VuiParams::new();
     ok(rt, read_vui_parameters(&mut r, 0, &mut read));
     expect(rt, read == want);
@@ -113,7 +113,7 @@ fn every_group_with_both_kinds_of_schedules(rt: HostRuntime) {
 #[test]
 fn no_flag_is_set(rt: HostRuntime) {
     let rt = &rt;
-    let mut r = NaluReader::new(&[0x00, 0x20]);
+    let mut r = ElementReader::new(&[0x00, 0x20]);
     let mut read = VuiParams::new();
     read.video_format = 5;
     ok(rt, read_vui_parameters(&mut r, 6, &mut read));
@@ -125,7 +125,7 @@ fn no_flag_is_set(rt: HostRuntime) {
 fn a_refusal_stands_before_its_element(rt: HostRuntime) {
     let rt = &rt;
     // 0 | 0 | 0 | 1 00111: a place of chroma samples of 6
-    let mut r = NaluReader::new(&[0x13, 0x80]);
+    let mut r = ElementReader::new(&[0x13, 0x80]);
     let mut vui = VuiParams::new();
     let read = read_vui_parameters(&mut r, 0, &mut vui);
     expect(
@@ -133,7 +133,7 @@ fn a_refusal_stands_before_its_element(rt: HostRuntime) {
         read == Err(ParseError::OutOfRange { table: 8, row: 11 }),
     );
     expect_eq(rt, r.num_bits_left(), 12);
-    let mut r = NaluReader::new(&[0xff]);
+    let mut r = ElementReader::new(&[0xff]);
     expect(
         rt,
         read_vui_parameters(&mut r, 0, &mut vui) == Err(ParseError::OutOfBits),

@@ -2,7 +2,7 @@
 ghost use Rattle.std.specs.Prelude.{◌<◌, length};
 
 use crate::expect::{expect, expect_eq};
-use hevc_bits::NaluReader;
+use hevc_elements::ElementReader;
 use hevc_parser::ParseError;
 use hevc_sequence_set::Sps;
 use hevc_slice_parts::{ceil_log2, read_pred_weight_table, read_ref_pic_list_modification};
@@ -20,7 +20,7 @@ fn with_chroma(alloc: Global) -> Sps {
 fn refusal(alloc: Global, bytes: &[u8]) -> (Option<ParseError>, usize)
     requires { length bytes.now < 1000 }
 {
-    let mut r = NaluReader::new(bytes);
+    let mut r = ElementReader::new(bytes);
     let result = read_pred_weight_table(&mut r, &Sps::new(alloc), true, 0, 0);
     (result.err(), r.num_bits_left())
 }
@@ -36,7 +36,7 @@ fn an_index_takes_the_bits_of_the_greatest_one(rt: HostRuntime) {
 fn both_lists_are_ordered(rt: HostRuntime) {
     let rt = &rt;
     // 1 | 10 | 00 | 1 | 01
-    let mut r = NaluReader::new(&[0xc5]);
+    let mut r = ElementReader::new(&[0xc5]);
     match read_ref_pic_list_modification(&mut r, true, 3, 1, 0) {
         Ok(m) => {
             expect(
@@ -54,7 +54,7 @@ fn both_lists_are_ordered(rt: HostRuntime) {
 #[test]
 fn a_p_slice_has_no_list_1(rt: HostRuntime) {
     let rt = &rt;
-    let mut r = NaluReader::new(&[0x40]);
+    let mut r = ElementReader::new(&[0x40]);
     match read_ref_pic_list_modification(&mut r, false, 2, 0, 0) {
         Ok(m) => expect(
             rt,
@@ -69,7 +69,7 @@ fn a_p_slice_has_no_list_1(rt: HostRuntime) {
 fn an_entry_is_one_of_the_pictures(rt: HostRuntime) {
     let rt = &rt;
     // 1 | 11
-    let mut r = NaluReader::new(&[0xe0]);
+    let mut r = ElementReader::new(&[0xe0]);
     let refused = read_ref_pic_list_modification(&mut r, false, 3, 0, 0).err();
     expect_eq(
         rt,
@@ -83,7 +83,7 @@ fn an_entry_is_one_of_the_pictures(rt: HostRuntime) {
 fn a_p_slice_weighs_luma_and_chroma(rt: HostRuntime) {
     let rt = &rt;
     // 00100 | 011 | 1 0 | 0 1 | -5 | 7 | 2 | -3 | 0 | 511
-    let mut r = NaluReader::new(&[0x23, 0x91, 0x63, 0x88, 0x78, 0x03, 0xfe]);
+    let mut r = ElementReader::new(&[0x23, 0x91, 0x63, 0x88, 0x78, 0x03, 0xfe]);
     match read_pred_weight_table(&mut r, &with_chroma(rt.alloc()), false, 1, 14) {
         Ok(t) => {
             expect_eq(rt, t.luma_log2_weight_denom(), 3);
@@ -112,7 +112,7 @@ fn a_p_slice_weighs_luma_and_chroma(rt: HostRuntime) {
 fn a_b_slice_weighs_both_lists(rt: HostRuntime) {
     let rt = &rt;
     // 0001000 | 0 | 0 1 | 127 | -128, without chroma
-    let mut r = NaluReader::new(&[0x10, 0x40, 0x7f, 0x00, 0x40, 0x40]);
+    let mut r = ElementReader::new(&[0x10, 0x40, 0x7f, 0x00, 0x40, 0x40]);
     match read_pred_weight_table(&mut r, &Sps::new(rt.alloc()), true, 0, 1) {
         Ok(t) => {
             expect_eq(rt, t.luma_log2_weight_denom(), 7);
@@ -152,7 +152,7 @@ fn chroma_is_bounded_by_its_own_range(rt: HostRuntime) {
     let rt = &rt;
     let sps = with_chroma(rt.alloc());
     // 1 | 1 | 0 | 1 | 1 | 512
-    let mut r = NaluReader::new(&[0xd8, 0x01, 0x00, 0x00]);
+    let mut r = ElementReader::new(&[0xd8, 0x01, 0x00, 0x00]);
     let refused = read_pred_weight_table(&mut r, &sps, false, 0, 0).err();
     expect_eq(
         rt,
@@ -160,7 +160,7 @@ fn chroma_is_bounded_by_its_own_range(rt: HostRuntime) {
         Some(ParseError::OutOfRange { table: 16, row: 8 }),
     );
     // 011 | 00111
-    let mut r = NaluReader::new(&[0x67]);
+    let mut r = ElementReader::new(&[0x67]);
     let refused = read_pred_weight_table(&mut r, &sps, false, 0, 0).err();
     expect_eq(
         rt,

@@ -2,12 +2,14 @@
 ghost use Rattle.std.specs.Prelude.{◌<◌, length};
 
 use crate::expect::{expect_eq, ok};
-use hevc_bits::NaluReader;
+use hevc_elements::ElementReader;
+use hevc_elements::rows::skip;
 use hevc_parser::ParseError;
 use hevc_picture_slice::{Pps, SliceHeader};
 use hevc_sequence_set::Sps;
 use hevc_set_parts::{Items, ShortTermRefPicSet};
 use hevc_slice_references::{bits_between, read_reference_lists, read_reference_pictures};
+use hevc_spec::Row;
 use std::alloc::{AllocError, Global};
 
 /// A set of the picture before, which the current one refers to.
@@ -51,7 +53,7 @@ fn long_term(alloc: Global) -> Sps {
 fn refusal(alloc: Global, sps: &Sps, bytes: &[u8]) -> (Option<ParseError>, usize)
     requires { length bytes.now < 1000 }
 {
-    let mut r = NaluReader::new(bytes);
+    let mut r = ElementReader::new(bytes);
     let mut header = SliceHeader::new(alloc);
     let result = read_reference_pictures(&mut r, sps, &mut header);
     (result.err(), r.num_bits_left())
@@ -63,7 +65,7 @@ fn a_set_of_the_sequence_set_is_the_current_one(rt: HostRuntime) {
     let sps = ok(rt, two_sets(rt.alloc()));
     let mut header = SliceHeader::new(rt.alloc());
     // 0101 | 1 | 1
-    let mut r = NaluReader::new(&[0x5c]);
+    let mut r = ElementReader::new(&[0x5c]);
     ok(rt, read_reference_pictures(&mut r, &sps, &mut header));
     expect_eq(rt, r.num_bits_left(), 2);
     expect_eq(rt, header.pic_order_cnt_lsb, 5);
@@ -88,7 +90,7 @@ fn cycles_add_up_in_each_kind(rt: HostRuntime) {
     let sps = long_term(rt.alloc());
     let mut header = SliceHeader::new(rt.alloc());
     // 0000 | 0 | 1 | 1 | 011 | 011 | 10 1 010 | 10 1 011 | 0001 1 1 1 | 0010 0 1 1
-    let mut r = NaluReader::new(&[0x06, 0xdd, 0x55, 0x8f, 0x26]);
+    let mut r = ElementReader::new(&[0x06, 0xdd, 0x55, 0x8f, 0x26]);
     ok(rt, read_reference_pictures(&mut r, &sps, &mut header));
     expect_eq(
         rt,
@@ -140,8 +142,8 @@ fn refusals_name_the_row(rt: HostRuntime) {
 
 #[test]
 fn bits_between_two_places(rt: HostRuntime) {
-    let mut r = NaluReader::new(&[0x00, 0x00, 0x03, 0x01, 0x02]);
+    let mut r = ElementReader::new(&[0x00, 0x00, 0x03, 0x01, 0x02]);
     let before = r.fork();
-    ok(&rt, r.skip_bits(20));
-    expect_eq(&rt, bits_between(&before, &r), 20);
+    ok(&rt, skip(&mut r, Row(14, 53), 20));
+    expect_eq(&rt, bits_between(&before, &r.fork()), 20);
 }

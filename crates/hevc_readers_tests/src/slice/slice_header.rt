@@ -3,7 +3,8 @@ ghost use Rattle.std.specs.Prelude.{◌<◌, length};
 
 use crate::expect::{expect, expect_eq, ok};
 use crate::streams::{NO_SET, P_SLICE, PICTURE_SET};
-use hevc_bits::{Nalu, NaluHeader, NaluReader};
+use hevc_bits::{Nalu, NaluHeader};
+use hevc_elements::ElementReader;
 use hevc_boxed::Boxed;
 use hevc_parser::{ParseError, parse_pred_weight_table};
 use hevc_picture_slice::{Pps, SliceHeader};
@@ -413,11 +414,11 @@ fn a_refused_weight_table_leaves_the_header(rt: HostRuntime) {
     let sps = sequence_set(rt.alloc());
     let mut header = SliceHeader::new(rt.alloc());
     let before = SliceHeader::new(rt.alloc());
-    let refused = parse_pred_weight_table(&mut header, &mut NaluReader::new(&[]), &sps);
+    let refused = parse_pred_weight_table(&mut header, &mut ElementReader::new(&[]), &sps);
     expect_eq(rt, refused.err(), Some(ParseError::OutOfBits));
     expect(rt, header == before);
     // 00100 | 1 | 0 | 0
-    let mut r = NaluReader::new(&[0x24]);
+    let mut r = ElementReader::new(&[0x24]);
     ok(rt, parse_pred_weight_table(&mut header, &mut r, &sps));
     expect_eq(rt, header.pred_weight_table.chroma_log2_weight_denom(), 3);
 }

@@ -11,29 +11,21 @@ use Rattle.hevc_refs.specs.Marking.{HasMembers}
 use Rattle.hevc_refs.proofs.MarkingLaws.{plain_distinct}
 use Rattle.hevc_refs.proofs.derive.derive_into.Goals as goal
 
-pub returns-clause-set : goal.returns-clause-set
-returns-clause-set g c p first is_head has =
-    c.derive.ensures.set p first is_head (subst (λ (x : ℤ). HasMembers first c.args.header.now c.args.set.now x) (sym (to_z-of_z w32 c.args.max_pic_order_cnt_lsb c.ranges.max_pic_order_cnt_lsb)) has)
-
-pub returns-clause-marks : goal.returns-clause-marks
-returns-clause-marks g c p first is_head has =
-    c.derive.ensures.marks p first is_head (subst (λ (x : ℤ). HasMembers first c.args.header.now c.args.set.now x) (sym (to_z-of_z w32 c.args.max_pic_order_cnt_lsb c.ranges.max_pic_order_cnt_lsb)) has)
-
-pub returns-clause-named : goal.returns-clause-named
-returns-clause-named g c p first is_head has n h =
+pub returns-clause-derives : goal.returns-clause-derives
+returns-clause-derives g c p first is_head has =
     let has_members = subst (λ (x : ℤ). HasMembers first c.args.header.now c.args.set.now x) (sym (to_z-of_z w32 c.args.max_pic_order_cnt_lsb c.ranges.max_pic_order_cnt_lsb)) has in
-    ap (has_reference n) (c.derive.ensures.marks p first is_head has_members)
-    ∙ each_marked p first (buffer_of c.args.dpb.now) n (sym (ap (λ (s : RefPicSet). names n (all_members s)) (c.derive.ensures.set p first is_head has_members)) ∙ h)
-
-pub returns-clause-exactly : goal.returns-clause-exactly
-returns-clause-exactly g c p first is_head has =
-    let has_members = subst (λ (x : ℤ). HasMembers first c.args.header.now c.args.set.now x) (sym (to_z-of_z w32 c.args.max_pic_order_cnt_lsb c.ranges.max_pic_order_cnt_lsb)) has in
-    subst (λ (b : Buffer). All (λ e. is_reference e.mark ≡ names e.number (all_members (plain_set c.derive.new.out))) b) (sym (c.derive.ensures.marks p first is_head has_members))
-    (subst (λ (s : RefPicSet). All (λ e. is_reference e.mark ≡ names e.number (all_members s)) (with_marks p first (buffer_of c.args.dpb.now))) (sym (c.derive.ensures.set p first is_head has_members))
-    (exactly_marked p first (buffer_of c.args.dpb.now) (plain_distinct (stored_entries c.args.dpb.now) c.args.dpb.now.distinct)))
-
-pub returns-clause-apart : goal.returns-clause-apart
-returns-clause-apart g c p first is_head has n h =
-    let has_members = subst (λ (x : ℤ). HasMembers first c.args.header.now c.args.set.now x) (sym (to_z-of_z w32 c.args.max_pic_order_cnt_lsb c.ranges.max_pic_order_cnt_lsb)) has in
-    ap (λ (s : RefPicSet). names n (long_term_members s)) (c.derive.ensures.set p first is_head has_members)
-    ∙ kinds_apart p first (buffer_of c.args.dpb.now) n (sym (ap (λ (s : RefPicSet). names n (short_term_members s)) (c.derive.ensures.set p first is_head has_members)) ∙ h)
+    let derived = c.derive.ensures.derives p first is_head has_members in
+    let old = buffer_of c.args.dpb.now in
+    record {
+      derives = derived;
+      members = record {
+        named = λ n h. ap (has_reference n) derived.marks
+          ∙ each_marked p first old n (sym (ap (λ (s : RefPicSet). names n (all_members s)) derived.set) ∙ h);
+        exactly =
+          subst (λ (b : Buffer). All (λ e. is_reference e.mark ≡ names e.number (all_members (plain_set c.derive.new.out))) b) (sym derived.marks)
+          (subst (λ (s : RefPicSet). All (λ e. is_reference e.mark ≡ names e.number (all_members s)) (with_marks p first old)) (sym derived.set)
+          (exactly_marked p first old (plain_distinct (stored_entries c.args.dpb.now) c.args.dpb.now.distinct)));
+        apart = λ n h. ap (λ (s : RefPicSet). names n (long_term_members s)) derived.set
+          ∙ kinds_apart p first old n (sym (ap (λ (s : RefPicSet). names n (short_term_members s)) derived.set) ∙ h);
+      };
+    }

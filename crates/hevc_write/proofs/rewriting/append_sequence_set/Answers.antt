@@ -23,7 +23,7 @@ returns-in_ok-keep_sequence_set-in-Ok-clause-takes c =
     let set = plain_sps c.in-Ok.set in
     let parsed = header_is bytes header c.header-header.ensures.parsed in
     let typed : header.nal_unit_type ≡ 33 = ap (λ (h : UnitHeader). h.nal_unit_type) c.header-header.ensures.value ∙ c.requires.typed in
-    let was = c.in-Ok.ensures.read c.requires.typed in
+    let was = c.in-Ok.ensures.unit.read c.requires.typed in
     let adds = λ (s : Sps). AddsUnit header (SetLines 33 sequence_parameter_set (plain_sps s) header) [] (MeansSequenceSet (plain_sps s) header) c.args.out.now.items c.append_anew.new.out.items in
     let added = subst adds c.get.ensures c.in_ok-append_anew-in-Ok.ensures.added in
     λ kept before.
@@ -41,7 +41,7 @@ returns-in-Err-clause-takes c =
     let typed : header.nal_unit_type ≡ 33 = ap (λ (h : UnitHeader). h.nal_unit_type) c.header-header.ensures.value ∙ c.requires.typed in
     let cut = c.header-header.ensures.cut in
     on_ok c.append_unread.result _ _ (λ p kept before.
-    let was = refuses_set c.in-Err.error (read sequence_parameter_set (payload bytes)) p.0 (c.in-Err.ensures.read c.requires.typed) in
+    let was = refuses_set c.in-Err.error (read sequence_parameter_set (payload bytes)) p.0 (c.in-Err.ensures.unit.read c.requires.typed) in
     copied kept bytes header cut.0 nalu.stream (unit_of nalu) cut.1 c.args.out.now.items c.append_unread.new.out.items (kept_by c.args.parser.now).sequence_sets
     refl cut.2 parsed (sequence_unread kept bytes header parsed was.0 was.1 typed was.2) (p.1 ∙ ap (λ (b : List ℕ). c.args.out.now.items ++ started b) c.as_ref.ensures.value) before)
     c.append_unread.ensures.ok

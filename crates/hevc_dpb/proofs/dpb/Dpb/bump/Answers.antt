@@ -1,4 +1,4 @@
-use Rattle.std.proofs.Common.{length, ap, sym, subst, ◌∙◌, arith}
+use Rattle.std.proofs.Common.{rules, length, ap, sym, subst, ◌∙◌, arith}
 use Rattle.hevc_dpb.specs.Numbers.{Distinct}
 use Rattle.hevc_dpb.specs.Entries.{numbers, tickets, reference_numbers}
 use Rattle.hevc_dpb.specs.Output.{behind_output, first_in, in_output_order, as_output}
@@ -30,8 +30,12 @@ returns-clause-buffer g c flush =
     ∙ ap (λ (l : List (DpbEntry g.row.T.Denot)). plain_entries (behind_output c.args.flush (first_in (in_output_order l)) l)) c.order_if_stale.ensures.entries
     ∙ plain_behind c.args.flush c.args.self.now.entries.items flush
 
-pub returns-clause-latency : goal.returns-clause-latency
-returns-clause-latency g c h = subst HaveLatency (sym (c.order_waiting.ensures.entries ∙ c.output_first-output.ensures.left)) (latency_behind c.args.flush _ _ (subst HaveLatency (sym c.order_if_stale.ensures.entries) h))
+pub returns-clause-keeps : goal.returns-clause-keeps
+returns-clause-keeps g c = record {
+  size = search rules;
+  room = search rules;
+  latency = λ h. subst HaveLatency (sym (c.order_waiting.ensures.entries ∙ c.output_first-output.ensures.left)) (latency_behind c.args.flush _ _ (subst HaveLatency (sym c.order_if_stale.ensures.entries) h));
+}
 
 pub returns-clause-first : goal.returns-clause-first
 returns-clause-first g c =

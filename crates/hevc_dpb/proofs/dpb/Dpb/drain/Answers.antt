@@ -1,4 +1,4 @@
-use Rattle.std.proofs.Common.{ap, ◌∙◌, sym, subst, length, arith}
+use Rattle.std.proofs.Common.{rules, ap, ◌∙◌, sym, subst, length, arith}
 use Rattle.hevc_dpb.specs.Numbers.{Distinct}
 use Rattle.hevc_dpb.specs.Entries.{numbers, ticket, tickets, waits_not}
 use Rattle.hevc_dpb.specs.Sublists.{IsSublist}
@@ -31,5 +31,9 @@ returns-clause-drained g c = plain_order c.args.self.now.entries.items
 pub returns-in_err-reserve-clause-drained : goal.returns-in_err-reserve-clause-drained
 returns-in_err-reserve-clause-drained g c = plain_order c.args.self.now.entries.items
 
-pub returns-clause-latency : goal.returns-clause-latency
-returns-clause-latency g c h = subst HaveLatency (sym (c.order_waiting.ensures.entries ∙ c.keep_not_waiting.ensures.kept)) (latency_filter waits_not c.order_if_stale.new.self.entries.items (subst HaveLatency (sym c.order_if_stale.ensures.entries) h))
+pub returns-clause-keeps : goal.returns-clause-keeps
+returns-clause-keeps g c = record {
+  size = search rules;
+  room = search rules;
+  latency = λ h. subst HaveLatency (sym (c.order_waiting.ensures.entries ∙ c.keep_not_waiting.ensures.kept)) (latency_filter waits_not c.order_if_stale.new.self.entries.items (subst HaveLatency (sym c.order_if_stale.ensures.entries) h));
+}

@@ -1,4 +1,4 @@
-use Rattle.std.proofs.Common.{map}
+use Rattle.std.proofs.Common.{rules, map}
 use Rattle.std.proofs.Common.{length, ap, sym, subst, ◌∙◌, arith}
 use Rattle.std.proofs.lemmas.List.{length-map}
 use Rattle.hevc_dpb.specs.Numbers.{Distinct}
@@ -26,8 +26,12 @@ returns-clause-handles g c = ap tickets c.unmark_all.ensures.unmarked ∙ ticket
 pub returns-clause-buffer : goal.returns-clause-buffer
 returns-clause-buffer g c = ap plain_entries c.unmark_all.ensures.unmarked ∙ plain_unmarked c.args.self.now.entries.items
 
-pub returns-clause-latency : goal.returns-clause-latency
-returns-clause-latency g c h = subst HaveLatency (sym c.unmark_all.ensures.unmarked) (latency_map unmarked (λ e k. k) c.args.self.now.entries.items h)
+pub returns-clause-keeps : goal.returns-clause-keeps
+returns-clause-keeps g c = record {
+  size = search rules;
+  room = search rules;
+  latency = λ h. subst HaveLatency (sym c.unmark_all.ensures.unmarked) (latency_map unmarked (λ e k. k) c.args.self.now.entries.items h);
+}
 
 pub returns-clause-others : goal.returns-clause-others
 returns-clause-others g c = ap (map unmarked) c.unmark_all.ensures.unmarked ∙ unmarked_twice c.args.self.now.entries.items

@@ -1,4 +1,4 @@
-use Rattle.std.proofs.Common.{subst, sym, ◌∙◌, arith}
+use Rattle.std.proofs.Common.{rules, subst, sym, ◌∙◌, arith}
 use Rattle.hevc_dpb.specs.Numbers.{Distinct}
 use Rattle.hevc_dpb.proofs.MarkLaws.{marks_at}
 use Rattle.hevc_dpb.proofs.PlainLaws.{plain_marked}
@@ -17,8 +17,12 @@ invariant_of-self-clause-in_order g c fresh = c.args.self.now.in_order fresh ∙
 pub returns-clause-handles : goal.returns-clause-handles
 returns-clause-handles g c = (marks_at c.args.reference c.args.self.now.entries.items _ c.args.position c.requires c.args.self.now.distinct c.mark_at.ensures.marked).same_tickets
 
-pub returns-clause-latency : goal.returns-clause-latency
-returns-clause-latency g c h = latency_marked c.args.reference c.args.self.now.entries.items _ c.args.position c.requires c.mark_at.ensures.marked h
+pub returns-clause-keeps : goal.returns-clause-keeps
+returns-clause-keeps g c = record {
+  size = search rules;
+  room = search rules;
+  latency = λ h. latency_marked c.args.reference c.args.self.now.entries.items _ c.args.position c.requires c.mark_at.ensures.marked h;
+}
 
 pub returns-clause-buffer : goal.returns-clause-buffer
 returns-clause-buffer g c d = plain_marked c.args.reference c.args.self.now.entries.items _ c.args.position c.requires c.mark_at.ensures.marked d

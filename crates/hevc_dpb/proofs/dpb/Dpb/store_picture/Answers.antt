@@ -1,4 +1,4 @@
-use Rattle.std.proofs.Common.{ap, ◌∙◌, ◌∷◌, ◌++◌, [], map, sym, subst}
+use Rattle.std.proofs.Common.{rules, ap, ◌∙◌, ◌∷◌, ◌++◌, [], map, sym, subst}
 use Rattle.hevc_dpb.specs.Numbers.{Distinct}
 use Rattle.hevc_dpb.specs.Entries.{numbers, tickets, with_latency, stored_entry}
 use Rattle.hevc_dpb.proofs.EntryLaws.{distinct_push, numbers_stored, tickets_stored}
@@ -31,8 +31,11 @@ returns-clause-buffer g c p is_stored h =
     let is = stored_behind es _ c.args.number c.args.picture c.args.handle _ c.store_behind.ensures.stored c.stored.ensures in
     ap plain_entries (c.order_waiting.ensures.entries ∙ is) ∙ plain_stored p c.args.number c.args.picture c.args.handle es is_stored h
 
-pub returns-clause-latency : goal.returns-clause-latency
-returns-clause-latency g c h =
-    let es = c.args.self.now.entries.items in
-    let is = stored_behind es _ c.args.number c.args.picture c.args.handle _ c.store_behind.ensures.stored c.stored.ensures in
-    subst HaveLatency (sym (c.order_waiting.ensures.entries ∙ is)) (latency_stored c.args.number c.args.picture c.args.handle es h)
+pub returns-clause-keeps : goal.returns-clause-keeps
+returns-clause-keeps g c = record {
+  size = search rules;
+  room = search rules;
+  latency = λ h. let es = c.args.self.now.entries.items in
+      let is = stored_behind es _ c.args.number c.args.picture c.args.handle _ c.store_behind.ensures.stored c.stored.ensures in
+      subst HaveLatency (sym (c.order_waiting.ensures.entries ∙ is)) (latency_stored c.args.number c.args.picture c.args.handle es h);
+}

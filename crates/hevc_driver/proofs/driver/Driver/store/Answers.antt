@@ -77,6 +77,6 @@ returns-clause-stays g c =
           picture = none_latest _ _ _ c.requires.none;
         });
       };
-      grows = record { few = omega (arith, more, same, t); capacity = b.capacity; stored = b.room ∙ c.in_ok-store_picture.ensures.room };
+      grows = record { few = omega (arith, more, same, t); capacity = b.capacity; stored = b.room ∙ c.in_ok-store_picture.ensures.keeps.room };
       kept = refl;
     }

@@ -36,9 +36,9 @@ returns-else-starts_sequence-clause-leaves g c =
     record {
       handles = λ x k. sublist_part c.remove_unused.ensures.handles x (b.handles x k);
       pictures = λ x k. needed_pictures _ _ c.remove_unused.ensures.entries x (stored_part _ _ b.entries x k);
-      size = b.size ∙ c.remove_unused.ensures.size;
+      size = b.size ∙ c.remove_unused.ensures.keeps.size;
       latency = b.latency;
-      grows = record { few = (let t = bumped_total _ _ _ _ _ b in omega (arith, t, same, kept)); capacity = b.capacity; stored = b.room ∙ c.remove_unused.ensures.room };
+      grows = record { few = (let t = bumped_total _ _ _ _ _ b in omega (arith, t, same, kept)); capacity = b.capacity; stored = b.room ∙ c.remove_unused.ensures.keeps.room };
       accepted = refl;
       current = refl;
       kept = refl;

@@ -20,7 +20,7 @@ use Rattle.hevc_kept_sets.proofs.kept_sets.KeptSets.read_sequence_set.Goals.{the
 
 pub with_id-self-requires : goal.with_id-self-requires
 with_id-self-requires c =
-    let reads = c.in_ok-set.ensures.read c.requires.typed in
+    let reads = c.in_ok-set.ensures.unit.read c.requires.typed in
     rw c.get.ensures (sequence_set_id (payload (bytes_of c.args.nalu.now)) reads.0 (plain_sps c.in_ok-set.set) reads.1)
 
 pub invariant_of-self-2 : goal.invariant_of-self-2
@@ -29,7 +29,7 @@ invariant_of-self-2 c =
     let set = c.in_ok-set.set in
     let options = options_of self.options in
     let items = self.waiting.items in
-    let reads = c.in_ok-set.ensures.read c.requires.typed in
+    let reads = c.in_ok-set.ensures.unit.read c.requires.typed in
     let now = read_now (kept_by self.parser) (kept_by c.keep_sequence_set.new.self) (plain_sps set) (bytes_of c.args.nalu.now) c.copy_of.result (reads_it (bytes_of c.args.nalu.now) (plain_sps set) reads.0 reads.1) c.in_ok-keep_sequence_set.ensures.kept
     (subst (λ (bs : List ℕ). IfSome c.copy_of.result (λ u. u.bytes.items ≡ bs)) c.as_ref.ensures.value c.copy_of.ensures.bytes)
     (subst (λ (s : Sps). IfSome c.copy_of.result (λ u. u.id ≡ s.seq_parameter_set_id)) c.get.ensures c.copy_of.ensures.id) in
@@ -54,10 +54,10 @@ invariant_of-self-2 c =
 pub returns-clause-keeps : goal.returns-clause-keeps
 returns-clause-keeps c =
     let header = c.requires.parsed in
-    rw c.get.ensures (sequence_set_kept (options_in c.args.self.now) (bytes_of c.args.nalu.now) c.args.nalu.now.header header c.requires.wanted c.args.self.now.waiting.items (kept_by c.args.self.now.parser) (kept_by c.keep_sequence_set.new.self) (plain_sps c.in_ok-set.set) (c.in_ok-set.ensures.read c.requires.typed) c.requires.typed c.in_ok-keep_sequence_set.ensures.kept)
+    rw c.get.ensures (sequence_set_kept (options_in c.args.self.now) (bytes_of c.args.nalu.now) c.args.nalu.now.header header c.requires.wanted c.args.self.now.waiting.items (kept_by c.args.self.now.parser) (kept_by c.keep_sequence_set.new.self) (plain_sps c.in_ok-set.set) (c.in_ok-set.ensures.unit.read c.requires.typed) c.requires.typed c.in_ok-keep_sequence_set.ensures.kept)
 
 pub returns-in_err-set-clause-keeps : goal.returns-in_err-set-clause-keeps
 returns-in_err-set-clause-keeps c =
     let header = c.requires.parsed in
     let is : c.from_residual.result ≡ Err c.in_err-set.field-0.0 = search rules in
-    rw is (sequence_set_refused (options_in c.args.self.now) (bytes_of c.args.nalu.now) c.args.nalu.now.header header c.requires.wanted c.args.self.now.waiting.items (kept_by c.args.self.now.parser) (kept_by c.args.self.now.parser) c.in_err-set.field-0.0 c.requires.typed (c.in_err-set.ensures.read c.requires.typed) c.in_err-set.ensures.names_no_set refl)
+    rw is (sequence_set_refused (options_in c.args.self.now) (bytes_of c.args.nalu.now) c.args.nalu.now.header header c.requires.wanted c.args.self.now.waiting.items (kept_by c.args.self.now.parser) (kept_by c.args.self.now.parser) c.in_err-set.field-0.0 c.requires.typed (c.in_err-set.ensures.unit.read c.requires.typed) c.in_err-set.ensures.names_no_set refl)
