@@ -1,6 +1,7 @@
 """The structs of crates/hevc_v4l2 are those of include/fezhalum_v4l2.h and of linux/v4l2-controls.h, field by field: name, type, dimensions, order.
 
-All have C's layout, so equal fields lie at equal places. No compiler is needed. Where the header of Linux isn't there, the other one is compared.
+All have C's layout, so equal fields lie at equal places. Each flag has the bit that Linux's constant of its name has. No compiler is needed. Where
+the header of Linux isn't there, the other one is compared, and the flags are not.
 """
 import pathlib
 import re
@@ -16,6 +17,22 @@ STRUCTS = {
     'V4l2CtrlHevcSliceParams': 'v4l2_ctrl_hevc_slice_params',
     'V4l2CtrlHevcDecodeParams': 'v4l2_ctrl_hevc_decode_params',
     'V4l2CtrlHevcScalingMatrix': 'v4l2_ctrl_hevc_scaling_matrix',
+}
+# the definition of a struct's flags, and the beginning of Linux's names of them
+FLAGS = {
+    'SequenceSet': 'V4L2_HEVC_SPS_FLAG_',
+    'PictureSet': 'V4L2_HEVC_PPS_FLAG_',
+    'Slice': 'V4L2_HEVC_SLICE_PARAMS_FLAG_',
+    'Decode': 'V4L2_HEVC_DECODE_PARAM_FLAG_',
+}
+# flags that Linux names in words of its own
+RENAMED = {
+    'sample_adaptive_offset': 'sample_adaptive_offset_enabled',
+    'dependent_slice_segment_enabled': 'dependent_slice_segments_enabled',
+    'disable_deblocking_filter': 'deblocking_filter_disabled',
+    'irap_pic': 'is_irap',
+    'idr_pic': 'is_idr',
+    'no_output_of_prior': 'no_output_of_prior_pics',
 }
 OURS = TOP / 'include/fezhalum_v4l2.h'
 NUMBERS = {'__u8': 'u8', '__u16': 'u16', '__u32': 'u32', '__u64': 'u64', '__s8': 'i8', '__s32': 'i32'}
@@ -46,6 +63,23 @@ def code_fields(text, name):
     return fields
 
 
+def linux_flags(text, start):
+    """The flags of a struct by their bits, by H.265's names."""
+    flags = {}
+    for name, shift, mask in re.findall(r'#define ' + start + r'(\w+)\s+(?:\(1ULL << (\d+)\)|0x(\d+))', text):
+        name = re.sub(r'^(sps|pps|slice)_(?!segment|chroma)', '', name.lower())
+        bit = int(shift) if shift else int(mask, 16).bit_length() - 1
+        flags[bit] = RENAMED.get(name, name)
+    return flags
+
+
+def defined_flags(text):
+    """The same as the definition has them."""
+    members = re.search(r'flags_of\s*\((.*?)\s*∷\s*\[\]\)', text, re.S).group(1)
+    names = [re.match(r'\s*(?:\w+\.)?(\w+)', member).group(1) for member in members.split('∷')]
+    return {bit: re.sub(r'_flag$', '', name) for bit, name in enumerate(names)}
+
+
 class Layout(unittest.TestCase):
     def compare(self, header):
         text = header.read_text()
@@ -60,6 +94,14 @@ class Layout(unittest.TestCase):
     @unittest.skipUnless(HEADER.exists(), 'the header is not installed')
     def test_header_of_linux(self):
         self.compare(HEADER)
+
+    @unittest.skipUnless(HEADER.exists(), 'the header is not installed')
+    def test_flags_of_linux(self):
+        text = HEADER.read_text()
+        for file, start in FLAGS.items():
+            with self.subTest(file=file):
+                definition = (TOP / f'crates/hevc_v4l2/specs/{file}.antt').read_text()
+                self.assertEqual(defined_flags(definition), linux_flags(text, start))
 
 
 if __name__ == '__main__':

@@ -1,6 +1,6 @@
 //! Parameters of the hypothetical reference decoder (E.2.2, table 3).
 ghost use Rattle.std.specs.Prelude.{◌≡◌, ◌≤◌, OnErr};
-ghost use Rattle.hevc_elements.specs.Words.{read, when, Fills, Reads, ReadsTable};
+ghost use Rattle.hevc_elements.specs.Words.{when, Fills, Reads, ReadsTable};
 ghost use Rattle.hevc_records.specs.HrdParams.{default_hrd_params};
 ghost use Rattle.hevc_tables.specs.HrdTable as table;
 ghost use Rattle.hevc_video_set.specs.HrdParams.{plain_hrd_params};

@@ -1,6 +1,6 @@
 //! What is said of each sub-layer (E.2.2, rows 10 to 16 of table 3).
 ghost use Rattle.std.specs.Prelude.{◌≡◌, ◌≤◌, ◌<◌};
-ghost use Rattle.hevc_elements.specs.Words.{read, when, Reads, Fills};
+ghost use Rattle.hevc_elements.specs.Words.{when, Reads, Fills};
 ghost use Rattle.hevc_records.specs.SublayerHrdParameters.{default_sublayer_hrd_parameters};
 ghost use Rattle.hevc_tables.specs.HrdTable as table;
 ghost use Rattle.hevc_video_set.specs.SublayerHrdParameters.{plain_sublayer_hrd_parameters};

@@ -11,7 +11,7 @@ ghost use Rattle.hevc_tables.specs.SliceHeaderTable.{slice_segment_header};
 ghost use Rattle.hevc_bits.specs.NaluType.{nalu_type_number};
 ghost use Rattle.hevc_spec.specs.UnitTypes.{is_slice};
 ghost use Rattle.hevc_parser.specs.Telling.{told_of_unit};
-ghost use Rattle.hevc_elements.specs.Words.{read, NamesNoSet, ReadsSetUnit};
+ghost use Rattle.hevc_elements.specs.Words.{NamesNoSet, ReadsSetUnit};
 ghost use Rattle.hevc_tables.specs.VpsTable.{video_parameter_set};
 ghost use Rattle.hevc_tables.specs.SpsTable.{sequence_parameter_set};
 ghost use Rattle.hevc_tables.specs.PpsTable.{picture_parameter_set};

@@ -1,7 +1,7 @@
 //! Filters, scaling lists, and what slice headers may have (7.3.2.3.1, rows 20 to 28 of table 11).
 ghost use Rattle.std.specs.Prelude.{◌≡◌, ◌≤ℤ◌, pos, neg_ℤ};
 ghost use Rattle.hevc_spec.specs.Rows.{when};
-ghost use Rattle.hevc_elements.specs.Words.{read, Reads, Fills};
+ghost use Rattle.hevc_elements.specs.Words.{Reads, Fills};
 ghost use Rattle.hevc_records.specs.DefaultScalingLists.{default_lists};
 ghost use Rattle.hevc_tables.specs.PpsTable as table;
 ghost use Rattle.hevc_tables.specs.ScalingListTable.{scaling_list_data};

@@ -1,6 +1,6 @@
 //! The range extension (7.3.2.3.2, table 12).
 ghost use Rattle.std.specs.Prelude.{◌≤◌, ◌<◌};
-ghost use Rattle.hevc_elements.specs.Words.{read, Reads, Fills};
+ghost use Rattle.hevc_elements.specs.Words.{Reads, Fills};
 ghost use Rattle.hevc_tables.specs.PpsRangeExtensionTable as table;
 ghost use Rattle.hevc_set_parts.specs.PpsRangeExtension.{plain_pps_range_extension};
 ghost use Rattle.hevc_sequence_set.specs.Sps.{plain_sps};

@@ -1,6 +1,6 @@
 //! The screen content coding extension (7.3.2.3.3, table 13).
 ghost use Rattle.std.specs.Prelude.{◌≡◌, ◌≤◌, ◌<◌};
-ghost use Rattle.hevc_elements.specs.Words.{read, Reads, Fills};
+ghost use Rattle.hevc_elements.specs.Words.{Reads, Fills};
 ghost use Rattle.hevc_tables.specs.PpsSccExtensionTable as table;
 ghost use Rattle.hevc_tables.specs.PpsTable.{max_palette_predictors as most_predictors};
 ghost use Rattle.hevc_tables.specs.SpsSccExtensionTable.{bit_depth as bit_depth_of};

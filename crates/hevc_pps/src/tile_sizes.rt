@@ -1,6 +1,6 @@
 //! The sizes of tile columns or rows (6.5.1), each in coding tree blocks and less 1.
 ghost use Rattle.std.specs.Prelude.{◌≡◌, ◌+◌, ◌<◌, ◌≤◌, IfOk, OnOk, replicate};
-ghost use Rattle.hevc_elements.specs.Words.{left, read, Reads, Fills};
+ghost use Rattle.hevc_elements.specs.Words.{left, Reads, Fills};
 ghost use Rattle.hevc_tables.specs.PpsTable as table;
 ghost use Rattle.hevc_pps.specs.Projections.{plain_parts};
 ghost use Rattle.hevc_pps.specs.Tiling.{blocks_of, AreParts};

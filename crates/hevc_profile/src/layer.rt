@@ -1,6 +1,6 @@
 //! The profile of the whole stream, or of a sub-layer (7.3.3, rows 1 to 5, 14 and 15 of table 2).
 ghost use Rattle.std.specs.Prelude.{◌<◌};
-ghost use Rattle.hevc_elements.specs.Words.{read, Reads, Fills};
+ghost use Rattle.hevc_elements.specs.Words.{Reads, Fills};
 ghost use Rattle.hevc_tables.specs.ProfileTierLevelTable as table;
 ghost use Rattle.hevc_profile.specs.LayerProfile.{plain_layer_profile};
 ghost use Rattle.hevc_profile.specs.Scopes.{plain_scope};

@@ -1,6 +1,6 @@
 //! Profile, tier and level (7.3.3, table 2).
 ghost use Rattle.std.specs.Prelude.{◌≤◌};
-ghost use Rattle.hevc_elements.specs.Words.{read, Reads, Fills, ReadsTable};
+ghost use Rattle.hevc_elements.specs.Words.{Reads, Fills, ReadsTable};
 ghost use Rattle.hevc_tables.specs.ProfileTierLevelTable as table;
 ghost use Rattle.hevc_tables.specs.ProfileTierLevelTable.{profile_tier_level};
 ghost use Rattle.hevc_set_parts.specs.ProfileTierLevel.{plain_profile_tier_level};

@@ -1,6 +1,6 @@
 //! The sub-layers below the highest (7.3.3, rows 28 to 31 of table 2).
 ghost use Rattle.std.specs.Prelude.{◌≤◌, ◌<◌};
-ghost use Rattle.hevc_elements.specs.Words.{read, when, Reads, Fills};
+ghost use Rattle.hevc_elements.specs.Words.{when, Reads, Fills};
 ghost use Rattle.hevc_tables.specs.ProfileTierLevelTable as table;
 ghost use Rattle.hevc_set_parts.specs.ProfileTierLevel.{plain_profile_tier_level};
 

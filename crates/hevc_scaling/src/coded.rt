@@ -2,7 +2,7 @@
 ghost use Rattle.std.specs.Prelude.{pos, negsuc, ◌≤ℤ◌};
 ghost use Rattle.hevc_spec.specs.Rows.{row, se_row};
 ghost use Rattle.std.specs.Prelude.{◌≡◌, ◌<◌, IfOk};
-ghost use Rattle.hevc_elements.specs.Words.{read, when, Reads, Fills};
+ghost use Rattle.hevc_elements.specs.Words.{when, Reads, Fills};
 ghost use Rattle.hevc_tables.specs.ScalingListTable as table;
 ghost use Rattle.hevc_scaling.specs.Projections.{plain_size, plain_coefs, plain_matrices};
 

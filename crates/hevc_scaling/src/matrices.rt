@@ -1,7 +1,7 @@
 //! The matrices of a size (7.3.4, table 6).
 ghost use Rattle.std.specs.Prelude.{pos, negsuc, ◌≤ℤ◌};
 ghost use Rattle.std.specs.Prelude.{◌≡◌, ◌<◌};
-ghost use Rattle.hevc_elements.specs.Words.{read, Reads, Fills};
+ghost use Rattle.hevc_elements.specs.Words.{Reads, Fills};
 ghost use Rattle.hevc_tables.specs.ScalingListTable as table;
 ghost use Rattle.hevc_scaling.specs.Projections.{plain_size, plain_matrices};
 

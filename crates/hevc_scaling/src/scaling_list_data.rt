@@ -1,5 +1,5 @@
 //! Scaling lists (7.3.4, table 6).
-ghost use Rattle.hevc_elements.specs.Words.{read, Reads, ReadsTable};
+ghost use Rattle.hevc_elements.specs.Words.{Reads, ReadsTable};
 ghost use Rattle.hevc_tables.specs.ScalingListTable.{scaling_list_data};
 ghost use Rattle.hevc_set_parts.specs.ScalingLists.{plain_scaling_lists};
 

@@ -1,7 +1,7 @@
 //! Short-term reference picture sets (7.3.7, table 7).
 ghost use Rattle.std.specs.Prelude.{length, map};
 ghost use Rattle.std.specs.Prelude.{◌≤◌};
-ghost use Rattle.hevc_elements.specs.Words.{read, Reads, ReadsTable};
+ghost use Rattle.hevc_elements.specs.Words.{Reads, ReadsTable};
 ghost use Rattle.hevc_tables.specs.ShortTermTable.{short_term_ref_pic_set};
 ghost use Rattle.hevc_set_parts.specs.ShortTermRefPicSet.{plain_short_term_ref_pic_set};
 

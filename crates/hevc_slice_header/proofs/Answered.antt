@@ -43,7 +43,7 @@ module _ (nal_unit_type : ℕ) (payload : List ℕ) (kept : ℕ → Option Activ
   unfolding slice_segment_header
   sized_refused fault h =
       let e : read (aligned (elements nal_unit_type kept)) all ≡ refuses fault (left new) =
-        refused_is_read (aligned (elements nal_unit_type kept)) t new.telling all (left new) fault h in
+      refused_is_read (aligned (elements nal_unit_type kept)) t new.telling all (left new) fault h in
       (left new, rw e refl)
 
   pub header_refused : (e : ParseError) → RefusesHeader e new (scan (aligned (elements nal_unit_type kept)) t all) → RefusesSet e (read (slice_segment_header nal_unit_type payload kept) all)
@@ -59,7 +59,7 @@ module _ (nal_unit_type : ℕ) (payload : List ℕ) (kept : ℕ → Option Activ
   unfolding slice_segment_header
   header_read h s =
       let e : read (aligned (elements nal_unit_type kept)) all ≡ gives h (left new) =
-        gave_is_read (aligned (elements nal_unit_type kept)) t new.telling all (left new) h s in
+      gave_is_read (aligned (elements nal_unit_type kept)) t new.telling all (left new) h s in
       rw e refl
 
 -- What is told, but where memory is wanted.

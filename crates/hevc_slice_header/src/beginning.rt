@@ -8,8 +8,8 @@ ghost use Rattle.hevc_picture_slice.specs.Pps.{plain_pps};
 ghost use Rattle.hevc_picture_slice.specs.SliceHeader.{plain_slice_header};
 
 use hevc_bits::NaluType;
-use hevc_elements::{ElementReader, ParseError};
 use hevc_elements::rows::{bits_u32, flag, flag_if, ue_u8};
+use hevc_elements::{ElementReader, ParseError};
 use hevc_picture_slice::{Pps, SliceHeader};
 use hevc_sequence_set::Sps;
 use hevc_slice_parts::ceil_log2;

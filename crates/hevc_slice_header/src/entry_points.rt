@@ -1,14 +1,14 @@
 //! Entry points and the header's extension (7.3.6.1, rows 48 to 52 of table 14).
 ghost use Rattle.std.specs.Prelude.{◌≡◌, ◌+◌, ◌-◌, ◌^◌, ◌≤◌, ◌<◌, if◌then◌else◌};
 ghost use Rattle.hevc_spec.specs.Rows.{row, bits_row};
-ghost use Rattle.hevc_elements.specs.Words.{read, Reads, Fills, ReadsGrowing, FillsGrowing};
+ghost use Rattle.hevc_elements.specs.Words.{Reads, Fills, ReadsGrowing, FillsGrowing};
 ghost use Rattle.hevc_tables.specs.SliceHeaderTable as table;
 ghost use Rattle.hevc_sequence_set.specs.Sps.{plain_sps};
 ghost use Rattle.hevc_picture_slice.specs.Pps.{plain_pps};
 ghost use Rattle.hevc_picture_slice.specs.SliceHeader.{plain_slice_header};
 
-use hevc_elements::{ElementReader, ParseError};
 use hevc_elements::rows::{bits_32, bits_u32, skip, ue, ue_u8};
+use hevc_elements::{ElementReader, ParseError};
 use hevc_picture_slice::{Pps, SliceHeader};
 use hevc_sequence_set::Sps;
 use hevc_set_parts::Items;

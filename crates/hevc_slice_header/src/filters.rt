@@ -5,8 +5,8 @@ ghost use Rattle.hevc_tables.specs.SliceHeaderTable as table;
 ghost use Rattle.hevc_picture_slice.specs.Pps.{plain_pps};
 ghost use Rattle.hevc_picture_slice.specs.SliceHeader.{plain_slice_header};
 
-use hevc_elements::{ElementReader, ParseError};
 use hevc_elements::rows::{flag, flag_if, flag_or, se_i8};
+use hevc_elements::{ElementReader, ParseError};
 use hevc_picture_slice::{Pps, SliceHeader};
 use hevc_spec::Row;
 

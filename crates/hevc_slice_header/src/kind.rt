@@ -1,15 +1,15 @@
 //! Of which kind a slice is, and its sample adaptive offset (7.3.6.1, rows 6 to 9, 22 and 23 of table 14).
 ghost use Rattle.std.specs.Prelude.{◌≡◌};
 ghost use Rattle.hevc_spec.specs.Rows.{row, ue_row};
-ghost use Rattle.hevc_elements.specs.Words.{read, Reads, Fills};
+ghost use Rattle.hevc_elements.specs.Words.{Reads, Fills};
 ghost use Rattle.hevc_tables.specs.SliceHeaderTable as table;
 ghost use Rattle.hevc_set_parts.specs.SliceType.{slice_type_number};
 ghost use Rattle.hevc_sequence_set.specs.Sps.{plain_sps};
 ghost use Rattle.hevc_picture_slice.specs.Pps.{plain_pps};
 ghost use Rattle.hevc_picture_slice.specs.SliceHeader.{plain_slice_header};
 
-use hevc_elements::{ElementReader, ParseError};
 use hevc_elements::rows::{bits_u8_if, flag_if, flag_or, skip, ue};
+use hevc_elements::{ElementReader, ParseError};
 use hevc_picture_slice::{Pps, SliceHeader};
 use hevc_sequence_set::Sps;
 use hevc_set_parts::SliceType;

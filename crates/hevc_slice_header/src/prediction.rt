@@ -1,6 +1,6 @@
 //! How a P or B slice is predicted (7.3.6.1, rows 24 to 34 of table 14).
 ghost use Rattle.std.specs.Prelude.{◌≡◌, OnErr};
-ghost use Rattle.hevc_elements.specs.Words.{read, Reads, Fills, ReadsTable};
+ghost use Rattle.hevc_elements.specs.Words.{Reads, Fills, ReadsTable};
 ghost use Rattle.hevc_tables.specs.SliceHeaderTable as table;
 ghost use Rattle.hevc_tables.specs.SliceTypes.{is_i as is_i_type};
 ghost use Rattle.hevc_slice_header.specs.Weights.{weights_of, weights_if_weighted};
@@ -9,8 +9,8 @@ ghost use Rattle.hevc_sequence_set.specs.Sps.{plain_sps};
 ghost use Rattle.hevc_picture_slice.specs.Pps.{plain_pps};
 ghost use Rattle.hevc_picture_slice.specs.SliceHeader.{plain_slice_header};
 
-use hevc_elements::{ElementReader, ParseError};
 use hevc_elements::rows::{flag_if, flag_or, ue_u8, ue_u8_if};
+use hevc_elements::{ElementReader, ParseError};
 use hevc_picture_slice::{Pps, SliceHeader};
 use hevc_sequence_set::Sps;
 use hevc_slice_parts::read_pred_weight_table;

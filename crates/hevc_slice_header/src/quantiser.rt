@@ -1,12 +1,12 @@
 //! What a slice adds to the picture set's quantisers (7.3.6.1, rows 35 to 42 of table 14).
 ghost use Rattle.std.specs.Prelude.{◌≡◌, ◌≤◌, ◌+ℤ◌, neg_ℤ, pos};
-ghost use Rattle.hevc_elements.specs.Words.{read, Reads, Fills};
+ghost use Rattle.hevc_elements.specs.Words.{Reads, Fills};
 ghost use Rattle.hevc_tables.specs.SliceHeaderTable as table;
 ghost use Rattle.hevc_picture_slice.specs.Pps.{plain_pps};
 ghost use Rattle.hevc_picture_slice.specs.SliceHeader.{plain_slice_header};
 
-use hevc_elements::{ElementReader, ParseError};
 use hevc_elements::rows::{check, flag_if, se_i8};
+use hevc_elements::{ElementReader, ParseError};
 use hevc_picture_slice::{Pps, SliceHeader};
 use hevc_spec::Row;
 
@@ -26,7 +26,11 @@ pub(crate) fn read_quantisers(
 
 /// Rows 35 to 40 of table 14.
 #[tactic(auto, unfolding(hevc_tables::specs::SliceHeaderTable::quantiser, hevc_spec::specs::Rows::when))]
-fn read_quantiser(r: &mut ElementReader<'_>, pps: &Pps, h: &mut SliceHeader) -> Result<(), ParseError>
+fn read_quantiser(
+    r: &mut ElementReader<'_>,
+    pps: &Pps,
+    h: &mut SliceHeader,
+) -> Result<(), ParseError>
     ensures { Fills plain_slice_header
         (table.quantiser (plain_pps pps.now)) result h.old h.new r.old r.new }
 {

@@ -1,6 +1,6 @@
 //! Modifications of reference picture lists (7.3.6.2, table 15).
 ghost use Rattle.std.specs.Prelude.{◌≡◌, ◌+◌, ◌≤◌, ◌^◌, [], IfOk, OnOk, IsTrue};
-ghost use Rattle.hevc_elements.specs.Words.{read, when, Reads, Fills, ReadsTable};
+ghost use Rattle.hevc_elements.specs.Words.{when, Reads, Fills, ReadsTable};
 ghost use Rattle.hevc_tables.specs.RefPicListModificationTable as table;
 ghost use Rattle.hevc_set_parts.specs.RefPicListModification.{plain_ref_pic_list_modification};
 ghost use Rattle.hevc_slice_parts.specs.Entries.{HasEntries};

@@ -1,7 +1,7 @@
 //! The weights of one reference picture list (7.3.6.3, rows 3 to 14 of table 16).
 ghost use Rattle.std.specs.Prelude.{◌≡◌, ◌-◌, ◌≤◌, ◌<◌, pos, neg_ℤ, ◌≤ℤ◌, IfOk};
 ghost use Rattle.hevc_spec.specs.Rows.{se_row};
-ghost use Rattle.hevc_elements.specs.Words.{read, Reads, Fills};
+ghost use Rattle.hevc_elements.specs.Words.{Reads, Fills};
 ghost use Rattle.hevc_tables.specs.WeightedPredictionTable as table;
 ghost use Rattle.hevc_sequence_set.specs.Sps.{plain_sps};
 ghost use Rattle.hevc_slice_parts.specs.Projections.{plain_list_weights};

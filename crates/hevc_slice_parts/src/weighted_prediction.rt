@@ -1,7 +1,7 @@
 //! Weighted prediction (7.3.6.3, table 16).
 ghost use Rattle.std.specs.Prelude.{◌≡◌, ◌≤◌, ◌+◌, pos, neg_ℤ, ◌+ℤ◌, IfOk, ◌≤ℤ◌, if◌then◌else◌, unsigned_abs};
 ghost use Rattle.hevc_spec.specs.Rows.{row, se_row};
-ghost use Rattle.hevc_elements.specs.Words.{read, when, Reads, Fills, ReadsTable};
+ghost use Rattle.hevc_elements.specs.Words.{when, Reads, Fills, ReadsTable};
 ghost use Rattle.hevc_tables.specs.WeightedPredictionTable as table;
 ghost use Rattle.hevc_video_set.specs.PredWeightTable.{plain_pred_weight_table};
 ghost use Rattle.hevc_sequence_set.specs.Sps.{plain_sps};

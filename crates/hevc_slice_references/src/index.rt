@@ -1,7 +1,7 @@
 //! Which one of several the header means.
 ghost use Rattle.std.specs.Prelude.{◌≡◌, ◌-◌, ◌≤◌, nat_lt, IfOk};
 ghost use Rattle.hevc_spec.specs.Rows.{bits_row};
-ghost use Rattle.hevc_elements.specs.Words.{read, when, Reads};
+ghost use Rattle.hevc_elements.specs.Words.{when, Reads};
 ghost use Rattle.hevc_tables.specs.MathFunctions.{ceil_log2 as logarithm};
 
 use hevc_elements::rows::bits_u8;

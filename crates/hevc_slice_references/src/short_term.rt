@@ -1,6 +1,6 @@
 //! The order count and the short-term set (7.3.6.1, rows 10 to 13 of table 14).
 ghost use Rattle.std.specs.Prelude.{◌≡◌, ◌≤◌};
-ghost use Rattle.hevc_elements.specs.Words.{read, Reads, Fills};
+ghost use Rattle.hevc_elements.specs.Words.{Reads, Fills};
 ghost use Rattle.hevc_tables.specs.SliceHeaderTable as table;
 ghost use Rattle.hevc_tables.specs.SpsTable.{highest_buffering as buffering_of_highest};
 ghost use Rattle.hevc_sequence_set.specs.Sps.{plain_sps};

@@ -1,5 +1,5 @@
 //! The range extension (7.3.2.2.2, table 9).
-ghost use Rattle.hevc_elements.specs.Words.{read, Reads};
+ghost use Rattle.hevc_elements.specs.Words.{Reads};
 ghost use Rattle.hevc_tables.specs.SpsRangeExtensionTable.{sps_range_extension};
 ghost use Rattle.hevc_sequence_set.specs.SpsRangeExtension.{plain_sps_range_extension};
 

@@ -1,6 +1,6 @@
 //! The screen content coding extension (7.3.2.2.3, table 10).
 ghost use Rattle.std.specs.Prelude.{◌≡◌, ◌≤◌, ◌<◌};
-ghost use Rattle.hevc_elements.specs.Words.{read, Reads, Fills};
+ghost use Rattle.hevc_elements.specs.Words.{Reads, Fills};
 ghost use Rattle.hevc_tables.specs.SpsSccExtensionTable as table;
 ghost use Rattle.hevc_sequence_set.specs.SpsSccExtension.{plain_sps_scc_extension};
 ghost use Rattle.hevc_sps.specs.Projections.{plain_format};

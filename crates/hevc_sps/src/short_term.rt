@@ -1,7 +1,7 @@
 //! The short-term reference picture sets (7.3.2.2.1, rows 35 and 36 of table 5).
 ghost use Rattle.std.specs.Prelude.{length, map, IfOk};
 ghost use Rattle.std.specs.Prelude.{◌≡◌, ◌≤◌, ◌<◌};
-ghost use Rattle.hevc_elements.specs.Words.{read, ReadsGrowing, FillsGrowing};
+ghost use Rattle.hevc_elements.specs.Words.{ReadsGrowing, FillsGrowing};
 ghost use Rattle.hevc_tables.specs.SpsTable as table;
 ghost use Rattle.hevc_set_parts.specs.ShortTermRefPicSet.{plain_short_term_ref_pic_set};
 ghost use Rattle.hevc_sequence_set.specs.Sps.{plain_sps};

@@ -2,7 +2,7 @@
 ghost use Rattle.std.specs.Prelude.{◌==◌, not};
 ghost use Rattle.hevc_spec.specs.Rows.{check_row};
 ghost use Rattle.std.specs.Prelude.{◌≡◌, ◌≤◌, ◌<◌};
-ghost use Rattle.hevc_elements.specs.Words.{read, when, Reads, Fills};
+ghost use Rattle.hevc_elements.specs.Words.{when, Reads, Fills};
 ghost use Rattle.hevc_tables.specs.VpsTable as table;
 ghost use Rattle.hevc_video_set.specs.Vps.{plain_vps};
 

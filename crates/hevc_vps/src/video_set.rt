@@ -1,5 +1,5 @@
 //! Video parameter sets (7.3.2.1, table 1).
-ghost use Rattle.std.specs.Prelude.{◌≡◌, ◌==◌, ◌<◌, ◌^◌, ◌↔◌, IfErr, IsErrOf, IsTrue, length, drop, ◌≤◌};
+ghost use Rattle.std.specs.Prelude.{IfOk, ◌≡◌, ◌==◌, ◌<◌, ◌^◌, ◌↔◌, IfErr, IsErrOf, IsTrue, length, drop, ◌≤◌};
 ghost use Rattle.hevc_spec.specs.Payload.{payload, payload_bits};
 ghost use Rattle.hevc_bits.specs.FoundUnit.{bytes_of};
 ghost use Rattle.hevc_bits.specs.NaluType.{nalu_type_number};
