@@ -7,5 +7,12 @@ pub returns : goal.returns
 unfolding chroma_offsets
 returns c = record {
   reads = search rules;
-  moves = ahead_then _ _ _ c.in_ok-cb.ensures.moves c.in_ok-cr.ensures.moves;
+  moves = ahead_then _ _ _ c.in_ok-cb.ensures.read.moves c.in_ok-cr.ensures.read.moves;
+}
+
+pub returns-in_err-cr : goal.returns-in_err-cr
+unfolding chroma_offsets
+returns-in_err-cr c = record {
+  reads = search rules;
+  moves = ahead_then _ _ _ c.in_ok-cb.ensures.read.moves c.in_err-cr.ensures.read.moves;
 }

@@ -1,4 +1,4 @@
-use Rattle.std.proofs.Common.{ap, ◌∙◌, sym, subst, length, arith}
+use Rattle.std.proofs.Common.{rules, ap, ◌∙◌, sym, subst, length, arith}
 use Rattle.hevc_dpb.specs.Numbers.{Distinct}
 use Rattle.hevc_dpb.specs.Entries.{numbers, ticket, tickets, is_needed, reference_numbers}
 use Rattle.hevc_dpb.specs.Sublists.{IsSublist}
@@ -24,5 +24,9 @@ returns-clause-references g c = ap reference_numbers (c.order_waiting.ensures.en
 pub returns-clause-buffer : goal.returns-clause-buffer
 returns-clause-buffer g c = ap plain_entries (c.order_waiting.ensures.entries ∙ c.keep_needed.ensures.kept) ∙ plain_needed c.args.self.now.entries.items
 
-pub returns-clause-latency : goal.returns-clause-latency
-returns-clause-latency g c h = subst HaveLatency (sym (c.order_waiting.ensures.entries ∙ c.keep_needed.ensures.kept)) (latency_filter is_needed c.args.self.now.entries.items h)
+pub returns-clause-keeps : goal.returns-clause-keeps
+returns-clause-keeps g c = record {
+  size = search rules;
+  room = search rules;
+  latency = λ h. subst HaveLatency (sym (c.order_waiting.ensures.entries ∙ c.keep_needed.ensures.kept)) (latency_filter is_needed c.args.self.now.entries.items h);
+}
