@@ -86,15 +86,15 @@ fn write_formats(w: &mut BitWriter, layer: &LayerProfile) -> Result<(), AllocErr
     ensures { (scope : table.Scope) → OnOk result
         (Writes (table.formats scope) own.formats (plain_layer_profile layer.now) w.old w.new) }
 {
-    flag(w, layer.max_12bit_constraint_flag)?;
-    flag(w, layer.max_10bit_constraint_flag)?;
-    flag(w, layer.max_8bit_constraint_flag)?;
-    flag(w, layer.max_422chroma_constraint_flag)?;
-    flag(w, layer.max_420chroma_constraint_flag)?;
-    flag(w, layer.max_monochrome_constraint_flag)?;
-    flag(w, layer.intra_constraint_flag)?;
-    flag(w, layer.one_picture_only_constraint_flag)?;
-    flag(w, layer.lower_bit_rate_constraint_flag)?;
+    flag(w, layer.max_12bit_constraint_flag)?; // Row(2, 6)
+    flag(w, layer.max_10bit_constraint_flag)?; // Row(2, 6)
+    flag(w, layer.max_8bit_constraint_flag)?; // Row(2, 6)
+    flag(w, layer.max_422chroma_constraint_flag)?; // Row(2, 6)
+    flag(w, layer.max_420chroma_constraint_flag)?; // Row(2, 6)
+    flag(w, layer.max_monochrome_constraint_flag)?; // Row(2, 6)
+    flag(w, layer.intra_constraint_flag)?; // Row(2, 6)
+    flag(w, layer.one_picture_only_constraint_flag)?; // Row(2, 6)
+    flag(w, layer.lower_bit_rate_constraint_flag)?; // Row(2, 6)
     Ok(())
 }
 
@@ -105,7 +105,7 @@ fn write_bit_depth_flag(w: &mut BitWriter, layer: &LayerProfile) -> Result<(), A
         (plain_layer_profile layer.now) w.old w.new) }
 {
     let present = has_14bit(layer);
-    flag_if(w, present, layer.max_14bit_constraint_flag)?;
+    flag_if(w, present, layer.max_14bit_constraint_flag)?; // Row(2, 7)
     write_either_zeros(w, present)?;
     Ok(())
 }
@@ -116,9 +116,9 @@ fn write_either_zeros(w: &mut BitWriter, after_a_flag: bool) -> Result<(), Alloc
         w.old w.new) }
 {
     if after_a_flag {
-        zeros(w, 33)
+        zeros(w, 33) // Row(2, 8)
     } else {
-        zeros(w, 34)
+        zeros(w, 34) // Row(2, 9)
     }
 }
 
@@ -128,9 +128,9 @@ fn write_main_10(w: &mut BitWriter, layer: &LayerProfile) -> Result<(), AllocErr
         (Writes (table.main_10_flags scope) own.seen_by_constraints
         (plain_layer_profile layer.now) w.old w.new) }
 {
-    zeros(w, 7)?;
-    flag(w, layer.one_picture_only_constraint_flag)?;
-    zeros(w, 35)?;
+    zeros(w, 7)?; // Row(2, 10)
+    flag(w, layer.one_picture_only_constraint_flag)?; // Row(2, 11)
+    zeros(w, 35)?; // Row(2, 12)
     Ok(())
 }
 
@@ -141,6 +141,6 @@ fn write_reserved_bits(w: &mut BitWriter, layer: &LayerProfile) -> Result<(), Al
         (plain_layer_profile layer.now) w.old w.new) }
 {
     let _ = layer;
-    zeros(w, 43)?;
+    zeros(w, 43)?; // Row(2, 13)
     Ok(())
 }

@@ -28,8 +28,8 @@ fn write_common(w: &mut BitWriter, x: &HrdParams) -> Result<(), AllocError>
     ensures { OnOk result (Writes table.common_parameters own.common_parameters
         (plain_hrd_params x.now) w.old w.new) }
 {
-    flag(w, x.nal_hrd_parameters_present_flag)?;
-    flag(w, x.vcl_hrd_parameters_present_flag)?;
+    flag(w, x.nal_hrd_parameters_present_flag)?; // Row(3, 1)
+    flag(w, x.vcl_hrd_parameters_present_flag)?; // Row(3, 1)
     write_buffering_if(w, has_buffering(x), x)?;
     Ok(())
 }
@@ -59,7 +59,7 @@ fn write_buffering(w: &mut BitWriter, x: &HrdParams) -> Result<(), AllocError>
     ensures { OnOk result
         (Writes table.buffering own.buffering (plain_hrd_params x.now) w.old w.new) }
 {
-    flag(w, x.sub_pic_hrd_params_present_flag)?;
+    flag(w, x.sub_pic_hrd_params_present_flag)?; // Row(3, 2)
     write_units_if(w, x.sub_pic_hrd_params_present_flag, x)?;
     write_scales(w, x)?;
     Ok(())
@@ -78,10 +78,10 @@ fn write_units(w: &mut BitWriter, x: &HrdParams) -> Result<(), AllocError>
     ensures { OnOk result
         (Writes table.decoding_units own.decoding_units (plain_hrd_params x.now) w.old w.new) }
 {
-    bits_u8(w, 8, x.tick_divisor_minus2)?;
-    bits_u8(w, 5, x.du_cpb_removal_delay_increment_length_minus1)?;
-    flag(w, x.sub_pic_cpb_params_in_pic_timing_sei_flag)?;
-    bits_u8(w, 5, x.dpb_output_delay_du_length_minus1)?;
+    bits_u8(w, 8, x.tick_divisor_minus2)?; // Row(3, 3)
+    bits_u8(w, 5, x.du_cpb_removal_delay_increment_length_minus1)?; // Row(3, 4)
+    flag(w, x.sub_pic_cpb_params_in_pic_timing_sei_flag)?; // Row(3, 5)
+    bits_u8(w, 5, x.dpb_output_delay_du_length_minus1)?; // Row(3, 6)
     Ok(())
 }
 
@@ -90,11 +90,11 @@ fn write_scales(w: &mut BitWriter, x: &HrdParams) -> Result<(), AllocError>
     ensures { OnOk result
         (Writes table.scales own.seen_by_scales (plain_hrd_params x.now) w.old w.new) }
 {
-    bits_u8(w, 4, x.bit_rate_scale)?;
-    bits_u8(w, 4, x.cpb_size_scale)?;
-    bits_u8_if(w, x.sub_pic_hrd_params_present_flag, 4, x.cpb_size_du_scale)?;
-    bits_u8(w, 5, x.initial_cpb_removal_delay_length_minus1)?;
-    bits_u8(w, 5, x.au_cpb_removal_delay_length_minus1)?;
-    bits_u8(w, 5, x.dpb_output_delay_length_minus1)?;
+    bits_u8(w, 4, x.bit_rate_scale)?; // Row(3, 7)
+    bits_u8(w, 4, x.cpb_size_scale)?; // Row(3, 7)
+    bits_u8_if(w, x.sub_pic_hrd_params_present_flag, 4, x.cpb_size_du_scale)?; // Row(3, 8)
+    bits_u8(w, 5, x.initial_cpb_removal_delay_length_minus1)?; // Row(3, 9)
+    bits_u8(w, 5, x.au_cpb_removal_delay_length_minus1)?; // Row(3, 9)
+    bits_u8(w, 5, x.dpb_output_delay_length_minus1)?; // Row(3, 9)
     Ok(())
 }

@@ -60,10 +60,10 @@ fn write_schedule(
     ensures { OnOk result (WritesTurn (table.schedule by_units)
         (same_schedules (plain_sublayer_hrd_parameters x.now)) i w.old w.new) }
 {
-    ue(w, x.bit_rate_value_minus1[i])?;
-    ue(w, x.cpb_size_value_minus1[i])?;
-    ue_if(w, by_units, x.cpb_size_du_value_minus1[i])?;
-    ue_if(w, by_units, x.bit_rate_du_value_minus1[i])?;
-    flag(w, x.cbr_flag[i])?;
+    ue(w, x.bit_rate_value_minus1[i])?; // Row(4, 1)
+    ue(w, x.cpb_size_value_minus1[i])?; // Row(4, 1)
+    ue_if(w, by_units, x.cpb_size_du_value_minus1[i])?; // Row(4, 2)
+    ue_if(w, by_units, x.bit_rate_du_value_minus1[i])?; // Row(4, 2)
+    flag(w, x.cbr_flag[i])?; // Row(4, 3)
     Ok(())
 }

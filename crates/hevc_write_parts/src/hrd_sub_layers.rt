@@ -40,24 +40,24 @@ fn write_sub_layer(w: &mut BitWriter, i: usize, x: &HrdParams) -> Result<(), All
     let low_delay = x.low_delay_hrd_flag[i];
     let by_units = x.sub_pic_hrd_params_present_flag;
     let count = x.cpb_cnt_minus1[i];
-    flag(w, x.fixed_pic_rate_general_flag[i])?;
-    flag_if(w, !x.fixed_pic_rate_general_flag[i], within)?;
-    ue_if(w, within, x.elemental_duration_in_tc_minus1[i])?;
-    flag_if(w, !within, low_delay)?;
-    ue_if(w, !low_delay, count)?;
+    flag(w, x.fixed_pic_rate_general_flag[i])?; // Row(3, 10)
+    flag_if(w, !x.fixed_pic_rate_general_flag[i], within)?; // Row(3, 11)
+    ue_if(w, within, x.elemental_duration_in_tc_minus1[i])?; // Row(3, 12)
+    flag_if(w, !within, low_delay)?; // Row(3, 13)
+    ue_if(w, !low_delay, count)?; // Row(3, 14)
     write_schedules_if(
         w,
         x.nal_hrd_parameters_present_flag,
         by_units,
         count,
         &x.nal_hrd[i],
-    )?;
+    )?; // Row(3, 15)
     write_schedules_if(
         w,
         x.vcl_hrd_parameters_present_flag,
         by_units,
         count,
         &x.vcl_hrd[i],
-    )?;
+    )?; // Row(3, 16)
     Ok(())
 }

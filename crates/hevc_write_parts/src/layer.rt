@@ -29,9 +29,9 @@ fn write_profiles(w: &mut BitWriter, layer: &LayerProfile) -> Result<(), AllocEr
     ensures { (scope : table.Scope) → OnOk result
         (Writes (table.profiles scope) own.profiles (plain_layer_profile layer.now) w.old w.new) }
 {
-    bits_u8(w, 2, layer.profile_space)?;
-    flag(w, layer.tier_flag)?;
-    bits_u8(w, 5, layer.profile_idc)?;
+    bits_u8(w, 2, layer.profile_space)?; // Row(2, 1)
+    flag(w, layer.tier_flag)?; // Row(2, 2)
+    bits_u8(w, 5, layer.profile_idc)?; // Row(2, 3)
     write_compatibility_flags(w, layer)?;
     Ok(())
 }
@@ -59,7 +59,7 @@ fn write_compatibility_flag(
         (WritesTurn (table.compatibility_flag scope)
         (own.same_flags (plain_layer_profile layer.now)) i w.old w.new) }
 {
-    flag(w, layer.profile_compatibility_flag[i])?;
+    flag(w, layer.profile_compatibility_flag[i])?; // Row(2, 4)
     Ok(())
 }
 
@@ -68,10 +68,10 @@ fn write_source(w: &mut BitWriter, layer: &LayerProfile) -> Result<(), AllocErro
     ensures { (scope : table.Scope) → OnOk result
         (Writes (table.source scope) own.source (plain_layer_profile layer.now) w.old w.new) }
 {
-    flag(w, layer.progressive_source_flag)?;
-    flag(w, layer.interlaced_source_flag)?;
-    flag(w, layer.non_packed_constraint_flag)?;
-    flag(w, layer.frame_only_constraint_flag)?;
+    flag(w, layer.progressive_source_flag)?; // Row(2, 5)
+    flag(w, layer.interlaced_source_flag)?; // Row(2, 5)
+    flag(w, layer.non_packed_constraint_flag)?; // Row(2, 5)
+    flag(w, layer.frame_only_constraint_flag)?; // Row(2, 5)
     Ok(())
 }
 
@@ -82,7 +82,7 @@ fn write_inbld(w: &mut BitWriter, layer: &LayerProfile) -> Result<(), AllocError
         w.old w.new) }
 {
     let present = has_inbld(layer);
-    flag_if(w, present, layer.inbld_flag)?;
-    zeros_if(w, !present, 1)?;
+    flag_if(w, present, layer.inbld_flag)?; // Row(2, 14)
+    zeros_if(w, !present, 1)?; // Row(2, 15)
     Ok(())
 }

@@ -40,7 +40,7 @@ fn write_absent_layers(w: &mut BitWriter, max_sub_layers_minus1: u8) -> Result<(
         w,
         max_sub_layers_minus1 > 0,
         2 * (8 - u32::from(max_sub_layers_minus1)),
-    )
+    ) // Row(2, 29)
 }
 
 /// Rows 1 to 27 of table 2.
@@ -50,6 +50,6 @@ fn write_general(w: &mut BitWriter, x: &ProfileTierLevel) -> Result<(), AllocErr
 {
     let layer = LayerProfile::general(x);
     write_layer_profile(w, &layer)?;
-    bits_u8(w, 8, x.general_level_idc.number())?;
+    bits_u8(w, 8, x.general_level_idc.number())?; // Row(2, 27)
     Ok(())
 }

@@ -36,8 +36,8 @@ fn write_next_presence(w: &mut BitWriter, i: usize, x: &ProfileTierLevel) -> Res
     ensures { OnOk result (WritesTurn table.next_presence
         (own.same_presence (plain_profile_tier_level x.now)) i w.old w.new) }
 {
-    flag(w, x.sub_layer_profile_present_flag[i])?;
-    flag(w, x.sub_layer_level_present_flag[i])?;
+    flag(w, x.sub_layer_profile_present_flag[i])?; // Row(2, 28)
+    flag(w, x.sub_layer_level_present_flag[i])?; // Row(2, 28)
     Ok(())
 }
 
@@ -115,7 +115,7 @@ fn write_profile(w: &mut BitWriter, i: usize, x: &ProfileTierLevel) -> Result<()
         max_14bit_constraint_flag: x.sub_layer_max_14bit_constraint_flag[i],
         inbld_flag: x.sub_layer_inbld_flag[i],
     };
-    write_layer_profile(w, &layer)?;
+    write_layer_profile(w, &layer)?; // Row(2, 30)
     Ok(())
 }
 
@@ -143,6 +143,6 @@ fn write_level(w: &mut BitWriter, i: usize, x: &ProfileTierLevel) -> Result<(), 
     ensures { OnOk result (WritesTurn table.sub_layer_level
         (own.same_levels (plain_profile_tier_level x.now)) i w.old w.new) }
 {
-    bits_u8(w, 8, x.sub_layer_level_idc[i].number())?;
+    bits_u8(w, 8, x.sub_layer_level_idc[i].number())?; // Row(2, 31)
     Ok(())
 }

@@ -36,10 +36,10 @@ fn write_aspect_ratio(w: &mut BitWriter, x: &VuiParams) -> Result<(), AllocError
     ensures { OnOk result
         (Writes table.aspect_ratio own.aspect_ratio (plain_vui_params x.now) w.old w.new) }
 {
-    flag(w, x.aspect_ratio_info_present_flag)?;
-    bits_if(w, x.aspect_ratio_info_present_flag, 8, x.aspect_ratio_idc)?;
-    bits_if(w, x.aspect_ratio_idc == 255, 16, x.sar_width)?;
-    bits_if(w, x.aspect_ratio_idc == 255, 16, x.sar_height)?;
+    flag(w, x.aspect_ratio_info_present_flag)?; // Row(8, 1)
+    bits_if(w, x.aspect_ratio_info_present_flag, 8, x.aspect_ratio_idc)?; // Row(8, 2)
+    bits_if(w, x.aspect_ratio_idc == 255, 16, x.sar_width)?; // Row(8, 3)
+    bits_if(w, x.aspect_ratio_idc == 255, 16, x.sar_height)?; // Row(8, 3)
     Ok(())
 }
 
@@ -48,8 +48,8 @@ fn write_overscan(w: &mut BitWriter, x: &VuiParams) -> Result<(), AllocError>
     ensures { OnOk result
         (Writes table.overscan own.overscan (plain_vui_params x.now) w.old w.new) }
 {
-    flag(w, x.overscan_info_present_flag)?;
-    flag_if(w, x.overscan_info_present_flag, x.overscan_appropriate_flag)?;
+    flag(w, x.overscan_info_present_flag)?; // Row(8, 4)
+    flag_if(w, x.overscan_info_present_flag, x.overscan_appropriate_flag)?; // Row(8, 5)
     Ok(())
 }
 
@@ -66,9 +66,9 @@ fn write_colours(w: &mut BitWriter, x: &VuiParams) -> Result<(), AllocError>
     ensures { OnOk result
         (Writes table.colours own.colours (plain_vui_params x.now) w.old w.new) }
 {
-    bits(w, 8, x.colour_primaries)?;
-    bits(w, 8, x.transfer_characteristics)?;
-    bits(w, 8, x.matrix_coeffs)?;
+    bits(w, 8, x.colour_primaries)?; // Row(8, 9)
+    bits(w, 8, x.transfer_characteristics)?; // Row(8, 9)
+    bits(w, 8, x.matrix_coeffs)?; // Row(8, 9)
     Ok(())
 }
 
@@ -85,9 +85,9 @@ fn write_signal(w: &mut BitWriter, x: &VuiParams) -> Result<(), AllocError>
     ensures { OnOk result
         (Writes table.signal own.signal (plain_vui_params x.now) w.old w.new) }
 {
-    bits_u8(w, 3, x.video_format)?;
-    flag(w, x.video_full_range_flag)?;
-    flag(w, x.colour_description_present_flag)?;
+    bits_u8(w, 3, x.video_format)?; // Row(8, 7)
+    flag(w, x.video_full_range_flag)?; // Row(8, 8)
+    flag(w, x.colour_description_present_flag)?; // Row(8, 8)
     write_colours_if(w, x.colour_description_present_flag, x)?;
     Ok(())
 }
@@ -97,7 +97,7 @@ fn write_signal_type(w: &mut BitWriter, x: &VuiParams) -> Result<(), AllocError>
     ensures { OnOk result
         (Writes table.signal_type own.signal_type (plain_vui_params x.now) w.old w.new) }
 {
-    flag(w, x.video_signal_type_present_flag)?;
+    flag(w, x.video_signal_type_present_flag)?; // Row(8, 6)
     write_signal_if(w, x.video_signal_type_present_flag, x)?;
     Ok(())
 }
@@ -107,17 +107,17 @@ fn write_chroma_places(w: &mut BitWriter, x: &VuiParams) -> Result<(), AllocErro
     ensures { OnOk result
         (Writes table.chroma_places own.chroma_places (plain_vui_params x.now) w.old w.new) }
 {
-    flag(w, x.chroma_loc_info_present_flag)?;
+    flag(w, x.chroma_loc_info_present_flag)?; // Row(8, 10)
     ue_if(
         w,
         x.chroma_loc_info_present_flag,
         x.chroma_sample_loc_type_top_field,
-    )?;
+    )?; // Row(8, 11)
     ue_if(
         w,
         x.chroma_loc_info_present_flag,
         x.chroma_sample_loc_type_bottom_field,
-    )?;
+    )?; // Row(8, 12)
     Ok(())
 }
 
@@ -142,10 +142,10 @@ fn write_display_window(w: &mut BitWriter, x: &VuiParams) -> Result<(), AllocErr
     ensures { OnOk result
         (Writes table.display_window own.display_window (plain_vui_params x.now) w.old w.new) }
 {
-    ue(w, x.def_disp_win_left_offset)?;
-    ue(w, x.def_disp_win_right_offset)?;
-    ue(w, x.def_disp_win_top_offset)?;
-    ue(w, x.def_disp_win_bottom_offset)?;
+    ue(w, x.def_disp_win_left_offset)?; // Row(8, 14)
+    ue(w, x.def_disp_win_right_offset)?; // Row(8, 14)
+    ue(w, x.def_disp_win_top_offset)?; // Row(8, 14)
+    ue(w, x.def_disp_win_bottom_offset)?; // Row(8, 14)
     Ok(())
 }
 
@@ -154,10 +154,10 @@ fn write_display(w: &mut BitWriter, x: &VuiParams) -> Result<(), AllocError>
     ensures { OnOk result
         (Writes table.display own.display (plain_vui_params x.now) w.old w.new) }
 {
-    flag(w, x.neutral_chroma_indication_flag)?;
-    flag(w, x.field_seq_flag)?;
-    flag(w, x.frame_field_info_present_flag)?;
-    flag(w, x.default_display_window_flag)?;
+    flag(w, x.neutral_chroma_indication_flag)?; // Row(8, 13)
+    flag(w, x.field_seq_flag)?; // Row(8, 13)
+    flag(w, x.frame_field_info_present_flag)?; // Row(8, 13)
+    flag(w, x.default_display_window_flag)?; // Row(8, 13)
     write_display_window_if(w, x.default_display_window_flag, x)?;
     Ok(())
 }
@@ -186,7 +186,7 @@ fn write_hrd(w: &mut BitWriter, max_sub_layers_minus1: u8, x: &VuiParams) -> Res
     ensures { OnOk result
         (Writes (table.hrd max_sub_layers_minus1) own.hrd (plain_vui_params x.now) w.old w.new) }
 {
-    write_hrd_parameters(w, true, max_sub_layers_minus1, &x.hrd)?;
+    write_hrd_parameters(w, true, max_sub_layers_minus1, &x.hrd)?; // Row(8, 20)
     Ok(())
 }
 
@@ -218,15 +218,15 @@ fn write_timing(
     ensures { OnOk result
         (Writes (table.timing max_sub_layers_minus1) own.timing (plain_vui_params x.now) w.old w.new) }
 {
-    bits(w, 32, x.num_units_in_tick)?;
-    bits(w, 32, x.time_scale)?;
-    flag(w, x.poc_proportional_to_timing_flag)?;
+    bits(w, 32, x.num_units_in_tick)?; // Row(8, 16)
+    bits(w, 32, x.time_scale)?; // Row(8, 16)
+    flag(w, x.poc_proportional_to_timing_flag)?; // Row(8, 17)
     ue_if(
         w,
         x.poc_proportional_to_timing_flag,
         x.num_ticks_poc_diff_one_minus1,
-    )?;
-    flag(w, x.hrd_parameters_present_flag)?;
+    )?; // Row(8, 18)
+    flag(w, x.hrd_parameters_present_flag)?; // Row(8, 19)
     write_hrd_if(w, x.hrd_parameters_present_flag, max_sub_layers_minus1, x)?;
     Ok(())
 }
@@ -241,7 +241,7 @@ fn write_timing_info(
     ensures { OnOk result
         (Writes (table.timing_info max_sub_layers_minus1) own.timing_info (plain_vui_params x.now) w.old w.new) }
 {
-    flag(w, x.timing_info_present_flag)?;
+    flag(w, x.timing_info_present_flag)?; // Row(8, 15)
     write_timing_if(w, x.timing_info_present_flag, max_sub_layers_minus1, x)?;
     Ok(())
 }
@@ -263,14 +263,14 @@ fn write_restrictions(w: &mut BitWriter, x: &VuiParams) -> Result<(), AllocError
     ensures { OnOk result
         (Writes table.restrictions own.restrictions (plain_vui_params x.now) w.old w.new) }
 {
-    flag(w, x.tiles_fixed_structure_flag)?;
-    flag(w, x.motion_vectors_over_pic_boundaries_flag)?;
-    flag(w, x.restricted_ref_pic_lists_flag)?;
-    ue(w, x.min_spatial_segmentation_idc)?;
-    ue(w, x.max_bytes_per_pic_denom)?;
-    ue(w, x.max_bits_per_min_cu_denom)?;
-    ue(w, x.log2_max_mv_length_horizontal)?;
-    ue(w, x.log2_max_mv_length_vertical)?;
+    flag(w, x.tiles_fixed_structure_flag)?; // Row(8, 22)
+    flag(w, x.motion_vectors_over_pic_boundaries_flag)?; // Row(8, 22)
+    flag(w, x.restricted_ref_pic_lists_flag)?; // Row(8, 22)
+    ue(w, x.min_spatial_segmentation_idc)?; // Row(8, 23)
+    ue(w, x.max_bytes_per_pic_denom)?; // Row(8, 24)
+    ue(w, x.max_bits_per_min_cu_denom)?; // Row(8, 24)
+    ue(w, x.log2_max_mv_length_horizontal)?; // Row(8, 25)
+    ue(w, x.log2_max_mv_length_vertical)?; // Row(8, 26)
     Ok(())
 }
 
@@ -279,7 +279,7 @@ fn write_stream_restrictions(w: &mut BitWriter, x: &VuiParams) -> Result<(), All
     ensures { OnOk result
         (Writes table.stream_restrictions own.stream_restrictions (plain_vui_params x.now) w.old w.new) }
 {
-    flag(w, x.bitstream_restriction_flag)?;
+    flag(w, x.bitstream_restriction_flag)?; // Row(8, 21)
     write_restrictions_if(w, x.bitstream_restriction_flag, x)?;
     Ok(())
 }

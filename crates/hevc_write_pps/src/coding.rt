@@ -32,13 +32,13 @@ fn write_presence(w: &mut BitWriter, x: &Pps) -> Result<(), AllocError>
     ensures { OnOk result (Writes table.presence
         own.presence (plain_pps x.now) w.old w.new) }
 {
-    flag(w, x.dependent_slice_segments_enabled_flag)?;
-    flag(w, x.output_flag_present_flag)?;
-    bits_u8(w, 3, x.num_extra_slice_header_bits)?;
-    flag(w, x.sign_data_hiding_enabled_flag)?;
-    flag(w, x.cabac_init_present_flag)?;
-    ue_u8(w, x.num_ref_idx_l0_default_active_minus1)?;
-    ue_u8(w, x.num_ref_idx_l1_default_active_minus1)?;
+    flag(w, x.dependent_slice_segments_enabled_flag)?; // Row(11, 3)
+    flag(w, x.output_flag_present_flag)?; // Row(11, 3)
+    bits_u8(w, 3, x.num_extra_slice_header_bits)?; // Row(11, 4)
+    flag(w, x.sign_data_hiding_enabled_flag)?; // Row(11, 5)
+    flag(w, x.cabac_init_present_flag)?; // Row(11, 5)
+    ue_u8(w, x.num_ref_idx_l0_default_active_minus1)?; // Row(11, 6)
+    ue_u8(w, x.num_ref_idx_l1_default_active_minus1)?; // Row(11, 7)
     Ok(())
 }
 
@@ -47,13 +47,13 @@ fn write_quantiser(w: &mut BitWriter, x: &Pps) -> Result<(), AllocError>
     ensures { (sps : PlainSps) → OnOk result (Writes (table.quantiser sps)
         own.quantiser_elements (plain_pps x.now) w.old w.new) }
 {
-    se_i8(w, x.init_qp_minus26)?;
-    flag(w, x.constrained_intra_pred_flag)?;
-    flag(w, x.transform_skip_enabled_flag)?;
-    flag(w, x.cu_qp_delta_enabled_flag)?;
-    ue_u8_if(w, x.cu_qp_delta_enabled_flag, x.diff_cu_qp_delta_depth)?;
-    se_i8(w, x.cb_qp_offset)?;
-    se_i8(w, x.cr_qp_offset)?;
+    se_i8(w, x.init_qp_minus26)?; // Row(11, 8)
+    flag(w, x.constrained_intra_pred_flag)?; // Row(11, 9)
+    flag(w, x.transform_skip_enabled_flag)?; // Row(11, 9)
+    flag(w, x.cu_qp_delta_enabled_flag)?; // Row(11, 9)
+    ue_u8_if(w, x.cu_qp_delta_enabled_flag, x.diff_cu_qp_delta_depth)?; // Row(11, 10)
+    se_i8(w, x.cb_qp_offset)?; // Row(11, 11)
+    se_i8(w, x.cr_qp_offset)?; // Row(11, 12)
     Ok(())
 }
 
@@ -62,12 +62,12 @@ fn write_tools(w: &mut BitWriter, x: &Pps) -> Result<(), AllocError>
     ensures { OnOk result (Writes table.tools
         own.tools (plain_pps x.now) w.old w.new) }
 {
-    flag(w, x.slice_chroma_qp_offsets_present_flag)?;
-    flag(w, x.weighted_pred_flag)?;
-    flag(w, x.weighted_bipred_flag)?;
-    flag(w, x.transquant_bypass_enabled_flag)?;
-    flag(w, x.tiles_enabled_flag)?;
-    flag(w, x.entropy_coding_sync_enabled_flag)?;
+    flag(w, x.slice_chroma_qp_offsets_present_flag)?; // Row(11, 13)
+    flag(w, x.weighted_pred_flag)?; // Row(11, 13)
+    flag(w, x.weighted_bipred_flag)?; // Row(11, 13)
+    flag(w, x.transquant_bypass_enabled_flag)?; // Row(11, 13)
+    flag(w, x.tiles_enabled_flag)?; // Row(11, 13)
+    flag(w, x.entropy_coding_sync_enabled_flag)?; // Row(11, 13)
     Ok(())
 }
 
@@ -76,7 +76,7 @@ pub(crate) fn write_scaling(w: &mut BitWriter, x: &Pps) -> Result<(), AllocError
     ensures { OnOk result (Writes table.scaling
         own.scaling (plain_pps x.now) w.old w.new) }
 {
-    flag(w, x.scaling_list_data_present_flag)?;
+    flag(w, x.scaling_list_data_present_flag)?; // Row(11, 24)
     write_scaling_lists_if(w, x.scaling_list_data_present_flag, x)?;
     Ok(())
 }
@@ -86,9 +86,9 @@ pub(crate) fn write_merging(w: &mut BitWriter, x: &Pps) -> Result<(), AllocError
     ensures { (sps : PlainSps) → OnOk result (Writes (table.merging sps)
         own.merging (plain_pps x.now) w.old w.new) }
 {
-    flag(w, x.lists_modification_present_flag)?;
-    ue_u8(w, x.log2_parallel_merge_level_minus2)?;
-    flag(w, x.slice_segment_header_extension_present_flag)?;
+    flag(w, x.lists_modification_present_flag)?; // Row(11, 26)
+    ue_u8(w, x.log2_parallel_merge_level_minus2)?; // Row(11, 27)
+    flag(w, x.slice_segment_header_extension_present_flag)?; // Row(11, 28)
     Ok(())
 }
 
@@ -98,7 +98,7 @@ fn write_scaling_lists_if(w: &mut BitWriter, present: bool, x: &Pps) -> Result<(
         (plain_scaling_lists x.now.scaling_list)) w.old w.new) }
 {
     if present {
-        write_scaling_list_data(w, &x.scaling_list)
+        write_scaling_list_data(w, &x.scaling_list) // Row(11, 25)
     } else {
         Ok(())
     }

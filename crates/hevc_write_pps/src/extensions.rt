@@ -19,7 +19,7 @@ pub(crate) fn write_extensions(w: &mut BitWriter, sps: &Sps, x: &Pps) -> Result<
     ensures { OnOk result (Writes (table.extensions (plain_sps sps.now))
         own.seen_by_extensions (plain_pps x.now) w.old w.new) }
 {
-    flag(w, x.extension_present_flag)?;
+    flag(w, x.extension_present_flag)?; // Row(11, 28)
     write_extension_data_if(w, x.extension_present_flag, sps, x)?;
     Ok(())
 }
@@ -57,11 +57,11 @@ fn write_extension_flags(w: &mut BitWriter, x: &Pps) -> Result<(), AllocError>
     ensures { OnOk result (Writes table.extension_flags
         own.extension_flags (plain_pps x.now) w.old w.new) }
 {
-    flag(w, x.range_extension_flag)?;
-    flag(w, false)?;
-    flag(w, false)?;
-    flag(w, x.scc_extension_flag)?;
-    zeros(w, 4)?;
+    flag(w, x.range_extension_flag)?; // Row(11, 29)
+    flag(w, false)?; // Row(11, 30)
+    flag(w, false)?; // Row(11, 31)
+    flag(w, x.scc_extension_flag)?; // Row(11, 32)
+    zeros(w, 4)?; // Row(11, 33)
     Ok(())
 }
 
@@ -81,7 +81,7 @@ fn write_range_extension(w: &mut BitWriter, x: &Pps) -> Result<(), AllocError>
     ensures { (sps : PlainSps) → OnOk result (Writes (table.range_extension sps)
         own.seen_by_range_extension (plain_pps x.now) w.old w.new) }
 {
-    write_pps_range_extension(w, x.transform_skip_enabled_flag, &x.range_extension)?;
+    write_pps_range_extension(w, x.transform_skip_enabled_flag, &x.range_extension)?; // Row(11, 34)
     Ok(())
 }
 
@@ -107,6 +107,6 @@ fn write_scc_extension(w: &mut BitWriter, sps: &Sps, x: &Pps) -> Result<(), Allo
     ensures { OnOk result (Writes (table.scc_extension (plain_sps sps.now))
         own.scc_extension (plain_pps x.now) w.old w.new) }
 {
-    write_pps_scc_extension(w, sps, &x.scc_extension)?;
+    write_pps_scc_extension(w, sps, &x.scc_extension)?; // Row(11, 35)
     Ok(())
 }

@@ -15,8 +15,8 @@ pub(crate) fn write_filters(w: &mut BitWriter, x: &Pps) -> Result<(), AllocError
     ensures { OnOk result (Writes table.filters
         own.filters (plain_pps x.now) w.old w.new) }
 {
-    flag(w, x.loop_filter_across_slices_enabled_flag)?;
-    flag(w, x.deblocking_filter_control_present_flag)?;
+    flag(w, x.loop_filter_across_slices_enabled_flag)?; // Row(11, 20)
+    flag(w, x.deblocking_filter_control_present_flag)?; // Row(11, 20)
     write_deblocking_if(w, x.deblocking_filter_control_present_flag, x)?;
     Ok(())
 }
@@ -38,8 +38,8 @@ fn write_deblocking(w: &mut BitWriter, x: &Pps) -> Result<(), AllocError>
     ensures { OnOk result (Writes table.deblocking
         own.deblocking (plain_pps x.now) w.old w.new) }
 {
-    flag(w, x.deblocking_filter_override_enabled_flag)?;
-    flag(w, x.deblocking_filter_disabled_flag)?;
+    flag(w, x.deblocking_filter_override_enabled_flag)?; // Row(11, 21)
+    flag(w, x.deblocking_filter_disabled_flag)?; // Row(11, 21)
     write_filter_offsets_if(w, !x.deblocking_filter_disabled_flag, x)?;
     Ok(())
 }
@@ -61,7 +61,7 @@ fn write_filter_offsets(w: &mut BitWriter, x: &Pps) -> Result<(), AllocError>
     ensures { OnOk result (Writes table.filter_offsets
         own.filter_offsets (plain_pps x.now) w.old w.new) }
 {
-    se_i8(w, x.beta_offset_div2)?;
-    se_i8(w, x.tc_offset_div2)?;
+    se_i8(w, x.beta_offset_div2)?; // Row(11, 22)
+    se_i8(w, x.tc_offset_div2)?; // Row(11, 23)
     Ok(())
 }

@@ -33,8 +33,8 @@ fn write_ids(w: &mut BitWriter, x: &Pps) -> Result<(), AllocError>
     ensures { OnOk result (Writes table.ids
         own.ids (plain_pps x.now) w.old w.new) }
 {
-    ue_u8(w, x.pic_parameter_set_id)?;
-    ue_u8(w, x.seq_parameter_set_id)?;
+    ue_u8(w, x.pic_parameter_set_id)?; // Row(11, 1)
+    ue_u8(w, x.seq_parameter_set_id)?; // Row(11, 2)
     Ok(())
 }
 

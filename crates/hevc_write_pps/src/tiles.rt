@@ -31,7 +31,7 @@ pub(crate) fn write_tiles(w: &mut BitWriter, x: &Pps) -> Result<(), AllocError>
 {
     write_tile_counts(w, x)?;
     write_told_tiles_if(w, !x.uniform_spacing_flag, x)?;
-    flag(w, x.loop_filter_across_tiles_enabled_flag)?;
+    flag(w, x.loop_filter_across_tiles_enabled_flag)?; // Row(11, 19)
     Ok(())
 }
 
@@ -40,9 +40,9 @@ fn write_tile_counts(w: &mut BitWriter, x: &Pps) -> Result<(), AllocError>
     ensures { (sps : PlainSps) → OnOk result (Writes (table.tile_counts sps)
         own.tile_counts (plain_pps x.now) w.old w.new) }
 {
-    ue_u8(w, x.num_tile_columns_minus1)?;
-    ue_u8(w, x.num_tile_rows_minus1)?;
-    flag(w, x.uniform_spacing_flag)?;
+    ue_u8(w, x.num_tile_columns_minus1)?; // Row(11, 14)
+    ue_u8(w, x.num_tile_rows_minus1)?; // Row(11, 15)
+    flag(w, x.uniform_spacing_flag)?; // Row(11, 16)
     Ok(())
 }
 
@@ -62,8 +62,8 @@ fn write_told_tiles(w: &mut BitWriter, x: &Pps) -> Result<(), AllocError>
     ensures { (sps : PlainSps) → OnOk result (Writes (table.told_tiles sps)
         own.seen_by_told_tiles (plain_pps x.now) w.old w.new) }
 {
-    write_told_sizes(w, &x.column_width_minus1, x.num_tile_columns_minus1)?;
-    write_told_sizes(w, &x.row_height_minus1, x.num_tile_rows_minus1)?;
+    write_told_sizes(w, &x.column_width_minus1, x.num_tile_columns_minus1)?; // Row(11, 17)
+    write_told_sizes(w, &x.row_height_minus1, x.num_tile_rows_minus1)?; // Row(11, 18)
     Ok(())
 }
 

@@ -24,12 +24,12 @@ pub fn write_pps_range_extension(
         w,
         transform_skip,
         x.log2_max_transform_skip_block_size_minus2,
-    )?;
-    flag(w, x.cross_component_prediction_enabled_flag)?;
-    flag(w, x.chroma_qp_offset_list_enabled_flag)?;
+    )?; // Row(12, 1)
+    flag(w, x.cross_component_prediction_enabled_flag)?; // Row(12, 2)
+    flag(w, x.chroma_qp_offset_list_enabled_flag)?; // Row(12, 2)
     write_offset_lists_if(w, x.chroma_qp_offset_list_enabled_flag, x)?;
-    ue(w, x.log2_sao_offset_scale_luma)?;
-    ue(w, x.log2_sao_offset_scale_chroma)?;
+    ue(w, x.log2_sao_offset_scale_luma)?; // Row(12, 6)
+    ue(w, x.log2_sao_offset_scale_chroma)?; // Row(12, 7)
     Ok(())
 }
 
@@ -54,8 +54,8 @@ fn write_offset_lists(w: &mut BitWriter, x: &PpsRangeExtension) -> Result<(), Al
     ensures { OnOk result (Writes table.offset_lists offset_lists
         (plain_pps_range_extension x.now) w.old w.new) }
 {
-    ue(w, x.diff_cu_chroma_qp_offset_depth)?;
-    ue(w, x.chroma_qp_offset_list_len_minus1)?;
+    ue(w, x.diff_cu_chroma_qp_offset_depth)?; // Row(12, 3)
+    ue(w, x.chroma_qp_offset_list_len_minus1)?; // Row(12, 4)
     let count = x.chroma_qp_offset_list_len_minus1.min(5) as usize + 1;
     write_offset_pairs(w, count, x)?;
     Ok(())
@@ -84,7 +84,7 @@ fn write_offset_pair(w: &mut BitWriter, i: usize, x: &PpsRangeExtension) -> Resu
     ensures { OnOk result (WritesTurn table.offset_pair
         (same_pairs (plain_pps_range_extension x.now)) i w.old w.new) }
 {
-    se(w, x.cb_qp_offset_list[i])?;
-    se(w, x.cr_qp_offset_list[i])?;
+    se(w, x.cb_qp_offset_list[i])?; // Row(12, 5)
+    se(w, x.cr_qp_offset_list[i])?; // Row(12, 5)
     Ok(())
 }

@@ -25,10 +25,10 @@ pub fn write_pps_scc_extension(
         (table.pps_scc_extension (sample_format (plain_sps sps.now))
         (most_predictors (plain_sps sps.now))) (plain_pps_scc_extension x.now) w.old w.new) }
 {
-    flag(w, x.curr_pic_ref_enabled_flag)?;
-    flag(w, x.residual_adaptive_colour_transform_enabled_flag)?;
+    flag(w, x.curr_pic_ref_enabled_flag)?; // Row(13, 1)
+    flag(w, x.residual_adaptive_colour_transform_enabled_flag)?; // Row(13, 1)
     write_colour_transform_if(w, x.residual_adaptive_colour_transform_enabled_flag, x)?;
-    flag(w, x.palette_predictor_initializers_present_flag)?;
+    flag(w, x.palette_predictor_initializers_present_flag)?; // Row(13, 6)
     write_palettes_if(w, x.palette_predictor_initializers_present_flag, sps, x)?;
     Ok(())
 }
@@ -55,10 +55,10 @@ fn write_colour_transform(w: &mut BitWriter, x: &PpsSccExtension) -> Result<(), 
     ensures { OnOk result (Writes table.colour_transform own.colour_transform
         (plain_pps_scc_extension x.now) w.old w.new) }
 {
-    flag(w, x.slice_act_qp_offsets_present_flag)?;
-    se_i8(w, x.act_y_qp_offset_plus5)?;
-    se_i8(w, x.act_cb_qp_offset_plus5)?;
-    se_i8(w, x.act_cr_qp_offset_plus3)?;
+    flag(w, x.slice_act_qp_offsets_present_flag)?; // Row(13, 2)
+    se_i8(w, x.act_y_qp_offset_plus5)?; // Row(13, 3)
+    se_i8(w, x.act_cb_qp_offset_plus5)?; // Row(13, 4)
+    se_i8(w, x.act_cr_qp_offset_plus3)?; // Row(13, 5)
     Ok(())
 }
 
@@ -88,7 +88,7 @@ fn write_palettes(w: &mut BitWriter, sps: &Sps, x: &PpsSccExtension) -> Result<(
         (most_predictors (plain_sps sps.now))) own.palettes
         (plain_pps_scc_extension x.now) w.old w.new) }
 {
-    ue_u8(w, x.num_palette_predictor_initializers)?;
+    ue_u8(w, x.num_palette_predictor_initializers)?; // Row(13, 7)
     write_initializers_if(w, are_some(x.num_palette_predictor_initializers), sps, x)?;
     Ok(())
 }
@@ -127,13 +127,13 @@ fn write_initializers(w: &mut BitWriter, sps: &Sps, x: &PpsSccExtension) -> Resu
         (Writes (table.initializers (sample_format (plain_sps sps.now))) own.palettes
         (plain_pps_scc_extension x.now) w.old w.new) }
 {
-    flag(w, x.monochrome_palette_flag)?;
-    ue_u8(w, x.luma_bit_depth_entry_minus8)?;
+    flag(w, x.monochrome_palette_flag)?; // Row(13, 8)
+    ue_u8(w, x.luma_bit_depth_entry_minus8)?; // Row(13, 9)
     ue_u8_if(
         w,
         !x.monochrome_palette_flag,
         x.chroma_bit_depth_entry_minus8,
-    )?;
+    )?; // Row(13, 10)
     write_predictors(w, sps, x)?;
     Ok(())
 }
@@ -194,5 +194,5 @@ fn write_predictor(
     ensures { OnOk result ((i < length list.now)
         × WritesBits depth (slice_index list.now i) w.old w.new) }
 {
-    bits(w, depth, u32::from(list[i]))
+    bits(w, depth, u32::from(list[i])) // Row(13, 11)
 }

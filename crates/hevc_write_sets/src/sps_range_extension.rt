@@ -14,14 +14,14 @@ pub fn write_sps_range_extension(w: &mut BitWriter, x: &SpsRangeExtension) -> Re
     ensures { OnOk result (WritesTable sps_range_extension
         (plain_sps_range_extension x.now) w.old w.new) }
 {
-    flag(w, x.transform_skip_rotation_enabled_flag)?;
-    flag(w, x.transform_skip_context_enabled_flag)?;
-    flag(w, x.implicit_rdpcm_enabled_flag)?;
-    flag(w, x.explicit_rdpcm_enabled_flag)?;
-    flag(w, x.extended_precision_processing_flag)?;
-    flag(w, x.intra_smoothing_disabled_flag)?;
-    flag(w, x.high_precision_offsets_enabled_flag)?;
-    flag(w, x.persistent_rice_adaptation_enabled_flag)?;
-    flag(w, x.cabac_bypass_alignment_enabled_flag)?;
+    flag(w, x.transform_skip_rotation_enabled_flag)?; // Row(9, 1)
+    flag(w, x.transform_skip_context_enabled_flag)?; // Row(9, 1)
+    flag(w, x.implicit_rdpcm_enabled_flag)?; // Row(9, 1)
+    flag(w, x.explicit_rdpcm_enabled_flag)?; // Row(9, 1)
+    flag(w, x.extended_precision_processing_flag)?; // Row(9, 1)
+    flag(w, x.intra_smoothing_disabled_flag)?; // Row(9, 1)
+    flag(w, x.high_precision_offsets_enabled_flag)?; // Row(9, 1)
+    flag(w, x.persistent_rice_adaptation_enabled_flag)?; // Row(9, 1)
+    flag(w, x.cabac_bypass_alignment_enabled_flag)?; // Row(9, 1)
     Ok(())
 }

@@ -20,11 +20,11 @@ pub fn write_sps_scc_extension(w: &mut BitWriter, sps: &Sps) -> Result<(), Alloc
         (plain_sps_scc_extension sps.now.scc_extension) w.old w.new) }
 {
     let x = &sps.scc_extension;
-    flag(w, x.curr_pic_ref_enabled_flag)?;
-    flag(w, x.palette_mode_enabled_flag)?;
+    flag(w, x.curr_pic_ref_enabled_flag)?; // Row(10, 1)
+    flag(w, x.palette_mode_enabled_flag)?; // Row(10, 1)
     write_palettes_if(w, x.palette_mode_enabled_flag, sps)?;
-    bits_u8(w, 2, x.motion_vector_resolution_control_idc)?;
-    flag(w, x.intra_boundary_filtering_disabled_flag)?;
+    bits_u8(w, 2, x.motion_vector_resolution_control_idc)?; // Row(10, 7)
+    flag(w, x.intra_boundary_filtering_disabled_flag)?; // Row(10, 8)
     Ok(())
 }
 
@@ -48,9 +48,9 @@ fn write_palettes(w: &mut BitWriter, sps: &Sps) -> Result<(), AllocError>
         (plain_sps_scc_extension sps.now.scc_extension) w.old w.new) }
 {
     let x = &sps.scc_extension;
-    ue_u8(w, x.palette_max_size)?;
-    ue_u8(w, x.delta_palette_max_predictor_size)?;
-    flag(w, x.palette_predictor_initializers_present_flag)?;
+    ue_u8(w, x.palette_max_size)?; // Row(10, 2)
+    ue_u8(w, x.delta_palette_max_predictor_size)?; // Row(10, 3)
+    flag(w, x.palette_predictor_initializers_present_flag)?; // Row(10, 4)
     write_initializers_if(w, x.palette_predictor_initializers_present_flag, sps)?;
     Ok(())
 }
@@ -75,7 +75,7 @@ fn write_initializers(w: &mut BitWriter, sps: &Sps) -> Result<(), AllocError>
         (plain_sps_scc_extension sps.now.scc_extension) w.old w.new) }
 {
     let last = sps.scc_extension.num_palette_predictor_initializer_minus1;
-    ue_u8(w, last)?;
+    ue_u8(w, last)?; // Row(10, 5)
     write_predictors(w, usize::from(last.min(127)) + 1, sps, &sps.scc_extension)?;
     Ok(())
 }
@@ -142,5 +142,5 @@ fn write_predictor(
     ensures { OnOk result ((i < length list.now)
         × WritesBits depth (slice_index list.now i) w.old w.new) }
 {
-    bits(w, depth, list[i])
+    bits(w, depth, list[i]) // Row(10, 6)
 }

@@ -28,9 +28,9 @@ pub(crate) fn write_predicted_set(
         (own.flags_of_set (map plain_short_term_ref_pic_set sets.now) st_rps_idx
         (plain_short_term_ref_pic_set x.now)) w.new) }
 {
-    ue_u8_if(w, st_rps_idx == count, x.delta_idx_minus1)?;
-    flag(w, x.delta_rps_sign)?;
-    ue(w, u32::from(x.abs_delta_rps_minus1))?;
+    ue_u8_if(w, st_rps_idx == count, x.delta_idx_minus1)?; // Row(7, 2)
+    flag(w, x.delta_rps_sign)?; // Row(7, 3)
+    ue(w, u32::from(x.abs_delta_rps_minus1))?; // Row(7, 4)
     write_member_flags(w, &other_set(sets, st_rps_idx, x), x)?;
     Ok(())
 }

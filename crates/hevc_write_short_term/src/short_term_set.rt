@@ -31,7 +31,7 @@ pub fn write_short_term_ref_pic_set(
         (own.flags_of_set (map plain_short_term_ref_pic_set sets.now) st_rps_idx
         (plain_short_term_ref_pic_set x.now)) w.new) }
 {
-    flag_if(w, st_rps_idx != 0, x.inter_ref_pic_set_prediction_flag)?;
+    flag_if(w, st_rps_idx != 0, x.inter_ref_pic_set_prediction_flag)?; // Row(7, 1)
     write_members(w, sets, count, st_rps_idx, x)?;
     Ok(())
 }

@@ -58,7 +58,7 @@ fn write_parallel_parts(
     ensures { OnOk result (Writes (table.parallel_parts (plain_sps sps.now) (plain_pps pps.now))
         own.parallel_parts (plain_slice_header x.now) w.old w.new) }
 {
-    ue(w, x.num_entry_point_offsets)?;
+    ue(w, x.num_entry_point_offsets)?; // Row(14, 48)
     write_entry_point_offsets_if(w, x.num_entry_point_offsets != 0, x)?;
     Ok(())
 }
@@ -85,7 +85,7 @@ fn write_entry_point_offsets(w: &mut BitWriter, x: &SliceHeader) -> Result<(), A
     ensures { OnOk result (Writes table.entry_point_offsets
         own.entry_point_offsets (plain_slice_header x.now) w.old w.new) }
 {
-    ue_u8(w, x.offset_len_minus1)?;
+    ue_u8(w, x.offset_len_minus1)?; // Row(14, 49)
     write_entry_points(
         w,
         offset_len_minus1(x),
@@ -116,7 +116,7 @@ fn write_header_extension(w: &mut BitWriter, x: &SliceHeader) -> Result<(), Allo
     ensures { OnOk result (Writes table.header_extension
         own.header_extension (plain_slice_header x.now) w.old w.new) }
 {
-    ue(w, 0)?;
+    ue(w, 0)?; // Row(14, 51): no byte of Row(14, 52) follows
     Ok(())
 }
 
@@ -140,7 +140,7 @@ fn write_entry_points(
 {
     let num_bits = u32::from(num_bits_minus1) + 1;
     for i in 0..offsets.len() {
-        bits(w, num_bits, offsets[i])?;
+        bits(w, num_bits, offsets[i])?; // Row(14, 50)
     }
     Ok(())
 }

@@ -23,8 +23,8 @@ pub(crate) fn write_adaptive_offset(
     ensures { OnOk result (Writes (table.adaptive_offset (plain_sps sps.now))
         own.adaptive_offset (plain_slice_header x.now) w.old w.new) }
 {
-    flag_if(w, sps.sample_adaptive_offset_enabled_flag, x.sao_luma_flag)?;
-    flag_if(w, has_chroma_offset(sps), x.sao_chroma_flag)?;
+    flag_if(w, sps.sample_adaptive_offset_enabled_flag, x.sao_luma_flag)?; // Row(14, 22)
+    flag_if(w, has_chroma_offset(sps), x.sao_chroma_flag)?; // Row(14, 23)
     Ok(())
 }
 
@@ -37,7 +37,7 @@ pub(crate) fn write_filters(w: &mut BitWriter, pps: &Pps, x: &SliceHeader) -> Re
         w,
         pps.deblocking_filter_override_enabled_flag,
         x.deblocking_filter_override_flag,
-    )?;
+    )?; // Row(14, 43)
     write_own_deblocking_if(w, x.deblocking_filter_override_flag, x)?;
     write_across_slices(w, pps, x)?;
     Ok(())
@@ -64,7 +64,7 @@ fn write_own_deblocking(w: &mut BitWriter, x: &SliceHeader) -> Result<(), AllocE
     ensures { OnOk result (Writes table.own_deblocking
         own.own_deblocking (plain_slice_header x.now) w.old w.new) }
 {
-    flag(w, x.deblocking_filter_disabled_flag)?;
+    flag(w, x.deblocking_filter_disabled_flag)?; // Row(14, 44)
     write_filter_offsets_if(w, !x.deblocking_filter_disabled_flag, x)?;
     Ok(())
 }
@@ -90,8 +90,8 @@ fn write_filter_offsets(w: &mut BitWriter, x: &SliceHeader) -> Result<(), AllocE
     ensures { OnOk result (Writes table.filter_offsets
         own.filter_offsets (plain_slice_header x.now) w.old w.new) }
 {
-    se_i8(w, x.beta_offset_div2)?;
-    se_i8(w, x.tc_offset_div2)?;
+    se_i8(w, x.beta_offset_div2)?; // Row(14, 45)
+    se_i8(w, x.tc_offset_div2)?; // Row(14, 46)
     Ok(())
 }
 
@@ -104,6 +104,6 @@ fn write_across_slices(w: &mut BitWriter, pps: &Pps, x: &SliceHeader) -> Result<
         w,
         goes_across(pps, x),
         x.loop_filter_across_slices_enabled_flag,
-    )?;
+    )?; // Row(14, 47)
     Ok(())
 }

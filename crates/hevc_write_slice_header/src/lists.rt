@@ -35,7 +35,7 @@ fn write_active_counts(w: &mut BitWriter, pps: &Pps, x: &SliceHeader) -> Result<
     ensures { OnOk result (Writes (table.active_counts (plain_pps pps.now))
         own.seen_by_counts (plain_slice_header x.now) w.old w.new) }
 {
-    flag(w, x.num_ref_idx_active_override_flag)?;
+    flag(w, x.num_ref_idx_active_override_flag)?; // Row(14, 24)
     write_own_active_counts_if(w, x.num_ref_idx_active_override_flag, x)?;
     Ok(())
 }
@@ -62,8 +62,8 @@ fn write_own_active_counts(w: &mut BitWriter, x: &SliceHeader) -> Result<(), All
     ensures { OnOk result (Writes table.own_active_counts
         own.seen_by_own_counts (plain_slice_header x.now) w.old w.new) }
 {
-    ue_u8(w, x.num_ref_idx_l0_active_minus1)?;
-    ue_u8_if(w, is_b(x), x.num_ref_idx_l1_active_minus1)?;
+    ue_u8(w, x.num_ref_idx_l0_active_minus1)?; // Row(14, 25)
+    ue_u8_if(w, is_b(x), x.num_ref_idx_l1_active_minus1)?; // Row(14, 26)
     Ok(())
 }
 
@@ -94,6 +94,6 @@ fn write_list_modification(w: &mut BitWriter, x: &SliceHeader) -> Result<(), All
         is_b(x),
         x.num_pic_total_curr,
         &x.ref_pic_list_modification,
-    )?;
+    )?; // Row(14, 27)
     Ok(())
 }

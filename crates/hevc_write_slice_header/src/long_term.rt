@@ -50,8 +50,8 @@ fn write_long_term_counts(w: &mut BitWriter, sps: &Sps, x: &SliceHeader) -> Resu
     ensures { OnOk result (Writes (table.long_term_counts (plain_sps sps.now))
         own.long_term_counts (plain_slice_header x.now) w.old w.new) }
 {
-    ue_u8_if(w, sps.num_long_term_ref_pics_sps != 0, x.num_long_term_sps)?;
-    ue_u8(w, x.num_long_term_pics)?;
+    ue_u8_if(w, sps.num_long_term_ref_pics_sps != 0, x.num_long_term_sps)?; // Row(14, 14)
+    ue_u8(w, x.num_long_term_pics)?; // Row(14, 15)
     Ok(())
 }
 
@@ -108,7 +108,7 @@ fn write_candidate(
     ensures { OnOk result
         (own.WritesCandidate (plain_sps sps.now) i indices.now w.old w.new) }
 {
-    index_if(w, sps.num_long_term_ref_pics_sps, indices[i])?;
+    index_if(w, sps.num_long_term_ref_pics_sps, indices[i])?; // Row(14, 16)
     Ok(())
 }
 
@@ -124,8 +124,8 @@ fn write_other(
     ensures { OnOk result
         (own.WritesOther (plain_sps sps.now) i lsbs.now used.now w.old w.new) }
 {
-    order_count_bits(w, sps, lsbs[i])?;
-    flag(w, used[i])?;
+    order_count_bits(w, sps, lsbs[i])?; // Row(14, 17)
+    flag(w, used[i])?; // Row(14, 18)
     Ok(())
 }
 
@@ -136,8 +136,8 @@ fn write_cycles(w: &mut BitWriter, i: usize, x: &SliceHeader) -> Result<(), Allo
 {
     let cycles = own_cycles(i, x.num_long_term_sps, &x.delta_poc_msb_cycle_lt);
     let present = presence(i, &x.delta_poc_msb_present_flag);
-    flag(w, present)?;
-    ue_if(w, present, cycles)?;
+    flag(w, present)?; // Row(14, 19)
+    ue_if(w, present, cycles)?; // Row(14, 20)
     Ok(())
 }
 

@@ -60,10 +60,10 @@ fn write_motion(w: &mut BitWriter, pps: &Pps, x: &SliceHeader) -> Result<(), All
     ensures { OnOk result (Writes (table.motion (plain_pps pps.now))
         own.seen_by_motion (plain_slice_header x.now) w.old w.new) }
 {
-    flag_if(w, is_b(x), x.mvd_l1_zero_flag)?;
-    flag_if(w, pps.cabac_init_present_flag, x.cabac_init_flag)?;
-    flag_if(w, has_collocated_list(x), x.collocated_from_l0_flag)?;
-    ue_u8_if(w, has_collocated_index(x), x.collocated_ref_idx)?;
+    flag_if(w, is_b(x), x.mvd_l1_zero_flag)?; // Row(14, 28)
+    flag_if(w, pps.cabac_init_present_flag, x.cabac_init_flag)?; // Row(14, 29)
+    flag_if(w, has_collocated_list(x), x.collocated_from_l0_flag)?; // Row(14, 30)
+    ue_u8_if(w, has_collocated_index(x), x.collocated_ref_idx)?; // Row(14, 31)
     Ok(())
 }
 
@@ -73,12 +73,12 @@ fn write_weights(w: &mut BitWriter, sps: &Sps, pps: &Pps, x: &SliceHeader) -> Re
         own.seen_by_weights (plain_slice_header x.now) w.old w.new) }
 {
     write_pred_weight_table_if(w, is_weighted(pps, x), sps, x)?;
-    ue_u8(w, x.five_minus_max_num_merge_cand)?;
+    ue_u8(w, x.five_minus_max_num_merge_cand)?; // Row(14, 33)
     flag_if(
         w,
         sps.scc_extension.motion_vector_resolution_control_idc == 2,
         x.use_integer_mv_flag,
-    )?;
+    )?; // Row(14, 34)
     Ok(())
 }
 
@@ -102,7 +102,7 @@ fn write_pred_weight_table_if(
             x.num_ref_idx_l0_active_minus1,
             x.num_ref_idx_l1_active_minus1,
             &x.pred_weight_table,
-        )?;
+        )?; // Row(14, 32)
     }
     Ok(())
 }

@@ -30,7 +30,7 @@ fn write_quantiser(w: &mut BitWriter, pps: &Pps, x: &SliceHeader) -> Result<(), 
     ensures { OnOk result (Writes (table.quantiser (plain_pps pps.now))
         own.quantiser (plain_slice_header x.now) w.old w.new) }
 {
-    se_i8(w, x.qp_delta)?;
+    se_i8(w, x.qp_delta)?; // Row(14, 35)
     write_chroma_offsets_if(w, pps.slice_chroma_qp_offsets_present_flag, pps, x)?;
     Ok(())
 }
@@ -58,8 +58,8 @@ fn write_chroma_offsets(w: &mut BitWriter, pps: &Pps, x: &SliceHeader) -> Result
     ensures { OnOk result (Writes (table.chroma_offsets (plain_pps pps.now))
         own.chroma_offsets (plain_slice_header x.now) w.old w.new) }
 {
-    se_i8(w, x.cb_qp_offset)?;
-    se_i8(w, x.cr_qp_offset)?;
+    se_i8(w, x.cb_qp_offset)?; // Row(14, 37)
+    se_i8(w, x.cr_qp_offset)?; // Row(14, 39)
     Ok(())
 }
 
@@ -73,7 +73,7 @@ fn write_extension_offsets(w: &mut BitWriter, pps: &Pps, x: &SliceHeader) -> Res
         w,
         pps.range_extension.chroma_qp_offset_list_enabled_flag,
         x.cu_chroma_qp_offset_enabled_flag,
-    )?;
+    )?; // Row(14, 42)
     Ok(())
 }
 
@@ -99,8 +99,8 @@ fn write_colour_transform_offsets(w: &mut BitWriter, x: &SliceHeader) -> Result<
     ensures { OnOk result (Writes table.colour_transform_offsets
         own.colour_transform_offsets (plain_slice_header x.now) w.old w.new) }
 {
-    se_i8(w, x.slice_act_y_qp_offset)?;
-    se_i8(w, x.slice_act_cb_qp_offset)?;
-    se_i8(w, x.slice_act_cr_qp_offset)?;
+    se_i8(w, x.slice_act_y_qp_offset)?; // Row(14, 41)
+    se_i8(w, x.slice_act_cb_qp_offset)?; // Row(14, 41)
+    se_i8(w, x.slice_act_cr_qp_offset)?; // Row(14, 41)
     Ok(())
 }

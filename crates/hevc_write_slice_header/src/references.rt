@@ -50,7 +50,7 @@ pub(crate) fn write_reference_pictures(
         w,
         sps.temporal_mvp_enabled_flag,
         x.temporal_mvp_enabled_flag,
-    )?;
+    )?; // Row(14, 21)
     Ok(())
 }
 
@@ -59,8 +59,8 @@ fn write_short_term(w: &mut BitWriter, sps: &Sps, x: &SliceHeader) -> Result<(),
     ensures { OnOk result (Writes (own.short_term_rows (plain_sps sps.now))
         own.seen_by_short_term (plain_slice_header x.now) w.old w.new) }
 {
-    order_count(w, sps, x.pic_order_cnt_lsb)?;
-    flag(w, x.short_term_ref_pic_set_sps_flag)?;
+    order_count(w, sps, x.pic_order_cnt_lsb)?; // Row(14, 10)
+    flag(w, x.short_term_ref_pic_set_sps_flag)?; // Row(14, 11)
     write_current_set(w, sps, x)?;
     Ok(())
 }
@@ -78,7 +78,7 @@ fn write_candidate_short_term_set(
         w,
         sps.num_short_term_ref_pic_sets,
         x.short_term_ref_pic_set_idx,
-    )?;
+    )?; // Row(14, 13)
     Ok(())
 }
 
@@ -100,7 +100,7 @@ fn write_own_set(w: &mut BitWriter, sps: &Sps, x: &SliceHeader) -> Result<(), Al
 {
     let count = sps.num_short_term_ref_pic_sets;
     let sets = sps.short_term_ref_pic_set.as_slice();
-    write_short_term_ref_pic_set(w, sets, count, count, &x.short_term_ref_pic_set)
+    write_short_term_ref_pic_set(w, sets, count, count, &x.short_term_ref_pic_set) // Row(14, 12)
 }
 
 /// Row 12 or 13 of table 14.

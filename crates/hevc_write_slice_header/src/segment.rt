@@ -29,9 +29,9 @@ pub(crate) fn write_beginning(
     ensures { OnOk result (Writes (table.beginning (nalu_type_number nalu_type))
         own.beginning (plain_slice_header x.now) w.old w.new) }
 {
-    flag(w, x.first_slice_segment_in_pic_flag)?;
-    flag_if(w, nalu_type.is_irap(), x.no_output_of_prior_pics_flag)?;
-    ue_u8(w, x.pic_parameter_set_id)?;
+    flag(w, x.first_slice_segment_in_pic_flag)?; // Row(14, 1)
+    flag_if(w, nalu_type.is_irap(), x.no_output_of_prior_pics_flag)?; // Row(14, 2)
+    ue_u8(w, x.pic_parameter_set_id)?; // Row(14, 3)
     Ok(())
 }
 
@@ -68,8 +68,8 @@ pub(crate) fn write_later_segment(
         w,
         pps.dependent_slice_segments_enabled_flag,
         x.dependent_slice_segment_flag,
-    )?;
-    index(w, sps.pic_size_in_ctbs_y, x.segment_address)?;
+    )?; // Row(14, 4)
+    index(w, sps.pic_size_in_ctbs_y, x.segment_address)?; // Row(14, 5)
     Ok(())
 }
 
@@ -120,9 +120,9 @@ fn write_kind(w: &mut BitWriter, sps: &Sps, pps: &Pps, x: &SliceHeader) -> Resul
     ensures { OnOk result (Writes (table.kind (plain_sps sps.now) (plain_pps pps.now))
         own.kind (plain_slice_header x.now) w.old w.new) }
 {
-    zeros_u8(w, pps.num_extra_slice_header_bits)?;
-    slice_type(w, x.type_)?;
-    flag_if(w, pps.output_flag_present_flag, x.pic_output_flag)?;
-    bits_u8_if(w, sps.separate_colour_plane_flag, 2, x.colour_plane_id)?;
+    zeros_u8(w, pps.num_extra_slice_header_bits)?; // Row(14, 6)
+    slice_type(w, x.type_)?; // Row(14, 7)
+    flag_if(w, pps.output_flag_present_flag, x.pic_output_flag)?; // Row(14, 8)
+    bits_u8_if(w, sps.separate_colour_plane_flag, 2, x.colour_plane_id)?; // Row(14, 9)
     Ok(())
 }

@@ -40,13 +40,13 @@ fn write_l0(
         (plain_ref_pic_list_modification x.now) w.old w.new) }
 {
     let entries = x.list_entry_l0.as_slice();
-    flag(w, x.ref_pic_list_modification_flag_l0)?;
+    flag(w, x.ref_pic_list_modification_flag_l0)?; // Row(15, 1)
     write_entries_if(
         w,
         x.ref_pic_list_modification_flag_l0,
         num_pic_total_curr,
         entries,
-    )?;
+    )?; // Row(15, 2)
     Ok(())
 }
 
@@ -78,13 +78,13 @@ fn write_l1(
         (plain_ref_pic_list_modification x.now) w.old w.new) }
 {
     let entries = x.list_entry_l1.as_slice();
-    flag(w, x.ref_pic_list_modification_flag_l1)?;
+    flag(w, x.ref_pic_list_modification_flag_l1)?; // Row(15, 3)
     write_entries_if(
         w,
         x.ref_pic_list_modification_flag_l1,
         num_pic_total_curr,
         entries,
-    )?;
+    )?; // Row(15, 4)
     Ok(())
 }
 

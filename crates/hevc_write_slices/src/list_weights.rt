@@ -107,7 +107,7 @@ fn write_luma_flag(w: &mut BitWriter, i: usize, x: &ListWeights) -> Result<(), A
     ensures { (list : ℕ) → OnOk result (WritesTurn (table.luma_flag list)
         (own.same_luma_flags (own.plain_list_weights x.now)) i w.old w.new) }
 {
-    flag(w, x.luma_weight_flag[i])?;
+    flag(w, x.luma_weight_flag[i])?; // Row(16, 3), Row(16, 9)
     Ok(())
 }
 
@@ -147,7 +147,7 @@ fn write_chroma_flag(w: &mut BitWriter, i: usize, x: &ListWeights) -> Result<(),
     ensures { (list : ℕ) → OnOk result (WritesTurn (table.chroma_flag list)
         (own.same_chroma_flags (own.plain_list_weights x.now)) i w.old w.new) }
 {
-    flag(w, x.chroma_weight_flag[i])?;
+    flag(w, x.chroma_weight_flag[i])?; // Row(16, 4), Row(16, 10)
     Ok(())
 }
 
@@ -201,8 +201,8 @@ fn write_luma_weight(w: &mut BitWriter, i: usize, x: &ListWeights) -> Result<(),
         (WritesTurn (table.luma_weight sps list)
         (own.same_luma (own.plain_list_weights x.now)) i w.old w.new) }
 {
-    se_i8(w, x.delta_luma_weight[i])?;
-    se_i16(w, x.luma_offset[i])?;
+    se_i8(w, x.delta_luma_weight[i])?; // Row(16, 5), Row(16, 11)
+    se_i16(w, x.luma_offset[i])?; // Row(16, 6), Row(16, 12)
     Ok(())
 }
 
@@ -234,10 +234,10 @@ fn write_chroma_weight(w: &mut BitWriter, i: usize, x: &ListWeights) -> Result<(
     let weights = &x.delta_chroma_weight[i];
     let offsets = &x.delta_chroma_offset[i];
     are_pairs(weights, offsets);
-    se_i8(w, weights[0])?;
-    se_i16(w, offsets[0])?;
-    se_i8(w, weights[1])?;
-    se_i16(w, offsets[1])?;
+    se_i8(w, weights[0])?; // Row(16, 7), Row(16, 13)
+    se_i16(w, offsets[0])?; // Row(16, 8), Row(16, 14)
+    se_i8(w, weights[1])?; // Row(16, 7), Row(16, 13)
+    se_i16(w, offsets[1])?; // Row(16, 8), Row(16, 14)
     Ok(())
 }
 

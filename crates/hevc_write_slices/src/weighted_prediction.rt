@@ -48,7 +48,7 @@ fn write_denominators(
         → Writes (table.denominators sps) own.denominators (plain_pred_weight_table x.now)
         w.old w.new) }
 {
-    ue_u8(w, x.luma_log2_weight_denom)?;
-    se_i8_if(w, chroma, x.delta_chroma_log2_weight_denom)?;
+    ue_u8(w, x.luma_log2_weight_denom)?; // Row(16, 1)
+    se_i8_if(w, chroma, x.delta_chroma_log2_weight_denom)?; // Row(16, 2)
     Ok(())
 }

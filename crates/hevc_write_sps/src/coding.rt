@@ -17,14 +17,14 @@ pub(crate) fn write_scaling(w: &mut BitWriter, x: &Sps) -> Result<(), AllocError
     ensures { OnOk result (Writes table.scaling
         own.scaling (plain_sps x.now) w.old w.new) }
 {
-    ue_u8(w, x.max_transform_hierarchy_depth_inter)?;
-    ue_u8(w, x.max_transform_hierarchy_depth_intra)?;
-    flag(w, x.scaling_list_enabled_flag)?;
+    ue_u8(w, x.max_transform_hierarchy_depth_inter)?; // Row(5, 25)
+    ue_u8(w, x.max_transform_hierarchy_depth_intra)?; // Row(5, 26)
+    flag(w, x.scaling_list_enabled_flag)?; // Row(5, 27)
     flag_if(
         w,
         x.scaling_list_enabled_flag,
         x.scaling_list_data_present_flag,
-    )?;
+    )?; // Row(5, 28)
     write_scaling_lists_if(w, x.scaling_list_data_present_flag, x)?;
     Ok(())
 }
@@ -46,7 +46,7 @@ fn write_scaling_lists(w: &mut BitWriter, x: &Sps) -> Result<(), AllocError>
     ensures { OnOk result (Writes table.scaling_lists
         own.scaling_lists (plain_sps x.now) w.old w.new) }
 {
-    write_scaling_list_data(w, &x.scaling_list)?;
+    write_scaling_list_data(w, &x.scaling_list)?; // Row(5, 29)
     Ok(())
 }
 
@@ -55,9 +55,9 @@ pub(crate) fn write_tools(w: &mut BitWriter, x: &Sps) -> Result<(), AllocError>
     ensures { OnOk result (Writes table.tools
         own.tools (plain_sps x.now) w.old w.new) }
 {
-    flag(w, x.amp_enabled_flag)?;
-    flag(w, x.sample_adaptive_offset_enabled_flag)?;
-    flag(w, x.pcm_enabled_flag)?;
+    flag(w, x.amp_enabled_flag)?; // Row(5, 30)
+    flag(w, x.sample_adaptive_offset_enabled_flag)?; // Row(5, 30)
+    flag(w, x.pcm_enabled_flag)?; // Row(5, 30)
     write_pulse_code_modulation_if(w, x.pcm_enabled_flag, x)?;
     Ok(())
 }
@@ -83,11 +83,11 @@ fn write_pulse_code_modulation(w: &mut BitWriter, x: &Sps) -> Result<(), AllocEr
     ensures { OnOk result (Writes table.pulse_code_modulation
         own.pulse_code_modulation (plain_sps x.now) w.old w.new) }
 {
-    bits_u8(w, 4, x.pcm_sample_bit_depth_luma_minus1)?;
-    bits_u8(w, 4, x.pcm_sample_bit_depth_chroma_minus1)?;
-    ue_u8(w, x.log2_min_pcm_luma_coding_block_size_minus3)?;
-    ue_u8(w, x.log2_diff_max_min_pcm_luma_coding_block_size)?;
-    flag(w, x.pcm_loop_filter_disabled_flag)?;
+    bits_u8(w, 4, x.pcm_sample_bit_depth_luma_minus1)?; // Row(5, 31)
+    bits_u8(w, 4, x.pcm_sample_bit_depth_chroma_minus1)?; // Row(5, 31)
+    ue_u8(w, x.log2_min_pcm_luma_coding_block_size_minus3)?; // Row(5, 32)
+    ue_u8(w, x.log2_diff_max_min_pcm_luma_coding_block_size)?; // Row(5, 33)
+    flag(w, x.pcm_loop_filter_disabled_flag)?; // Row(5, 34)
     Ok(())
 }
 
@@ -96,9 +96,9 @@ pub(crate) fn write_usability(w: &mut BitWriter, x: &Sps) -> Result<(), AllocErr
     ensures { OnOk result (Writes table.usability
         own.seen_by_usability (plain_sps x.now) w.old w.new) }
 {
-    flag(w, x.temporal_mvp_enabled_flag)?;
-    flag(w, x.strong_intra_smoothing_enabled_flag)?;
-    flag(w, x.vui_parameters_present_flag)?;
+    flag(w, x.temporal_mvp_enabled_flag)?; // Row(5, 41)
+    flag(w, x.strong_intra_smoothing_enabled_flag)?; // Row(5, 41)
+    flag(w, x.vui_parameters_present_flag)?; // Row(5, 41)
     write_usability_information_if(w, x.vui_parameters_present_flag, x)?;
     Ok(())
 }
@@ -124,6 +124,6 @@ fn write_usability_information(w: &mut BitWriter, x: &Sps) -> Result<(), AllocEr
     ensures { OnOk result (Writes table.usability_information
         own.seen_by_usability_information (plain_sps x.now) w.old w.new) }
 {
-    write_vui_parameters(w, x.max_sub_layers_minus1, &x.vui_parameters)?;
+    write_vui_parameters(w, x.max_sub_layers_minus1, &x.vui_parameters)?; // Row(5, 42)
     Ok(())
 }

@@ -16,7 +16,7 @@ pub(crate) fn write_extensions(w: &mut BitWriter, x: &Sps) -> Result<(), AllocEr
     ensures { OnOk result (Writes table.extensions
         own.seen_by_extensions (plain_sps x.now) w.old w.new) }
 {
-    flag(w, x.extension_present_flag)?;
+    flag(w, x.extension_present_flag)?; // Row(5, 43)
     write_extension_data_if(w, x.extension_present_flag, x)?;
     Ok(())
 }
@@ -49,11 +49,11 @@ fn write_extension_flags(w: &mut BitWriter, x: &Sps) -> Result<(), AllocError>
     ensures { OnOk result (Writes table.extension_flags
         own.extension_flags (plain_sps x.now) w.old w.new) }
 {
-    flag(w, x.range_extension_flag)?;
-    flag(w, false)?;
-    flag(w, false)?;
-    flag(w, x.scc_extension_flag)?;
-    zeros(w, 4)?;
+    flag(w, x.range_extension_flag)?; // Row(5, 44)
+    flag(w, false)?; // Row(5, 45)
+    flag(w, false)?; // Row(5, 46)
+    flag(w, x.scc_extension_flag)?; // Row(5, 47)
+    zeros(w, 4)?; // Row(5, 48)
     Ok(())
 }
 
@@ -74,7 +74,7 @@ fn write_range_extension(w: &mut BitWriter, x: &Sps) -> Result<(), AllocError>
     ensures { OnOk result (Writes table.range_extension
         own.range_element (plain_sps x.now) w.old w.new) }
 {
-    write_sps_range_extension(w, &x.range_extension)?;
+    write_sps_range_extension(w, &x.range_extension)?; // Row(5, 49)
     Ok(())
 }
 
@@ -95,6 +95,6 @@ fn write_scc_extension(w: &mut BitWriter, x: &Sps) -> Result<(), AllocError>
     ensures { OnOk result (Writes table.scc_extension
         own.seen_by_scc_extension (plain_sps x.now) w.old w.new) }
 {
-    write_sps_scc_extension(w, x)?;
+    write_sps_scc_extension(w, x)?; // Row(5, 50)
     Ok(())
 }

@@ -16,7 +16,7 @@ pub(crate) fn write_short_term(w: &mut BitWriter, x: &Sps) -> Result<(), AllocEr
     ensures { OnOk result (Writes table.short_term
         own.short_term (plain_sps x.now) w.old w.new) }
 {
-    ue_u8(w, x.num_short_term_ref_pic_sets)?;
+    ue_u8(w, x.num_short_term_ref_pic_sets)?; // Row(5, 35)
     write_short_term_sets(w, x)?;
     Ok(())
 }
@@ -26,12 +26,12 @@ pub(crate) fn write_long_term(w: &mut BitWriter, x: &Sps) -> Result<(), AllocErr
     ensures { OnOk result (Writes table.long_term
         own.seen_by_long_term (plain_sps x.now) w.old w.new) }
 {
-    flag(w, x.long_term_ref_pics_present_flag)?;
+    flag(w, x.long_term_ref_pics_present_flag)?; // Row(5, 37)
     ue_u8_if(
         w,
         x.long_term_ref_pics_present_flag,
         x.num_long_term_ref_pics_sps,
-    )?;
+    )?; // Row(5, 38)
     write_long_term_pictures(w, x)?;
     Ok(())
 }
@@ -45,7 +45,7 @@ fn write_short_term_sets(w: &mut BitWriter, x: &Sps) -> Result<(), AllocError>
     let sets = x.short_term_ref_pic_set.as_slice();
     let count = x.num_short_term_ref_pic_sets;
     for i in 0..sets.len() {
-        write_short_term_ref_pic_set(w, &sets[..i], count, i as u8, &sets[i])?;
+        write_short_term_ref_pic_set(w, &sets[..i], count, i as u8, &sets[i])?; // Row(5, 36)
     }
     Ok(())
 }
@@ -69,8 +69,8 @@ fn write_long_term_picture(w: &mut BitWriter, i: usize, x: &Sps) -> Result<(), A
         (own.same_pictures (plain_sps x.now)) i w.old w.new) }
 {
     let num_bits = u32::from(x.log2_max_pic_order_cnt_lsb_minus4) + 4;
-    write_lsb(w, num_bits, i, &x.lt_ref_pic_poc_lsb_sps)?;
-    write_used(w, i, &x.used_by_curr_pic_lt_sps_flag)?;
+    write_lsb(w, num_bits, i, &x.lt_ref_pic_poc_lsb_sps)?; // Row(5, 39)
+    write_used(w, i, &x.used_by_curr_pic_lt_sps_flag)?; // Row(5, 40)
     Ok(())
 }
 

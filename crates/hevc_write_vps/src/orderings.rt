@@ -15,7 +15,7 @@ pub(crate) fn write_orderings(w: &mut BitWriter, x: &Vps) -> Result<(), AllocErr
     ensures { OnOk result (Writes table.orderings
         own.seen_orderings (plain_vps x.now) w.old w.new) }
 {
-    flag(w, x.sub_layer_ordering_info_present_flag)?;
+    flag(w, x.sub_layer_ordering_info_present_flag)?; // Row(1, 8)
     write_own_orderings_or_common_ordering(w, x)?;
     Ok(())
 }
@@ -51,9 +51,9 @@ fn write_own_ordering(w: &mut BitWriter, i: usize, x: &Vps) -> Result<(), AllocE
     ensures { OnOk result (WritesTurn table.own_ordering
         (own.same_orderings (plain_vps x.now)) i w.old w.new) }
 {
-    write_number(w, i, &x.max_dec_pic_buffering_minus1)?;
-    write_number(w, i, &x.max_num_reorder_pics)?;
-    write_number(w, i, &x.max_latency_increase_plus1)?;
+    write_number(w, i, &x.max_dec_pic_buffering_minus1)?; // Row(1, 9)
+    write_number(w, i, &x.max_num_reorder_pics)?; // Row(1, 10)
+    write_number(w, i, &x.max_latency_increase_plus1)?; // Row(1, 11)
     Ok(())
 }
 
@@ -72,8 +72,8 @@ fn write_common_ordering(w: &mut BitWriter, x: &Vps) -> Result<(), AllocError>
         own.seen_by_orderings (plain_vps x.now) w.old w.new) }
 {
     let highest = usize::from(x.max_sub_layers_minus1);
-    write_number(w, highest, &x.max_dec_pic_buffering_minus1)?;
-    write_number(w, highest, &x.max_num_reorder_pics)?;
-    write_number(w, highest, &x.max_latency_increase_plus1)?;
+    write_number(w, highest, &x.max_dec_pic_buffering_minus1)?; // Row(1, 9)
+    write_number(w, highest, &x.max_num_reorder_pics)?; // Row(1, 10)
+    write_number(w, highest, &x.max_latency_increase_plus1)?; // Row(1, 11)
     Ok(())
 }

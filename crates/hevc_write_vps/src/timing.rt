@@ -16,7 +16,7 @@ pub(crate) fn write_timing_info(w: &mut BitWriter, x: &Vps) -> Result<(), AllocE
     ensures { OnOk result (Writes own.timing_info_rows
         own.seen_by_timing_info (plain_vps x.now) w.old w.new) }
 {
-    flag(w, x.timing_info_present_flag)?;
+    flag(w, x.timing_info_present_flag)?; // Row(1, 17)
     write_timing_if(w, x.timing_info_present_flag, x)?;
     Ok(())
 }
@@ -34,15 +34,15 @@ fn write_timing(w: &mut BitWriter, x: &Vps) -> Result<(), AllocError>
     ensures { OnOk result (Writes own.timing_rows
         own.seen_by_timing (plain_vps x.now) w.old w.new) }
 {
-    bits(w, 32, x.num_units_in_tick)?;
-    bits(w, 32, x.time_scale)?;
-    flag(w, x.poc_proportional_to_timing_flag)?;
+    bits(w, 32, x.num_units_in_tick)?; // Row(1, 18)
+    bits(w, 32, x.time_scale)?; // Row(1, 18)
+    flag(w, x.poc_proportional_to_timing_flag)?; // Row(1, 19)
     ue_if(
         w,
         x.poc_proportional_to_timing_flag,
         x.num_ticks_poc_diff_one_minus1,
-    )?;
-    ue(w, x.num_hrd_parameters)?;
+    )?; // Row(1, 20)
+    ue(w, x.num_hrd_parameters)?; // Row(1, 21)
     write_structures(w, x)?;
     Ok(())
 }
@@ -65,14 +65,14 @@ fn write_structure(w: &mut BitWriter, i: usize, x: &Vps) -> Result<(), AllocErro
         (own.SameStructures (plain_vps x.now)) i w.old w.new) }
 {
     let common = has_common(i, x.cprms_present_flag.as_slice());
-    ue_u16(w, layer_set(i, x.hrd_layer_set_idx.as_slice()))?;
-    flag_if(w, i != 0, common)?;
+    ue_u16(w, layer_set(i, x.hrd_layer_set_idx.as_slice()))?; // Row(1, 22)
+    flag_if(w, i != 0, common)?; // Row(1, 23)
     write_hrd_parameters(
         w,
         common,
         x.max_sub_layers_minus1,
         &x.hrd_parameters.as_slice()[i],
-    )?;
+    )?; // Row(1, 24)
     Ok(())
 }
 

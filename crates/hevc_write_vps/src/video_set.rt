@@ -30,14 +30,14 @@ fn write_identity(w: &mut BitWriter, x: &Vps) -> Result<(), AllocError>
     ensures { OnOk result (Writes table.identity
         own.identity (plain_vps x.now) w.old w.new) }
 {
-    bits_u8(w, 4, x.video_parameter_set_id)?;
-    flag(w, x.base_layer_internal_flag)?;
-    flag(w, x.base_layer_available_flag)?;
-    bits_u8(w, 6, x.max_layers_minus1)?;
-    bits_u8(w, 3, x.max_sub_layers_minus1)?;
-    flag(w, x.temporal_id_nesting_flag)?;
-    bits(w, 16, 0xFFFF)?;
-    write_profile_tier_level(w, x.max_sub_layers_minus1, &x.profile_tier_level)?;
+    bits_u8(w, 4, x.video_parameter_set_id)?; // Row(1, 1)
+    flag(w, x.base_layer_internal_flag)?; // Row(1, 2)
+    flag(w, x.base_layer_available_flag)?; // Row(1, 2)
+    bits_u8(w, 6, x.max_layers_minus1)?; // Row(1, 3)
+    bits_u8(w, 3, x.max_sub_layers_minus1)?; // Row(1, 4)
+    flag(w, x.temporal_id_nesting_flag)?; // Row(1, 5)
+    bits(w, 16, 0xFFFF)?; // Row(1, 6)
+    write_profile_tier_level(w, x.max_sub_layers_minus1, &x.profile_tier_level)?; // Row(1, 7)
     Ok(())
 }
 
@@ -46,9 +46,9 @@ fn write_layer_sets(w: &mut BitWriter, x: &Vps) -> Result<(), AllocError>
     ensures { OnOk result (Writes table.layer_sets
         own.layer_sets (plain_vps x.now) w.old w.new) }
 {
-    bits_u8(w, 6, x.max_layer_id)?;
-    ue(w, x.num_layer_sets_minus1)?;
-    zeros(w, num_layer_flags(x))?;
+    bits_u8(w, 6, x.max_layer_id)?; // Row(1, 14)
+    ue(w, x.num_layer_sets_minus1)?; // Row(1, 15)
+    zeros(w, num_layer_flags(x))?; // Row(1, 16)
     Ok(())
 }
 
@@ -57,7 +57,7 @@ fn write_extension(w: &mut BitWriter, x: &Vps) -> Result<(), AllocError>
     ensures { OnOk result (Writes table.extension
         own.extension (plain_vps x.now) w.old w.new) }
 {
-    flag(w, x.extension_flag)?;
+    flag(w, x.extension_flag)?; // Row(1, 25)
     Ok(())
 }
 
