@@ -27,35 +27,35 @@ schedules_written by_units x n m old new h e = subst (λ (k : ℕ). WritesTable 
 
 -- ---- table 3: what all sub-layers have in common
 
-pub decoding_units_keep : Keeps decoding_units own.decoding_units
+pub decoding_units_keep : Keeps decoding_units own.decoding_units_of
 unfolding decoding_units
 decoding_units_keep = record { same = λ y. refl; last = λ x y z. refl; kept = λ y w. search kept_rows depth 40 fits 4000 }
 
-pub scales_keep : Keeps scales own.scales
+pub scales_keep : Keeps scales own.scales_of
 unfolding scales
 scales_keep = record { same = λ y. refl; last = λ x y z. refl; kept = λ y w. search kept_rows depth 40 fits 4000 }
 
-pub buffering_keeps : Keeps buffering own.buffering
+pub buffering_keeps : Keeps buffering own.buffering_of
 unfolding buffering
-buffering_keeps = record { same = λ y. refl; last = λ x y z. refl; kept = λ y w. search (kept_rows, when_kept decoding_units own.decoding_units decoding_units_keep, part_kept scales own.scales scales_keep) depth 40 fits 4000 }
+buffering_keeps = record { same = λ y. refl; last = λ x y z. refl; kept = λ y w. search (kept_rows, when_kept decoding_units own.decoding_units_of decoding_units_keep, part_kept scales own.scales_of scales_keep) depth 40 fits 4000 }
 
-pub common_parameters_keep : Keeps common_parameters own.common_parameters
+pub common_parameters_keep : Keeps common_parameters own.common_parameters_of
 unfolding common_parameters
-common_parameters_keep = record { same = λ y. refl; last = λ x y z. refl; kept = λ y w. search (kept_rows, when_kept buffering own.buffering buffering_keeps) depth 40 fits 4000 }
+common_parameters_keep = record { same = λ y. refl; last = λ x y z. refl; kept = λ y w. search (kept_rows, when_kept buffering own.buffering_of buffering_keeps) depth 40 fits 4000 }
 
 -- ---- table 3: each sub-layer
 
-sub_layer_keeps : (i : ℕ) → Keeps (sub_layer i) own.sub_layers
+sub_layer_keeps : (i : ℕ) → Keeps (sub_layer i) own.sub_layers_of
 unfolding sub_layer
 sub_layer_keeps i = record { same = λ y. refl; last = λ x y z. refl; kept = λ y w. search (kept_rows, schedules_fillable) depth 40 fits 4000 }
 
-pub sub_layers_keep : (max_sub_layers_minus1 : ℕ) → Keeps (sub_layers max_sub_layers_minus1) own.sub_layers
+pub sub_layers_keep : (max_sub_layers_minus1 : ℕ) → Keeps (sub_layers max_sub_layers_minus1) own.sub_layers_of
 unfolding sub_layers
-sub_layers_keep m = turns_keep sub_layer own.sub_layers sub_layer_keeps (m + 1)
+sub_layers_keep m = turns_keep sub_layer own.sub_layers_of sub_layer_keeps (m + 1)
 
-pub sub_layers_written : (x : PlainHrdParams) (n max_sub_layers_minus1 : ℕ) (old new : List Bool) → WritesTurns sub_layer (own.same_sub_layers x) n old new → n ≡ max_sub_layers_minus1 + 1 → Writes (sub_layers max_sub_layers_minus1) own.seen_by_sub_layers x old new
+pub sub_layers_written : (x : PlainHrdParams) (n max_sub_layers_minus1 : ℕ) (old new : List Bool) → WritesTurns sub_layer (own.same_sub_layers x) n old new → n ≡ max_sub_layers_minus1 + 1 → Writes (sub_layers max_sub_layers_minus1) own.sub_layers_with_inputs_of x old new
 unfolding sub_layers
-sub_layers_written x n m old new h e = subst (λ (k : ℕ). Writes (Rattle.hevc_spec.specs.Rows.repeat sub_layer 0 k) own.seen_by_sub_layers x old new) e (all_turns sub_layer (own.same_sub_layers x) (λ z is. (
+sub_layers_written x n m old new h e = subst (λ (k : ℕ). Writes (Rattle.hevc_spec.specs.Rows.repeat sub_layer 0 k) own.sub_layers_with_inputs_of x old new) e (all_turns sub_layer (own.same_sub_layers x) (λ z is. (
   record { nal = by is (λ r. r.nal_hrd_parameters_present_flag); vcl = by is (λ r. r.vcl_hrd_parameters_present_flag); units = by is (λ r. r.sub_pic_hrd_params_present_flag) },
   all_same _ _ _ (by is (λ r. r.fixed_pic_rate_general_flag)),
   all_same _ _ _ (by is (λ r. r.fixed_pic_rate_within_cvs_flag)),
@@ -70,16 +70,16 @@ pub ruleset bounds = (AtMost-at)
 
 -- ---- table 3
 
-pub hrd_written : (common : Bool) (max_sub_layers_minus1 : ℕ) (before x : PlainHrdParams) (old mid new : List Bool) → WritesIf common (Writes common_parameters own.common_parameters x) old mid → Writes (sub_layers max_sub_layers_minus1) own.seen_by_sub_layers x mid new
+pub hrd_written : (common : Bool) (max_sub_layers_minus1 : ℕ) (before x : PlainHrdParams) (old mid new : List Bool) → WritesIf common (Writes common_parameters own.common_parameters_of x) old mid → Writes (sub_layers max_sub_layers_minus1) own.sub_layers_with_inputs_of x mid new
     → WritesTable (hrd_parameters common max_sub_layers_minus1 before) x old new
 unfolding hrd_parameters when common_of
 hrd_written true m before x old mid new h g = record {
-  written = λ w. then_filled (part_written common_parameters own.common_parameters common_parameters_keep _ (h.there refl) refl (λ v1 b1 h1.
-      part_written (sub_layers m) own.sub_layers (sub_layers_keep m) _ g refl (λ v2 b2 h2 e at. h2 _ e refl (h1 _ e refl at))));
+  written = λ w. then_filled (part_written common_parameters own.common_parameters_of common_parameters_keep _ (h.there refl) refl (λ v1 b1 h1.
+      part_written (sub_layers m) own.sub_layers_of (sub_layers_keep m) _ g refl (λ v2 b2 h2 e at. h2 _ e refl (h1 _ e refl at))));
 }
-hrd_written false m before x old mid new h g = record { written = λ w. then_filled (done_filled (part_written (sub_layers m) own.sub_layers (sub_layers_keep m) _ g refl (λ v2 b2 h2 e at. h2 _ e refl (at ∙ sym (h.absent refl))))) }
+hrd_written false m before x old mid new h g = record { written = λ w. then_filled (done_filled (part_written (sub_layers m) own.sub_layers_of (sub_layers_keep m) _ g refl (λ v2 b2 h2 e at. h2 _ e refl (at ∙ sym (h.absent refl))))) }
 
 pub hrd_fillable : (common : Bool) (max_sub_layers_minus1 : ℕ) (before : PlainHrdParams) → IsFillable (hrd_parameters common max_sub_layers_minus1 before)
 unfolding hrd_parameters when common_of
-hrd_fillable true m before = record { fill = λ w. then_filled (part_kept common_parameters own.common_parameters common_parameters_keep _ (λ z b. part_kept (sub_layers m) own.sub_layers (sub_layers_keep m) _ (λ u d. tt))) }
-hrd_fillable false m before = record { fill = λ w. then_filled (done_filled (part_kept (sub_layers m) own.sub_layers (sub_layers_keep m) _ (λ u d. tt))) }
+hrd_fillable true m before = record { fill = λ w. then_filled (part_kept common_parameters own.common_parameters_of common_parameters_keep _ (λ z b. part_kept (sub_layers m) own.sub_layers_of (sub_layers_keep m) _ (λ u d. tt))) }
+hrd_fillable false m before = record { fill = λ w. then_filled (done_filled (part_kept (sub_layers m) own.sub_layers_of (sub_layers_keep m) _ (λ u d. tt))) }

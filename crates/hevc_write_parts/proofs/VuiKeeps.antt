@@ -6,66 +6,66 @@ use Rattle.hevc_writing.proofs.Steps.{IsFillable, then_filled, part_kept, kept_r
 use Rattle.hevc_write_parts.specs.VuiParts as own
 use Rattle.hevc_write_parts.proofs.HrdKeeps.{hrd_fillable}
 
-pub aspect_ratio_keeps : Keeps aspect_ratio own.aspect_ratio
+pub aspect_ratio_keeps : Keeps aspect_ratio own.aspect_ratio_of
 unfolding aspect_ratio
 aspect_ratio_keeps = record { same = λ y. refl; last = λ x y z. refl; kept = λ y w. search kept_rows depth 40 fits 4000 }
 
-pub overscan_keeps : Keeps overscan own.overscan
+pub overscan_keeps : Keeps overscan own.overscan_of
 unfolding overscan
 overscan_keeps = record { same = λ y. refl; last = λ x y z. refl; kept = λ y w. search kept_rows depth 40 fits 4000 }
 
-pub colours_keeps : Keeps colours own.colours
+pub colours_keeps : Keeps colours own.colours_of
 unfolding colours
 colours_keeps = record { same = λ y. refl; last = λ x y z. refl; kept = λ y w. search kept_rows depth 40 fits 4000 }
 
-pub signal_keeps : Keeps signal own.signal
+pub signal_keeps : Keeps signal own.signal_of
 unfolding signal
-signal_keeps = record { same = λ y. refl; last = λ x y z. refl; kept = λ y w. search (kept_rows, when_kept colours own.colours colours_keeps) depth 40 fits 4000 }
+signal_keeps = record { same = λ y. refl; last = λ x y z. refl; kept = λ y w. search (kept_rows, when_kept colours own.colours_of colours_keeps) depth 40 fits 4000 }
 
-pub signal_type_keeps : Keeps signal_type own.signal_type
+pub signal_type_keeps : Keeps signal_type own.signal_type_of
 unfolding signal_type
-signal_type_keeps = record { same = λ y. refl; last = λ x y z. refl; kept = λ y w. search (kept_rows, when_kept signal own.signal signal_keeps) depth 40 fits 4000 }
+signal_type_keeps = record { same = λ y. refl; last = λ x y z. refl; kept = λ y w. search (kept_rows, when_kept signal own.signal_of signal_keeps) depth 40 fits 4000 }
 
-pub chroma_places_keeps : Keeps chroma_places own.chroma_places
+pub chroma_places_keeps : Keeps chroma_places own.chroma_places_of
 unfolding chroma_places
 chroma_places_keeps = record { same = λ y. refl; last = λ x y z. refl; kept = λ y w. search kept_rows depth 40 fits 4000 }
 
-pub display_window_keeps : Keeps display_window own.display_window
+pub display_window_keeps : Keeps display_window own.display_window_of
 unfolding display_window
 display_window_keeps = record { same = λ y. refl; last = λ x y z. refl; kept = λ y w. search kept_rows depth 40 fits 4000 }
 
-pub display_keeps : Keeps display own.display
+pub display_keeps : Keeps display own.display_of
 unfolding display
-display_keeps = record { same = λ y. refl; last = λ x y z. refl; kept = λ y w. search (kept_rows, when_kept display_window own.display_window display_window_keeps) depth 40 fits 4000 }
+display_keeps = record { same = λ y. refl; last = λ x y z. refl; kept = λ y w. search (kept_rows, when_kept display_window own.display_window_of display_window_keeps) depth 40 fits 4000 }
 
-pub hrd_keeps : (m : ℕ) → Keeps (hrd m) own.hrd
+pub hrd_keeps : (m : ℕ) → Keeps (hrd m) own.hrd_of
 unfolding hrd
 hrd_keeps m = record { same = λ y. refl; last = λ x y z. refl; kept = λ y w. search (kept_rows, hrd_fillable) depth 40 fits 4000 }
 
-pub timing_keeps : (m : ℕ) → Keeps (timing m) own.timing
+pub timing_keeps : (m : ℕ) → Keeps (timing m) own.timing_of
 unfolding timing
-timing_keeps m = record { same = λ y. refl; last = λ x y z. refl; kept = λ y w. search (kept_rows, when_kept (hrd m) own.hrd (hrd_keeps m)) depth 40 fits 4000 }
+timing_keeps m = record { same = λ y. refl; last = λ x y z. refl; kept = λ y w. search (kept_rows, when_kept (hrd m) own.hrd_of (hrd_keeps m)) depth 40 fits 4000 }
 
-pub timing_info_keeps : (m : ℕ) → Keeps (timing_info m) own.timing_info
+pub timing_info_keeps : (m : ℕ) → Keeps (timing_info m) own.timing_info_of
 unfolding timing_info
-timing_info_keeps m = record { same = λ y. refl; last = λ x y z. refl; kept = λ y w. search (kept_rows, when_kept (timing m) own.timing (timing_keeps m)) depth 40 fits 4000 }
+timing_info_keeps m = record { same = λ y. refl; last = λ x y z. refl; kept = λ y w. search (kept_rows, when_kept (timing m) own.timing_of (timing_keeps m)) depth 40 fits 4000 }
 
-pub restrictions_keeps : Keeps restrictions own.restrictions
+pub restrictions_keeps : Keeps restrictions own.restrictions_of
 unfolding restrictions
 restrictions_keeps = record { same = λ y. refl; last = λ x y z. refl; kept = λ y w. search kept_rows depth 40 fits 4000 }
 
-pub stream_restrictions_keeps : Keeps stream_restrictions own.stream_restrictions
+pub stream_restrictions_keeps : Keeps stream_restrictions own.stream_restrictions_of
 unfolding stream_restrictions
-stream_restrictions_keeps = record { same = λ y. refl; last = λ x y z. refl; kept = λ y w. search (kept_rows, when_kept restrictions own.restrictions restrictions_keeps) depth 40 fits 4000 }
+stream_restrictions_keeps = record { same = λ y. refl; last = λ x y z. refl; kept = λ y w. search (kept_rows, when_kept restrictions own.restrictions_of restrictions_keeps) depth 40 fits 4000 }
 
 pub vui_fillable : (m : ℕ) → IsFillable (vui_parameters m)
 unfolding vui_parameters
 vui_fillable m = record {
-  fill = λ w. then_filled (part_kept aspect_ratio own.aspect_ratio aspect_ratio_keeps _ (λ z1 b1.
-      then_filled (part_kept overscan own.overscan overscan_keeps _ (λ z2 b2.
-      then_filled (part_kept signal_type own.signal_type signal_type_keeps _ (λ z3 b3.
-      then_filled (part_kept chroma_places own.chroma_places chroma_places_keeps _ (λ z4 b4.
-      then_filled (part_kept display own.display display_keeps _ (λ z5 b5.
-      then_filled (part_kept (timing_info m) own.timing_info (timing_info_keeps m) _ (λ z6 b6.
-      part_kept stream_restrictions own.stream_restrictions stream_restrictions_keeps _ (λ z7 b7. tt)))))))))))));
+  fill = λ w. then_filled (part_kept aspect_ratio own.aspect_ratio_of aspect_ratio_keeps _ (λ z1 b1.
+      then_filled (part_kept overscan own.overscan_of overscan_keeps _ (λ z2 b2.
+      then_filled (part_kept signal_type own.signal_type_of signal_type_keeps _ (λ z3 b3.
+      then_filled (part_kept chroma_places own.chroma_places_of chroma_places_keeps _ (λ z4 b4.
+      then_filled (part_kept display own.display_of display_keeps _ (λ z5 b5.
+      then_filled (part_kept (timing_info m) own.timing_info_of (timing_info_keeps m) _ (λ z6 b6.
+      part_kept stream_restrictions own.stream_restrictions_of stream_restrictions_keeps _ (λ z7 b7. tt)))))))))))));
 }

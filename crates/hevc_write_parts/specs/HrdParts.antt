@@ -14,8 +14,8 @@ same_schedules x n z =
     × SameBelow n z.cbr_flag x.cbr_flag
 
 -- rows 3 to 6
-abbrev pub decoding_units : PlainHrdParams → PlainHrdParams → PlainHrdParams
-decoding_units from x = record x {
+abbrev pub decoding_units_of : PlainHrdParams → PlainHrdParams → PlainHrdParams
+decoding_units_of from x = record x {
   tick_divisor_minus2 = from.tick_divisor_minus2;
   du_cpb_removal_delay_increment_length_minus1 = from.du_cpb_removal_delay_increment_length_minus1;
   sub_pic_cpb_params_in_pic_timing_sei_flag = from.sub_pic_cpb_params_in_pic_timing_sei_flag;
@@ -23,8 +23,8 @@ decoding_units from x = record x {
 }
 
 -- rows 7 to 9
-abbrev pub scales : PlainHrdParams → PlainHrdParams → PlainHrdParams
-scales from x = record x {
+abbrev pub scales_of : PlainHrdParams → PlainHrdParams → PlainHrdParams
+scales_of from x = record x {
   bit_rate_scale = from.bit_rate_scale;
   cpb_size_scale = from.cpb_size_scale;
   cpb_size_du_scale = from.cpb_size_du_scale;
@@ -33,26 +33,26 @@ scales from x = record x {
   dpb_output_delay_length_minus1 = from.dpb_output_delay_length_minus1;
 }
 
--- rows 7 to 9, which go by row 2
-abbrev pub seen_by_scales : PlainHrdParams → PlainHrdParams → PlainHrdParams
-seen_by_scales from x = record (scales from x) {
+-- rows 7 to 9, with row 2
+abbrev pub scales_with_inputs_of : PlainHrdParams → PlainHrdParams → PlainHrdParams
+scales_with_inputs_of from x = record (scales_of from x) {
   sub_pic_hrd_params_present_flag = from.sub_pic_hrd_params_present_flag;
 }
 
 -- rows 2 to 9
-abbrev pub buffering : PlainHrdParams → PlainHrdParams → PlainHrdParams
-buffering from x = decoding_units from (seen_by_scales from x)
+abbrev pub buffering_of : PlainHrdParams → PlainHrdParams → PlainHrdParams
+buffering_of from x = decoding_units_of from (scales_with_inputs_of from x)
 
 -- rows 1 to 9
-abbrev pub common_parameters : PlainHrdParams → PlainHrdParams → PlainHrdParams
-common_parameters from x = record (buffering from x) {
+abbrev pub common_parameters_of : PlainHrdParams → PlainHrdParams → PlainHrdParams
+common_parameters_of from x = record (buffering_of from x) {
   nal_hrd_parameters_present_flag = from.nal_hrd_parameters_present_flag;
   vcl_hrd_parameters_present_flag = from.vcl_hrd_parameters_present_flag;
 }
 
 -- rows 10 to 16
-abbrev pub sub_layers : PlainHrdParams → PlainHrdParams → PlainHrdParams
-sub_layers from x = record x {
+abbrev pub sub_layers_of : PlainHrdParams → PlainHrdParams → PlainHrdParams
+sub_layers_of from x = record x {
   fixed_pic_rate_general_flag = from.fixed_pic_rate_general_flag;
   fixed_pic_rate_within_cvs_flag = from.fixed_pic_rate_within_cvs_flag;
   elemental_duration_in_tc_minus1 = from.elemental_duration_in_tc_minus1;
@@ -62,9 +62,9 @@ sub_layers from x = record x {
   vcl_hrd = from.vcl_hrd;
 }
 
--- rows 10 to 16, which go by rows 1 and 2
-abbrev pub seen_by_sub_layers : PlainHrdParams → PlainHrdParams → PlainHrdParams
-seen_by_sub_layers from x = record (sub_layers from x) {
+-- rows 10 to 16, with rows 1 and 2
+abbrev pub sub_layers_with_inputs_of : PlainHrdParams → PlainHrdParams → PlainHrdParams
+sub_layers_with_inputs_of from x = record (sub_layers_of from x) {
   nal_hrd_parameters_present_flag = from.nal_hrd_parameters_present_flag;
   vcl_hrd_parameters_present_flag = from.vcl_hrd_parameters_present_flag;
   sub_pic_hrd_params_present_flag = from.sub_pic_hrd_params_present_flag;

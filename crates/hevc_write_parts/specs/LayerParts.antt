@@ -6,22 +6,22 @@ use Rattle.hevc_tables.specs.ProfileTierLevelTable.{LayerProfile, Scope, layer_c
 use Rattle.hevc_writing.specs.Filling.{SameBelow}
 
 -- row 4
-abbrev pub compatibility_flags : LayerProfile → LayerProfile → LayerProfile
-compatibility_flags from x = record x {
+abbrev pub compatibility_flags_of : LayerProfile → LayerProfile → LayerProfile
+compatibility_flags_of from x = record x {
   profile_compatibility_flag = from.profile_compatibility_flag;
 }
 
 -- rows 1 to 4
-abbrev pub profiles : LayerProfile → LayerProfile → LayerProfile
-profiles from x = record (compatibility_flags from x) {
+abbrev pub profiles_of : LayerProfile → LayerProfile → LayerProfile
+profiles_of from x = record (compatibility_flags_of from x) {
   profile_space = from.profile_space;
   tier_flag = from.tier_flag;
   profile_idc = from.profile_idc;
 }
 
 -- row 5
-abbrev pub source : LayerProfile → LayerProfile → LayerProfile
-source from x = record x {
+abbrev pub source_of : LayerProfile → LayerProfile → LayerProfile
+source_of from x = record x {
   progressive_source_flag = from.progressive_source_flag;
   interlaced_source_flag = from.interlaced_source_flag;
   non_packed_constraint_flag = from.non_packed_constraint_flag;
@@ -29,8 +29,8 @@ source from x = record x {
 }
 
 -- row 6
-abbrev pub formats : LayerProfile → LayerProfile → LayerProfile
-formats from x = record x {
+abbrev pub formats_of : LayerProfile → LayerProfile → LayerProfile
+formats_of from x = record x {
   max_12bit_constraint_flag = from.max_12bit_constraint_flag;
   max_10bit_constraint_flag = from.max_10bit_constraint_flag;
   max_8bit_constraint_flag = from.max_8bit_constraint_flag;
@@ -43,32 +43,32 @@ formats from x = record x {
 }
 
 -- rows 7 to 9
-abbrev pub bit_depth_flag : LayerProfile → LayerProfile → LayerProfile
-bit_depth_flag from x = record x { max_14bit_constraint_flag = from.max_14bit_constraint_flag }
+abbrev pub bit_depth_flag_of : LayerProfile → LayerProfile → LayerProfile
+bit_depth_flag_of from x = record x { max_14bit_constraint_flag = from.max_14bit_constraint_flag }
 
 -- rows 6 to 13
-abbrev pub constraints : LayerProfile → LayerProfile → LayerProfile
-constraints from x = formats from (bit_depth_flag from x)
+abbrev pub constraints_of : LayerProfile → LayerProfile → LayerProfile
+constraints_of from x = formats_of from (bit_depth_flag_of from x)
 
 -- rows 3 and 4, by which rows 6 to 15 go
-abbrev pub with_profile : LayerProfile → LayerProfile → LayerProfile
-with_profile from x = record (compatibility_flags from x) { profile_idc = from.profile_idc }
+abbrev pub profile_inputs_of : LayerProfile → LayerProfile → LayerProfile
+profile_inputs_of from x = record (compatibility_flags_of from x) { profile_idc = from.profile_idc }
 
--- rows 7 to 9, and what they go by
-abbrev pub seen_by_bit_depth_flag : LayerProfile → LayerProfile → LayerProfile
-seen_by_bit_depth_flag from x = bit_depth_flag from (with_profile from x)
+-- rows 7 to 9, with rows 3 and 4
+abbrev pub bit_depth_flag_with_inputs_of : LayerProfile → LayerProfile → LayerProfile
+bit_depth_flag_with_inputs_of from x = bit_depth_flag_of from (profile_inputs_of from x)
 
--- rows 6 to 13, and what they go by
-abbrev pub seen_by_constraints : LayerProfile → LayerProfile → LayerProfile
-seen_by_constraints from x = constraints from (with_profile from x)
+-- rows 6 to 13, with rows 3 and 4
+abbrev pub constraints_with_inputs_of : LayerProfile → LayerProfile → LayerProfile
+constraints_with_inputs_of from x = constraints_of from (profile_inputs_of from x)
 
 -- rows 14 and 15
-abbrev pub inbld : LayerProfile → LayerProfile → LayerProfile
-inbld from x = record x { inbld_flag = from.inbld_flag }
+abbrev pub inbld_of : LayerProfile → LayerProfile → LayerProfile
+inbld_of from x = record x { inbld_flag = from.inbld_flag }
 
--- rows 14 and 15, and what they go by
-abbrev pub seen_by_inbld : LayerProfile → LayerProfile → LayerProfile
-seen_by_inbld from x = inbld from (with_profile from x)
+-- rows 14 and 15, with rows 3 and 4
+abbrev pub inbld_with_inputs_of : LayerProfile → LayerProfile → LayerProfile
+inbld_with_inputs_of from x = inbld_of from (profile_inputs_of from x)
 
 -- the first compatibility flags are those of x, so many
 abbrev pub same_flags : LayerProfile → ℕ → LayerProfile → Type 0

@@ -5,8 +5,8 @@ use Rattle.hevc_records.specs.ProfileTierLevel.{PlainProfileTierLevel}
 use Rattle.hevc_writing.specs.Filling.{SameBelow}
 
 -- rows 1 to 27
-abbrev pub general_rows : PlainProfileTierLevel → PlainProfileTierLevel → PlainProfileTierLevel
-general_rows from x = record x {
+abbrev pub general_rows_of : PlainProfileTierLevel → PlainProfileTierLevel → PlainProfileTierLevel
+general_rows_of from x = record x {
   general_profile_space = from.general_profile_space;
   general_tier_flag = from.general_tier_flag;
   general_profile_idc = from.general_profile_idc;
@@ -30,16 +30,16 @@ general_rows from x = record x {
 }
 
 -- row 28
-abbrev pub presence : PlainProfileTierLevel → PlainProfileTierLevel → PlainProfileTierLevel
-presence from x = record x {
+abbrev pub presence_of : PlainProfileTierLevel → PlainProfileTierLevel → PlainProfileTierLevel
+presence_of from x = record x {
   sub_layer_profile_present_flag = from.sub_layer_profile_present_flag;
   sub_layer_level_present_flag = from.sub_layer_level_present_flag;
 }
 
 -- row 30
-abbrev pub sub_layer_profiles : PlainProfileTierLevel → PlainProfileTierLevel
+abbrev pub sub_layer_profiles_of : PlainProfileTierLevel → PlainProfileTierLevel
     → PlainProfileTierLevel
-sub_layer_profiles from x = record x {
+sub_layer_profiles_of from x = record x {
   sub_layer_profile_space = from.sub_layer_profile_space;
   sub_layer_tier_flag = from.sub_layer_tier_flag;
   sub_layer_profile_idc = from.sub_layer_profile_idc;
@@ -62,17 +62,18 @@ sub_layer_profiles from x = record x {
 }
 
 -- row 31
-abbrev pub sub_layer_levels : PlainProfileTierLevel → PlainProfileTierLevel → PlainProfileTierLevel
-sub_layer_levels from x = record x { sub_layer_level_idc = from.sub_layer_level_idc }
+abbrev pub sub_layer_levels_of : PlainProfileTierLevel → PlainProfileTierLevel
+    → PlainProfileTierLevel
+sub_layer_levels_of from x = record x { sub_layer_level_idc = from.sub_layer_level_idc }
 
 -- rows 30 and 31
-abbrev pub sub_layers : PlainProfileTierLevel → PlainProfileTierLevel → PlainProfileTierLevel
-sub_layers from x = sub_layer_levels from (sub_layer_profiles from x)
+abbrev pub sub_layers_of : PlainProfileTierLevel → PlainProfileTierLevel → PlainProfileTierLevel
+sub_layers_of from x = sub_layer_levels_of from (sub_layer_profiles_of from x)
 
--- rows 30 and 31, which go by row 28
-abbrev pub seen_by_sub_layers : PlainProfileTierLevel → PlainProfileTierLevel
+-- rows 30 and 31, with row 28
+abbrev pub sub_layers_with_inputs_of : PlainProfileTierLevel → PlainProfileTierLevel
     → PlainProfileTierLevel
-seen_by_sub_layers from x = sub_layers from (presence from x)
+sub_layers_with_inputs_of from x = sub_layers_of from (presence_of from x)
 
 -- row 28 of the first sub-layers is that of x, of so many
 abbrev pub same_presence : PlainProfileTierLevel → ℕ → PlainProfileTierLevel → Type 0

@@ -2,8 +2,8 @@
 use Rattle.hevc_records.specs.VuiParams.{PlainVuiParams}
 
 -- rows 1 to 3
-abbrev pub aspect_ratio : PlainVuiParams → PlainVuiParams → PlainVuiParams
-aspect_ratio from x = record x {
+abbrev pub aspect_ratio_of : PlainVuiParams → PlainVuiParams → PlainVuiParams
+aspect_ratio_of from x = record x {
   aspect_ratio_info_present_flag = from.aspect_ratio_info_present_flag;
   aspect_ratio_idc = from.aspect_ratio_idc;
   sar_width = from.sar_width;
@@ -11,45 +11,45 @@ aspect_ratio from x = record x {
 }
 
 -- rows 4 and 5
-abbrev pub overscan : PlainVuiParams → PlainVuiParams → PlainVuiParams
-overscan from x = record x {
+abbrev pub overscan_of : PlainVuiParams → PlainVuiParams → PlainVuiParams
+overscan_of from x = record x {
   overscan_info_present_flag = from.overscan_info_present_flag;
   overscan_appropriate_flag = from.overscan_appropriate_flag;
 }
 
 -- row 9
-abbrev pub colours : PlainVuiParams → PlainVuiParams → PlainVuiParams
-colours from x = record x {
+abbrev pub colours_of : PlainVuiParams → PlainVuiParams → PlainVuiParams
+colours_of from x = record x {
   colour_primaries = from.colour_primaries;
   transfer_characteristics = from.transfer_characteristics;
   matrix_coeffs = from.matrix_coeffs;
 }
 
 -- rows 7 to 9
-abbrev pub signal : PlainVuiParams → PlainVuiParams → PlainVuiParams
-signal from x = record (colours from x) {
+abbrev pub signal_of : PlainVuiParams → PlainVuiParams → PlainVuiParams
+signal_of from x = record (colours_of from x) {
   video_format = from.video_format;
   video_full_range_flag = from.video_full_range_flag;
   colour_description_present_flag = from.colour_description_present_flag;
 }
 
 -- rows 6 to 9
-abbrev pub signal_type : PlainVuiParams → PlainVuiParams → PlainVuiParams
-signal_type from x = record (signal from x) {
+abbrev pub signal_type_of : PlainVuiParams → PlainVuiParams → PlainVuiParams
+signal_type_of from x = record (signal_of from x) {
   video_signal_type_present_flag = from.video_signal_type_present_flag;
 }
 
 -- rows 10 to 12
-abbrev pub chroma_places : PlainVuiParams → PlainVuiParams → PlainVuiParams
-chroma_places from x = record x {
+abbrev pub chroma_places_of : PlainVuiParams → PlainVuiParams → PlainVuiParams
+chroma_places_of from x = record x {
   chroma_loc_info_present_flag = from.chroma_loc_info_present_flag;
   chroma_sample_loc_type_top_field = from.chroma_sample_loc_type_top_field;
   chroma_sample_loc_type_bottom_field = from.chroma_sample_loc_type_bottom_field;
 }
 
 -- row 14
-abbrev pub display_window : PlainVuiParams → PlainVuiParams → PlainVuiParams
-display_window from x = record x {
+abbrev pub display_window_of : PlainVuiParams → PlainVuiParams → PlainVuiParams
+display_window_of from x = record x {
   def_disp_win_left_offset = from.def_disp_win_left_offset;
   def_disp_win_right_offset = from.def_disp_win_right_offset;
   def_disp_win_top_offset = from.def_disp_win_top_offset;
@@ -57,8 +57,8 @@ display_window from x = record x {
 }
 
 -- rows 13 and 14
-abbrev pub display : PlainVuiParams → PlainVuiParams → PlainVuiParams
-display from x = record (display_window from x) {
+abbrev pub display_of : PlainVuiParams → PlainVuiParams → PlainVuiParams
+display_of from x = record (display_window_of from x) {
   neutral_chroma_indication_flag = from.neutral_chroma_indication_flag;
   field_seq_flag = from.field_seq_flag;
   frame_field_info_present_flag = from.frame_field_info_present_flag;
@@ -66,12 +66,12 @@ display from x = record (display_window from x) {
 }
 
 -- row 20
-abbrev pub hrd : PlainVuiParams → PlainVuiParams → PlainVuiParams
-hrd from x = record x { hrd = from.hrd }
+abbrev pub hrd_of : PlainVuiParams → PlainVuiParams → PlainVuiParams
+hrd_of from x = record x { hrd = from.hrd }
 
 -- rows 16 to 20
-abbrev pub timing : PlainVuiParams → PlainVuiParams → PlainVuiParams
-timing from x = record (hrd from x) {
+abbrev pub timing_of : PlainVuiParams → PlainVuiParams → PlainVuiParams
+timing_of from x = record (hrd_of from x) {
   num_units_in_tick = from.num_units_in_tick;
   time_scale = from.time_scale;
   poc_proportional_to_timing_flag = from.poc_proportional_to_timing_flag;
@@ -80,14 +80,14 @@ timing from x = record (hrd from x) {
 }
 
 -- rows 15 to 20
-abbrev pub timing_info : PlainVuiParams → PlainVuiParams → PlainVuiParams
-timing_info from x = record (timing from x) {
+abbrev pub timing_info_of : PlainVuiParams → PlainVuiParams → PlainVuiParams
+timing_info_of from x = record (timing_of from x) {
   timing_info_present_flag = from.timing_info_present_flag;
 }
 
 -- rows 22 to 26
-abbrev pub restrictions : PlainVuiParams → PlainVuiParams → PlainVuiParams
-restrictions from x = record x {
+abbrev pub restrictions_of : PlainVuiParams → PlainVuiParams → PlainVuiParams
+restrictions_of from x = record x {
   tiles_fixed_structure_flag = from.tiles_fixed_structure_flag;
   motion_vectors_over_pic_boundaries_flag = from.motion_vectors_over_pic_boundaries_flag;
   restricted_ref_pic_lists_flag = from.restricted_ref_pic_lists_flag;
@@ -99,7 +99,7 @@ restrictions from x = record x {
 }
 
 -- rows 21 to 26
-abbrev pub stream_restrictions : PlainVuiParams → PlainVuiParams → PlainVuiParams
-stream_restrictions from x = record (restrictions from x) {
+abbrev pub stream_restrictions_of : PlainVuiParams → PlainVuiParams → PlainVuiParams
+stream_restrictions_of from x = record (restrictions_of from x) {
   bitstream_restriction_flag = from.bitstream_restriction_flag;
 }

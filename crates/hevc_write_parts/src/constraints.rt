@@ -15,7 +15,8 @@ use std::alloc::AllocError;
 /// Rows 6 to 13 of table 2.
 pub(crate) fn write_constraints(w: &mut BitWriter, layer: &LayerProfile) -> Result<(), AllocError>
     ensures { (scope : table.Scope) → OnOk result
-        (Writes (table.constraints scope) own.seen_by_constraints (plain_layer_profile layer.now)
+        (Writes (table.constraints scope) own.constraints_with_inputs_of
+        (plain_layer_profile layer.now)
         w.old w.new) }
 {
     write_either_constraints(w, has_extensions(layer), layer)?;
@@ -29,9 +30,9 @@ fn write_either_constraints(
     layer: &LayerProfile,
 ) -> Result<(), AllocError>
     ensures { (scope : table.Scope) → OnOk result (WritesEither extensions
-        (Writes (table.range_extensions_flags scope) own.seen_by_constraints
+        (Writes (table.range_extensions_flags scope) own.constraints_with_inputs_of
         (plain_layer_profile layer.now))
-        (Writes (own.other_constraints scope) own.seen_by_constraints
+        (Writes (own.other_constraints scope) own.constraints_with_inputs_of
         (plain_layer_profile layer.now)) w.old w.new) }
 {
     if extensions {
@@ -44,7 +45,7 @@ fn write_either_constraints(
 /// Rows 10 to 13 of table 2.
 fn write_other_constraints(w: &mut BitWriter, layer: &LayerProfile) -> Result<(), AllocError>
     ensures { (scope : table.Scope) → OnOk result
-        (Writes (own.other_constraints scope) own.seen_by_constraints
+        (Writes (own.other_constraints scope) own.constraints_with_inputs_of
         (plain_layer_profile layer.now) w.old w.new) }
 {
     write_either_rows(w, layer_conforms_to(layer, 2), layer)?;
@@ -58,9 +59,9 @@ fn write_either_rows(
     layer: &LayerProfile,
 ) -> Result<(), AllocError>
     ensures { (scope : table.Scope) → OnOk result (WritesEither main_10
-        (Writes (table.main_10_flags scope) own.seen_by_constraints
+        (Writes (table.main_10_flags scope) own.constraints_with_inputs_of
         (plain_layer_profile layer.now))
-        (Writes (table.reserved_bits scope) own.seen_by_constraints
+        (Writes (table.reserved_bits scope) own.constraints_with_inputs_of
         (plain_layer_profile layer.now)) w.old w.new) }
 {
     if main_10 {
@@ -73,7 +74,7 @@ fn write_either_rows(
 /// Rows 6 to 9 of table 2.
 fn write_extensions(w: &mut BitWriter, layer: &LayerProfile) -> Result<(), AllocError>
     ensures { (scope : table.Scope) → OnOk result
-        (Writes (table.range_extensions_flags scope) own.seen_by_constraints
+        (Writes (table.range_extensions_flags scope) own.constraints_with_inputs_of
         (plain_layer_profile layer.now) w.old w.new) }
 {
     write_formats(w, layer)?;
@@ -84,7 +85,7 @@ fn write_extensions(w: &mut BitWriter, layer: &LayerProfile) -> Result<(), Alloc
 /// Row 6 of table 2.
 fn write_formats(w: &mut BitWriter, layer: &LayerProfile) -> Result<(), AllocError>
     ensures { (scope : table.Scope) → OnOk result
-        (Writes (table.formats scope) own.formats (plain_layer_profile layer.now) w.old w.new) }
+        (Writes (table.formats scope) own.formats_of (plain_layer_profile layer.now) w.old w.new) }
 {
     flag(w, layer.max_12bit_constraint_flag)?; // Row(2, 6)
     flag(w, layer.max_10bit_constraint_flag)?; // Row(2, 6)
@@ -101,7 +102,7 @@ fn write_formats(w: &mut BitWriter, layer: &LayerProfile) -> Result<(), AllocErr
 /// Rows 7 to 9 of table 2.
 fn write_bit_depth_flag(w: &mut BitWriter, layer: &LayerProfile) -> Result<(), AllocError>
     ensures { (scope : table.Scope) → OnOk result
-        (Writes (table.bit_depth_flag scope) own.seen_by_bit_depth_flag
+        (Writes (table.bit_depth_flag scope) own.bit_depth_flag_with_inputs_of
         (plain_layer_profile layer.now) w.old w.new) }
 {
     let present = has_14bit(layer);
@@ -125,7 +126,7 @@ fn write_either_zeros(w: &mut BitWriter, after_a_flag: bool) -> Result<(), Alloc
 /// Rows 10 to 12 of table 2.
 fn write_main_10(w: &mut BitWriter, layer: &LayerProfile) -> Result<(), AllocError>
     ensures { (scope : table.Scope) → OnOk result
-        (Writes (table.main_10_flags scope) own.seen_by_constraints
+        (Writes (table.main_10_flags scope) own.constraints_with_inputs_of
         (plain_layer_profile layer.now) w.old w.new) }
 {
     zeros(w, 7)?; // Row(2, 10)
@@ -137,7 +138,7 @@ fn write_main_10(w: &mut BitWriter, layer: &LayerProfile) -> Result<(), AllocErr
 /// Row 13 of table 2.
 fn write_reserved_bits(w: &mut BitWriter, layer: &LayerProfile) -> Result<(), AllocError>
     ensures { (scope : table.Scope) → OnOk result
-        (Writes (table.reserved_bits scope) own.seen_by_constraints
+        (Writes (table.reserved_bits scope) own.constraints_with_inputs_of
         (plain_layer_profile layer.now) w.old w.new) }
 {
     let _ = layer;

@@ -17,7 +17,7 @@ pub(crate) fn write_common_if(
     x: &HrdParams,
 ) -> Result<(), AllocError>
     ensures { OnOk result (WritesIf present
-        (Writes table.common_parameters own.common_parameters (plain_hrd_params x.now))
+        (Writes table.common_parameters own.common_parameters_of (plain_hrd_params x.now))
         w.old w.new) }
 {
     if present { write_common(w, x) } else { Ok(()) }
@@ -25,7 +25,7 @@ pub(crate) fn write_common_if(
 
 /// Rows 1 to 9 of table 3.
 fn write_common(w: &mut BitWriter, x: &HrdParams) -> Result<(), AllocError>
-    ensures { OnOk result (Writes table.common_parameters own.common_parameters
+    ensures { OnOk result (Writes table.common_parameters own.common_parameters_of
         (plain_hrd_params x.now) w.old w.new) }
 {
     flag(w, x.nal_hrd_parameters_present_flag)?; // Row(3, 1)
@@ -45,7 +45,7 @@ fn has_buffering(x: &HrdParams) -> bool
 /// Rows 2 to 9 of table 3, where they are present.
 fn write_buffering_if(w: &mut BitWriter, present: bool, x: &HrdParams) -> Result<(), AllocError>
     ensures { OnOk result (WritesIf present
-        (Writes table.buffering own.buffering (plain_hrd_params x.now)) w.old w.new) }
+        (Writes table.buffering own.buffering_of (plain_hrd_params x.now)) w.old w.new) }
 {
     if present {
         write_buffering(w, x)
@@ -57,7 +57,7 @@ fn write_buffering_if(w: &mut BitWriter, present: bool, x: &HrdParams) -> Result
 /// Rows 2 to 9 of table 3.
 fn write_buffering(w: &mut BitWriter, x: &HrdParams) -> Result<(), AllocError>
     ensures { OnOk result
-        (Writes table.buffering own.buffering (plain_hrd_params x.now) w.old w.new) }
+        (Writes table.buffering own.buffering_of (plain_hrd_params x.now) w.old w.new) }
 {
     flag(w, x.sub_pic_hrd_params_present_flag)?; // Row(3, 2)
     write_units_if(w, x.sub_pic_hrd_params_present_flag, x)?;
@@ -68,7 +68,7 @@ fn write_buffering(w: &mut BitWriter, x: &HrdParams) -> Result<(), AllocError>
 /// Rows 3 to 6 of table 3, where they are present.
 fn write_units_if(w: &mut BitWriter, present: bool, x: &HrdParams) -> Result<(), AllocError>
     ensures { OnOk result (WritesIf present
-        (Writes table.decoding_units own.decoding_units (plain_hrd_params x.now)) w.old w.new) }
+        (Writes table.decoding_units own.decoding_units_of (plain_hrd_params x.now)) w.old w.new) }
 {
     if present { write_units(w, x) } else { Ok(()) }
 }
@@ -76,7 +76,7 @@ fn write_units_if(w: &mut BitWriter, present: bool, x: &HrdParams) -> Result<(),
 /// Rows 3 to 6 of table 3.
 fn write_units(w: &mut BitWriter, x: &HrdParams) -> Result<(), AllocError>
     ensures { OnOk result
-        (Writes table.decoding_units own.decoding_units (plain_hrd_params x.now) w.old w.new) }
+        (Writes table.decoding_units own.decoding_units_of (plain_hrd_params x.now) w.old w.new) }
 {
     bits_u8(w, 8, x.tick_divisor_minus2)?; // Row(3, 3)
     bits_u8(w, 5, x.du_cpb_removal_delay_increment_length_minus1)?; // Row(3, 4)
@@ -88,7 +88,7 @@ fn write_units(w: &mut BitWriter, x: &HrdParams) -> Result<(), AllocError>
 /// Rows 7 to 9 of table 3.
 fn write_scales(w: &mut BitWriter, x: &HrdParams) -> Result<(), AllocError>
     ensures { OnOk result
-        (Writes table.scales own.seen_by_scales (plain_hrd_params x.now) w.old w.new) }
+        (Writes table.scales own.scales_with_inputs_of (plain_hrd_params x.now) w.old w.new) }
 {
     bits_u8(w, 4, x.bit_rate_scale)?; // Row(3, 7)
     bits_u8(w, 4, x.cpb_size_scale)?; // Row(3, 7)

@@ -27,7 +27,8 @@ pub(crate) fn write_layer_profile(w: &mut BitWriter, layer: &LayerProfile) -> Re
 /// Rows 1 to 4 of table 2.
 fn write_profiles(w: &mut BitWriter, layer: &LayerProfile) -> Result<(), AllocError>
     ensures { (scope : table.Scope) → OnOk result
-        (Writes (table.profiles scope) own.profiles (plain_layer_profile layer.now) w.old w.new) }
+        (Writes (table.profiles scope) own.profiles_of (plain_layer_profile layer.now)
+        w.old w.new) }
 {
     bits_u8(w, 2, layer.profile_space)?; // Row(2, 1)
     flag(w, layer.tier_flag)?; // Row(2, 2)
@@ -39,7 +40,7 @@ fn write_profiles(w: &mut BitWriter, layer: &LayerProfile) -> Result<(), AllocEr
 /// Row 4 of table 2.
 fn write_compatibility_flags(w: &mut BitWriter, layer: &LayerProfile) -> Result<(), AllocError>
     ensures { (scope : table.Scope) → OnOk result
-        (Writes (table.compatibility_flags scope) own.compatibility_flags
+        (Writes (table.compatibility_flags scope) own.compatibility_flags_of
         (plain_layer_profile layer.now) w.old w.new) }
 {
     for i in 0..32usize {
@@ -66,7 +67,7 @@ fn write_compatibility_flag(
 /// Row 5 of table 2.
 fn write_source(w: &mut BitWriter, layer: &LayerProfile) -> Result<(), AllocError>
     ensures { (scope : table.Scope) → OnOk result
-        (Writes (table.source scope) own.source (plain_layer_profile layer.now) w.old w.new) }
+        (Writes (table.source scope) own.source_of (plain_layer_profile layer.now) w.old w.new) }
 {
     flag(w, layer.progressive_source_flag)?; // Row(2, 5)
     flag(w, layer.interlaced_source_flag)?; // Row(2, 5)
@@ -78,7 +79,7 @@ fn write_source(w: &mut BitWriter, layer: &LayerProfile) -> Result<(), AllocErro
 /// Rows 14 and 15 of table 2.
 fn write_inbld(w: &mut BitWriter, layer: &LayerProfile) -> Result<(), AllocError>
     ensures { (scope : table.Scope) → OnOk result
-        (Writes (table.inbld scope) own.seen_by_inbld (plain_layer_profile layer.now)
+        (Writes (table.inbld scope) own.inbld_with_inputs_of (plain_layer_profile layer.now)
         w.old w.new) }
 {
     let present = has_inbld(layer);

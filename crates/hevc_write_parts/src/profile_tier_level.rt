@@ -45,7 +45,7 @@ fn write_absent_layers(w: &mut BitWriter, max_sub_layers_minus1: u8) -> Result<(
 
 /// Rows 1 to 27 of table 2.
 fn write_general(w: &mut BitWriter, x: &ProfileTierLevel) -> Result<(), AllocError>
-    ensures { OnOk result (Writes table.general_rows own.general_rows
+    ensures { OnOk result (Writes table.general_rows own.general_rows_of
         (plain_profile_tier_level x.now) w.old w.new) }
 {
     let layer = LayerProfile::general(x);

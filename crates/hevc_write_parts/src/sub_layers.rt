@@ -20,7 +20,7 @@ pub(crate) fn write_presence(
     x: &ProfileTierLevel,
 ) -> Result<(), AllocError>
     requires { max_sub_layers_minus1 ≤ 6 }
-    ensures { OnOk result (Writes (table.presence max_sub_layers_minus1) own.presence
+    ensures { OnOk result (Writes (table.presence max_sub_layers_minus1) own.presence_of
         (plain_profile_tier_level x.now) w.old w.new) }
 {
     let count = usize::from(max_sub_layers_minus1);
@@ -50,7 +50,7 @@ pub(crate) fn write_sub_layers(
 ) -> Result<(), AllocError>
     requires { max_sub_layers_minus1 ≤ 6 }
     ensures { OnOk result (Writes (table.sub_layers max_sub_layers_minus1)
-        own.seen_by_sub_layers (plain_profile_tier_level x.now) w.old w.new) }
+        own.sub_layers_with_inputs_of (plain_profile_tier_level x.now) w.old w.new) }
 {
     let count = usize::from(max_sub_layers_minus1);
     for i in 0..count {

@@ -34,7 +34,7 @@ pub fn write_vui_parameters(
 /// Rows 1 to 3 of table 8.
 fn write_aspect_ratio(w: &mut BitWriter, x: &VuiParams) -> Result<(), AllocError>
     ensures { OnOk result
-        (Writes table.aspect_ratio own.aspect_ratio (plain_vui_params x.now) w.old w.new) }
+        (Writes table.aspect_ratio own.aspect_ratio_of (plain_vui_params x.now) w.old w.new) }
 {
     flag(w, x.aspect_ratio_info_present_flag)?; // Row(8, 1)
     bits_if(w, x.aspect_ratio_info_present_flag, 8, x.aspect_ratio_idc)?; // Row(8, 2)
@@ -46,7 +46,7 @@ fn write_aspect_ratio(w: &mut BitWriter, x: &VuiParams) -> Result<(), AllocError
 /// Rows 4 and 5 of table 8.
 fn write_overscan(w: &mut BitWriter, x: &VuiParams) -> Result<(), AllocError>
     ensures { OnOk result
-        (Writes table.overscan own.overscan (plain_vui_params x.now) w.old w.new) }
+        (Writes table.overscan own.overscan_of (plain_vui_params x.now) w.old w.new) }
 {
     flag(w, x.overscan_info_present_flag)?; // Row(8, 4)
     flag_if(w, x.overscan_info_present_flag, x.overscan_appropriate_flag)?; // Row(8, 5)
@@ -56,7 +56,7 @@ fn write_overscan(w: &mut BitWriter, x: &VuiParams) -> Result<(), AllocError>
 /// Row 9 of table 8, where it is present.
 fn write_colours_if(w: &mut BitWriter, present: bool, x: &VuiParams) -> Result<(), AllocError>
     ensures { OnOk result (WritesIf present
-        (Writes table.colours own.colours (plain_vui_params x.now)) w.old w.new) }
+        (Writes table.colours own.colours_of (plain_vui_params x.now)) w.old w.new) }
 {
     if present { write_colours(w, x) } else { Ok(()) }
 }
@@ -64,7 +64,7 @@ fn write_colours_if(w: &mut BitWriter, present: bool, x: &VuiParams) -> Result<(
 /// Row 9 of table 8.
 fn write_colours(w: &mut BitWriter, x: &VuiParams) -> Result<(), AllocError>
     ensures { OnOk result
-        (Writes table.colours own.colours (plain_vui_params x.now) w.old w.new) }
+        (Writes table.colours own.colours_of (plain_vui_params x.now) w.old w.new) }
 {
     bits(w, 8, x.colour_primaries)?; // Row(8, 9)
     bits(w, 8, x.transfer_characteristics)?; // Row(8, 9)
@@ -75,7 +75,7 @@ fn write_colours(w: &mut BitWriter, x: &VuiParams) -> Result<(), AllocError>
 /// Rows 7 to 9 of table 8, where they are present.
 fn write_signal_if(w: &mut BitWriter, present: bool, x: &VuiParams) -> Result<(), AllocError>
     ensures { OnOk result (WritesIf present
-        (Writes table.signal own.signal (plain_vui_params x.now)) w.old w.new) }
+        (Writes table.signal own.signal_of (plain_vui_params x.now)) w.old w.new) }
 {
     if present { write_signal(w, x) } else { Ok(()) }
 }
@@ -83,7 +83,7 @@ fn write_signal_if(w: &mut BitWriter, present: bool, x: &VuiParams) -> Result<()
 /// Rows 7 to 9 of table 8.
 fn write_signal(w: &mut BitWriter, x: &VuiParams) -> Result<(), AllocError>
     ensures { OnOk result
-        (Writes table.signal own.signal (plain_vui_params x.now) w.old w.new) }
+        (Writes table.signal own.signal_of (plain_vui_params x.now) w.old w.new) }
 {
     bits_u8(w, 3, x.video_format)?; // Row(8, 7)
     flag(w, x.video_full_range_flag)?; // Row(8, 8)
@@ -95,7 +95,7 @@ fn write_signal(w: &mut BitWriter, x: &VuiParams) -> Result<(), AllocError>
 /// Rows 6 to 9 of table 8.
 fn write_signal_type(w: &mut BitWriter, x: &VuiParams) -> Result<(), AllocError>
     ensures { OnOk result
-        (Writes table.signal_type own.signal_type (plain_vui_params x.now) w.old w.new) }
+        (Writes table.signal_type own.signal_type_of (plain_vui_params x.now) w.old w.new) }
 {
     flag(w, x.video_signal_type_present_flag)?; // Row(8, 6)
     write_signal_if(w, x.video_signal_type_present_flag, x)?;
@@ -105,7 +105,7 @@ fn write_signal_type(w: &mut BitWriter, x: &VuiParams) -> Result<(), AllocError>
 /// Rows 10 to 12 of table 8.
 fn write_chroma_places(w: &mut BitWriter, x: &VuiParams) -> Result<(), AllocError>
     ensures { OnOk result
-        (Writes table.chroma_places own.chroma_places (plain_vui_params x.now) w.old w.new) }
+        (Writes table.chroma_places own.chroma_places_of (plain_vui_params x.now) w.old w.new) }
 {
     flag(w, x.chroma_loc_info_present_flag)?; // Row(8, 10)
     ue_if(
@@ -128,7 +128,7 @@ fn write_display_window_if(
     x: &VuiParams,
 ) -> Result<(), AllocError>
     ensures { OnOk result (WritesIf present
-        (Writes table.display_window own.display_window (plain_vui_params x.now)) w.old w.new) }
+        (Writes table.display_window own.display_window_of (plain_vui_params x.now)) w.old w.new) }
 {
     if present {
         write_display_window(w, x)
@@ -140,7 +140,7 @@ fn write_display_window_if(
 /// Row 14 of table 8.
 fn write_display_window(w: &mut BitWriter, x: &VuiParams) -> Result<(), AllocError>
     ensures { OnOk result
-        (Writes table.display_window own.display_window (plain_vui_params x.now) w.old w.new) }
+        (Writes table.display_window own.display_window_of (plain_vui_params x.now) w.old w.new) }
 {
     ue(w, x.def_disp_win_left_offset)?; // Row(8, 14)
     ue(w, x.def_disp_win_right_offset)?; // Row(8, 14)
@@ -152,7 +152,7 @@ fn write_display_window(w: &mut BitWriter, x: &VuiParams) -> Result<(), AllocErr
 /// Rows 13 and 14 of table 8.
 fn write_display(w: &mut BitWriter, x: &VuiParams) -> Result<(), AllocError>
     ensures { OnOk result
-        (Writes table.display own.display (plain_vui_params x.now) w.old w.new) }
+        (Writes table.display own.display_of (plain_vui_params x.now) w.old w.new) }
 {
     flag(w, x.neutral_chroma_indication_flag)?; // Row(8, 13)
     flag(w, x.field_seq_flag)?; // Row(8, 13)
@@ -171,7 +171,8 @@ fn write_hrd_if(
 ) -> Result<(), AllocError>
     requires { max_sub_layers_minus1 ≤ 6 }
     ensures { OnOk result (WritesIf present
-        (Writes (table.hrd max_sub_layers_minus1) own.hrd (plain_vui_params x.now)) w.old w.new) }
+        (Writes (table.hrd max_sub_layers_minus1) own.hrd_of (plain_vui_params x.now))
+        w.old w.new) }
 {
     if present {
         write_hrd(w, max_sub_layers_minus1, x)
@@ -184,7 +185,7 @@ fn write_hrd_if(
 fn write_hrd(w: &mut BitWriter, max_sub_layers_minus1: u8, x: &VuiParams) -> Result<(), AllocError>
     requires { max_sub_layers_minus1 ≤ 6 }
     ensures { OnOk result
-        (Writes (table.hrd max_sub_layers_minus1) own.hrd (plain_vui_params x.now) w.old w.new) }
+        (Writes (table.hrd max_sub_layers_minus1) own.hrd_of (plain_vui_params x.now) w.old w.new) }
 {
     write_hrd_parameters(w, true, max_sub_layers_minus1, &x.hrd)?; // Row(8, 20)
     Ok(())
@@ -199,7 +200,8 @@ fn write_timing_if(
 ) -> Result<(), AllocError>
     requires { max_sub_layers_minus1 ≤ 6 }
     ensures { OnOk result (WritesIf present
-        (Writes (table.timing max_sub_layers_minus1) own.timing (plain_vui_params x.now)) w.old w.new) }
+        (Writes (table.timing max_sub_layers_minus1) own.timing_of (plain_vui_params x.now))
+        w.old w.new) }
 {
     if present {
         write_timing(w, max_sub_layers_minus1, x)
@@ -216,7 +218,8 @@ fn write_timing(
 ) -> Result<(), AllocError>
     requires { max_sub_layers_minus1 ≤ 6 }
     ensures { OnOk result
-        (Writes (table.timing max_sub_layers_minus1) own.timing (plain_vui_params x.now) w.old w.new) }
+        (Writes (table.timing max_sub_layers_minus1) own.timing_of (plain_vui_params x.now)
+        w.old w.new) }
 {
     bits(w, 32, x.num_units_in_tick)?; // Row(8, 16)
     bits(w, 32, x.time_scale)?; // Row(8, 16)
@@ -239,7 +242,8 @@ fn write_timing_info(
 ) -> Result<(), AllocError>
     requires { max_sub_layers_minus1 ≤ 6 }
     ensures { OnOk result
-        (Writes (table.timing_info max_sub_layers_minus1) own.timing_info (plain_vui_params x.now) w.old w.new) }
+        (Writes (table.timing_info max_sub_layers_minus1) own.timing_info_of
+        (plain_vui_params x.now) w.old w.new) }
 {
     flag(w, x.timing_info_present_flag)?; // Row(8, 15)
     write_timing_if(w, x.timing_info_present_flag, max_sub_layers_minus1, x)?;
@@ -249,7 +253,7 @@ fn write_timing_info(
 /// Rows 22 to 26 of table 8, where they are present.
 fn write_restrictions_if(w: &mut BitWriter, present: bool, x: &VuiParams) -> Result<(), AllocError>
     ensures { OnOk result (WritesIf present
-        (Writes table.restrictions own.restrictions (plain_vui_params x.now)) w.old w.new) }
+        (Writes table.restrictions own.restrictions_of (plain_vui_params x.now)) w.old w.new) }
 {
     if present {
         write_restrictions(w, x)
@@ -261,7 +265,7 @@ fn write_restrictions_if(w: &mut BitWriter, present: bool, x: &VuiParams) -> Res
 /// Rows 22 to 26 of table 8.
 fn write_restrictions(w: &mut BitWriter, x: &VuiParams) -> Result<(), AllocError>
     ensures { OnOk result
-        (Writes table.restrictions own.restrictions (plain_vui_params x.now) w.old w.new) }
+        (Writes table.restrictions own.restrictions_of (plain_vui_params x.now) w.old w.new) }
 {
     flag(w, x.tiles_fixed_structure_flag)?; // Row(8, 22)
     flag(w, x.motion_vectors_over_pic_boundaries_flag)?; // Row(8, 22)
@@ -277,7 +281,8 @@ fn write_restrictions(w: &mut BitWriter, x: &VuiParams) -> Result<(), AllocError
 /// Rows 21 to 26 of table 8.
 fn write_stream_restrictions(w: &mut BitWriter, x: &VuiParams) -> Result<(), AllocError>
     ensures { OnOk result
-        (Writes table.stream_restrictions own.stream_restrictions (plain_vui_params x.now) w.old w.new) }
+        (Writes table.stream_restrictions own.stream_restrictions_of (plain_vui_params x.now)
+        w.old w.new) }
 {
     flag(w, x.bitstream_restriction_flag)?; // Row(8, 21)
     write_restrictions_if(w, x.bitstream_restriction_flag, x)?;

@@ -51,84 +51,84 @@ module _ (r : Row) (kept : chosen_value r ≡ None) where
 
 -- ---- parts
 
-pub ids_keeps : Keeps ids own.ids
+pub ids_keeps : Keeps ids own.ids_of
 unfolding ids
 ids_keeps = record { same = λ y. refl; last = λ x y z. refl; kept = λ y w. then_filled (filled (ue_fillable _ refl _ _) (λ v1 b1. then_filled (filled (ue_fillable _ refl _ _) (λ v2 b2. done_filled refl)))) }
 
-pub presence_keeps : Keeps presence own.presence
+pub presence_keeps : Keeps presence own.presence_of
 unfolding presence
 presence_keeps = record { same = λ y. refl; last = λ x y z. refl; kept = λ y w. then_filled (filled (flag_fillable _ refl) (λ v1 b1. then_filled (filled (flag_fillable _ refl) (λ v2 b2. then_filled (filled (bits_fillable _ refl _ _ _) (λ v3 b3. then_filled (filled (flag_fillable _ refl) (λ v4 b4. then_filled (filled (flag_fillable _ refl) (λ v5 b5. then_filled (filled (ue_fillable _ refl _ _) (λ v6 b6. then_filled (filled (ue_fillable _ refl _ _) (λ v7 b7. done_filled refl)))))))))))))) }
 
-pub quantiser_keeps : (sps : PlainSps) → Keeps (quantiser sps) own.quantiser
+pub quantiser_keeps : (sps : PlainSps) → Keeps (quantiser sps) own.quantiser_of
 unfolding quantiser
 quantiser_keeps sps = record { same = λ y. refl; last = λ x y z. refl; kept = λ y w. then_filled (filled (se_fillable _ refl _ _) (λ v1 b1. then_filled (filled (flag_fillable _ refl) (λ v2 b2. then_filled (filled (flag_fillable _ refl) (λ v3 b3. then_filled (filled (flag_fillable _ refl) (λ v4 b4. then_filled (filled (when_fillable _ _ (ue_fillable _ refl _ _)) (λ v5 b5. then_filled (filled (se_fillable _ refl _ _) (λ v6 b6. then_filled (filled (se_fillable _ refl _ _) (λ v7 b7. done_filled refl)))))))))))))) }
 
-pub tools_keeps : Keeps tools own.tools
+pub tools_keeps : Keeps tools own.tools_of
 unfolding tools
 tools_keeps = record { same = λ y. refl; last = λ x y z. refl; kept = λ y w. then_filled (filled (flag_fillable _ refl) (λ v1 b1. then_filled (filled (flag_fillable _ refl) (λ v2 b2. then_filled (filled (flag_fillable _ refl) (λ v3 b3. then_filled (filled (flag_fillable _ refl) (λ v4 b4. then_filled (filled (flag_fillable _ refl) (λ v5 b5. then_filled (filled (flag_fillable _ refl) (λ v6 b6. done_filled refl)))))))))))) }
 
-pub tile_counts_keeps : (sps : PlainSps) → Keeps (tile_counts sps) own.tile_counts
+pub tile_counts_keeps : (sps : PlainSps) → Keeps (tile_counts sps) own.tile_counts_of
 unfolding tile_counts
 tile_counts_keeps sps = record { same = λ y. refl; last = λ x y z. refl; kept = λ y w. then_filled (filled (ue_fillable _ refl _ _) (λ v1 b1. then_filled (filled (ue_fillable _ refl _ _) (λ v2 b2. then_filled (filled (flag_fillable _ refl) (λ v3 b3. done_filled refl)))))) }
 
-pub told_tiles_keeps : (sps : PlainSps) → Keeps (told_tiles sps) own.told_tiles
+pub told_tiles_keeps : (sps : PlainSps) → Keeps (told_tiles sps) own.told_tiles_of
 unfolding told_tiles
 told_tiles_keeps sps = record { same = λ y. refl; last = λ x y z. refl; kept = λ y w. then_filled (filled (told_sizes_fillable _ refl 20 _ _) (λ v1 b1. then_filled (filled (told_sizes_fillable _ refl 22 _ _) (λ v2 b2. done_filled refl)))) }
 
-pub filter_offsets_keeps : Keeps filter_offsets own.filter_offsets
+pub filter_offsets_keeps : Keeps filter_offsets own.filter_offsets_of
 unfolding filter_offsets
 filter_offsets_keeps = record { same = λ y. refl; last = λ x y z. refl; kept = λ y w. then_filled (filled (se_fillable _ refl _ _) (λ v1 b1. then_filled (filled (se_fillable _ refl _ _) (λ v2 b2. done_filled refl)))) }
 
-pub deblocking_keeps : Keeps deblocking own.deblocking
+pub deblocking_keeps : Keeps deblocking own.deblocking_of
 unfolding deblocking
-deblocking_keeps = record { same = λ y. refl; last = λ x y z. refl; kept = λ y w. then_filled (filled (flag_fillable _ refl) (λ v1 b1. then_filled (filled (flag_fillable _ refl) (λ v2 b2. when_kept filter_offsets own.filter_offsets filter_offsets_keeps _ _ (λ z3 b3. refl))))) }
+deblocking_keeps = record { same = λ y. refl; last = λ x y z. refl; kept = λ y w. then_filled (filled (flag_fillable _ refl) (λ v1 b1. then_filled (filled (flag_fillable _ refl) (λ v2 b2. when_kept filter_offsets own.filter_offsets_of filter_offsets_keeps _ _ (λ z3 b3. refl))))) }
 
-pub filters_keeps : Keeps filters own.filters
+pub filters_keeps : Keeps filters own.filters_of
 unfolding filters
-filters_keeps = record { same = λ y. refl; last = λ x y z. refl; kept = λ y w. then_filled (filled (flag_fillable _ refl) (λ v1 b1. then_filled (filled (flag_fillable _ refl) (λ v2 b2. when_kept deblocking own.deblocking deblocking_keeps _ _ (λ z3 b3. refl))))) }
+filters_keeps = record { same = λ y. refl; last = λ x y z. refl; kept = λ y w. then_filled (filled (flag_fillable _ refl) (λ v1 b1. then_filled (filled (flag_fillable _ refl) (λ v2 b2. when_kept deblocking own.deblocking_of deblocking_keeps _ _ (λ z3 b3. refl))))) }
 
-pub scaling_keeps : Keeps scaling own.scaling
+pub scaling_keeps : Keeps scaling own.scaling_of
 unfolding scaling
 scaling_keeps = record { same = λ y. refl; last = λ x y z. refl; kept = λ y w. then_filled (filled (flag_fillable _ refl) (λ v1 b1. then_filled (filled (when_fillable _ _ scaling_lists_fillable) (λ v2 b2. done_filled refl)))) }
 
-pub merging_keeps : (sps : PlainSps) → Keeps (merging sps) own.merging
+pub merging_keeps : (sps : PlainSps) → Keeps (merging sps) own.merging_of
 unfolding merging
 merging_keeps sps = record { same = λ y. refl; last = λ x y z. refl; kept = λ y w. then_filled (filled (flag_fillable _ refl) (λ v1 b1. then_filled (filled (ue_fillable _ refl _ _) (λ v2 b2. then_filled (filled (flag_fillable _ refl) (λ v3 b3. done_filled refl)))))) }
 
-pub extension_flags_keeps : Keeps extension_flags own.extension_flags
+pub extension_flags_keeps : Keeps extension_flags own.extension_flags_of
 unfolding extension_flags
 extension_flags_keeps = record { same = λ y. refl; last = λ x y z. refl; kept = λ y w. then_filled (filled (flag_fillable _ refl) (λ v1 b1. then_filled (filled (zero_fillable _ refl) (λ v2 b2. then_filled (filled (zero_fillable _ refl) (λ v3 b3. then_filled (filled (flag_fillable _ refl) (λ v4 b4. then_filled (filled (zeros_fillable _ 4 refl) (λ v5 b5. done_filled refl)))))))))) }
 
-pub range_extension_keeps : (sps : PlainSps) → Keeps (range_extension sps) own.range_extension
+pub range_extension_keeps : (sps : PlainSps) → Keeps (range_extension sps) own.range_extension_of
 unfolding range_extension
 range_extension_keeps sps = record { same = λ y. refl; last = λ x y z. refl; kept = λ y w. then_filled (filled (pps_range_fillable _ _) (λ v1 b1. done_filled refl)) }
 
-pub scc_extension_keeps : (sps : PlainSps) → Keeps (scc_extension sps) own.scc_extension
+pub scc_extension_keeps : (sps : PlainSps) → Keeps (scc_extension sps) own.scc_extension_of
 unfolding scc_extension
 scc_extension_keeps sps = record { same = λ y. refl; last = λ x y z. refl; kept = λ y w. then_filled (filled (pps_scc_fillable _ _) (λ v1 b1. done_filled refl)) }
 
-pub extension_data_keeps : (sps : PlainSps) → Keeps (extension_data sps) own.extension_data
+pub extension_data_keeps : (sps : PlainSps) → Keeps (extension_data sps) own.extension_data_of
 unfolding extension_data
-extension_data_keeps sps = record { same = λ y. refl; last = λ x y z. refl; kept = λ y w. then_filled (part_kept extension_flags own.extension_flags extension_flags_keeps _ (λ z1 b1. then_filled (when_kept (range_extension sps) own.range_extension (range_extension_keeps sps) _ _ (λ z2 b2. when_kept (scc_extension sps) own.scc_extension (scc_extension_keeps sps) _ _ (λ z3 b3. refl))))) }
+extension_data_keeps sps = record { same = λ y. refl; last = λ x y z. refl; kept = λ y w. then_filled (part_kept extension_flags own.extension_flags_of extension_flags_keeps _ (λ z1 b1. then_filled (when_kept (range_extension sps) own.range_extension_of (range_extension_keeps sps) _ _ (λ z2 b2. when_kept (scc_extension sps) own.scc_extension_of (scc_extension_keeps sps) _ _ (λ z3 b3. refl))))) }
 
-pub extensions_keeps : (sps : PlainSps) → Keeps (extensions sps) own.extensions
+pub extensions_keeps : (sps : PlainSps) → Keeps (extensions sps) own.extensions_of
 unfolding extensions
-extensions_keeps sps = record { same = λ y. refl; last = λ x y z. refl; kept = λ y w. then_filled (filled (flag_fillable _ refl) (λ v1 b1. when_kept (extension_data sps) own.extension_data (extension_data_keeps sps) _ _ (λ z2 b2. refl))) }
+extensions_keeps sps = record { same = λ y. refl; last = λ x y z. refl; kept = λ y w. then_filled (filled (flag_fillable _ refl) (λ v1 b1. when_kept (extension_data sps) own.extension_data_of (extension_data_keeps sps) _ _ (λ z2 b2. refl))) }
 
-pub tiles_keeps : (sps : PlainSps) → Keeps (tiles sps) own.tiles
+pub tiles_keeps : (sps : PlainSps) → Keeps (tiles sps) own.tiles_of
 unfolding tiles with_even_tiles
 tiles_keeps sps = record {
   same = λ y. refl;
   last = λ x y z. refl;
-  kept = λ y w. then_filled (part_kept (tile_counts sps) own.tile_counts (tile_counts_keeps sps) _ (λ z1 b1.
-      then_filled (either_done_kept (told_tiles sps) own.told_tiles (told_tiles_keeps sps) _ _ _ refl (λ z2 b2.
+  kept = λ y w. then_filled (part_kept (tile_counts sps) own.tile_counts_of (tile_counts_keeps sps) _ (λ z1 b1.
+      then_filled (either_done_kept (told_tiles sps) own.told_tiles_of (told_tiles_keeps sps) _ _ _ refl (λ z2 b2.
       then_filled (filled (flag_fillable _ refl) (λ v3 b3. done_filled refl))))));
 }
 
-pub coding_keeps : (sps : PlainSps) → Keeps (coding sps) own.coding
+pub coding_keeps : (sps : PlainSps) → Keeps (coding sps) own.coding_of
 unfolding coding
-coding_keeps sps = record { same = λ y. refl; last = λ x y z. refl; kept = λ y w. then_filled (part_kept presence own.presence presence_keeps _ (λ z1 b1. then_filled (part_kept (quantiser sps) own.quantiser (quantiser_keeps sps) _ (λ z2 b2. then_filled (part_kept tools own.tools tools_keeps _ (λ z3 b3. when_kept (tiles sps) own.tiles (tiles_keeps sps) _ _ (λ z4 b4. refl))))))) }
+coding_keeps sps = record { same = λ y. refl; last = λ x y z. refl; kept = λ y w. then_filled (part_kept presence own.presence_of presence_keeps _ (λ z1 b1. then_filled (part_kept (quantiser sps) own.quantiser_of (quantiser_keeps sps) _ (λ z2 b2. then_filled (part_kept tools own.tools_of tools_keeps _ (λ z3 b3. when_kept (tiles sps) own.tiles_of (tiles_keeps sps) _ _ (λ z4 b4. refl))))))) }
 
-pub picture_set_of_keeps : (sps : PlainSps) → Keeps (picture_set_of sps) own.picture_set_of
+pub picture_set_of_keeps : (sps : PlainSps) → Keeps (picture_set_of sps) own.body_of
 unfolding picture_set_of
-picture_set_of_keeps sps = record { same = λ y. refl; last = λ x y z. refl; kept = λ y w. then_filled (part_kept (coding sps) own.coding (coding_keeps sps) _ (λ z1 b1. then_filled (part_kept filters own.filters filters_keeps _ (λ z2 b2. then_filled (part_kept scaling own.scaling scaling_keeps _ (λ z3 b3. then_filled (part_kept (merging sps) own.merging (merging_keeps sps) _ (λ z4 b4. part_kept (extensions sps) own.extensions (extensions_keeps sps) _ (λ z5 b5. refl))))))))) }
+picture_set_of_keeps sps = record { same = λ y. refl; last = λ x y z. refl; kept = λ y w. then_filled (part_kept (coding sps) own.coding_of (coding_keeps sps) _ (λ z1 b1. then_filled (part_kept filters own.filters_of filters_keeps _ (λ z2 b2. then_filled (part_kept scaling own.scaling_of scaling_keeps _ (λ z3 b3. then_filled (part_kept (merging sps) own.merging_of (merging_keeps sps) _ (λ z4 b4. part_kept (extensions sps) own.extensions_of (extensions_keeps sps) _ (λ z5 b5. refl))))))))) }

@@ -18,7 +18,7 @@ use std::alloc::AllocError;
 /// Rows 3 to 19 of table 11.
 pub(crate) fn write_coding(w: &mut BitWriter, x: &Pps) -> Result<(), AllocError>
     ensures { (sps : PlainSps) → OnOk result (Writes (table.coding sps)
-        own.coding_elements (plain_pps x.now) w.old w.new) }
+        own.coding_elements_of (plain_pps x.now) w.old w.new) }
 {
     write_presence(w, x)?;
     write_quantiser(w, x)?;
@@ -30,7 +30,7 @@ pub(crate) fn write_coding(w: &mut BitWriter, x: &Pps) -> Result<(), AllocError>
 /// Rows 3 to 7 of table 11.
 fn write_presence(w: &mut BitWriter, x: &Pps) -> Result<(), AllocError>
     ensures { OnOk result (Writes table.presence
-        own.presence (plain_pps x.now) w.old w.new) }
+        own.presence_of (plain_pps x.now) w.old w.new) }
 {
     flag(w, x.dependent_slice_segments_enabled_flag)?; // Row(11, 3)
     flag(w, x.output_flag_present_flag)?; // Row(11, 3)
@@ -45,7 +45,7 @@ fn write_presence(w: &mut BitWriter, x: &Pps) -> Result<(), AllocError>
 /// Rows 8 to 12 of table 11.
 fn write_quantiser(w: &mut BitWriter, x: &Pps) -> Result<(), AllocError>
     ensures { (sps : PlainSps) → OnOk result (Writes (table.quantiser sps)
-        own.quantiser_elements (plain_pps x.now) w.old w.new) }
+        own.quantiser_elements_of (plain_pps x.now) w.old w.new) }
 {
     se_i8(w, x.init_qp_minus26)?; // Row(11, 8)
     flag(w, x.constrained_intra_pred_flag)?; // Row(11, 9)
@@ -60,7 +60,7 @@ fn write_quantiser(w: &mut BitWriter, x: &Pps) -> Result<(), AllocError>
 /// Row 13 of table 11.
 fn write_tools(w: &mut BitWriter, x: &Pps) -> Result<(), AllocError>
     ensures { OnOk result (Writes table.tools
-        own.tools (plain_pps x.now) w.old w.new) }
+        own.tools_of (plain_pps x.now) w.old w.new) }
 {
     flag(w, x.slice_chroma_qp_offsets_present_flag)?; // Row(11, 13)
     flag(w, x.weighted_pred_flag)?; // Row(11, 13)
@@ -74,7 +74,7 @@ fn write_tools(w: &mut BitWriter, x: &Pps) -> Result<(), AllocError>
 /// Rows 24 and 25 of table 11.
 pub(crate) fn write_scaling(w: &mut BitWriter, x: &Pps) -> Result<(), AllocError>
     ensures { OnOk result (Writes table.scaling
-        own.scaling (plain_pps x.now) w.old w.new) }
+        own.scaling_of (plain_pps x.now) w.old w.new) }
 {
     flag(w, x.scaling_list_data_present_flag)?; // Row(11, 24)
     write_scaling_lists_if(w, x.scaling_list_data_present_flag, x)?;
@@ -84,7 +84,7 @@ pub(crate) fn write_scaling(w: &mut BitWriter, x: &Pps) -> Result<(), AllocError
 /// Rows 26 to 28 of table 11, but for the last flag.
 pub(crate) fn write_merging(w: &mut BitWriter, x: &Pps) -> Result<(), AllocError>
     ensures { (sps : PlainSps) → OnOk result (Writes (table.merging sps)
-        own.merging (plain_pps x.now) w.old w.new) }
+        own.merging_of (plain_pps x.now) w.old w.new) }
 {
     flag(w, x.lists_modification_present_flag)?; // Row(11, 26)
     ue_u8(w, x.log2_parallel_merge_level_minus2)?; // Row(11, 27)

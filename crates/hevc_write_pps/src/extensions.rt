@@ -17,7 +17,7 @@ use std::alloc::AllocError;
 /// The last flag of row 28, and rows 29 to 35 of table 11.
 pub(crate) fn write_extensions(w: &mut BitWriter, sps: &Sps, x: &Pps) -> Result<(), AllocError>
     ensures { OnOk result (Writes (table.extensions (plain_sps sps.now))
-        own.seen_by_extensions (plain_pps x.now) w.old w.new) }
+        own.extensions_with_inputs_of (plain_pps x.now) w.old w.new) }
 {
     flag(w, x.extension_present_flag)?; // Row(11, 28)
     write_extension_data_if(w, x.extension_present_flag, sps, x)?;
@@ -32,7 +32,8 @@ fn write_extension_data_if(
     x: &Pps,
 ) -> Result<(), AllocError>
     ensures { OnOk result (WritesIf present
-        (Writes (table.extension_data (plain_sps sps.now)) own.seen_by_extension_data (plain_pps x.now)) w.old w.new) }
+        (Writes (table.extension_data (plain_sps sps.now)) own.extension_data_with_inputs_of
+        (plain_pps x.now)) w.old w.new) }
 {
     if present {
         write_extension_data(w, sps, x)
@@ -44,7 +45,7 @@ fn write_extension_data_if(
 /// Rows 29 to 35 of table 11.
 fn write_extension_data(w: &mut BitWriter, sps: &Sps, x: &Pps) -> Result<(), AllocError>
     ensures { OnOk result (Writes (table.extension_data (plain_sps sps.now))
-        own.seen_by_extension_data (plain_pps x.now) w.old w.new) }
+        own.extension_data_with_inputs_of (plain_pps x.now) w.old w.new) }
 {
     write_extension_flags(w, x)?;
     write_range_extension_if(w, x.range_extension_flag, x)?;
@@ -55,7 +56,7 @@ fn write_extension_data(w: &mut BitWriter, sps: &Sps, x: &Pps) -> Result<(), All
 /// Rows 29 to 33 of table 11.
 fn write_extension_flags(w: &mut BitWriter, x: &Pps) -> Result<(), AllocError>
     ensures { OnOk result (Writes table.extension_flags
-        own.extension_flags (plain_pps x.now) w.old w.new) }
+        own.extension_flags_of (plain_pps x.now) w.old w.new) }
 {
     flag(w, x.range_extension_flag)?; // Row(11, 29)
     flag(w, false)?; // Row(11, 30)
@@ -68,7 +69,8 @@ fn write_extension_flags(w: &mut BitWriter, x: &Pps) -> Result<(), AllocError>
 /// Row 34 of table 11, where it is present.
 fn write_range_extension_if(w: &mut BitWriter, present: bool, x: &Pps) -> Result<(), AllocError>
     ensures { OnOk result ((sps : PlainSps) → WritesIf present
-        (Writes (table.range_extension sps) own.seen_by_range_extension (plain_pps x.now)) w.old w.new) }
+        (Writes (table.range_extension sps) own.range_extension_with_inputs_of (plain_pps x.now))
+        w.old w.new) }
 {
     if present {
         write_range_extension(w, x)?;
@@ -79,7 +81,7 @@ fn write_range_extension_if(w: &mut BitWriter, present: bool, x: &Pps) -> Result
 /// Row 34 of table 11.
 fn write_range_extension(w: &mut BitWriter, x: &Pps) -> Result<(), AllocError>
     ensures { (sps : PlainSps) → OnOk result (Writes (table.range_extension sps)
-        own.seen_by_range_extension (plain_pps x.now) w.old w.new) }
+        own.range_extension_with_inputs_of (plain_pps x.now) w.old w.new) }
 {
     write_pps_range_extension(w, x.transform_skip_enabled_flag, &x.range_extension)?; // Row(11, 34)
     Ok(())
@@ -93,7 +95,8 @@ fn write_scc_extension_if(
     x: &Pps,
 ) -> Result<(), AllocError>
     ensures { OnOk result (WritesIf present
-        (Writes (table.scc_extension (plain_sps sps.now)) own.scc_extension (plain_pps x.now)) w.old w.new) }
+        (Writes (table.scc_extension (plain_sps sps.now)) own.scc_extension_of (plain_pps x.now))
+        w.old w.new) }
 {
     if present {
         write_scc_extension(w, sps, x)
@@ -105,7 +108,7 @@ fn write_scc_extension_if(
 /// Row 35 of table 11.
 fn write_scc_extension(w: &mut BitWriter, sps: &Sps, x: &Pps) -> Result<(), AllocError>
     ensures { OnOk result (Writes (table.scc_extension (plain_sps sps.now))
-        own.scc_extension (plain_pps x.now) w.old w.new) }
+        own.scc_extension_of (plain_pps x.now) w.old w.new) }
 {
     write_pps_scc_extension(w, sps, &x.scc_extension)?; // Row(11, 35)
     Ok(())

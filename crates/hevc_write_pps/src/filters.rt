@@ -13,7 +13,7 @@ use std::alloc::AllocError;
 /// Rows 20 to 23 of table 11.
 pub(crate) fn write_filters(w: &mut BitWriter, x: &Pps) -> Result<(), AllocError>
     ensures { OnOk result (Writes table.filters
-        own.filters (plain_pps x.now) w.old w.new) }
+        own.filters_of (plain_pps x.now) w.old w.new) }
 {
     flag(w, x.loop_filter_across_slices_enabled_flag)?; // Row(11, 20)
     flag(w, x.deblocking_filter_control_present_flag)?; // Row(11, 20)
@@ -24,7 +24,7 @@ pub(crate) fn write_filters(w: &mut BitWriter, x: &Pps) -> Result<(), AllocError
 /// Rows 21 to 23 of table 11, where they are present.
 fn write_deblocking_if(w: &mut BitWriter, present: bool, x: &Pps) -> Result<(), AllocError>
     ensures { OnOk result (WritesIf present
-        (Writes table.deblocking own.deblocking (plain_pps x.now)) w.old w.new) }
+        (Writes table.deblocking own.deblocking_of (plain_pps x.now)) w.old w.new) }
 {
     if present {
         write_deblocking(w, x)
@@ -36,7 +36,7 @@ fn write_deblocking_if(w: &mut BitWriter, present: bool, x: &Pps) -> Result<(), 
 /// Rows 21 to 23 of table 11.
 fn write_deblocking(w: &mut BitWriter, x: &Pps) -> Result<(), AllocError>
     ensures { OnOk result (Writes table.deblocking
-        own.deblocking (plain_pps x.now) w.old w.new) }
+        own.deblocking_of (plain_pps x.now) w.old w.new) }
 {
     flag(w, x.deblocking_filter_override_enabled_flag)?; // Row(11, 21)
     flag(w, x.deblocking_filter_disabled_flag)?; // Row(11, 21)
@@ -47,7 +47,7 @@ fn write_deblocking(w: &mut BitWriter, x: &Pps) -> Result<(), AllocError>
 /// Rows 22 and 23 of table 11, where they are present.
 fn write_filter_offsets_if(w: &mut BitWriter, present: bool, x: &Pps) -> Result<(), AllocError>
     ensures { OnOk result (WritesIf present
-        (Writes table.filter_offsets own.filter_offsets (plain_pps x.now)) w.old w.new) }
+        (Writes table.filter_offsets own.filter_offsets_of (plain_pps x.now)) w.old w.new) }
 {
     if present {
         write_filter_offsets(w, x)
@@ -59,7 +59,7 @@ fn write_filter_offsets_if(w: &mut BitWriter, present: bool, x: &Pps) -> Result<
 /// Rows 22 and 23 of table 11.
 fn write_filter_offsets(w: &mut BitWriter, x: &Pps) -> Result<(), AllocError>
     ensures { OnOk result (Writes table.filter_offsets
-        own.filter_offsets (plain_pps x.now) w.old w.new) }
+        own.filter_offsets_of (plain_pps x.now) w.old w.new) }
 {
     se_i8(w, x.beta_offset_div2)?; // Row(11, 22)
     se_i8(w, x.tc_offset_div2)?; // Row(11, 23)

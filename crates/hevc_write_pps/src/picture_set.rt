@@ -31,7 +31,7 @@ pub fn write_pps(w: &mut BitWriter, sps: &Sps, x: &Pps) -> Result<(), AllocError
 /// Rows 1 and 2 of table 11.
 fn write_ids(w: &mut BitWriter, x: &Pps) -> Result<(), AllocError>
     ensures { OnOk result (Writes table.ids
-        own.ids (plain_pps x.now) w.old w.new) }
+        own.ids_of (plain_pps x.now) w.old w.new) }
 {
     ue_u8(w, x.pic_parameter_set_id)?; // Row(11, 1)
     ue_u8(w, x.seq_parameter_set_id)?; // Row(11, 2)
@@ -41,7 +41,7 @@ fn write_ids(w: &mut BitWriter, x: &Pps) -> Result<(), AllocError>
 /// Rows 3 to 35 of table 11.
 fn write_picture_set_of(w: &mut BitWriter, sps: &Sps, x: &Pps) -> Result<(), AllocError>
     ensures { OnOk result (Writes (table.picture_set_of (plain_sps sps.now))
-        own.picture_set_elements (plain_pps x.now) w.old w.new) }
+        own.body_elements_of (plain_pps x.now) w.old w.new) }
 {
     write_coding(w, x)?;
     write_filters(w, x)?;

@@ -16,7 +16,7 @@ use std::alloc::AllocError;
 /// Rows 14 to 19 of table 11, where they are present.
 pub(crate) fn write_tiles_if(w: &mut BitWriter, present: bool, x: &Pps) -> Result<(), AllocError>
     ensures { OnOk result ((sps : PlainSps) → WritesIf present
-        (Writes (table.tiles sps) own.tiles (plain_pps x.now)) w.old w.new) }
+        (Writes (table.tiles sps) own.tiles_of (plain_pps x.now)) w.old w.new) }
 {
     if present {
         write_tiles(w, x)?;
@@ -27,7 +27,7 @@ pub(crate) fn write_tiles_if(w: &mut BitWriter, present: bool, x: &Pps) -> Resul
 /// Rows 14 to 19 of table 11.
 pub(crate) fn write_tiles(w: &mut BitWriter, x: &Pps) -> Result<(), AllocError>
     ensures { (sps : PlainSps) → OnOk result (Writes (table.tiles sps)
-        own.tiles (plain_pps x.now) w.old w.new) }
+        own.tiles_of (plain_pps x.now) w.old w.new) }
 {
     write_tile_counts(w, x)?;
     write_told_tiles_if(w, !x.uniform_spacing_flag, x)?;
@@ -38,7 +38,7 @@ pub(crate) fn write_tiles(w: &mut BitWriter, x: &Pps) -> Result<(), AllocError>
 /// Rows 14 to 16 of table 11.
 fn write_tile_counts(w: &mut BitWriter, x: &Pps) -> Result<(), AllocError>
     ensures { (sps : PlainSps) → OnOk result (Writes (table.tile_counts sps)
-        own.tile_counts (plain_pps x.now) w.old w.new) }
+        own.tile_counts_of (plain_pps x.now) w.old w.new) }
 {
     ue_u8(w, x.num_tile_columns_minus1)?; // Row(11, 14)
     ue_u8(w, x.num_tile_rows_minus1)?; // Row(11, 15)
@@ -49,7 +49,8 @@ fn write_tile_counts(w: &mut BitWriter, x: &Pps) -> Result<(), AllocError>
 /// Rows 17 and 18 of table 11, where they are present.
 fn write_told_tiles_if(w: &mut BitWriter, present: bool, x: &Pps) -> Result<(), AllocError>
     ensures { OnOk result ((sps : PlainSps) → WritesIf present
-        (Writes (table.told_tiles sps) own.seen_by_told_tiles (plain_pps x.now)) w.old w.new) }
+        (Writes (table.told_tiles sps) own.told_tiles_with_inputs_of (plain_pps x.now))
+        w.old w.new) }
 {
     if present {
         write_told_tiles(w, x)?;
@@ -60,14 +61,15 @@ fn write_told_tiles_if(w: &mut BitWriter, present: bool, x: &Pps) -> Result<(), 
 /// Rows 17 and 18 of table 11.
 fn write_told_tiles(w: &mut BitWriter, x: &Pps) -> Result<(), AllocError>
     ensures { (sps : PlainSps) → OnOk result (Writes (table.told_tiles sps)
-        own.seen_by_told_tiles (plain_pps x.now) w.old w.new) }
+        own.told_tiles_with_inputs_of (plain_pps x.now) w.old w.new) }
 {
     write_told_sizes(w, &x.column_width_minus1, x.num_tile_columns_minus1)?; // Row(11, 17)
     write_told_sizes(w, &x.row_height_minus1, x.num_tile_rows_minus1)?; // Row(11, 18)
     Ok(())
 }
 
-/// Row 17 or 18 of table 11: the sizes of all columns or rows but the last one's, which takes what is left.
+/// Row 17 or 18 of table 11: the sizes of all columns or rows but the last one's, which takes what
+/// is left.
 fn write_told_sizes(w: &mut BitWriter, sizes: &[u32], last: u8) -> Result<(), AllocError>
     requires { last < length sizes.now }
     ensures { (r : Row) → chosen_value r ≡ None → (places blocks : ℕ) → OnOk result

@@ -36,7 +36,7 @@ sps_scc_fillable f = record {
   fill = λ w.
       then_filled (filled (flag_fillable _ refl) (λ v1 b1.
       then_filled (filled (flag_fillable _ refl) (λ v2 b2.
-      then_filled (when_kept (scc.palettes f) sps_own.palettes (sps_keeps.palettes_keep f) _ _ (λ z3 b3.
+      then_filled (when_kept (scc.palettes f) sps_own.palettes_of (sps_keeps.palettes_keep f) _ _ (λ z3 b3.
       then_filled (filled (bits_fillable _ refl _ _ _) (λ v4 b4.
       then_filled (filled (flag_fillable _ refl) (λ v5 b5.
       done_filled tt))))))))));
@@ -49,7 +49,7 @@ pps_range_fillable sps transform_skip = record {
       then_filled (filled (when_fillable _ _ (ue_fillable _ refl _ _)) (λ v1 b1.
       then_filled (filled (flag_fillable _ refl) (λ v2 b2.
       then_filled (filled (flag_fillable _ refl) (λ v3 b3.
-      then_filled (when_kept offset_lists range_own.offset_lists offset_lists_keep _ _ (λ z4 b4.
+      then_filled (when_kept offset_lists range_own.offset_lists_of offset_lists_keep _ _ (λ z4 b4.
       then_filled (filled (ue_fillable _ refl _ _) (λ v5 b5.
       then_filled (filled (ue_fillable _ refl _ _) (λ v6 b6.
       done_filled tt))))))))))));
@@ -61,7 +61,7 @@ pps_scc_fillable f most = record {
   fill = λ w.
       then_filled (filled (flag_fillable _ refl) (λ v1 b1.
       then_filled (filled (flag_fillable _ refl) (λ v2 b2.
-      then_filled (when_kept colour_transform pps_own.colour_transform colour_transform_keeps _ _ (λ z3 b3.
+      then_filled (when_kept colour_transform pps_own.colour_transform_of colour_transform_keeps _ _ (λ z3 b3.
       then_filled (filled (flag_fillable _ refl) (λ v4 b4.
-      when_kept (palettes f most) pps_own.palettes (palettes_keep f most) _ _ (λ z5 b5. tt)))))))));
+      when_kept (palettes f most) pps_own.palettes_of (palettes_keep f most) _ _ (λ z5 b5. tt)))))))));
 }

@@ -13,7 +13,7 @@ use Rattle.hevc_writing.proofs.Loops.{turns_keep, one_more_turn, all_turns, all_
 use Rattle.hevc_write_sets.specs.PpsSccExtensionParts as own
 use Rattle.hevc_write_sets.proofs.Palettes as lists
 
-pub colour_transform_keeps : Keeps colour_transform own.colour_transform
+pub colour_transform_keeps : Keeps colour_transform own.colour_transform_of
 unfolding colour_transform
 colour_transform_keeps = record { same = λ y. refl; last = λ x y z. refl; kept = λ y w. search kept_rows depth 40 fits 4000 }
 
@@ -34,49 +34,49 @@ some_palettes v n most within few is =
     and_true false = refl
 
 module _ (f : SampleFormat) where
-  component_keeps : (count component : ℕ) → Keeps (component_predictors f count component) (own.component_predictors component)
+  component_keeps : (count component : ℕ) → Keeps (component_predictors f count component) (own.component_predictors_of component)
   unfolding component_predictors predictor
   component_keeps count component = lists.list_keeps get put (λ l a. refl) (λ l m a. refl) (λ a. refl) (row 13 11) refl (bit_depth f component) 0 (2 ^ bit_depth f component - 1) component count
 
-  repeated_keep : (n : ℕ × ℕ) → Keeps (repeat (component_predictors f n.0) 0 n.1) own.predictors
-  repeated_keep n = turns_keep (component_predictors f n.0) own.predictors (λ component. lists.lists_kept get put (λ l a. refl) (λ l m a. refl) (λ a. refl) (row 13 11) refl 0 0 0 component (component_predictors f n.0 component) (component_keeps n.0 component)) n.1
+  repeated_keep : (n : ℕ × ℕ) → Keeps (repeat (component_predictors f n.0) 0 n.1) own.all_predictors_of
+  repeated_keep n = turns_keep (component_predictors f n.0) own.all_predictors_of (λ component. lists.lists_kept get put (λ l a. refl) (λ l m a. refl) (λ a. refl) (row 13 11) refl 0 0 0 component (component_predictors f n.0 component) (component_keeps n.0 component)) n.1
 
-  pub predictors_keep : Keeps (predictors f) own.predictors
+  pub predictors_keep : Keeps (predictors f) own.all_predictors_of
   unfolding predictors
   predictors_keep = record { same = λ y. refl; last = λ x y z. refl; kept = λ y w. (repeated_keep (y.num_palette_predictor_initializers, num_components y)).kept y w }
 
-  pub initializers_keep : Keeps (initializers f) own.initializers
+  pub initializers_keep : Keeps (initializers f) own.initializers_of
   unfolding initializers
-  initializers_keep = record { same = λ y. refl; last = λ x y z. refl; kept = λ y w. search (kept_rows, part_kept (predictors f) own.predictors predictors_keep) depth 40 fits 4000 }
+  initializers_keep = record { same = λ y. refl; last = λ x y z. refl; kept = λ y w. search (kept_rows, part_kept (predictors f) own.all_predictors_of predictors_keep) depth 40 fits 4000 }
 
-  pub palettes_keep : (most : ℕ) → Keeps (palettes f most) own.palettes
+  pub palettes_keep : (most : ℕ) → Keeps (palettes f most) own.palettes_of
   unfolding palettes
-  palettes_keep most = record { same = λ y. refl; last = λ x y z. refl; kept = λ y w. search (kept_rows, when_kept (initializers f) own.initializers initializers_keep) depth 40 fits 4000 }
+  palettes_keep most = record { same = λ y. refl; last = λ x y z. refl; kept = λ y w. search (kept_rows, when_kept (initializers f) own.initializers_of initializers_keep) depth 40 fits 4000 }
 
   pub predictor_written : (x : PlainPpsSccExtension) (component i : ℕ) {old new : List Bool} → i < length (predictors_of x component) → WritesBits (bit_depth f component) (get_or (predictors_of x component) i 0) old new → WritesTurn (predictor f component) (own.same_predictors x component) i old new
   unfolding predictor
   predictor_written x component i lt writes = lists.predictor_written get put (λ l a. refl) (λ l m a. refl) (λ a. refl) (row 13 11) refl (bit_depth f component) 0 (2 ^ bit_depth f component - 1) component x i lt writes
 
-  pub component_written : (x : PlainPpsSccExtension) (n count component : ℕ) (old new : List Bool) → component < length x.palette_predictor_initializer → WritesTurns (predictor f component) (own.same_predictors x component) n old new → n ≡ count → Writes (component_predictors f count component) (own.component_predictors component) x old new
+  pub component_written : (x : PlainPpsSccExtension) (n count component : ℕ) (old new : List Bool) → component < length x.palette_predictor_initializer → WritesTurns (predictor f component) (own.same_predictors x component) n old new → n ≡ count → Writes (component_predictors f count component) (own.component_predictors_of component) x old new
   unfolding component_predictors predictor
-  component_written x n count component old new lt h e = subst (λ (k : ℕ). Writes (component_predictors f k component) (own.component_predictors component) x old new) e (lists.list_written get put (λ l a. refl) (λ l m a. refl) (λ a. refl) (row 13 11) refl (bit_depth f component) 0 (2 ^ bit_depth f component - 1) component x n lt h)
+  component_written x n count component old new lt h e = subst (λ (k : ℕ). Writes (component_predictors f k component) (own.component_predictors_of component) x old new) e (lists.list_written get put (λ l a. refl) (λ l m a. refl) (λ a. refl) (row 13 11) refl (bit_depth f component) 0 (2 ^ bit_depth f component - 1) component x n lt h)
 
   -- a component is a turn over all
   pub one_more_component : (x : PlainPpsSccExtension) (count component : ℕ) (old now next : List Bool) → component < length x.palette_predictor_initializer → WritesTurns (component_predictors f count) (own.same_components x) component old now
-      → Writes (component_predictors f count component) (own.component_predictors component) x now next → WritesTurns (component_predictors f count) (own.same_components x) (component + 1) old next
+      → Writes (component_predictors f count component) (own.component_predictors_of component) x now next → WritesTurns (component_predictors f count) (own.same_components x) (component + 1) old next
   one_more_component x count component old now next lt h writes = one_more_turn (component_predictors f count) (own.same_components x) h (record {
     written = lists.lists_turn_written get put (λ l a. refl) (λ l m a. refl) (λ a. refl) (row 13 11) refl 0 0 0 component (component_predictors f count component) (component_keeps count component) x lt writes;
   })
 
-  pub predictors_written : (x : PlainPpsSccExtension) (count n : ℕ) (old new : List Bool) → WritesTurns (component_predictors f count) (own.same_components x) n old new → count ≡ x.num_palette_predictor_initializers → n ≡ num_components x → Writes (predictors f) own.counted_predictors x old new
+  pub predictors_written : (x : PlainPpsSccExtension) (count n : ℕ) (old new : List Bool) → WritesTurns (component_predictors f count) (own.same_components x) n old new → count ≡ x.num_palette_predictor_initializers → n ≡ num_components x → Writes (predictors f) own.all_predictors_with_inputs_of x old new
   unfolding predictors
   predictors_written x count n old new turns is_count e =
       let h = subst (λ (k : ℕ). WritesTurns (component_predictors f k) (own.same_components x) n old new) is_count turns in
       let j : ℕ × ℕ = (x.num_palette_predictor_initializers, num_components x) in
-      let all : Writes (repeat (component_predictors f j.0) 0 j.1) own.predictors x old new = subst (λ (k : ℕ). Writes (repeat (component_predictors f x.num_palette_predictor_initializers) 0 k) own.predictors x old new) e (all_turns (component_predictors f x.num_palette_predictor_initializers) (own.same_components x) (λ z is. all_same _ _ _ (by is (λ r. r.palette_predictor_initializer))) h) in
+      let all : Writes (repeat (component_predictors f j.0) 0 j.1) own.all_predictors_of x old new = subst (λ (k : ℕ). Writes (repeat (component_predictors f x.num_palette_predictor_initializers) 0 k) own.all_predictors_of x old new) e (all_turns (component_predictors f x.num_palette_predictor_initializers) (own.same_components x) (λ z is. all_same _ _ _ (by is (λ r. r.palette_predictor_initializer))) h) in
       record {
         written = λ y w.
             let i : ℕ × ℕ = (y.num_palette_predictor_initializers, num_components y) in
-            one_part_written (λ (k : ℕ × ℕ). repeat (component_predictors f k.0) 0 k.1) own.predictors repeated_keep i y (pairs (numbers i.0 j.0) (numbers i.1 j.1)) all refl
+            one_part_written (λ (k : ℕ × ℕ). repeat (component_predictors f k.0) 0 k.1) own.all_predictors_of repeated_keep i y (pairs (numbers i.0 j.0) (numbers i.1 j.1)) all refl
             (λ z b g is at. g (ap₂ (λ (k m : ℕ). (k, m)) (by is (λ r. r.num_palette_predictor_initializers)) (by is (λ r. num_components r))) _ is refl at);
       }

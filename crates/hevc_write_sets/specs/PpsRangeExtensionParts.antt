@@ -4,15 +4,17 @@ use Rattle.hevc_records.specs.PpsRangeExtension.{PlainPpsRangeExtension}
 use Rattle.hevc_writing.specs.Filling.{SameBelow}
 
 -- row 5
-abbrev pub offset_pairs : PlainPpsRangeExtension → PlainPpsRangeExtension → PlainPpsRangeExtension
-offset_pairs from x = record x {
+abbrev pub offset_pairs_of : PlainPpsRangeExtension → PlainPpsRangeExtension
+    → PlainPpsRangeExtension
+offset_pairs_of from x = record x {
   cb_qp_offset_list = from.cb_qp_offset_list;
   cr_qp_offset_list = from.cr_qp_offset_list;
 }
 
 -- rows 3 to 5
-abbrev pub offset_lists : PlainPpsRangeExtension → PlainPpsRangeExtension → PlainPpsRangeExtension
-offset_lists from x = record (offset_pairs from x) {
+abbrev pub offset_lists_of : PlainPpsRangeExtension → PlainPpsRangeExtension
+    → PlainPpsRangeExtension
+offset_lists_of from x = record (offset_pairs_of from x) {
   diff_cu_chroma_qp_offset_depth = from.diff_cu_chroma_qp_offset_depth;
   chroma_qp_offset_list_len_minus1 = from.chroma_qp_offset_list_len_minus1;
 }

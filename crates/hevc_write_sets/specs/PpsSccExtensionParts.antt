@@ -5,8 +5,8 @@ use Rattle.hevc_tables.specs.PpsSccExtensionTable.{predictors_of}
 use Rattle.hevc_writing.specs.Filling.{SameBelow}
 
 -- rows 2 to 5
-abbrev pub colour_transform : PlainPpsSccExtension → PlainPpsSccExtension → PlainPpsSccExtension
-colour_transform from x = record x {
+abbrev pub colour_transform_of : PlainPpsSccExtension → PlainPpsSccExtension → PlainPpsSccExtension
+colour_transform_of from x = record x {
   slice_act_qp_offsets_present_flag = from.slice_act_qp_offsets_present_flag;
   act_y_qp_offset_plus5 = from.act_y_qp_offset_plus5;
   act_cb_qp_offset_plus5 = from.act_cb_qp_offset_plus5;
@@ -14,35 +14,38 @@ colour_transform from x = record x {
 }
 
 -- row 11 of a component
-abbrev pub component_predictors : ℕ → PlainPpsSccExtension → PlainPpsSccExtension
+abbrev pub component_predictors_of : ℕ → PlainPpsSccExtension → PlainPpsSccExtension
     → PlainPpsSccExtension
-component_predictors component from x = record x {
+component_predictors_of component from x = record x {
   palette_predictor_initializer =
       slice_set x.palette_predictor_initializer component (predictors_of from component);
 }
 
 -- row 11
-abbrev pub predictors : PlainPpsSccExtension → PlainPpsSccExtension → PlainPpsSccExtension
-predictors from x = record x { palette_predictor_initializer = from.palette_predictor_initializer }
+abbrev pub all_predictors_of : PlainPpsSccExtension → PlainPpsSccExtension → PlainPpsSccExtension
+all_predictors_of from x = record x {
+  palette_predictor_initializer = from.palette_predictor_initializer;
+}
 
 -- row 11, and how many predictors there are, of which components
-abbrev pub counted_predictors : PlainPpsSccExtension → PlainPpsSccExtension → PlainPpsSccExtension
-counted_predictors from x = record (predictors from x) {
+abbrev pub all_predictors_with_inputs_of : PlainPpsSccExtension → PlainPpsSccExtension
+    → PlainPpsSccExtension
+all_predictors_with_inputs_of from x = record (all_predictors_of from x) {
   num_palette_predictor_initializers = from.num_palette_predictor_initializers;
   monochrome_palette_flag = from.monochrome_palette_flag;
 }
 
 -- rows 8 to 11
-abbrev pub initializers : PlainPpsSccExtension → PlainPpsSccExtension → PlainPpsSccExtension
-initializers from x = record (predictors from x) {
+abbrev pub initializers_of : PlainPpsSccExtension → PlainPpsSccExtension → PlainPpsSccExtension
+initializers_of from x = record (all_predictors_of from x) {
   monochrome_palette_flag = from.monochrome_palette_flag;
   luma_bit_depth_entry_minus8 = from.luma_bit_depth_entry_minus8;
   chroma_bit_depth_entry_minus8 = from.chroma_bit_depth_entry_minus8;
 }
 
 -- rows 7 to 11
-abbrev pub palettes : PlainPpsSccExtension → PlainPpsSccExtension → PlainPpsSccExtension
-palettes from x = record (initializers from x) {
+abbrev pub palettes_of : PlainPpsSccExtension → PlainPpsSccExtension → PlainPpsSccExtension
+palettes_of from x = record (initializers_of from x) {
   num_palette_predictor_initializers = from.num_palette_predictor_initializers;
 }
 

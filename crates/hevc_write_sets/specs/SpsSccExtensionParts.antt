@@ -5,26 +5,28 @@ use Rattle.hevc_tables.specs.SpsSccExtensionTable.{predictors_of}
 use Rattle.hevc_writing.specs.Filling.{SameBelow}
 
 -- row 6 of a component
-abbrev pub component_predictors : ℕ → PlainSpsSccExtension → PlainSpsSccExtension
+abbrev pub component_predictors_of : ℕ → PlainSpsSccExtension → PlainSpsSccExtension
     → PlainSpsSccExtension
-component_predictors component from x = record x {
+component_predictors_of component from x = record x {
   palette_predictor_initializer =
       slice_set x.palette_predictor_initializer component (predictors_of from component);
 }
 
 -- row 6
-abbrev pub predictors : PlainSpsSccExtension → PlainSpsSccExtension → PlainSpsSccExtension
-predictors from x = record x { palette_predictor_initializer = from.palette_predictor_initializer }
+abbrev pub all_predictors_of : PlainSpsSccExtension → PlainSpsSccExtension → PlainSpsSccExtension
+all_predictors_of from x = record x {
+  palette_predictor_initializer = from.palette_predictor_initializer;
+}
 
 -- rows 5 and 6
-abbrev pub initializers : PlainSpsSccExtension → PlainSpsSccExtension → PlainSpsSccExtension
-initializers from x = record (predictors from x) {
+abbrev pub initializers_of : PlainSpsSccExtension → PlainSpsSccExtension → PlainSpsSccExtension
+initializers_of from x = record (all_predictors_of from x) {
   num_palette_predictor_initializer_minus1 = from.num_palette_predictor_initializer_minus1;
 }
 
 -- rows 2 to 6
-abbrev pub palettes : PlainSpsSccExtension → PlainSpsSccExtension → PlainSpsSccExtension
-palettes from x = record (initializers from x) {
+abbrev pub palettes_of : PlainSpsSccExtension → PlainSpsSccExtension → PlainSpsSccExtension
+palettes_of from x = record (initializers_of from x) {
   palette_max_size = from.palette_max_size;
   delta_palette_max_predictor_size = from.delta_palette_max_predictor_size;
   palette_predictor_initializers_present_flag = from.palette_predictor_initializers_present_flag;

@@ -3,7 +3,7 @@ ghost use Rattle.std.specs.Prelude.{◌≤◌, ◌<◌, OnOk};
 ghost use Rattle.hevc_records.specs.Sps.{PlainSps};
 ghost use Rattle.hevc_tables.specs.PpsRangeExtensionTable as table;
 ghost use Rattle.hevc_set_parts.specs.PpsRangeExtension.{plain_pps_range_extension};
-ghost use Rattle.hevc_write_sets.specs.PpsRangeExtensionParts.{offset_lists, offset_pairs, same_pairs};
+ghost use Rattle.hevc_write_sets.specs.PpsRangeExtensionParts.{offset_lists_of, offset_pairs_of, same_pairs};
 ghost use Rattle.hevc_writing.specs.Filling.{Writes, WritesIf, WritesTable, WritesTurn};
 
 use hevc_bit_writer::BitWriter;
@@ -17,7 +17,8 @@ pub fn write_pps_range_extension(
     transform_skip: bool,
     x: &PpsRangeExtension,
 ) -> Result<(), AllocError>
-    ensures { (sps : PlainSps) → OnOk result (WritesTable (table.pps_range_extension sps transform_skip)
+    ensures { (sps : PlainSps) → OnOk result
+        (WritesTable (table.pps_range_extension sps transform_skip)
         (plain_pps_range_extension x.now) w.old w.new) }
 {
     ue_if(
@@ -39,7 +40,7 @@ fn write_offset_lists_if(
     present: bool,
     x: &PpsRangeExtension,
 ) -> Result<(), AllocError>
-    ensures { OnOk result (WritesIf present (Writes table.offset_lists offset_lists
+    ensures { OnOk result (WritesIf present (Writes table.offset_lists offset_lists_of
         (plain_pps_range_extension x.now)) w.old w.new) }
 {
     if present {
@@ -51,7 +52,7 @@ fn write_offset_lists_if(
 
 /// Rows 3 to 5 of table 12.
 fn write_offset_lists(w: &mut BitWriter, x: &PpsRangeExtension) -> Result<(), AllocError>
-    ensures { OnOk result (Writes table.offset_lists offset_lists
+    ensures { OnOk result (Writes table.offset_lists offset_lists_of
         (plain_pps_range_extension x.now) w.old w.new) }
 {
     ue(w, x.diff_cu_chroma_qp_offset_depth)?; // Row(12, 3)
@@ -69,7 +70,7 @@ fn write_offset_pairs(
     x: &PpsRangeExtension,
 ) -> Result<(), AllocError>
     requires { count ≤ 6 }
-    ensures { OnOk result (Writes (table.offset_pairs count) offset_pairs
+    ensures { OnOk result (Writes (table.offset_pairs count) offset_pairs_of
         (plain_pps_range_extension x.now) w.old w.new) }
 {
     for i in 0..count {

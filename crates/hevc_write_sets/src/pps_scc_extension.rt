@@ -40,7 +40,7 @@ fn write_colour_transform_if(
     x: &PpsSccExtension,
 ) -> Result<(), AllocError>
     ensures { OnOk result (WritesIf present
-        (Writes table.colour_transform own.colour_transform (plain_pps_scc_extension x.now))
+        (Writes table.colour_transform own.colour_transform_of (plain_pps_scc_extension x.now))
         w.old w.new) }
 {
     if present {
@@ -52,7 +52,7 @@ fn write_colour_transform_if(
 
 /// Rows 2 to 5 of table 13.
 fn write_colour_transform(w: &mut BitWriter, x: &PpsSccExtension) -> Result<(), AllocError>
-    ensures { OnOk result (Writes table.colour_transform own.colour_transform
+    ensures { OnOk result (Writes table.colour_transform own.colour_transform_of
         (plain_pps_scc_extension x.now) w.old w.new) }
 {
     flag(w, x.slice_act_qp_offsets_present_flag)?; // Row(13, 2)
@@ -71,7 +71,7 @@ fn write_palettes_if(
 ) -> Result<(), AllocError>
     ensures { OnOk result (WritesIf present
         (Writes (table.palettes (sample_format (plain_sps sps.now))
-        (most_predictors (plain_sps sps.now))) own.palettes (plain_pps_scc_extension x.now))
+        (most_predictors (plain_sps sps.now))) own.palettes_of (plain_pps_scc_extension x.now))
         w.old w.new) }
 {
     if present {
@@ -85,7 +85,7 @@ fn write_palettes_if(
 fn write_palettes(w: &mut BitWriter, sps: &Sps, x: &PpsSccExtension) -> Result<(), AllocError>
     ensures { OnOk result
         (Writes (table.palettes (sample_format (plain_sps sps.now))
-        (most_predictors (plain_sps sps.now))) own.palettes
+        (most_predictors (plain_sps sps.now))) own.palettes_of
         (plain_pps_scc_extension x.now) w.old w.new) }
 {
     ue_u8(w, x.num_palette_predictor_initializers)?; // Row(13, 7)
@@ -110,7 +110,7 @@ fn write_initializers_if(
 ) -> Result<(), AllocError>
     requires { IsTrue present → x.now.num_palette_predictor_initializers ≤ 128 }
     ensures { OnOk result (WritesIf present
-        (Writes (table.initializers (sample_format (plain_sps sps.now))) own.palettes
+        (Writes (table.initializers (sample_format (plain_sps sps.now))) own.palettes_of
         (plain_pps_scc_extension x.now)) w.old w.new) }
 {
     if present {
@@ -124,7 +124,7 @@ fn write_initializers_if(
 fn write_initializers(w: &mut BitWriter, sps: &Sps, x: &PpsSccExtension) -> Result<(), AllocError>
     requires { x.now.num_palette_predictor_initializers ≤ 128 }
     ensures { OnOk result
-        (Writes (table.initializers (sample_format (plain_sps sps.now))) own.palettes
+        (Writes (table.initializers (sample_format (plain_sps sps.now))) own.palettes_of
         (plain_pps_scc_extension x.now) w.old w.new) }
 {
     flag(w, x.monochrome_palette_flag)?; // Row(13, 8)
@@ -142,8 +142,8 @@ fn write_initializers(w: &mut BitWriter, sps: &Sps, x: &PpsSccExtension) -> Resu
 fn write_predictors(w: &mut BitWriter, sps: &Sps, x: &PpsSccExtension) -> Result<(), AllocError>
     requires { x.now.num_palette_predictor_initializers ≤ 128 }
     ensures { OnOk result
-        (Writes (table.predictors (sample_format (plain_sps sps.now))) own.counted_predictors
-        (plain_pps_scc_extension x.now) w.old w.new) }
+        (Writes (table.predictors (sample_format (plain_sps sps.now)))
+        own.all_predictors_with_inputs_of (plain_pps_scc_extension x.now) w.old w.new) }
 {
     let count = usize::from(x.num_palette_predictor_initializers);
     for component in 0..num_components(x) {
@@ -172,7 +172,7 @@ fn write_component(
     requires there { component < 3 }
     ensures { OnOk result (Writes
         (table.component_predictors (sample_format (plain_sps sps.now)) count component)
-        (own.component_predictors component) (plain_pps_scc_extension x.now) w.old w.new) }
+        (own.component_predictors_of component) (plain_pps_scc_extension x.now) w.old w.new) }
 {
     let depth = bit_depth(sps, component);
     let list = &x.palette_predictor_initializer[component];

@@ -31,7 +31,7 @@ pub fn write_sps_scc_extension(w: &mut BitWriter, sps: &Sps) -> Result<(), Alloc
 /// Rows 2 to 6 of table 10, where they are present.
 fn write_palettes_if(w: &mut BitWriter, present: bool, sps: &Sps) -> Result<(), AllocError>
     ensures { OnOk result (WritesIf present
-        (Writes (table.palettes (sample_format (plain_sps sps.now))) own.palettes
+        (Writes (table.palettes (sample_format (plain_sps sps.now))) own.palettes_of
         (plain_sps_scc_extension sps.now.scc_extension)) w.old w.new) }
 {
     if present {
@@ -44,7 +44,7 @@ fn write_palettes_if(w: &mut BitWriter, present: bool, sps: &Sps) -> Result<(), 
 /// Rows 2 to 6 of table 10.
 fn write_palettes(w: &mut BitWriter, sps: &Sps) -> Result<(), AllocError>
     ensures { OnOk result
-        (Writes (table.palettes (sample_format (plain_sps sps.now))) own.palettes
+        (Writes (table.palettes (sample_format (plain_sps sps.now))) own.palettes_of
         (plain_sps_scc_extension sps.now.scc_extension) w.old w.new) }
 {
     let x = &sps.scc_extension;
@@ -58,7 +58,7 @@ fn write_palettes(w: &mut BitWriter, sps: &Sps) -> Result<(), AllocError>
 /// Rows 5 and 6 of table 10, where they are present.
 fn write_initializers_if(w: &mut BitWriter, present: bool, sps: &Sps) -> Result<(), AllocError>
     ensures { OnOk result (WritesIf present
-        (Writes (table.initializers (sample_format (plain_sps sps.now))) own.palettes
+        (Writes (table.initializers (sample_format (plain_sps sps.now))) own.palettes_of
         (plain_sps_scc_extension sps.now.scc_extension)) w.old w.new) }
 {
     if present {
@@ -71,7 +71,7 @@ fn write_initializers_if(w: &mut BitWriter, present: bool, sps: &Sps) -> Result<
 /// Rows 5 and 6 of table 10. No table has more than 128 predictors.
 fn write_initializers(w: &mut BitWriter, sps: &Sps) -> Result<(), AllocError>
     ensures { OnOk result
-        (Writes (table.initializers (sample_format (plain_sps sps.now))) own.palettes
+        (Writes (table.initializers (sample_format (plain_sps sps.now))) own.palettes_of
         (plain_sps_scc_extension sps.now.scc_extension) w.old w.new) }
 {
     let last = sps.scc_extension.num_palette_predictor_initializer_minus1;
@@ -89,7 +89,7 @@ fn write_predictors(
 ) -> Result<(), AllocError>
     requires { count ≤ 128 }
     ensures { OnOk result
-        (Writes (table.predictors (sample_format (plain_sps sps.now)) count) own.predictors
+        (Writes (table.predictors (sample_format (plain_sps sps.now)) count) own.all_predictors_of
         (plain_sps_scc_extension x.now) w.old w.new) }
 {
     for component in 0..num_components(sps) {
@@ -119,7 +119,7 @@ fn write_component(
     ensures there { component < length x.now.palette_predictor_initializer }
     ensures written { OnOk result (Writes
         (table.component_predictors (sample_format (plain_sps sps.now)) count component)
-        (own.component_predictors component)
+        (own.component_predictors_of component)
         (plain_sps_scc_extension x.now) w.old w.new) }
 {
     let depth = bit_depth(sps, component);

@@ -22,7 +22,7 @@ pub(crate) fn write_ending(
     x: &SliceHeader,
 ) -> Result<(), AllocError>
     ensures { OnOk result (Writes (table.ending (plain_sps sps.now) (plain_pps pps.now))
-        own.ending (plain_slice_header x.now) w.old w.new) }
+        own.ending_of (plain_slice_header x.now) w.old w.new) }
 {
     write_parallel_parts_if(w, has_parallel_parts(pps), sps, pps, x)?;
     write_header_extension_if(w, pps.slice_segment_header_extension_present_flag, x)?;
@@ -39,7 +39,7 @@ fn write_parallel_parts_if(
 ) -> Result<(), AllocError>
     ensures { OnOk result (WritesIf present
         (Writes (table.parallel_parts (plain_sps sps.now) (plain_pps pps.now))
-        own.parallel_parts (plain_slice_header x.now)) w.old w.new) }
+        own.parallel_parts_of (plain_slice_header x.now)) w.old w.new) }
 {
     if present {
         write_parallel_parts(w, sps, pps, x)
@@ -56,7 +56,7 @@ fn write_parallel_parts(
     x: &SliceHeader,
 ) -> Result<(), AllocError>
     ensures { OnOk result (Writes (table.parallel_parts (plain_sps sps.now) (plain_pps pps.now))
-        own.parallel_parts (plain_slice_header x.now) w.old w.new) }
+        own.parallel_parts_of (plain_slice_header x.now) w.old w.new) }
 {
     ue(w, x.num_entry_point_offsets)?; // Row(14, 48)
     write_entry_point_offsets_if(w, x.num_entry_point_offsets != 0, x)?;
@@ -71,7 +71,7 @@ fn write_entry_point_offsets_if(
 ) -> Result<(), AllocError>
     ensures { OnOk result (WritesIf present
         (Writes table.entry_point_offsets
-        own.entry_point_offsets (plain_slice_header x.now)) w.old w.new) }
+        own.entry_point_offsets_of (plain_slice_header x.now)) w.old w.new) }
 {
     if present {
         write_entry_point_offsets(w, x)
@@ -83,7 +83,7 @@ fn write_entry_point_offsets_if(
 /// Rows 49 and 50 of table 14.
 fn write_entry_point_offsets(w: &mut BitWriter, x: &SliceHeader) -> Result<(), AllocError>
     ensures { OnOk result (Writes table.entry_point_offsets
-        own.entry_point_offsets (plain_slice_header x.now) w.old w.new) }
+        own.entry_point_offsets_of (plain_slice_header x.now) w.old w.new) }
 {
     ue_u8(w, x.offset_len_minus1)?; // Row(14, 49)
     write_entry_points(
@@ -102,7 +102,7 @@ fn write_header_extension_if(
 ) -> Result<(), AllocError>
     ensures { OnOk result (WritesIf present
         (Writes table.header_extension
-        own.header_extension (plain_slice_header x.now)) w.old w.new) }
+        own.header_extension_of (plain_slice_header x.now)) w.old w.new) }
 {
     if present {
         write_header_extension(w, x)
@@ -114,7 +114,7 @@ fn write_header_extension_if(
 /// Rows 51 and 52 of table 14: no extension.
 fn write_header_extension(w: &mut BitWriter, x: &SliceHeader) -> Result<(), AllocError>
     ensures { OnOk result (Writes table.header_extension
-        own.header_extension (plain_slice_header x.now) w.old w.new) }
+        own.header_extension_of (plain_slice_header x.now) w.old w.new) }
 {
     ue(w, 0)?; // Row(14, 51): no byte of Row(14, 52) follows
     Ok(())

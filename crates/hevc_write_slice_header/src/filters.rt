@@ -21,7 +21,7 @@ pub(crate) fn write_adaptive_offset(
     x: &SliceHeader,
 ) -> Result<(), AllocError>
     ensures { OnOk result (Writes (table.adaptive_offset (plain_sps sps.now))
-        own.adaptive_offset (plain_slice_header x.now) w.old w.new) }
+        own.adaptive_offset_of (plain_slice_header x.now) w.old w.new) }
 {
     flag_if(w, sps.sample_adaptive_offset_enabled_flag, x.sao_luma_flag)?; // Row(14, 22)
     flag_if(w, has_chroma_offset(sps), x.sao_chroma_flag)?; // Row(14, 23)
@@ -31,7 +31,7 @@ pub(crate) fn write_adaptive_offset(
 /// Rows 43 to 47 of table 14.
 pub(crate) fn write_filters(w: &mut BitWriter, pps: &Pps, x: &SliceHeader) -> Result<(), AllocError>
     ensures { OnOk result (Writes (table.filters (plain_pps pps.now))
-        own.seen_by_filters (plain_slice_header x.now) w.old w.new) }
+        own.filters_with_inputs_of (plain_slice_header x.now) w.old w.new) }
 {
     flag_if(
         w,
@@ -50,7 +50,8 @@ fn write_own_deblocking_if(
     x: &SliceHeader,
 ) -> Result<(), AllocError>
     ensures { OnOk result (WritesIf present
-        (Writes table.own_deblocking own.own_deblocking (plain_slice_header x.now)) w.old w.new) }
+        (Writes table.own_deblocking own.own_deblocking_of (plain_slice_header x.now))
+        w.old w.new) }
 {
     if present {
         write_own_deblocking(w, x)
@@ -62,7 +63,7 @@ fn write_own_deblocking_if(
 /// Rows 44 to 46 of table 14.
 fn write_own_deblocking(w: &mut BitWriter, x: &SliceHeader) -> Result<(), AllocError>
     ensures { OnOk result (Writes table.own_deblocking
-        own.own_deblocking (plain_slice_header x.now) w.old w.new) }
+        own.own_deblocking_of (plain_slice_header x.now) w.old w.new) }
 {
     flag(w, x.deblocking_filter_disabled_flag)?; // Row(14, 44)
     write_filter_offsets_if(w, !x.deblocking_filter_disabled_flag, x)?;
@@ -76,7 +77,8 @@ fn write_filter_offsets_if(
     x: &SliceHeader,
 ) -> Result<(), AllocError>
     ensures { OnOk result (WritesIf present
-        (Writes table.filter_offsets own.filter_offsets (plain_slice_header x.now)) w.old w.new) }
+        (Writes table.filter_offsets own.filter_offsets_of (plain_slice_header x.now))
+        w.old w.new) }
 {
     if present {
         write_filter_offsets(w, x)
@@ -88,7 +90,7 @@ fn write_filter_offsets_if(
 /// Rows 45 and 46 of table 14.
 fn write_filter_offsets(w: &mut BitWriter, x: &SliceHeader) -> Result<(), AllocError>
     ensures { OnOk result (Writes table.filter_offsets
-        own.filter_offsets (plain_slice_header x.now) w.old w.new) }
+        own.filter_offsets_of (plain_slice_header x.now) w.old w.new) }
 {
     se_i8(w, x.beta_offset_div2)?; // Row(14, 45)
     se_i8(w, x.tc_offset_div2)?; // Row(14, 46)
@@ -98,7 +100,7 @@ fn write_filter_offsets(w: &mut BitWriter, x: &SliceHeader) -> Result<(), AllocE
 /// Row 47 of table 14.
 fn write_across_slices(w: &mut BitWriter, pps: &Pps, x: &SliceHeader) -> Result<(), AllocError>
     ensures { OnOk result (Writes (table.across_slices (plain_pps pps.now))
-        own.seen_by_across_slices (plain_slice_header x.now) w.old w.new) }
+        own.across_slices_with_inputs_of (plain_slice_header x.now) w.old w.new) }
 {
     flag_if(
         w,

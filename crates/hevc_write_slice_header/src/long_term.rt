@@ -22,7 +22,7 @@ pub(crate) fn write_long_term_if(
 ) -> Result<(), AllocError>
     ensures { OnOk result (WritesIf present
         (Writes (table.long_term (plain_sps sps.now))
-        own.long_term (plain_slice_header x.now)) w.old w.new) }
+        own.long_term_of (plain_slice_header x.now)) w.old w.new) }
 {
     if present {
         write_long_term(w, sps, x)
@@ -38,7 +38,7 @@ pub(crate) fn write_long_term(
     x: &SliceHeader,
 ) -> Result<(), AllocError>
     ensures { OnOk result (Writes (table.long_term (plain_sps sps.now))
-        own.long_term (plain_slice_header x.now) w.old w.new) }
+        own.long_term_of (plain_slice_header x.now) w.old w.new) }
 {
     write_long_term_counts(w, sps, x)?;
     write_long_term_pictures(w, sps, x)?;
@@ -48,7 +48,7 @@ pub(crate) fn write_long_term(
 /// Rows 14 and 15 of table 14.
 fn write_long_term_counts(w: &mut BitWriter, sps: &Sps, x: &SliceHeader) -> Result<(), AllocError>
     ensures { OnOk result (Writes (table.long_term_counts (plain_sps sps.now))
-        own.long_term_counts (plain_slice_header x.now) w.old w.new) }
+        own.long_term_counts_of (plain_slice_header x.now) w.old w.new) }
 {
     ue_u8_if(w, sps.num_long_term_ref_pics_sps != 0, x.num_long_term_sps)?; // Row(14, 14)
     ue_u8(w, x.num_long_term_pics)?; // Row(14, 15)
@@ -58,7 +58,7 @@ fn write_long_term_counts(w: &mut BitWriter, sps: &Sps, x: &SliceHeader) -> Resu
 /// Rows 16 to 20 of table 14, for each picture.
 fn write_long_term_pictures(w: &mut BitWriter, sps: &Sps, x: &SliceHeader) -> Result<(), AllocError>
     ensures { OnOk result (Writes (table.long_term_pictures (plain_sps sps.now))
-        own.seen_by_pictures (plain_slice_header x.now) w.old w.new) }
+        own.long_term_pictures_with_inputs_of (plain_slice_header x.now) w.old w.new) }
 {
     for i in 0..usize::from(x.num_long_term_sps) + usize::from(x.num_long_term_pics) {
         write_long_term_picture(w, sps, i, x)?;

@@ -30,7 +30,7 @@ pub(crate) fn write_prediction_if(
 ) -> Result<(), AllocError>
     ensures { OnOk result (WritesIf present
         (Writes (table.prediction (plain_sps sps.now) (plain_pps pps.now))
-        own.seen_by_prediction (plain_slice_header x.now)) w.old w.new) }
+        own.prediction_with_inputs_of (plain_slice_header x.now)) w.old w.new) }
 {
     if present {
         write_prediction(w, sps, pps, x)
@@ -47,7 +47,7 @@ pub(crate) fn write_prediction(
     x: &SliceHeader,
 ) -> Result<(), AllocError>
     ensures { OnOk result (Writes (table.prediction (plain_sps sps.now) (plain_pps pps.now))
-        own.seen_by_prediction (plain_slice_header x.now) w.old w.new) }
+        own.prediction_with_inputs_of (plain_slice_header x.now) w.old w.new) }
 {
     write_reference_lists(w, sps, pps, x)?;
     write_motion(w, pps, x)?;
@@ -58,7 +58,7 @@ pub(crate) fn write_prediction(
 /// Rows 28 to 31 of table 14.
 fn write_motion(w: &mut BitWriter, pps: &Pps, x: &SliceHeader) -> Result<(), AllocError>
     ensures { OnOk result (Writes (table.motion (plain_pps pps.now))
-        own.seen_by_motion (plain_slice_header x.now) w.old w.new) }
+        own.motion_with_inputs_of (plain_slice_header x.now) w.old w.new) }
 {
     flag_if(w, is_b(x), x.mvd_l1_zero_flag)?; // Row(14, 28)
     flag_if(w, pps.cabac_init_present_flag, x.cabac_init_flag)?; // Row(14, 29)
@@ -70,7 +70,7 @@ fn write_motion(w: &mut BitWriter, pps: &Pps, x: &SliceHeader) -> Result<(), All
 /// Rows 32 to 34 of table 14.
 fn write_weights(w: &mut BitWriter, sps: &Sps, pps: &Pps, x: &SliceHeader) -> Result<(), AllocError>
     ensures { OnOk result (Writes (table.weights (plain_sps sps.now) (plain_pps pps.now))
-        own.seen_by_weights (plain_slice_header x.now) w.old w.new) }
+        own.weights_with_inputs_of (plain_slice_header x.now) w.old w.new) }
 {
     write_pred_weight_table_if(w, is_weighted(pps, x), sps, x)?;
     ue_u8(w, x.five_minus_max_num_merge_cand)?; // Row(14, 33)

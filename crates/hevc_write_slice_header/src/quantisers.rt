@@ -18,7 +18,7 @@ pub(crate) fn write_quantisers(
     x: &SliceHeader,
 ) -> Result<(), AllocError>
     ensures { OnOk result (Writes (table.quantisers (plain_pps pps.now))
-        own.quantisers (plain_slice_header x.now) w.old w.new) }
+        own.quantisers_of (plain_slice_header x.now) w.old w.new) }
 {
     write_quantiser(w, pps, x)?;
     write_extension_offsets(w, pps, x)?;
@@ -28,7 +28,7 @@ pub(crate) fn write_quantisers(
 /// Rows 35 to 40 of table 14.
 fn write_quantiser(w: &mut BitWriter, pps: &Pps, x: &SliceHeader) -> Result<(), AllocError>
     ensures { OnOk result (Writes (table.quantiser (plain_pps pps.now))
-        own.quantiser (plain_slice_header x.now) w.old w.new) }
+        own.quantiser_of (plain_slice_header x.now) w.old w.new) }
 {
     se_i8(w, x.qp_delta)?; // Row(14, 35)
     write_chroma_offsets_if(w, pps.slice_chroma_qp_offsets_present_flag, pps, x)?;
@@ -44,7 +44,7 @@ fn write_chroma_offsets_if(
 ) -> Result<(), AllocError>
     ensures { OnOk result (WritesIf present
         (Writes (table.chroma_offsets (plain_pps pps.now))
-        own.chroma_offsets (plain_slice_header x.now)) w.old w.new) }
+        own.chroma_offsets_of (plain_slice_header x.now)) w.old w.new) }
 {
     if present {
         write_chroma_offsets(w, pps, x)
@@ -56,7 +56,7 @@ fn write_chroma_offsets_if(
 /// Rows 37 to 40 of table 14.
 fn write_chroma_offsets(w: &mut BitWriter, pps: &Pps, x: &SliceHeader) -> Result<(), AllocError>
     ensures { OnOk result (Writes (table.chroma_offsets (plain_pps pps.now))
-        own.chroma_offsets (plain_slice_header x.now) w.old w.new) }
+        own.chroma_offsets_of (plain_slice_header x.now) w.old w.new) }
 {
     se_i8(w, x.cb_qp_offset)?; // Row(14, 37)
     se_i8(w, x.cr_qp_offset)?; // Row(14, 39)
@@ -66,7 +66,7 @@ fn write_chroma_offsets(w: &mut BitWriter, pps: &Pps, x: &SliceHeader) -> Result
 /// Rows 41 and 42 of table 14.
 fn write_extension_offsets(w: &mut BitWriter, pps: &Pps, x: &SliceHeader) -> Result<(), AllocError>
     ensures { OnOk result (Writes (table.extension_offsets (plain_pps pps.now))
-        own.extension_offsets (plain_slice_header x.now) w.old w.new) }
+        own.extension_offsets_of (plain_slice_header x.now) w.old w.new) }
 {
     write_colour_transform_offsets_if(w, pps.scc_extension.slice_act_qp_offsets_present_flag, x)?;
     flag_if(
@@ -85,7 +85,7 @@ fn write_colour_transform_offsets_if(
 ) -> Result<(), AllocError>
     ensures { OnOk result (WritesIf present
         (Writes table.colour_transform_offsets
-        own.colour_transform_offsets (plain_slice_header x.now)) w.old w.new) }
+        own.colour_transform_offsets_of (plain_slice_header x.now)) w.old w.new) }
 {
     if present {
         write_colour_transform_offsets(w, x)
@@ -97,7 +97,7 @@ fn write_colour_transform_offsets_if(
 /// Row 41 of table 14.
 fn write_colour_transform_offsets(w: &mut BitWriter, x: &SliceHeader) -> Result<(), AllocError>
     ensures { OnOk result (Writes table.colour_transform_offsets
-        own.colour_transform_offsets (plain_slice_header x.now) w.old w.new) }
+        own.colour_transform_offsets_of (plain_slice_header x.now) w.old w.new) }
 {
     se_i8(w, x.slice_act_y_qp_offset)?; // Row(14, 41)
     se_i8(w, x.slice_act_cb_qp_offset)?; // Row(14, 41)

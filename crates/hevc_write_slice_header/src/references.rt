@@ -26,7 +26,7 @@ pub(crate) fn write_reference_pictures_if(
 ) -> Result<(), AllocError>
     ensures { OnOk result (WritesIf present
         (Writes (own.reference_picture_rows (plain_sps sps.now))
-        own.seen_by_reference_pictures (plain_slice_header x.now)) w.old w.new) }
+        own.reference_pictures_elements_of (plain_slice_header x.now)) w.old w.new) }
 {
     if present {
         write_reference_pictures(w, sps, x)
@@ -42,7 +42,7 @@ pub(crate) fn write_reference_pictures(
     x: &SliceHeader,
 ) -> Result<(), AllocError>
     ensures { OnOk result (Writes (own.reference_picture_rows (plain_sps sps.now))
-        own.seen_by_reference_pictures (plain_slice_header x.now) w.old w.new) }
+        own.reference_pictures_elements_of (plain_slice_header x.now) w.old w.new) }
 {
     write_short_term(w, sps, x)?;
     write_long_term_if(w, sps.long_term_ref_pics_present_flag, sps, x)?;
@@ -57,7 +57,7 @@ pub(crate) fn write_reference_pictures(
 /// Rows 10 to 13 of table 14.
 fn write_short_term(w: &mut BitWriter, sps: &Sps, x: &SliceHeader) -> Result<(), AllocError>
     ensures { OnOk result (Writes (own.short_term_rows (plain_sps sps.now))
-        own.seen_by_short_term (plain_slice_header x.now) w.old w.new) }
+        own.short_term_elements_of (plain_slice_header x.now) w.old w.new) }
 {
     order_count(w, sps, x.pic_order_cnt_lsb)?; // Row(14, 10)
     flag(w, x.short_term_ref_pic_set_sps_flag)?; // Row(14, 11)
@@ -72,7 +72,7 @@ fn write_candidate_short_term_set(
     x: &SliceHeader,
 ) -> Result<(), AllocError>
     ensures { OnOk result (Writes (table.candidate_short_term_set (plain_sps sps.now))
-        own.short_term_elements (plain_slice_header x.now) w.old w.new) }
+        own.short_term_set_elements_of (plain_slice_header x.now) w.old w.new) }
 {
     index_if(
         w,
@@ -85,7 +85,7 @@ fn write_candidate_short_term_set(
 /// Row 12 of table 14.
 fn write_own_short_term_set(w: &mut BitWriter, sps: &Sps, x: &SliceHeader) -> Result<(), AllocError>
     ensures { OnOk result (Writes (own.own_set_rows (plain_sps sps.now))
-        own.short_term_elements (plain_slice_header x.now) w.old w.new) }
+        own.short_term_set_elements_of (plain_slice_header x.now) w.old w.new) }
 {
     write_own_set(w, sps, x)?;
     Ok(())
@@ -107,9 +107,9 @@ fn write_own_set(w: &mut BitWriter, sps: &Sps, x: &SliceHeader) -> Result<(), Al
 fn write_current_set(w: &mut BitWriter, sps: &Sps, x: &SliceHeader) -> Result<(), AllocError>
     ensures { OnOk result (WritesEither x.now.short_term_ref_pic_set_sps_flag
         (Writes (table.candidate_short_term_set (plain_sps sps.now))
-        own.short_term_elements (plain_slice_header x.now))
+        own.short_term_set_elements_of (plain_slice_header x.now))
         (Writes (own.own_set_rows (plain_sps sps.now))
-        own.short_term_elements (plain_slice_header x.now)) w.old w.new) }
+        own.short_term_set_elements_of (plain_slice_header x.now)) w.old w.new) }
 {
     if x.short_term_ref_pic_set_sps_flag {
         write_candidate_short_term_set(w, sps, x)

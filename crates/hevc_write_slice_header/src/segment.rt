@@ -27,7 +27,7 @@ pub(crate) fn write_beginning(
     x: &SliceHeader,
 ) -> Result<(), AllocError>
     ensures { OnOk result (Writes (table.beginning (nalu_type_number nalu_type))
-        own.beginning (plain_slice_header x.now) w.old w.new) }
+        own.beginning_of (plain_slice_header x.now) w.old w.new) }
 {
     flag(w, x.first_slice_segment_in_pic_flag)?; // Row(14, 1)
     flag_if(w, nalu_type.is_irap(), x.no_output_of_prior_pics_flag)?; // Row(14, 2)
@@ -45,7 +45,7 @@ pub(crate) fn write_later_segment_if(
 ) -> Result<(), AllocError>
     ensures { OnOk result (WritesIf present
         (Writes (table.later_segment (plain_sps sps.now) (plain_pps pps.now))
-        own.later_segment (plain_slice_header x.now)) w.old w.new) }
+        own.later_segment_of (plain_slice_header x.now)) w.old w.new) }
 {
     if present {
         write_later_segment(w, sps, pps, x)
@@ -62,7 +62,7 @@ pub(crate) fn write_later_segment(
     x: &SliceHeader,
 ) -> Result<(), AllocError>
     ensures { OnOk result (Writes (table.later_segment (plain_sps sps.now) (plain_pps pps.now))
-        own.later_segment (plain_slice_header x.now) w.old w.new) }
+        own.later_segment_of (plain_slice_header x.now) w.old w.new) }
 {
     flag_if(
         w,
@@ -85,7 +85,7 @@ pub(crate) fn write_independent_segment_if(
     ensures { OnOk result (WritesIf present
         (Writes (own.independent_rows (nalu_type_number nalu_type)
         (plain_sps sps.now) (plain_pps pps.now))
-        own.seen_by_independent_segment (plain_slice_header x.now)) w.old w.new) }
+        own.independent_segment_elements_of (plain_slice_header x.now)) w.old w.new) }
 {
     if present {
         write_independent_segment(w, nalu_type, sps, pps, x)
@@ -104,7 +104,7 @@ pub(crate) fn write_independent_segment(
 ) -> Result<(), AllocError>
     ensures { OnOk result (Writes
         (own.independent_rows (nalu_type_number nalu_type) (plain_sps sps.now) (plain_pps pps.now))
-        own.seen_by_independent_segment (plain_slice_header x.now) w.old w.new) }
+        own.independent_segment_elements_of (plain_slice_header x.now) w.old w.new) }
 {
     write_kind(w, sps, pps, x)?;
     write_reference_pictures_if(w, !nalu_type.is_idr(), sps, x)?;
@@ -118,7 +118,7 @@ pub(crate) fn write_independent_segment(
 /// Rows 6 to 9 of table 14.
 fn write_kind(w: &mut BitWriter, sps: &Sps, pps: &Pps, x: &SliceHeader) -> Result<(), AllocError>
     ensures { OnOk result (Writes (table.kind (plain_sps sps.now) (plain_pps pps.now))
-        own.kind (plain_slice_header x.now) w.old w.new) }
+        own.kind_of (plain_slice_header x.now) w.old w.new) }
 {
     zeros_u8(w, pps.num_extra_slice_header_bits)?; // Row(14, 6)
     slice_type(w, x.type_)?; // Row(14, 7)

@@ -32,17 +32,17 @@ module _ (r : Row) (kept : chosen_value r ≡ None) (n : ℕ) where
   unfolding list_entries list_entry entry
   entries_written xs count m turns e = items_written entry entry_fillable xs m count turns e
 
-pub modification_l0_keeps : (n active : ℕ) → Keeps (modification_l0 n active) own.modification_l0
+pub modification_l0_keeps : (n active : ℕ) → Keeps (modification_l0 n active) own.modification_l0_of
 unfolding modification_l0
 modification_l0_keeps n active = record { same = λ y. refl; last = λ x y z. refl; kept = λ y w. search (kept_rows, entries_fillable) depth 40 fits 4000 }
 
-pub modification_l1_keeps : (n active : ℕ) → Keeps (modification_l1 n active) own.modification_l1
+pub modification_l1_keeps : (n active : ℕ) → Keeps (modification_l1 n active) own.modification_l1_of
 unfolding modification_l1
 modification_l1_keeps n active = record { same = λ y. refl; last = λ x y z. refl; kept = λ y w. search (kept_rows, entries_fillable) depth 40 fits 4000 }
 
 pub list_modification_fillable : (is_b : Bool) (n active_l0 active_l1 : ℕ) → IsFillable (ref_pic_list_modification is_b n active_l0 active_l1)
 unfolding ref_pic_list_modification
 list_modification_fillable is_b n active_l0 active_l1 = record {
-  fill = λ w. then_filled (part_kept (modification_l0 n active_l0) own.modification_l0 (modification_l0_keeps n active_l0) _ (λ z1 b1.
-      when_kept (modification_l1 n active_l1) own.modification_l1 (modification_l1_keeps n active_l1) _ _ (λ z2 b2. tt)));
+  fill = λ w. then_filled (part_kept (modification_l0 n active_l0) own.modification_l0_of (modification_l0_keeps n active_l0) _ (λ z1 b1.
+      when_kept (modification_l1 n active_l1) own.modification_l1_of (modification_l1_keeps n active_l1) _ _ (λ z2 b2. tt)));
 }

@@ -10,50 +10,50 @@ use Rattle.hevc_writing.proofs.Loops.{turns_keep, all_turns, all_same, one_less,
 use Rattle.hevc_write_slices.specs.WeightParts as own
 
 module _ (list : ℕ) where
-  luma_flag_keeps : (i : ℕ) → Keeps (luma_flag list i) own.luma_flags
+  luma_flag_keeps : (i : ℕ) → Keeps (luma_flag list i) own.luma_flags_of
   unfolding luma_flag
   luma_flag_keeps i = record { same = λ y. refl; last = λ x y z. refl; kept = λ y w. search kept_rows depth 40 fits 4000 }
 
-  pub luma_flags_keep : (count : ℕ) → Keeps (luma_flags list count) own.luma_flags
+  pub luma_flags_keep : (count : ℕ) → Keeps (luma_flags list count) own.luma_flags_of
   unfolding luma_flags
-  luma_flags_keep count = turns_keep (luma_flag list) own.luma_flags luma_flag_keeps count
+  luma_flags_keep count = turns_keep (luma_flag list) own.luma_flags_of luma_flag_keeps count
 
-  pub luma_flags_written : (x : ListWeights) (n count : ℕ) {old new : List Bool} → WritesTurns (luma_flag list) (own.same_luma_flags x) n old new → n ≡ count → Writes (luma_flags list count) own.luma_flags x old new
+  pub luma_flags_written : (x : ListWeights) (n count : ℕ) {old new : List Bool} → WritesTurns (luma_flag list) (own.same_luma_flags x) n old new → n ≡ count → Writes (luma_flags list count) own.luma_flags_of x old new
   unfolding luma_flags
-  luma_flags_written x n count {old = old} {new = new} h e = subst (λ (k : ℕ). Writes (repeat (luma_flag list) 0 k) own.luma_flags x old new) e (all_turns (luma_flag list) (own.same_luma_flags x) (λ z is. all_same _ _ _ (by is (λ r. r.luma_weight_flag))) h)
+  luma_flags_written x n count {old = old} {new = new} h e = subst (λ (k : ℕ). Writes (repeat (luma_flag list) 0 k) own.luma_flags_of x old new) e (all_turns (luma_flag list) (own.same_luma_flags x) (λ z is. all_same _ _ _ (by is (λ r. r.luma_weight_flag))) h)
 
-  chroma_flag_keeps : (i : ℕ) → Keeps (chroma_flag list i) own.chroma_flags
+  chroma_flag_keeps : (i : ℕ) → Keeps (chroma_flag list i) own.chroma_flags_of
   unfolding chroma_flag
   chroma_flag_keeps i = record { same = λ y. refl; last = λ x y z. refl; kept = λ y w. search kept_rows depth 40 fits 4000 }
 
-  pub chroma_flags_keep : (count : ℕ) → Keeps (chroma_flags list count) own.chroma_flags
+  pub chroma_flags_keep : (count : ℕ) → Keeps (chroma_flags list count) own.chroma_flags_of
   unfolding chroma_flags
-  chroma_flags_keep count = turns_keep (chroma_flag list) own.chroma_flags chroma_flag_keeps count
+  chroma_flags_keep count = turns_keep (chroma_flag list) own.chroma_flags_of chroma_flag_keeps count
 
-  pub chroma_flags_written : (x : ListWeights) (n count : ℕ) {old new : List Bool} → WritesTurns (chroma_flag list) (own.same_chroma_flags x) n old new → n ≡ count → Writes (chroma_flags list count) own.chroma_flags x old new
+  pub chroma_flags_written : (x : ListWeights) (n count : ℕ) {old new : List Bool} → WritesTurns (chroma_flag list) (own.same_chroma_flags x) n old new → n ≡ count → Writes (chroma_flags list count) own.chroma_flags_of x old new
   unfolding chroma_flags
-  chroma_flags_written x n count {old = old} {new = new} h e = subst (λ (k : ℕ). Writes (repeat (chroma_flag list) 0 k) own.chroma_flags x old new) e (all_turns (chroma_flag list) (own.same_chroma_flags x) (λ z is. all_same _ _ _ (by is (λ r. r.chroma_weight_flag))) h)
+  chroma_flags_written x n count {old = old} {new = new} h e = subst (λ (k : ℕ). Writes (repeat (chroma_flag list) 0 k) own.chroma_flags_of x old new) e (all_turns (chroma_flag list) (own.same_chroma_flags x) (λ z is. all_same _ _ _ (by is (λ r. r.chroma_weight_flag))) h)
 
 module _ (sps : PlainSps) (list : ℕ) where
-  pub luma_weight_keeps : (i : ℕ) → Keeps (luma_weight sps list i) own.luma_weights
+  pub luma_weight_keeps : (i : ℕ) → Keeps (luma_weight sps list i) own.luma_weights_of
   unfolding luma_weight
   luma_weight_keeps i = record { same = λ y. refl; last = λ x y z. refl; kept = λ y w. search kept_rows depth 40 fits 4000 }
 
-  pub chroma_weight_keeps : (i : ℕ) → Keeps (chroma_weight sps list i) own.chroma_weights
+  pub chroma_weight_keeps : (i : ℕ) → Keeps (chroma_weight sps list i) own.chroma_weights_of
   unfolding chroma_weight chroma_component
   chroma_weight_keeps i = record { same = λ y. refl; last = λ x y z. refl; kept = λ y w. search kept_rows depth 40 fits 4000 }
 
-  place_keeps : (i : ℕ) → Keeps (place_weights sps list i) own.weights
+  place_keeps : (i : ℕ) → Keeps (place_weights sps list i) own.weights_of
   unfolding place_weights
-  place_keeps i = record { same = λ y. refl; last = λ x y z. refl; kept = λ y w. then_filled (when_kept (luma_weight sps list i) own.luma_weights (luma_weight_keeps i) y _ (λ z b. when_kept (chroma_weight sps list i) own.chroma_weights (chroma_weight_keeps i) _ _ (λ u d. refl))) }
+  place_keeps i = record { same = λ y. refl; last = λ x y z. refl; kept = λ y w. then_filled (when_kept (luma_weight sps list i) own.luma_weights_of (luma_weight_keeps i) y _ (λ z b. when_kept (chroma_weight sps list i) own.chroma_weights_of (chroma_weight_keeps i) _ _ (λ u d. refl))) }
 
-  pub weights_keep : (count : ℕ) → Keeps (weights sps list count) own.weights
+  pub weights_keep : (count : ℕ) → Keeps (weights sps list count) own.weights_of
   unfolding weights
-  weights_keep count = turns_keep (place_weights sps list) own.weights place_keeps count
+  weights_keep count = turns_keep (place_weights sps list) own.weights_of place_keeps count
 
-  pub weights_written : (x : ListWeights) (n count : ℕ) {old new : List Bool} → WritesTurns (place_weights sps list) (own.SameWeights x) n old new → n ≡ count → Writes (weights sps list count) own.seen_by_weights x old new
+  pub weights_written : (x : ListWeights) (n count : ℕ) {old new : List Bool} → WritesTurns (place_weights sps list) (own.SameWeights x) n old new → n ≡ count → Writes (weights sps list count) own.weights_with_inputs_of x old new
   unfolding weights
-  weights_written x n count {old = old} {new = new} h e = subst (λ (k : ℕ). Writes (repeat (place_weights sps list) 0 k) own.seen_by_weights x old new) e (all_turns (place_weights sps list) (own.SameWeights x) (λ z is. record {
+  weights_written x n count {old = old} {new = new} h e = subst (λ (k : ℕ). Writes (repeat (place_weights sps list) 0 k) own.weights_with_inputs_of x old new) e (all_turns (place_weights sps list) (own.SameWeights x) (λ z is. record {
     luma_flags = by is (λ r. r.luma_weight_flag);
     chroma_flags = by is (λ r. r.chroma_weight_flag);
     luma = (all_same _ _ _ (by is (λ r. r.delta_luma_weight)), all_same _ _ _ (by is (λ r. r.luma_offset)));
@@ -63,8 +63,8 @@ module _ (sps : PlainSps) (list : ℕ) where
   pub list_weights_fillable : (count : ℕ) → IsFillable (list_weights sps list count)
   unfolding list_weights flags
   list_weights_fillable count = record {
-    fill = λ w. then_filled (then_filled (part_kept (luma_flags list count) own.luma_flags (luma_flags_keep list count) _ (λ z b.
-        when_kept (chroma_flags list count) own.chroma_flags (chroma_flags_keep list count) _ _ (λ u d. part_kept (weights sps list count) own.weights (weights_keep count) _ (λ v f. tt)))));
+    fill = λ w. then_filled (then_filled (part_kept (luma_flags list count) own.luma_flags_of (luma_flags_keep list count) _ (λ z b.
+        when_kept (chroma_flags list count) own.chroma_flags_of (chroma_flags_keep list count) _ _ (λ u d. part_kept (weights sps list count) own.weights_of (weights_keep count) _ (λ v f. tt)))));
   }
 
 -- the same number of places
@@ -78,7 +78,7 @@ fewer_luma x n z a = (fewer_same n _ _ a.0, fewer_same n _ _ a.1)
 pub fewer_chroma : (x : ListWeights) (n : ℕ) (z : ListWeights) → own.same_chroma x (n + 1) z → own.same_chroma x n z
 fewer_chroma x n z a = (fewer_same n _ _ a.0, fewer_same n _ _ a.1)
 
-pub denominators_keep : (sps : PlainSps) → Keeps (denominators sps) own.denominators
+pub denominators_keep : (sps : PlainSps) → Keeps (denominators sps) own.denominators_of
 unfolding denominators
 denominators_keep sps = record { same = λ y. refl; last = λ x y z. refl; kept = λ y w. search kept_rows depth 40 fits 4000 }
 
@@ -109,7 +109,7 @@ both_components l xs i a b lt two h =
 pub pred_weight_table_fillable : (sps : PlainSps) (is_b : Bool) (active_l0 active_l1 : ℕ) → IsFillable (pred_weight_table sps is_b active_l0 active_l1)
 unfolding pred_weight_table
 pred_weight_table_fillable sps is_b active_l0 active_l1 = record {
-  fill = λ w. then_filled (part_kept (denominators sps) own.denominators (denominators_keep sps) _ (λ z1 b1.
+  fill = λ w. then_filled (part_kept (denominators sps) own.denominators_of (denominators_keep sps) _ (λ z1 b1.
       then_filled (filled (list_weights_fillable sps 0 (active_l0 + 1)) (λ v2 b2.
       then_filled (filled (when_fillable _ _ (list_weights_fillable sps 1 (active_l1 + 1))) (λ v3 b3.
       done_filled tt))))));

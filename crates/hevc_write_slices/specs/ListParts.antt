@@ -7,17 +7,17 @@ use Rattle.hevc_writing.specs.Choices.{chosen_value}
 use Rattle.hevc_writing.specs.Filling.{WritesTable}
 
 -- rows 1 and 2
-abbrev pub modification_l0 : PlainRefPicListModification → PlainRefPicListModification
+abbrev pub modification_l0_of : PlainRefPicListModification → PlainRefPicListModification
     → PlainRefPicListModification
-modification_l0 from x = record x {
+modification_l0_of from x = record x {
   ref_pic_list_modification_flag_l0 = from.ref_pic_list_modification_flag_l0;
   list_entry_l0 = from.list_entry_l0;
 }
 
 -- rows 3 and 4
-abbrev pub modification_l1 : PlainRefPicListModification → PlainRefPicListModification
+abbrev pub modification_l1_of : PlainRefPicListModification → PlainRefPicListModification
     → PlainRefPicListModification
-modification_l1 from x = record x {
+modification_l1_of from x = record x {
   ref_pic_list_modification_flag_l1 = from.ref_pic_list_modification_flag_l1;
   list_entry_l1 = from.list_entry_l1;
 }

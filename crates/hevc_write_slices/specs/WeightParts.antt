@@ -16,8 +16,8 @@ plain_list_weights x = record {
 }
 
 -- the weights of list 0
-abbrev pub list0 : PlainPredWeightTable → table.ListWeights
-list0 t = record {
+abbrev pub list0_of : PlainPredWeightTable → table.ListWeights
+list0_of t = record {
   luma_weight_flag = t.luma_weight_l0_flag;
   chroma_weight_flag = t.chroma_weight_l0_flag;
   delta_luma_weight = t.delta_luma_weight_l0;
@@ -27,8 +27,8 @@ list0 t = record {
 }
 
 -- the weights of list 1
-abbrev pub list1 : PlainPredWeightTable → table.ListWeights
-list1 t = record {
+abbrev pub list1_of : PlainPredWeightTable → table.ListWeights
+list1_of t = record {
   luma_weight_flag = t.luma_weight_l1_flag;
   chroma_weight_flag = t.chroma_weight_l1_flag;
   delta_luma_weight = t.delta_luma_weight_l1;
@@ -38,42 +38,42 @@ list1 t = record {
 }
 
 -- rows 1 and 2
-abbrev pub denominators : PlainPredWeightTable → PlainPredWeightTable → PlainPredWeightTable
-denominators from x = record x {
+abbrev pub denominators_of : PlainPredWeightTable → PlainPredWeightTable → PlainPredWeightTable
+denominators_of from x = record x {
   luma_log2_weight_denom = from.luma_log2_weight_denom;
   delta_chroma_log2_weight_denom = from.delta_chroma_log2_weight_denom;
   chroma_log2_weight_denom = from.chroma_log2_weight_denom;
 }
 
 -- row 3
-abbrev pub luma_flags : table.ListWeights → table.ListWeights → table.ListWeights
-luma_flags from x = record x { luma_weight_flag = from.luma_weight_flag }
+abbrev pub luma_flags_of : table.ListWeights → table.ListWeights → table.ListWeights
+luma_flags_of from x = record x { luma_weight_flag = from.luma_weight_flag }
 
 -- row 4
-abbrev pub chroma_flags : table.ListWeights → table.ListWeights → table.ListWeights
-chroma_flags from x = record x { chroma_weight_flag = from.chroma_weight_flag }
+abbrev pub chroma_flags_of : table.ListWeights → table.ListWeights → table.ListWeights
+chroma_flags_of from x = record x { chroma_weight_flag = from.chroma_weight_flag }
 
 -- rows 5 and 6
-abbrev pub luma_weights : table.ListWeights → table.ListWeights → table.ListWeights
-luma_weights from x = record x {
+abbrev pub luma_weights_of : table.ListWeights → table.ListWeights → table.ListWeights
+luma_weights_of from x = record x {
   delta_luma_weight = from.delta_luma_weight;
   luma_offset = from.luma_offset;
 }
 
 -- rows 7 and 8
-abbrev pub chroma_weights : table.ListWeights → table.ListWeights → table.ListWeights
-chroma_weights from x = record x {
+abbrev pub chroma_weights_of : table.ListWeights → table.ListWeights → table.ListWeights
+chroma_weights_of from x = record x {
   delta_chroma_weight = from.delta_chroma_weight;
   delta_chroma_offset = from.delta_chroma_offset;
 }
 
 -- rows 5 to 8
-abbrev pub weights : table.ListWeights → table.ListWeights → table.ListWeights
-weights from x = chroma_weights from (luma_weights from x)
+abbrev pub weights_of : table.ListWeights → table.ListWeights → table.ListWeights
+weights_of from x = chroma_weights_of from (luma_weights_of from x)
 
--- rows 5 to 8, which go by rows 3 and 4
-abbrev pub seen_by_weights : table.ListWeights → table.ListWeights → table.ListWeights
-seen_by_weights from x = weights from (chroma_flags from (luma_flags from x))
+-- rows 5 to 8, with rows 3 and 4
+abbrev pub weights_with_inputs_of : table.ListWeights → table.ListWeights → table.ListWeights
+weights_with_inputs_of from x = weights_of from (chroma_flags_of from (luma_flags_of from x))
 
 -- row 3 of the first places is that of x, of so many
 abbrev pub same_luma_flags : table.ListWeights → ℕ → table.ListWeights → Type 0

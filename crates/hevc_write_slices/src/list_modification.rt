@@ -13,7 +13,8 @@ use hevc_slice_parts::ceil_log2;
 use hevc_writing::rows::{bits, flag};
 use std::alloc::AllocError;
 
-/// Table 15: of a B slice or not, with the number of pictures that it may refer to (NumPicTotalCurr). Only a B slice has a list 1.
+/// Table 15: of a B slice or not, with the number of pictures that it may refer to
+/// (NumPicTotalCurr). Only a B slice has a list 1.
 pub fn write_ref_pic_list_modification(
     w: &mut BitWriter,
     is_b: bool,
@@ -36,7 +37,7 @@ fn write_l0(
     x: &RefPicListModification,
 ) -> Result<(), AllocError>
     ensures { (active_l0 : ℕ) → OnOk result
-        (Writes (table.modification_l0 num_pic_total_curr active_l0) own.modification_l0
+        (Writes (table.modification_l0 num_pic_total_curr active_l0) own.modification_l0_of
         (plain_ref_pic_list_modification x.now) w.old w.new) }
 {
     let entries = x.list_entry_l0.as_slice();
@@ -58,7 +59,7 @@ fn write_l1_if(
     x: &RefPicListModification,
 ) -> Result<(), AllocError>
     ensures { OnOk result ((active_l1 : ℕ) → WritesIf present
-        (Writes (table.modification_l1 num_pic_total_curr active_l1) own.modification_l1
+        (Writes (table.modification_l1 num_pic_total_curr active_l1) own.modification_l1_of
         (plain_ref_pic_list_modification x.now)) w.old w.new) }
 {
     if present {
@@ -74,7 +75,7 @@ fn write_l1(
     x: &RefPicListModification,
 ) -> Result<(), AllocError>
     ensures { (active_l1 : ℕ) → OnOk result
-        (Writes (table.modification_l1 num_pic_total_curr active_l1) own.modification_l1
+        (Writes (table.modification_l1 num_pic_total_curr active_l1) own.modification_l1_of
         (plain_ref_pic_list_modification x.now) w.old w.new) }
 {
     let entries = x.list_entry_l1.as_slice();

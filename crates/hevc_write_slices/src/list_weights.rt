@@ -11,7 +11,8 @@ use hevc_video_set::PredWeightTable;
 use hevc_writing::rows::{flag, se_i8, se_i16};
 use std::alloc::AllocError;
 
-/// The weights of one list, for all places. Fields have the names of their syntax elements, without `_l0` and `_l1`.
+/// The weights of one list, for all places. Fields have the names of their syntax elements, without
+/// `_l0` and `_l1`.
 #[derive(Clone, Copy)]
 pub(crate) struct ListWeights {
     pub luma_weight_flag: [bool; 15],
@@ -25,7 +26,7 @@ pub(crate) struct ListWeights {
 impl ListWeights {
     /// The weights of list 0.
     pub fn list0(x: &PredWeightTable) -> ListWeights
-        ensures { own.plain_list_weights result ≡ own.list0 (plain_pred_weight_table x.now) }
+        ensures { own.plain_list_weights result ≡ own.list0_of (plain_pred_weight_table x.now) }
     {
         ListWeights {
             luma_weight_flag: x.luma_weight_l0_flag,
@@ -39,7 +40,7 @@ impl ListWeights {
 
     /// The weights of list 1.
     pub fn list1(x: &PredWeightTable) -> ListWeights
-        ensures { own.plain_list_weights result ≡ own.list1 (plain_pred_weight_table x.now) }
+        ensures { own.plain_list_weights result ≡ own.list1_of (plain_pred_weight_table x.now) }
     {
         ListWeights {
             luma_weight_flag: x.luma_weight_l1_flag,
@@ -92,7 +93,7 @@ pub(crate) fn write_list_weights(
 /// Row 3 of table 16, of so many places.
 fn write_luma_flags(w: &mut BitWriter, count: usize, x: &ListWeights) -> Result<(), AllocError>
     requires { count ≤ 15 }
-    ensures { (list : ℕ) → OnOk result (Writes (table.luma_flags list count) own.luma_flags
+    ensures { (list : ℕ) → OnOk result (Writes (table.luma_flags list count) own.luma_flags_of
         (own.plain_list_weights x.now) w.old w.new) }
 {
     for i in 0..count {
@@ -120,7 +121,7 @@ fn write_chroma_flags_if(
 ) -> Result<(), AllocError>
     requires { count ≤ 15 }
     ensures { OnOk result ((list : ℕ) → WritesIf present
-        (Writes (table.chroma_flags list count) own.chroma_flags (own.plain_list_weights x.now))
+        (Writes (table.chroma_flags list count) own.chroma_flags_of (own.plain_list_weights x.now))
         w.old w.new) }
 {
     if present {
@@ -132,7 +133,7 @@ fn write_chroma_flags_if(
 /// Row 4 of table 16, of so many places.
 fn write_chroma_flags(w: &mut BitWriter, count: usize, x: &ListWeights) -> Result<(), AllocError>
     requires { count ≤ 15 }
-    ensures { (list : ℕ) → OnOk result (Writes (table.chroma_flags list count) own.chroma_flags
+    ensures { (list : ℕ) → OnOk result (Writes (table.chroma_flags list count) own.chroma_flags_of
         (own.plain_list_weights x.now) w.old w.new) }
 {
     for i in 0..count {
@@ -155,7 +156,7 @@ fn write_chroma_flag(w: &mut BitWriter, i: usize, x: &ListWeights) -> Result<(),
 fn write_weights(w: &mut BitWriter, count: usize, x: &ListWeights) -> Result<(), AllocError>
     requires { count ≤ 15 }
     ensures { (sps : PlainSps) (list : ℕ) → OnOk result
-        (Writes (table.weights sps list count) own.seen_by_weights
+        (Writes (table.weights sps list count) own.weights_with_inputs_of
         (own.plain_list_weights x.now) w.old w.new) }
 {
     for i in 0..count {

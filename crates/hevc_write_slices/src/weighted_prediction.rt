@@ -12,7 +12,8 @@ use hevc_video_set::PredWeightTable;
 use hevc_writing::rows::{se_i8_if, ue_u8};
 use std::alloc::AllocError;
 
-/// Table 16: with chroma planes that are coded with luma or not (ChromaArrayType isn't 0), of a B slice or not, and the active places
+/// Table 16: with chroma planes that are coded with luma or not (ChromaArrayType isn't 0), of a B
+/// slice or not, and the active places
 /// of both lists, less 1. Only a B slice has a list 1.
 pub fn write_pred_weight_table(
     w: &mut BitWriter,
@@ -45,7 +46,7 @@ fn write_denominators(
     x: &PredWeightTable,
 ) -> Result<(), AllocError>
     ensures { OnOk result ((sps : PlainSps) → table.has_chroma sps ≡ chroma
-        → Writes (table.denominators sps) own.denominators (plain_pred_weight_table x.now)
+        → Writes (table.denominators sps) own.denominators_of (plain_pred_weight_table x.now)
         w.old w.new) }
 {
     ue_u8(w, x.luma_log2_weight_denom)?; // Row(16, 1)

@@ -15,7 +15,7 @@ use std::alloc::AllocError;
 /// Rows 25 to 29 of table 5.
 pub(crate) fn write_scaling(w: &mut BitWriter, x: &Sps) -> Result<(), AllocError>
     ensures { OnOk result (Writes table.scaling
-        own.scaling (plain_sps x.now) w.old w.new) }
+        own.scaling_of (plain_sps x.now) w.old w.new) }
 {
     ue_u8(w, x.max_transform_hierarchy_depth_inter)?; // Row(5, 25)
     ue_u8(w, x.max_transform_hierarchy_depth_intra)?; // Row(5, 26)
@@ -32,7 +32,7 @@ pub(crate) fn write_scaling(w: &mut BitWriter, x: &Sps) -> Result<(), AllocError
 /// Row 29 of table 5, where it is present.
 fn write_scaling_lists_if(w: &mut BitWriter, present: bool, x: &Sps) -> Result<(), AllocError>
     ensures { OnOk result (WritesIf present
-        (Writes table.scaling_lists own.scaling_lists (plain_sps x.now)) w.old w.new) }
+        (Writes table.scaling_lists own.scaling_lists_of (plain_sps x.now)) w.old w.new) }
 {
     if present {
         write_scaling_lists(w, x)
@@ -44,7 +44,7 @@ fn write_scaling_lists_if(w: &mut BitWriter, present: bool, x: &Sps) -> Result<(
 /// Row 29 of table 5.
 fn write_scaling_lists(w: &mut BitWriter, x: &Sps) -> Result<(), AllocError>
     ensures { OnOk result (Writes table.scaling_lists
-        own.scaling_lists (plain_sps x.now) w.old w.new) }
+        own.scaling_lists_of (plain_sps x.now) w.old w.new) }
 {
     write_scaling_list_data(w, &x.scaling_list)?; // Row(5, 29)
     Ok(())
@@ -53,7 +53,7 @@ fn write_scaling_lists(w: &mut BitWriter, x: &Sps) -> Result<(), AllocError>
 /// Rows 30 to 34 of table 5.
 pub(crate) fn write_tools(w: &mut BitWriter, x: &Sps) -> Result<(), AllocError>
     ensures { OnOk result (Writes table.tools
-        own.tools (plain_sps x.now) w.old w.new) }
+        own.tools_of (plain_sps x.now) w.old w.new) }
 {
     flag(w, x.amp_enabled_flag)?; // Row(5, 30)
     flag(w, x.sample_adaptive_offset_enabled_flag)?; // Row(5, 30)
@@ -69,7 +69,8 @@ fn write_pulse_code_modulation_if(
     x: &Sps,
 ) -> Result<(), AllocError>
     ensures { OnOk result (WritesIf present
-        (Writes table.pulse_code_modulation own.pulse_code_modulation (plain_sps x.now)) w.old w.new) }
+        (Writes table.pulse_code_modulation own.pulse_code_modulation_of (plain_sps x.now))
+        w.old w.new) }
 {
     if present {
         write_pulse_code_modulation(w, x)
@@ -81,7 +82,7 @@ fn write_pulse_code_modulation_if(
 /// Rows 31 to 34 of table 5.
 fn write_pulse_code_modulation(w: &mut BitWriter, x: &Sps) -> Result<(), AllocError>
     ensures { OnOk result (Writes table.pulse_code_modulation
-        own.pulse_code_modulation (plain_sps x.now) w.old w.new) }
+        own.pulse_code_modulation_of (plain_sps x.now) w.old w.new) }
 {
     bits_u8(w, 4, x.pcm_sample_bit_depth_luma_minus1)?; // Row(5, 31)
     bits_u8(w, 4, x.pcm_sample_bit_depth_chroma_minus1)?; // Row(5, 31)
@@ -94,7 +95,7 @@ fn write_pulse_code_modulation(w: &mut BitWriter, x: &Sps) -> Result<(), AllocEr
 /// Rows 41 and 42 of table 5.
 pub(crate) fn write_usability(w: &mut BitWriter, x: &Sps) -> Result<(), AllocError>
     ensures { OnOk result (Writes table.usability
-        own.seen_by_usability (plain_sps x.now) w.old w.new) }
+        own.usability_with_inputs_of (plain_sps x.now) w.old w.new) }
 {
     flag(w, x.temporal_mvp_enabled_flag)?; // Row(5, 41)
     flag(w, x.strong_intra_smoothing_enabled_flag)?; // Row(5, 41)
@@ -110,7 +111,8 @@ fn write_usability_information_if(
     x: &Sps,
 ) -> Result<(), AllocError>
     ensures { OnOk result (WritesIf present
-        (Writes table.usability_information own.seen_by_usability_information (plain_sps x.now)) w.old w.new) }
+        (Writes table.usability_information own.usability_information_with_inputs_of
+        (plain_sps x.now)) w.old w.new) }
 {
     if present {
         write_usability_information(w, x)
@@ -122,7 +124,7 @@ fn write_usability_information_if(
 /// Row 42 of table 5.
 fn write_usability_information(w: &mut BitWriter, x: &Sps) -> Result<(), AllocError>
     ensures { OnOk result (Writes table.usability_information
-        own.seen_by_usability_information (plain_sps x.now) w.old w.new) }
+        own.usability_information_with_inputs_of (plain_sps x.now) w.old w.new) }
 {
     write_vui_parameters(w, x.max_sub_layers_minus1, &x.vui_parameters)?; // Row(5, 42)
     Ok(())

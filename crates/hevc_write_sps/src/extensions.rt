@@ -14,7 +14,7 @@ use std::alloc::AllocError;
 /// Rows 43 to 50 of table 5.
 pub(crate) fn write_extensions(w: &mut BitWriter, x: &Sps) -> Result<(), AllocError>
     ensures { OnOk result (Writes table.extensions
-        own.seen_by_extensions (plain_sps x.now) w.old w.new) }
+        own.extensions_with_inputs_of (plain_sps x.now) w.old w.new) }
 {
     flag(w, x.extension_present_flag)?; // Row(5, 43)
     write_extension_data_if(w, x.extension_present_flag, x)?;
@@ -24,7 +24,8 @@ pub(crate) fn write_extensions(w: &mut BitWriter, x: &Sps) -> Result<(), AllocEr
 /// Rows 44 to 50 of table 5, where they are present.
 fn write_extension_data_if(w: &mut BitWriter, present: bool, x: &Sps) -> Result<(), AllocError>
     ensures { OnOk result (WritesIf present
-        (Writes table.extension_data own.seen_by_extension_data (plain_sps x.now)) w.old w.new) }
+        (Writes table.extension_data own.extension_data_with_inputs_of (plain_sps x.now))
+        w.old w.new) }
 {
     if present {
         write_extension_data(w, x)
@@ -36,7 +37,7 @@ fn write_extension_data_if(w: &mut BitWriter, present: bool, x: &Sps) -> Result<
 /// Rows 44 to 50 of table 5.
 fn write_extension_data(w: &mut BitWriter, x: &Sps) -> Result<(), AllocError>
     ensures { OnOk result (Writes table.extension_data
-        own.seen_by_extension_data (plain_sps x.now) w.old w.new) }
+        own.extension_data_with_inputs_of (plain_sps x.now) w.old w.new) }
 {
     write_extension_flags(w, x)?;
     write_range_extension_if(w, x.range_extension_flag, x)?;
@@ -47,7 +48,7 @@ fn write_extension_data(w: &mut BitWriter, x: &Sps) -> Result<(), AllocError>
 /// Rows 44 to 48 of table 5.
 fn write_extension_flags(w: &mut BitWriter, x: &Sps) -> Result<(), AllocError>
     ensures { OnOk result (Writes table.extension_flags
-        own.extension_flags (plain_sps x.now) w.old w.new) }
+        own.extension_flags_of (plain_sps x.now) w.old w.new) }
 {
     flag(w, x.range_extension_flag)?; // Row(5, 44)
     flag(w, false)?; // Row(5, 45)
@@ -60,7 +61,8 @@ fn write_extension_flags(w: &mut BitWriter, x: &Sps) -> Result<(), AllocError>
 /// Row 49 of table 5, where it is present.
 fn write_range_extension_if(w: &mut BitWriter, present: bool, x: &Sps) -> Result<(), AllocError>
     ensures { OnOk result (WritesIf present
-        (Writes table.range_extension own.range_element (plain_sps x.now)) w.old w.new) }
+        (Writes table.range_extension own.range_extension_elements_of (plain_sps x.now))
+        w.old w.new) }
 {
     if present {
         write_range_extension(w, x)
@@ -72,7 +74,7 @@ fn write_range_extension_if(w: &mut BitWriter, present: bool, x: &Sps) -> Result
 /// Row 49 of table 5.
 fn write_range_extension(w: &mut BitWriter, x: &Sps) -> Result<(), AllocError>
     ensures { OnOk result (Writes table.range_extension
-        own.range_element (plain_sps x.now) w.old w.new) }
+        own.range_extension_elements_of (plain_sps x.now) w.old w.new) }
 {
     write_sps_range_extension(w, &x.range_extension)?; // Row(5, 49)
     Ok(())
@@ -81,7 +83,8 @@ fn write_range_extension(w: &mut BitWriter, x: &Sps) -> Result<(), AllocError>
 /// Row 50 of table 5, where it is present.
 fn write_scc_extension_if(w: &mut BitWriter, present: bool, x: &Sps) -> Result<(), AllocError>
     ensures { OnOk result (WritesIf present
-        (Writes table.scc_extension own.seen_by_scc_extension (plain_sps x.now)) w.old w.new) }
+        (Writes table.scc_extension own.scc_extension_with_inputs_of (plain_sps x.now))
+        w.old w.new) }
 {
     if present {
         write_scc_extension(w, x)
@@ -93,7 +96,7 @@ fn write_scc_extension_if(w: &mut BitWriter, present: bool, x: &Sps) -> Result<(
 /// Row 50 of table 5.
 fn write_scc_extension(w: &mut BitWriter, x: &Sps) -> Result<(), AllocError>
     ensures { OnOk result (Writes table.scc_extension
-        own.seen_by_scc_extension (plain_sps x.now) w.old w.new) }
+        own.scc_extension_with_inputs_of (plain_sps x.now) w.old w.new) }
 {
     write_sps_scc_extension(w, x)?; // Row(5, 50)
     Ok(())

@@ -14,7 +14,7 @@ use std::alloc::AllocError;
 /// Rows 1 to 5 of table 5.
 pub(crate) fn write_identity(w: &mut BitWriter, x: &Sps) -> Result<(), AllocError>
     ensures { OnOk result (Writes table.identity
-        own.identity (plain_sps x.now) w.old w.new) }
+        own.identity_of (plain_sps x.now) w.old w.new) }
 {
     bits_u8(w, 4, x.video_parameter_set_id)?; // Row(5, 1)
     bits_u8(w, 3, x.max_sub_layers_minus1)?; // Row(5, 2)
@@ -27,7 +27,7 @@ pub(crate) fn write_identity(w: &mut BitWriter, x: &Sps) -> Result<(), AllocErro
 /// Rows 6 to 12 of table 5: the size, and what of it is shown.
 pub(crate) fn write_framing(w: &mut BitWriter, x: &Sps) -> Result<(), AllocError>
     ensures { OnOk result (Writes own.framing_rows
-        own.framing_elements (plain_sps x.now) w.old w.new) }
+        own.framing_elements_of (plain_sps x.now) w.old w.new) }
 {
     ue_u8(w, x.chroma_format_idc)?; // Row(5, 6)
     flag_if(w, x.chroma_format_idc == 3, x.separate_colour_plane_flag)?; // Row(5, 7)
@@ -41,7 +41,7 @@ pub(crate) fn write_framing(w: &mut BitWriter, x: &Sps) -> Result<(), AllocError
 /// Rows 11 and 12 of table 5, where they are present.
 fn write_window_if(w: &mut BitWriter, present: bool, x: &Sps) -> Result<(), AllocError>
     ensures { OnOk result (WritesIf present
-        (Writes table.window own.window_offsets (plain_sps x.now)) w.old w.new) }
+        (Writes table.window own.window_elements_of (plain_sps x.now)) w.old w.new) }
 {
     if present { write_window(w, x) } else { Ok(()) }
 }
@@ -49,7 +49,7 @@ fn write_window_if(w: &mut BitWriter, present: bool, x: &Sps) -> Result<(), Allo
 /// Rows 11 and 12 of table 5.
 fn write_window(w: &mut BitWriter, x: &Sps) -> Result<(), AllocError>
     ensures { OnOk result (Writes table.window
-        own.window_offsets (plain_sps x.now) w.old w.new) }
+        own.window_elements_of (plain_sps x.now) w.old w.new) }
 {
     ue(w, x.conf_win_left_offset)?; // Row(5, 11)
     ue(w, x.conf_win_right_offset)?; // Row(5, 11)
@@ -61,7 +61,7 @@ fn write_window(w: &mut BitWriter, x: &Sps) -> Result<(), AllocError>
 /// Rows 13 to 15 of table 5.
 pub(crate) fn write_depths(w: &mut BitWriter, x: &Sps) -> Result<(), AllocError>
     ensures { OnOk result (Writes table.depths
-        own.depth_elements (plain_sps x.now) w.old w.new) }
+        own.depths_elements_of (plain_sps x.now) w.old w.new) }
 {
     ue_u8(w, x.bit_depth_luma_minus8)?; // Row(5, 13)
     ue_u8(w, x.bit_depth_chroma_minus8)?; // Row(5, 14)
@@ -72,7 +72,7 @@ pub(crate) fn write_depths(w: &mut BitWriter, x: &Sps) -> Result<(), AllocError>
 /// Rows 20 to 24 of table 5.
 pub(crate) fn write_blocks(w: &mut BitWriter, x: &Sps) -> Result<(), AllocError>
     ensures { OnOk result (Writes table.blocks
-        own.block_sizes (plain_sps x.now) w.old w.new) }
+        own.blocks_elements_of (plain_sps x.now) w.old w.new) }
 {
     ue_u8(w, x.log2_min_luma_coding_block_size_minus3)?; // Row(5, 20)
     ue_u8(w, x.log2_diff_max_min_luma_coding_block_size)?; // Row(5, 21)

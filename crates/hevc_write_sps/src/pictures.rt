@@ -14,7 +14,7 @@ use std::alloc::AllocError;
 /// Rows 35 and 36 of table 5.
 pub(crate) fn write_short_term(w: &mut BitWriter, x: &Sps) -> Result<(), AllocError>
     ensures { OnOk result (Writes table.short_term
-        own.short_term (plain_sps x.now) w.old w.new) }
+        own.short_term_of (plain_sps x.now) w.old w.new) }
 {
     ue_u8(w, x.num_short_term_ref_pic_sets)?; // Row(5, 35)
     write_short_term_sets(w, x)?;
@@ -24,7 +24,7 @@ pub(crate) fn write_short_term(w: &mut BitWriter, x: &Sps) -> Result<(), AllocEr
 /// Rows 37 to 40 of table 5.
 pub(crate) fn write_long_term(w: &mut BitWriter, x: &Sps) -> Result<(), AllocError>
     ensures { OnOk result (Writes table.long_term
-        own.seen_by_long_term (plain_sps x.now) w.old w.new) }
+        own.long_term_with_inputs_of (plain_sps x.now) w.old w.new) }
 {
     flag(w, x.long_term_ref_pics_present_flag)?; // Row(5, 37)
     ue_u8_if(
@@ -54,7 +54,7 @@ fn write_short_term_sets(w: &mut BitWriter, x: &Sps) -> Result<(), AllocError>
 #[tactic(auto, using(hevc_writing::proofs::Loops::turns, crate::proofs::SpsKeeps::pictures_written))]
 fn write_long_term_pictures(w: &mut BitWriter, x: &Sps) -> Result<(), AllocError>
     ensures { OnOk result (Writes table.long_term_pictures
-        own.seen_by_pictures (plain_sps x.now) w.old w.new) }
+        own.long_term_pictures_with_inputs_of (plain_sps x.now) w.old w.new) }
 {
     for i in 0..usize::from(x.num_long_term_ref_pics_sps) {
         write_long_term_picture(w, i, x)?;

@@ -13,7 +13,7 @@ use std::alloc::AllocError;
 /// Rows 8 to 13 of table 1.
 pub(crate) fn write_orderings(w: &mut BitWriter, x: &Vps) -> Result<(), AllocError>
     ensures { OnOk result (Writes table.orderings
-        own.seen_orderings (plain_vps x.now) w.old w.new) }
+        own.orderings_with_inputs_of (plain_vps x.now) w.old w.new) }
 {
     flag(w, x.sub_layer_ordering_info_present_flag)?; // Row(1, 8)
     write_own_orderings_or_common_ordering(w, x)?;
@@ -23,8 +23,9 @@ pub(crate) fn write_orderings(w: &mut BitWriter, x: &Vps) -> Result<(), AllocErr
 /// Rows 9 to 13 of table 1, of each sub-layer or of the highest.
 fn write_own_orderings_or_common_ordering(w: &mut BitWriter, x: &Vps) -> Result<(), AllocError>
     ensures { OnOk result (WritesEither x.now.sub_layer_ordering_info_present_flag
-        (Writes table.own_orderings own.seen_by_orderings (plain_vps x.now))
-        (Writes table.common_ordering own.seen_by_orderings (plain_vps x.now)) w.old w.new) }
+        (Writes table.own_orderings own.own_orderings_with_inputs_of (plain_vps x.now))
+        (Writes table.common_ordering own.own_orderings_with_inputs_of (plain_vps x.now))
+        w.old w.new) }
 {
     if x.sub_layer_ordering_info_present_flag {
         write_own_orderings(w, x)
@@ -37,7 +38,7 @@ fn write_own_orderings_or_common_ordering(w: &mut BitWriter, x: &Vps) -> Result<
 #[tactic(auto, using(hevc_writing::proofs::Loops::turns, crate::proofs::VpsKeeps::orderings_written))]
 fn write_own_orderings(w: &mut BitWriter, x: &Vps) -> Result<(), AllocError>
     ensures { OnOk result (Writes table.own_orderings
-        own.seen_by_orderings (plain_vps x.now) w.old w.new) }
+        own.own_orderings_with_inputs_of (plain_vps x.now) w.old w.new) }
 {
     for i in 0..usize::from(x.max_sub_layers_minus1) + 1 {
         write_own_ordering(w, i, x)?;
@@ -69,7 +70,7 @@ fn write_number(w: &mut BitWriter, i: usize, numbers: &[u32; 7]) -> Result<(), A
 /// Rows 9 to 13 of table 1, for the highest sub-layer, which hold for all.
 fn write_common_ordering(w: &mut BitWriter, x: &Vps) -> Result<(), AllocError>
     ensures { OnOk result (Writes table.common_ordering
-        own.seen_by_orderings (plain_vps x.now) w.old w.new) }
+        own.own_orderings_with_inputs_of (plain_vps x.now) w.old w.new) }
 {
     let highest = usize::from(x.max_sub_layers_minus1);
     write_number(w, highest, &x.max_dec_pic_buffering_minus1)?; // Row(1, 9)

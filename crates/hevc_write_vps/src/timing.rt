@@ -1,4 +1,5 @@
-//! The clock, and the parameters of hypothetical reference decoders (7.3.2.1, rows 17 to 24 of table 1).
+//! The clock, and the parameters of hypothetical reference decoders (7.3.2.1, rows 17 to 24 of
+//! table 1).
 ghost use Rattle.std.specs.Prelude.{◌≡◌, ◌<◌, false, true, ◌==◌, if◌then◌else◌, length, slice_index_or, OnOk};
 ghost use Rattle.hevc_tables.specs.VpsTable as table;
 ghost use Rattle.hevc_video_set.specs.Vps.{plain_vps};
@@ -14,7 +15,7 @@ use std::alloc::AllocError;
 /// Rows 17 to 24 of table 1.
 pub(crate) fn write_timing_info(w: &mut BitWriter, x: &Vps) -> Result<(), AllocError>
     ensures { OnOk result (Writes own.timing_info_rows
-        own.seen_by_timing_info (plain_vps x.now) w.old w.new) }
+        own.timing_info_with_inputs_of (plain_vps x.now) w.old w.new) }
 {
     flag(w, x.timing_info_present_flag)?; // Row(1, 17)
     write_timing_if(w, x.timing_info_present_flag, x)?;
@@ -24,7 +25,7 @@ pub(crate) fn write_timing_info(w: &mut BitWriter, x: &Vps) -> Result<(), AllocE
 /// Rows 18 to 24 of table 1, where they are present.
 fn write_timing_if(w: &mut BitWriter, present: bool, x: &Vps) -> Result<(), AllocError>
     ensures { OnOk result (WritesIf present
-        (Writes own.timing_rows own.seen_by_timing (plain_vps x.now)) w.old w.new) }
+        (Writes own.timing_rows own.timing_with_inputs_of (plain_vps x.now)) w.old w.new) }
 {
     if present { write_timing(w, x) } else { Ok(()) }
 }
@@ -32,7 +33,7 @@ fn write_timing_if(w: &mut BitWriter, present: bool, x: &Vps) -> Result<(), Allo
 /// Rows 18 to 24 of table 1.
 fn write_timing(w: &mut BitWriter, x: &Vps) -> Result<(), AllocError>
     ensures { OnOk result (Writes own.timing_rows
-        own.seen_by_timing (plain_vps x.now) w.old w.new) }
+        own.timing_with_inputs_of (plain_vps x.now) w.old w.new) }
 {
     bits(w, 32, x.num_units_in_tick)?; // Row(1, 18)
     bits(w, 32, x.time_scale)?; // Row(1, 18)
@@ -50,7 +51,7 @@ fn write_timing(w: &mut BitWriter, x: &Vps) -> Result<(), AllocError>
 /// Rows 22 to 24 of table 1, for each structure.
 fn write_structures(w: &mut BitWriter, x: &Vps) -> Result<(), AllocError>
     ensures { OnOk result (Writes own.structures_rows
-        own.seen_by_structures (plain_vps x.now) w.old w.new) }
+        own.structures_with_inputs_of (plain_vps x.now) w.old w.new) }
 {
     for i in 0..x.hrd_parameters.as_slice().len() {
         write_structure(w, i, x)?;

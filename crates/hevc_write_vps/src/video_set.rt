@@ -28,7 +28,7 @@ pub fn write_vps(w: &mut BitWriter, x: &Vps) -> Result<(), AllocError>
 /// Rows 1 to 7 of table 1.
 fn write_identity(w: &mut BitWriter, x: &Vps) -> Result<(), AllocError>
     ensures { OnOk result (Writes table.identity
-        own.identity (plain_vps x.now) w.old w.new) }
+        own.identity_of (plain_vps x.now) w.old w.new) }
 {
     bits_u8(w, 4, x.video_parameter_set_id)?; // Row(1, 1)
     flag(w, x.base_layer_internal_flag)?; // Row(1, 2)
@@ -44,7 +44,7 @@ fn write_identity(w: &mut BitWriter, x: &Vps) -> Result<(), AllocError>
 /// Rows 14 to 16 of table 1.
 fn write_layer_sets(w: &mut BitWriter, x: &Vps) -> Result<(), AllocError>
     ensures { OnOk result (Writes table.layer_sets
-        own.layer_sets (plain_vps x.now) w.old w.new) }
+        own.layer_sets_of (plain_vps x.now) w.old w.new) }
 {
     bits_u8(w, 6, x.max_layer_id)?; // Row(1, 14)
     ue(w, x.num_layer_sets_minus1)?; // Row(1, 15)
@@ -55,13 +55,14 @@ fn write_layer_sets(w: &mut BitWriter, x: &Vps) -> Result<(), AllocError>
 /// Row 25 of table 1.
 fn write_extension(w: &mut BitWriter, x: &Vps) -> Result<(), AllocError>
     ensures { OnOk result (Writes table.extension
-        own.extension (plain_vps x.now) w.old w.new) }
+        own.extension_of (plain_vps x.now) w.old w.new) }
 {
     flag(w, x.extension_flag)?; // Row(1, 25)
     Ok(())
 }
 
-/// How many flags the layer sets have, each but the first one for each layer. Of more than a table allows there are none.
+/// How many flags the layer sets have, each but the first one for each layer. Of more than a table
+/// allows there are none.
 fn num_layer_flags(x: &Vps) -> u32
     ensures { x.now.max_layer_id ≤ 62 → x.now.num_layer_sets_minus1 ≤ 1023
         → result ≡ (x.now.max_layer_id + 1) * x.now.num_layer_sets_minus1 }

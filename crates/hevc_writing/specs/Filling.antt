@@ -1,6 +1,12 @@
 -- What writing by a table adds to the bits. The words for whole tables and their parts speak of any
 -- record that the table can give: wherever it is the one that is written, what was added are lines
 -- of it (Choices).
+--
+-- The elements of a part named P are told by functions that put them from one record into another:
+-- P_of all that the part sets, what follows from its elements too; P_elements_of its elements
+-- alone, where anything follows; P_with_inputs_of its elements, and those before it that it goes
+-- by. P_rows is a part that no table has as it is. same_P says that the first ones of a list are
+-- the same.
 use Rattle.std.specs.Prelude.{◌≡◌, ℕ, ℤ, ◌+◌, ◌<◌, Bool, true, false, List, [], ◌∷◌, ◌++◌, length, take, replicate, slice_index_or}
 use Rattle.hevc_spec.specs.Bits.{u, ue, se}
 use Rattle.hevc_spec.specs.Table.{Table}

@@ -10,6 +10,6 @@ pub returns : goal.returns
 unfolding constraints
 returns c = λ scope. record {
   written = λ y w.
-      either_part_written (range_extensions_flags scope) (own.other_constraints scope) own.constraints (range_extensions_flags_keeps scope) (other_constraints_keep scope) _ _ (c.in_ok-write_either_constraints.ensures scope) refl (λ v1 b1 h1 e at.
+      either_part_written (range_extensions_flags scope) (own.other_constraints scope) own.constraints_of (range_extensions_flags_keeps scope) (other_constraints_keep scope) _ _ (c.in_ok-write_either_constraints.ensures scope) refl (λ v1 b1 h1 e at.
       h1 (by e (λ r. has_range_extensions_flags r.profile_idc r.profile_compatibility_flag) ∙ sym c.has_extensions.ensures) _ e refl at);
 }

@@ -9,7 +9,7 @@ pub returns : goal.returns
 unfolding range_extensions_flags
 returns c = λ scope. record {
   written = λ y w.
-      part_then (formats scope) own.formats (formats_keeps scope) _ (c.in_ok-write_formats.ensures scope) refl (λ v1 b1 h1.
-      part_written (bit_depth_flag scope) own.bit_depth_flag (bit_depth_flag_keeps scope) _ (c.in_ok-write_bit_depth_flag.ensures scope) refl (λ v2 b2 h2 e at.
+      part_then (formats scope) own.formats_of (formats_keeps scope) _ (c.in_ok-write_formats.ensures scope) refl (λ v1 b1 h1.
+      part_written (bit_depth_flag scope) own.bit_depth_flag_of (bit_depth_flag_keeps scope) _ (c.in_ok-write_bit_depth_flag.ensures scope) refl (λ v2 b2 h2 e at.
       h2 _ e refl (h1 _ e refl at)));
 }

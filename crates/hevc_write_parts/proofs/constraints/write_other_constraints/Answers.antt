@@ -8,6 +8,6 @@ use Rattle.hevc_write_parts.proofs.constraints.write_other_constraints.Goals as 
 pub returns : goal.returns
 returns c = λ scope. record {
   written = λ y w.
-      either_part_written (main_10_flags scope) (reserved_bits scope) own.constraints (main_10_flags_keeps scope) (reserved_bits_keeps scope) _ _ (c.in_ok-write_either_rows.ensures scope) refl (λ v1 b1 h1 e at.
+      either_part_written (main_10_flags scope) (reserved_bits scope) own.constraints_of (main_10_flags_keeps scope) (reserved_bits_keeps scope) _ _ (c.in_ok-write_either_rows.ensures scope) refl (λ v1 b1 h1 e at.
       h1 (by e (λ r. layer_conforms_to r 2) ∙ sym c.layer_conforms_to.ensures) _ e refl at);
 }

@@ -10,7 +10,7 @@ unfolding buffering
 returns c = record {
   written = λ y w.
       flag_then _ refl c.in_ok-flag.ensures (λ v1 b1 h1.
-      part_if_then decoding_units own.decoding_units decoding_units_keep _ c.in_ok-write_units_if.ensures refl (λ v2 b2 h2.
-      part_written scales own.scales scales_keep _ c.in_ok-write_scales.ensures refl (λ v3 b3 h3 e at.
+      part_if_then decoding_units own.decoding_units_of decoding_units_keep _ c.in_ok-write_units_if.ensures refl (λ v2 b2 h2.
+      part_written scales own.scales_of scales_keep _ c.in_ok-write_scales.ensures refl (λ v3 b3 h3 e at.
       h3 _ e refl (h2 (by e (λ r. r.sub_pic_hrd_params_present_flag)) _ e refl (h1 (by e (λ r. r.sub_pic_hrd_params_present_flag)) at)))));
 }

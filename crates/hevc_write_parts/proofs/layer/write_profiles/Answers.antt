@@ -12,6 +12,6 @@ returns c = λ scope. record {
       bits_then _ (layer_row scope _) _ _ _ c.in_ok-bits_u8.ensures (λ v1 _ b1 h1.
       flag_then _ (layer_row scope _) c.in_ok-flag.ensures (λ v2 b2 h2.
       bits_then _ (layer_row scope _) _ _ _ c.in_ok-bits_u8-2.ensures (λ v3 _ b3 h3.
-      part_written (compatibility_flags scope) own.compatibility_flags (compatibility_flags_keep scope) _ (c.in_ok-write_compatibility_flags.ensures scope) refl (λ v4 b4 h4 e at.
+      part_written (compatibility_flags scope) own.compatibility_flags_of (compatibility_flags_keep scope) _ (c.in_ok-write_compatibility_flags.ensures scope) refl (λ v4 b4 h4 e at.
       h4 _ e refl (h3 (by e (λ r. r.profile_idc)) (h2 (by e (λ r. r.tier_flag)) (h1 (by e (λ r. r.profile_space)) at)))))));
 }

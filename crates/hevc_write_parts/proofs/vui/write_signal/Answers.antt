@@ -12,6 +12,6 @@ returns c = record {
       bits_then _ refl _ _ _ c.in_ok-bits_u8.ensures (λ v1 _ b1 h1.
       flag_then _ refl c.in_ok-flag.ensures (λ v2 b2 h2.
       flag_then _ refl c.in_ok-flag-2.ensures (λ v3 b3 h3.
-      when_part_written colours own.colours colours_keeps _ c.in_ok-write_colours_if.ensures refl (λ v4 b4 h4 e at.
+      when_part_written colours own.colours_of colours_keeps _ c.in_ok-write_colours_if.ensures refl (λ v4 b4 h4 e at.
       h4 (by e (λ r. r.colour_description_present_flag)) _ e refl (h3 (by e (λ r. r.colour_description_present_flag)) (h2 (by e (λ r. r.video_full_range_flag)) (h1 (by e (λ r. r.video_format)) at)))))));
 }

@@ -10,6 +10,6 @@ unfolding signal_type
 returns c = record {
   written = λ y w.
       flag_then _ refl c.in_ok-flag.ensures (λ v1 b1 h1.
-      when_part_written signal own.signal signal_keeps _ c.in_ok-write_signal_if.ensures refl (λ v2 b2 h2 e at.
+      when_part_written signal own.signal_of signal_keeps _ c.in_ok-write_signal_if.ensures refl (λ v2 b2 h2 e at.
       h2 (by e (λ r. r.video_signal_type_present_flag)) _ e refl (h1 (by e (λ r. r.video_signal_type_present_flag)) at)));
 }

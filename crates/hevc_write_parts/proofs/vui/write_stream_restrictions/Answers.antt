@@ -10,6 +10,6 @@ unfolding stream_restrictions
 returns c = record {
   written = λ y w.
       flag_then _ refl c.in_ok-flag.ensures (λ v1 b1 h1.
-      when_part_written restrictions own.restrictions restrictions_keeps _ c.in_ok-write_restrictions_if.ensures refl (λ v2 b2 h2 e at.
+      when_part_written restrictions own.restrictions_of restrictions_keeps _ c.in_ok-write_restrictions_if.ensures refl (λ v2 b2 h2 e at.
       h2 (by e (λ r. r.bitstream_restriction_flag)) _ e refl (h1 (by e (λ r. r.bitstream_restriction_flag)) at)));
 }

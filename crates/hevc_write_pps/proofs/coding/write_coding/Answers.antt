@@ -9,9 +9,9 @@ pub returns : goal.returns
 unfolding coding
 returns c = λ sps. record {
   written = λ y w.
-      part_then presence own.presence presence_keeps _ c.in_ok-write_presence.ensures refl (λ v1 b1 h1.
-      part_then (quantiser _) own.quantiser (quantiser_keeps _) _ (c.in_ok-write_quantiser.ensures _) refl (λ v2 b2 h2.
-      part_then tools own.tools tools_keeps _ c.in_ok-write_tools.ensures refl (λ v3 b3 h3.
-      when_part_written (tiles _) own.tiles (tiles_keeps _) _ (c.in_ok-write_tiles_if.ensures _) refl (λ v4 b4 h4 e at.
+      part_then presence own.presence_of presence_keeps _ c.in_ok-write_presence.ensures refl (λ v1 b1 h1.
+      part_then (quantiser _) own.quantiser_of (quantiser_keeps _) _ (c.in_ok-write_quantiser.ensures _) refl (λ v2 b2 h2.
+      part_then tools own.tools_of tools_keeps _ c.in_ok-write_tools.ensures refl (λ v3 b3 h3.
+      when_part_written (tiles _) own.tiles_of (tiles_keeps _) _ (c.in_ok-write_tiles_if.ensures _) refl (λ v4 b4 h4 e at.
       h4 (by e (λ r. r.tiles_enabled_flag)) _ e refl (h3 _ e refl (h2 _ e refl (h1 _ e refl at)))))));
 }

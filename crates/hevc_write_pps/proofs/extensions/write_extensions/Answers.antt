@@ -10,6 +10,6 @@ unfolding extensions
 returns c = record {
   written = λ y w.
       flag_then _ refl c.in_ok-flag.ensures (λ v1 b1 h1.
-      when_part_written (extension_data _) own.extension_data (extension_data_keeps _) _ c.in_ok-write_extension_data_if.ensures refl (λ v2 b2 h2 e at.
+      when_part_written (extension_data _) own.extension_data_of (extension_data_keeps _) _ c.in_ok-write_extension_data_if.ensures refl (λ v2 b2 h2 e at.
       h2 (by e (λ r. r.extension_present_flag)) _ e refl (h1 (by e (λ r. r.extension_present_flag)) at)));
 }

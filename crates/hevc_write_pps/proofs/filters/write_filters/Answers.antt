@@ -11,6 +11,6 @@ returns c = record {
   written = λ y w.
       flag_then _ refl c.in_ok-flag.ensures (λ v1 b1 h1.
       flag_then _ refl c.in_ok-flag-2.ensures (λ v2 b2 h2.
-      when_part_written deblocking own.deblocking deblocking_keeps _ c.in_ok-write_deblocking_if.ensures refl (λ v3 b3 h3 e at.
+      when_part_written deblocking own.deblocking_of deblocking_keeps _ c.in_ok-write_deblocking_if.ensures refl (λ v3 b3 h3 e at.
       h3 (by e (λ r. r.deblocking_filter_control_present_flag)) _ e refl (h2 (by e (λ r. r.deblocking_filter_control_present_flag)) (h1 (by e (λ r. r.loop_filter_across_slices_enabled_flag)) at)))));
 }

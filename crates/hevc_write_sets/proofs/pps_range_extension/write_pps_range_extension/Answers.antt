@@ -12,7 +12,7 @@ returns c = λ sps. record {
       ue_if_then _ refl _ _ _ _ c.in_ok-ue_if.ensures (λ v1 b1 h1.
       flag_then _ refl c.in_ok-flag.ensures (λ v2 b2 h2.
       flag_then _ refl c.in_ok-flag-2.ensures (λ v3 b3 h3.
-      part_if_then offset_lists own.offset_lists offset_lists_keep _ c.in_ok-write_offset_lists_if.ensures refl (λ v4 b4 h4.
+      part_if_then offset_lists own.offset_lists_of offset_lists_keep _ c.in_ok-write_offset_lists_if.ensures refl (λ v4 b4 h4.
       ue_then _ refl _ _ c.in_ok-ue.ensures (λ v5 _ b5 h5.
       ue_then _ refl _ _ c.in_ok-ue-2.ensures (λ v6 _ b6 h6.
       done_filled (λ e at.

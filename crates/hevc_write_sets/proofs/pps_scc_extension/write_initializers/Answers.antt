@@ -13,6 +13,6 @@ returns c = record {
       flag_then _ refl c.in_ok-flag.ensures (λ v1 b1 h1.
       ue_then _ refl _ _ c.in_ok-ue_u8.ensures (λ v2 _ b2 h2.
       ue_if_then _ refl _ _ _ _ c.in_ok-ue_u8_if.ensures (λ v3 b3 h3.
-      part_written (predictors _) own.predictors (predictors_keep _) _ c.in_ok-write_predictors.ensures refl (λ v4 b4 h4 e at.
+      part_written (predictors _) own.all_predictors_of (predictors_keep _) _ c.in_ok-write_predictors.ensures refl (λ v4 b4 h4 e at.
       h4 _ e refl (h3 (by e (λ r. not r.monochrome_palette_flag)) (by e (λ r. r.chroma_bit_depth_entry_minus8)) (h2 (by e (λ r. r.luma_bit_depth_entry_minus8)) (h1 (by e (λ r. r.monochrome_palette_flag)) at)))))));
 }

@@ -11,7 +11,7 @@ returns c = record {
   written = λ w.
       flag_then _ refl c.in_ok-flag.ensures (λ v1 b1 h1.
       flag_then _ refl c.in_ok-flag-2.ensures (λ v2 b2 h2.
-      part_if_then (palettes _) own.palettes (palettes_keep _) _ c.in_ok-write_palettes_if.ensures refl (λ v3 b3 h3.
+      part_if_then (palettes _) own.palettes_of (palettes_keep _) _ c.in_ok-write_palettes_if.ensures refl (λ v3 b3 h3.
       bits_then _ refl _ _ _ c.in_ok-bits_u8.ensures (λ v4 _ b4 h4.
       flag_then _ refl c.in_ok-flag-3.ensures (λ v5 b5 h5.
       done_filled (λ e at.

@@ -9,7 +9,7 @@ pub returns : goal.returns
 unfolding ending
 returns c = record {
   written = λ y w.
-      part_if_then (parallel_parts _ _) own.parallel_parts (parallel_parts_keeps _ _) _ c.in_ok-write_parallel_parts_if.ensures refl (λ v1 b1 h1.
-      when_part_written header_extension own.header_extension header_extension_keeps _ c.in_ok-write_header_extension_if.ensures refl (λ v2 b2 h2 e at.
+      part_if_then (parallel_parts _ _) own.parallel_parts_of (parallel_parts_keeps _ _) _ c.in_ok-write_parallel_parts_if.ensures refl (λ v1 b1 h1.
+      when_part_written header_extension own.header_extension_of header_extension_keeps _ c.in_ok-write_header_extension_if.ensures refl (λ v2 b2 h2 e at.
       h2 refl _ e refl (h1 (sym c.has_parallel_parts.ensures) _ e refl at)));
 }

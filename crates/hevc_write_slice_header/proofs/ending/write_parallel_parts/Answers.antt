@@ -11,6 +11,6 @@ unfolding parallel_parts
 returns c = record {
   written = λ y w.
       ue_then _ refl _ _ c.in_ok-ue.ensures (λ v1 _ b1 h1.
-      when_part_written entry_point_offsets own.entry_point_offsets entry_point_offsets_keeps _ c.in_ok-write_entry_point_offsets_if.ensures refl (λ v2 b2 h2 e at.
+      when_part_written entry_point_offsets own.entry_point_offsets_of entry_point_offsets_keeps _ c.in_ok-write_entry_point_offsets_if.ensures refl (λ v2 b2 h2 e at.
       h2 (by e (λ r. not (r.num_entry_point_offsets == 0))) _ e refl (h1 (by e (λ r. r.num_entry_point_offsets)) at)));
 }

@@ -10,7 +10,7 @@ unfolding filters
 returns c = record {
   written = λ y w.
       flag_if_then _ refl _ _ c.in_ok-flag_if.ensures (λ v1 b1 h1.
-      part_if_then own_deblocking own.own_deblocking own_deblocking_keeps _ c.in_ok-write_own_deblocking_if.ensures refl (λ v2 b2 h2.
-      part_written (across_slices _) own.across_slices (across_slices_keeps _) _ c.in_ok-write_across_slices.ensures refl (λ v3 b3 h3 e at.
+      part_if_then own_deblocking own.own_deblocking_of own_deblocking_keeps _ c.in_ok-write_own_deblocking_if.ensures refl (λ v2 b2 h2.
+      part_written (across_slices _) own.across_slices_of (across_slices_keeps _) _ c.in_ok-write_across_slices.ensures refl (λ v3 b3 h3 e at.
       h3 _ e refl (h2 (by e (λ r. r.deblocking_filter_override_flag)) _ e refl (h1 refl (by e (λ r. r.deblocking_filter_override_flag)) at)))));
 }

@@ -11,6 +11,6 @@ unfolding own_deblocking
 returns c = record {
   written = λ y w.
       flag_then _ refl c.in_ok-flag.ensures (λ v1 b1 h1.
-      when_part_written filter_offsets own.filter_offsets filter_offsets_keeps _ c.in_ok-write_filter_offsets_if.ensures refl (λ v2 b2 h2 e at.
+      when_part_written filter_offsets own.filter_offsets_of filter_offsets_keeps _ c.in_ok-write_filter_offsets_if.ensures refl (λ v2 b2 h2 e at.
       h2 (by e (λ r. not r.deblocking_filter_disabled_flag)) _ e refl (h1 (by e (λ r. r.deblocking_filter_disabled_flag)) at)));
 }

@@ -11,7 +11,7 @@ pub returns : goal.returns
 unfolding reference_lists with_pictures
 returns c = record {
   written = λ y w.
-      part_then (active_counts _) own.active_counts (active_counts_keeps _) (with_pictures (plain_sps c.args.sps.now) (plain_pps c.args.pps.now) y) c.in_ok-write_active_counts.ensures refl (λ v1 b1 h1.
-      when_part_written list_modification own.list_modification list_modification_keeps _ c.in_ok-write_list_modification_if.ensures refl (λ v2 b2 h2 e at.
+      part_then (active_counts _) own.active_counts_of (active_counts_keeps _) (with_pictures (plain_sps c.args.sps.now) (plain_pps c.args.pps.now) y) c.in_ok-write_active_counts.ensures refl (λ v1 b1 h1.
+      when_part_written list_modification own.list_modification_of list_modification_keeps _ c.in_ok-write_list_modification_if.ensures refl (λ v2 b2 h2 e at.
       h2 (by e (λ r. has_list_modification (plain_pps c.args.pps.now) r) ∙ sym c.has_list_modification.ensures) _ e refl (h1 _ e refl at)));
 }

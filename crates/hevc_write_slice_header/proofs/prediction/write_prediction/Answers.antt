@@ -9,8 +9,8 @@ pub returns : goal.returns
 unfolding prediction
 returns c = record {
   written = λ y w.
-      part_then (reference_lists _ _) own.reference_lists (reference_lists_keeps _ _) _ c.in_ok-write_reference_lists.ensures refl (λ v1 b1 h1.
-      part_then (motion _) own.motion (motion_keeps _) _ c.in_ok-write_motion.ensures refl (λ v2 b2 h2.
-      part_written (weights _ _) own.weights (weights_keeps _ _) _ c.in_ok-write_weights.ensures refl (λ v3 b3 h3 e at.
+      part_then (reference_lists _ _) own.reference_lists_of (reference_lists_keeps _ _) _ c.in_ok-write_reference_lists.ensures refl (λ v1 b1 h1.
+      part_then (motion _) own.motion_of (motion_keeps _) _ c.in_ok-write_motion.ensures refl (λ v2 b2 h2.
+      part_written (weights _ _) own.weights_of (weights_keeps _ _) _ c.in_ok-write_weights.ensures refl (λ v3 b3 h3 e at.
       h3 _ e refl (h2 _ e refl (h1 _ e refl at)))));
 }

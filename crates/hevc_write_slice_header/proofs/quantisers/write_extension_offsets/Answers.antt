@@ -9,7 +9,7 @@ pub returns : goal.returns
 unfolding extension_offsets
 returns c = record {
   written = λ y w.
-      part_if_then colour_transform_offsets own.colour_transform_offsets colour_transform_offsets_keeps _ c.in_ok-write_colour_transform_offsets_if.ensures refl (λ v1 b1 h1.
+      part_if_then colour_transform_offsets own.colour_transform_offsets_of colour_transform_offsets_keeps _ c.in_ok-write_colour_transform_offsets_if.ensures refl (λ v1 b1 h1.
       flag_if_then _ refl _ _ c.in_ok-flag_if.ensures (λ v2 b2 h2.
       done_filled (λ e at.
       h2 refl (by e (λ r. r.cu_chroma_qp_offset_enabled_flag)) (h1 refl _ e refl at))));

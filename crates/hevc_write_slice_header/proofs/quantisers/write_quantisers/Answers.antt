@@ -9,7 +9,7 @@ pub returns : goal.returns
 unfolding quantisers
 returns c = record {
   written = λ y w.
-      part_then (quantiser _) own.quantiser (quantiser_keeps _) _ c.in_ok-write_quantiser.ensures refl (λ v1 b1 h1.
-      part_written (extension_offsets _) own.extension_offsets (extension_offsets_keeps _) _ c.in_ok-write_extension_offsets.ensures refl (λ v2 b2 h2 e at.
+      part_then (quantiser _) own.quantiser_of (quantiser_keeps _) _ c.in_ok-write_quantiser.ensures refl (λ v1 b1 h1.
+      part_written (extension_offsets _) own.extension_offsets_of (extension_offsets_keeps _) _ c.in_ok-write_extension_offsets.ensures refl (λ v2 b2 h2 e at.
       h2 _ e refl (h1 _ e refl at)));
 }

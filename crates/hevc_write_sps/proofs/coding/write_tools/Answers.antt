@@ -12,6 +12,6 @@ returns c = record {
       flag_then _ refl c.in_ok-flag.ensures (λ v1 b1 h1.
       flag_then _ refl c.in_ok-flag-2.ensures (λ v2 b2 h2.
       flag_then _ refl c.in_ok-flag-3.ensures (λ v3 b3 h3.
-      when_part_written pulse_code_modulation own.pulse_code_modulation pulse_code_modulation_keeps _ c.in_ok-write_pulse_code_modulation_if.ensures refl (λ v4 b4 h4 e at.
+      when_part_written pulse_code_modulation own.pulse_code_modulation_of pulse_code_modulation_keeps _ c.in_ok-write_pulse_code_modulation_if.ensures refl (λ v4 b4 h4 e at.
       h4 (by e (λ r. r.pcm_enabled_flag)) _ e refl (h3 (by e (λ r. r.pcm_enabled_flag)) (h2 (by e (λ r. r.sample_adaptive_offset_enabled_flag)) (h1 (by e (λ r. r.amp_enabled_flag)) at)))))));
 }

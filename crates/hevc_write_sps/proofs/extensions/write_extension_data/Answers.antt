@@ -9,8 +9,8 @@ pub returns : goal.returns
 unfolding extension_data
 returns c = record {
   written = λ y w.
-      part_then extension_flags own.extension_flags extension_flags_keeps _ c.in_ok-write_extension_flags.ensures refl (λ v1 b1 h1.
-      part_if_then range_extension own.range_extension range_extension_keeps _ c.in_ok-write_range_extension_if.ensures refl (λ v2 b2 h2.
-      when_part_written scc_extension own.scc_extension scc_extension_keeps _ c.in_ok-write_scc_extension_if.ensures refl (λ v3 b3 h3 e at.
+      part_then extension_flags own.extension_flags_of extension_flags_keeps _ c.in_ok-write_extension_flags.ensures refl (λ v1 b1 h1.
+      part_if_then range_extension own.range_extension_of range_extension_keeps _ c.in_ok-write_range_extension_if.ensures refl (λ v2 b2 h2.
+      when_part_written scc_extension own.scc_extension_of scc_extension_keeps _ c.in_ok-write_scc_extension_if.ensures refl (λ v3 b3 h3 e at.
       h3 (by e (λ r. r.scc_extension_flag)) _ e refl (h2 (by e (λ r. r.range_extension_flag)) _ e refl (h1 _ e refl at)))));
 }

@@ -19,7 +19,7 @@ returns c =
           ue_then _ refl _ _ c.in_ok-ue_u16.ensures (λ v3 _ b3 h3.
           ue_then _ refl _ _ c.in_ok-ue_u16-2.ensures (λ v4 _ b4 h4.
           done_filled (flag_then _ refl c.in_ok-flag.ensures (λ v5 b5 h5.
-          weakened (beside (window_told v5 _ b5 refl) (when_part_written window own.window window_keeps _ {Q = λ z all. v5 ≡ x.conformance_window_flag → own.framing_elements z x ≡ x → w ≡ c.args.w.now → all ≡ c.write_window_if.new.w} c.in_ok-write_window_if.ensures refl (λ v6 b6 h6 is e at.
+          weakened (beside (window_told v5 _ b5 refl) (when_part_written window own.window_of window_keeps _ {Q = λ z all. v5 ≡ x.conformance_window_flag → own.framing_elements_of z x ≡ x → w ≡ c.args.w.now → all ≡ c.write_window_if.new.w} c.in_ok-write_window_if.ensures refl (λ v6 b6 h6 is e at.
           h6 is _ e refl (h5 is (h4 (by e (λ r. r.pic_height_in_luma_samples)) (h3 (by e (λ r. r.pic_width_in_luma_samples)) (h2 (by e (λ r. r.chroma_format_idc == 3)) (by e (λ r. r.separate_colour_plane_flag)) (h1 (by e (λ r. r.chroma_format_idc)) at)))))))) (λ z all h e at.
           h.1 (h.0 ∙ by e (λ r. r.conformance_window_flag)) e at))))))));
     }

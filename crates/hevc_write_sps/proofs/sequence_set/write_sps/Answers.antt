@@ -9,7 +9,7 @@ pub returns : goal.returns
 unfolding sequence_parameter_set
 returns c = record {
   written = λ w.
-      part_then format own.format format_keeps _ c.in_ok-write_format.ensures refl (λ v1 b1 h1.
-      part_written coding own.coding coding_keeps _ c.in_ok-write_coding.ensures refl (λ v2 b2 h2 e at.
+      part_then format own.format_of format_keeps _ c.in_ok-write_format.ensures refl (λ v1 b1 h1.
+      part_written coding own.coding_of coding_keeps _ c.in_ok-write_coding.ensures refl (λ v2 b2 h2 e at.
       h2 _ e refl (h1 _ e refl at)));
 }

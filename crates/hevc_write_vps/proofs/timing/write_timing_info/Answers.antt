@@ -10,6 +10,6 @@ unfolding timing_info
 returns c = record {
   written = λ y w.
       flag_then _ refl c.in_ok-flag.ensures (λ v1 b1 h1.
-      when_part_written own.timing_rows own.timing timing_keeps (record (own.without_structures y) { timing_info_present_flag = v1 }) c.in_ok-write_timing_if.ensures refl (λ v2 b2 h2 e at.
+      when_part_written own.timing_rows own.timing_of timing_keeps (record (own.without_structures y) { timing_info_present_flag = v1 }) c.in_ok-write_timing_if.ensures refl (λ v2 b2 h2 e at.
       h2 (by e (λ r. r.timing_info_present_flag)) _ e refl (h1 (by e (λ r. r.timing_info_present_flag)) at)));
 }

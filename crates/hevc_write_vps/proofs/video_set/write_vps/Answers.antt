@@ -10,10 +10,10 @@ pub returns : goal.returns
 unfolding video_parameter_set
 returns c = record {
   written = λ w.
-      part_then identity own.identity identity_keeps _ c.in_ok-write_identity.ensures refl (λ v1 b1 h1.
-      part_then orderings own.orderings orderings_keeps _ c.in_ok-write_orderings.ensures refl (λ v2 b2 h2.
-      part_then layer_sets own.layer_sets layer_sets_keeps _ c.in_ok-write_layer_sets.ensures refl (λ v3 b3 h3.
-      part_then own.timing_info_rows own.timing_info timing_info_keeps (own.layer_sets v3 (own.orderings v2 (own.identity v1 default_vps))) c.in_ok-write_timing_info.ensures refl (λ v4 b4 h4.
-      part_written extension own.extension extension_keeps _ c.in_ok-write_extension.ensures refl (λ v5 b5 h5 e at.
+      part_then identity own.identity_of identity_keeps _ c.in_ok-write_identity.ensures refl (λ v1 b1 h1.
+      part_then orderings own.orderings_of orderings_keeps _ c.in_ok-write_orderings.ensures refl (λ v2 b2 h2.
+      part_then layer_sets own.layer_sets_of layer_sets_keeps _ c.in_ok-write_layer_sets.ensures refl (λ v3 b3 h3.
+      part_then own.timing_info_rows own.timing_info_of timing_info_keeps (own.layer_sets_of v3 (own.orderings_of v2 (own.identity_of v1 default_vps))) c.in_ok-write_timing_info.ensures refl (λ v4 b4 h4.
+      part_written extension own.extension_of extension_keeps _ c.in_ok-write_extension.ensures refl (λ v5 b5 h5 e at.
       h5 _ e refl (h4 _ e refl (h3 _ e refl (h2 _ e refl (h1 _ e refl at)))))))));
 }
