@@ -14,6 +14,7 @@ use Rattle.hevc_write_sets.proofs.SpsSccExtensionKeeps as sps_keeps
 use Rattle.hevc_write_sets.proofs.PpsRangeExtensionKeeps.{offset_lists_keep}
 use Rattle.hevc_write_sets.proofs.PpsSccExtensionKeeps.{colour_transform_keeps, palettes_keep}
 
+-- there are always lines of sps range extension to write
 pub sps_range_fillable : IsFillable sps_range_extension
 unfolding sps_range_extension
 sps_range_fillable = record {
@@ -30,6 +31,7 @@ sps_range_fillable = record {
       done_filled tt))))))))))))))))));
 }
 
+-- there are always lines of sps scc extension to write
 pub sps_scc_fillable : (f : SampleFormat) → IsFillable (sps_scc_extension f)
 unfolding sps_scc_extension
 sps_scc_fillable f = record {
@@ -42,6 +44,7 @@ sps_scc_fillable f = record {
       done_filled tt))))))))));
 }
 
+-- there are always lines of pps range extension to write
 pub pps_range_fillable : (sps : PlainSps) (transform_skip : Bool) → IsFillable (pps_range_extension sps transform_skip)
 unfolding pps_range_extension
 pps_range_fillable sps transform_skip = record {
@@ -55,6 +58,7 @@ pps_range_fillable sps transform_skip = record {
       done_filled tt))))))))))));
 }
 
+-- there are always lines of pps scc extension to write
 pub pps_scc_fillable : (f : SampleFormat) (most : ℕ) → IsFillable (pps_scc_extension f most)
 unfolding pps_scc_extension
 pps_scc_fillable f most = record {

@@ -16,11 +16,13 @@ use Rattle.hevc_writing.proofs.Loops.{turns_keep, all_turns, all_same, one_less}
 abbrev pub list_at : List (List ℕ) → ℕ → List ℕ
 list_at l c = unwrap_or (slice_get l c) []
 
+-- the later of two items in a place stays
 set_set : {X : Type 0} (l : List X) (c : ℕ) (a b : X) → set (set l c a) c b ≡ set l c b
 set_set [] c a b = refl
 set_set (x ∷ l) zero a b = refl
 set_set (x ∷ l) (suc c) a b = ap (λ (m : List _). x ∷ m) (set_set l c a b)
 
+-- a list with an item put in its own place
 set_same : (l : List (List ℕ)) (c : ℕ) → set l c (list_at l c) ≡ l
 set_same l c = ap (set l c) (unwrap_or-slice_get l c []) ∙ set-get_or l c []
 
@@ -30,6 +32,7 @@ set_back [] c a = refl
 set_back (x ∷ l) zero a = refl
 set_back (x ∷ l) (suc c) a = ap (λ (m : List (List ℕ)). x ∷ m) (set_back l c a)
 
+-- what is found where an item was put is that item, or there is no such place
 within_or_not : (l : List (List ℕ)) (c : ℕ) (a : List ℕ) → (list_at (set l c a) c ≡ a) ⊎ (list_at (set l c a) c ≡ [])
 within_or_not [] c a = inr refl
 within_or_not (x ∷ l) zero a = inl refl
@@ -55,6 +58,7 @@ module _ {A : Type 0} (get : A → List (List ℕ)) (put : List (List ℕ) → A
   abbrev agrees : A → ℕ → A → Type 0
   agrees x n z = SameBelow n (list_at (get z) c) (list_at (get x) c)
 
+  -- one predictor sets no other list
   pub predictor_keeps : (i : ℕ) → Keeps (body i) own_list
   predictor_keeps i = record {
     same = λ y. ap (λ (l : List (List ℕ)). put l y) (set_same (get y) c) ∙ whole y;
@@ -63,6 +67,7 @@ module _ {A : Type 0} (get : A → List (List ℕ)) (put : List (List ℕ) → A
         ap (λ (l : List (List ℕ)). put (set (get y) c (list_at l c)) y) (gets _ y) ∙ ap (λ (l : List (List ℕ)). put l y) (set_back (get y) c (set (list_at (get y) c) i v))));
   }
 
+  -- one predictor is written
   pub predictor_written : (x : A) (i : ℕ) {old new : List Bool} → i < length (list_at (get x) c) → WritesBits depth (get_or (list_at (get x) c) i 0) old new → WritesTurn body (agrees x) i old new
   predictor_written x i lt writes = record {
     written = λ y w. bits_then r kept depth min max writes (λ v _ b h. done_filled (λ a.
@@ -70,9 +75,11 @@ module _ {A : Type 0} (get : A → List (List ℕ)) (put : List (List ℕ) → A
         (p.0, λ at. h p.1 at)));
   }
 
+  -- nor do all predictors of a list
   pub list_keeps : (n : ℕ) → Keeps (repeat body 0 n) own_list
   list_keeps n = turns_keep body own_list predictor_keeps n
 
+  -- the whole of it is written once all its turns are
   pub list_written : (x : A) (n : ℕ) {old new : List Bool} → c < length (get x) → WritesTurns body (agrees x) n old new → Writes (repeat body 0 n) own_list x old new
   list_written x n lt h = all_turns body (agrees x) (λ z e.
       let l : set (get x) c (list_at (get z) c) ≡ get x = sym (gets _ x) ∙ ap get e in

@@ -13,6 +13,7 @@ use Rattle.hevc_writing.proofs.Loops.{turns_keep, one_more_turn, all_turns, all_
 use Rattle.hevc_write_sets.specs.PpsSccExtensionParts as own
 use Rattle.hevc_write_sets.proofs.Palettes as lists
 
+-- sets no elements but those of rows 2 to 5
 pub colour_transform_keeps : Keeps colour_transform own.colour_transform_of
 unfolding colour_transform
 colour_transform_keeps = record { same = λ y. refl; last = λ x y z. refl; kept = λ y w. search kept_rows depth 40 fits 4000 }
@@ -34,29 +35,36 @@ some_palettes v n most within few is =
     and_true false = refl
 
 module _ (f : SampleFormat) where
+  -- sets no elements but those of row 11 of a component
   component_keeps : (count component : ℕ) → Keeps (component_predictors f count component) (own.component_predictors_of component)
   unfolding component_predictors predictor
   component_keeps count component = lists.list_keeps get put (λ l a. refl) (λ l m a. refl) (λ a. refl) (row 13 11) refl (bit_depth f component) 0 (2 ^ bit_depth f component - 1) component count
 
+  -- sets no elements but those of row 11
   repeated_keep : (n : ℕ × ℕ) → Keeps (repeat (component_predictors f n.0) 0 n.1) own.all_predictors_of
   repeated_keep n = turns_keep (component_predictors f n.0) own.all_predictors_of (λ component. lists.lists_kept get put (λ l a. refl) (λ l m a. refl) (λ a. refl) (row 13 11) refl 0 0 0 component (component_predictors f n.0 component) (component_keeps n.0 component)) n.1
 
+  -- sets no elements but those of row 11
   pub predictors_keep : Keeps (predictors f) own.all_predictors_of
   unfolding predictors
   predictors_keep = record { same = λ y. refl; last = λ x y z. refl; kept = λ y w. (repeated_keep (y.num_palette_predictor_initializers, num_components y)).kept y w }
 
+  -- sets no elements but those of rows 8 to 11
   pub initializers_keep : Keeps (initializers f) own.initializers_of
   unfolding initializers
   initializers_keep = record { same = λ y. refl; last = λ x y z. refl; kept = λ y w. search (kept_rows, part_kept (predictors f) own.all_predictors_of predictors_keep) depth 40 fits 4000 }
 
+  -- sets no elements but those of rows 7 to 11
   pub palettes_keep : (most : ℕ) → Keeps (palettes f most) own.palettes_of
   unfolding palettes
   palettes_keep most = record { same = λ y. refl; last = λ x y z. refl; kept = λ y w. search (kept_rows, when_kept (initializers f) own.initializers_of initializers_keep) depth 40 fits 4000 }
 
+  -- one predictor of a component is written
   pub predictor_written : (x : PlainPpsSccExtension) (component i : ℕ) {old new : List Bool} → i < length (predictors_of x component) → WritesBits (bit_depth f component) (get_or (predictors_of x component) i 0) old new → WritesTurn (predictor f component) (own.same_predictors x component) i old new
   unfolding predictor
   predictor_written x component i lt writes = lists.predictor_written get put (λ l a. refl) (λ l m a. refl) (λ a. refl) (row 13 11) refl (bit_depth f component) 0 (2 ^ bit_depth f component - 1) component x i lt writes
 
+  -- the whole of it is written once all its turns are
   pub component_written : (x : PlainPpsSccExtension) (n count component : ℕ) (old new : List Bool) → component < length x.palette_predictor_initializer → WritesTurns (predictor f component) (own.same_predictors x component) n old new → n ≡ count → Writes (component_predictors f count component) (own.component_predictors_of component) x old new
   unfolding component_predictors predictor
   component_written x n count component old new lt h e = subst (λ (k : ℕ). Writes (component_predictors f k component) (own.component_predictors_of component) x old new) e (lists.list_written get put (λ l a. refl) (λ l m a. refl) (λ a. refl) (row 13 11) refl (bit_depth f component) 0 (2 ^ bit_depth f component - 1) component x n lt h)
@@ -68,6 +76,7 @@ module _ (f : SampleFormat) where
     written = lists.lists_turn_written get put (λ l a. refl) (λ l m a. refl) (λ a. refl) (row 13 11) refl 0 0 0 component (component_predictors f count component) (component_keeps count component) x lt writes;
   })
 
+  -- the whole of it is written once all its turns are
   pub predictors_written : (x : PlainPpsSccExtension) (count n : ℕ) (old new : List Bool) → WritesTurns (component_predictors f count) (own.same_components x) n old new → count ≡ x.num_palette_predictor_initializers → n ≡ num_components x → Writes (predictors f) own.all_predictors_with_inputs_of x old new
   unfolding predictors
   predictors_written x count n old new turns is_count e =

@@ -10,47 +10,58 @@ use Rattle.hevc_writing.proofs.Loops.{turns_keep, all_turns, all_same, one_less,
 use Rattle.hevc_write_slices.specs.WeightParts as own
 
 module _ (list : ℕ) where
+  -- sets no elements but those of row 3
   luma_flag_keeps : (i : ℕ) → Keeps (luma_flag list i) own.luma_flags_of
   unfolding luma_flag
   luma_flag_keeps i = record { same = λ y. refl; last = λ x y z. refl; kept = λ y w. search kept_rows depth 40 fits 4000 }
 
+  -- sets no elements but those of row 3
   pub luma_flags_keep : (count : ℕ) → Keeps (luma_flags list count) own.luma_flags_of
   unfolding luma_flags
   luma_flags_keep count = turns_keep (luma_flag list) own.luma_flags_of luma_flag_keeps count
 
+  -- the whole of it is written once all its turns are
   pub luma_flags_written : (x : ListWeights) (n count : ℕ) {old new : List Bool} → WritesTurns (luma_flag list) (own.same_luma_flags x) n old new → n ≡ count → Writes (luma_flags list count) own.luma_flags_of x old new
   unfolding luma_flags
   luma_flags_written x n count {old = old} {new = new} h e = subst (λ (k : ℕ). Writes (repeat (luma_flag list) 0 k) own.luma_flags_of x old new) e (all_turns (luma_flag list) (own.same_luma_flags x) (λ z is. all_same _ _ _ (by is (λ r. r.luma_weight_flag))) h)
 
+  -- sets no elements but those of row 4
   chroma_flag_keeps : (i : ℕ) → Keeps (chroma_flag list i) own.chroma_flags_of
   unfolding chroma_flag
   chroma_flag_keeps i = record { same = λ y. refl; last = λ x y z. refl; kept = λ y w. search kept_rows depth 40 fits 4000 }
 
+  -- sets no elements but those of row 4
   pub chroma_flags_keep : (count : ℕ) → Keeps (chroma_flags list count) own.chroma_flags_of
   unfolding chroma_flags
   chroma_flags_keep count = turns_keep (chroma_flag list) own.chroma_flags_of chroma_flag_keeps count
 
+  -- the whole of it is written once all its turns are
   pub chroma_flags_written : (x : ListWeights) (n count : ℕ) {old new : List Bool} → WritesTurns (chroma_flag list) (own.same_chroma_flags x) n old new → n ≡ count → Writes (chroma_flags list count) own.chroma_flags_of x old new
   unfolding chroma_flags
   chroma_flags_written x n count {old = old} {new = new} h e = subst (λ (k : ℕ). Writes (repeat (chroma_flag list) 0 k) own.chroma_flags_of x old new) e (all_turns (chroma_flag list) (own.same_chroma_flags x) (λ z is. all_same _ _ _ (by is (λ r. r.chroma_weight_flag))) h)
 
 module _ (sps : PlainSps) (list : ℕ) where
+  -- sets no elements but those of rows 5 and 6
   pub luma_weight_keeps : (i : ℕ) → Keeps (luma_weight sps list i) own.luma_weights_of
   unfolding luma_weight
   luma_weight_keeps i = record { same = λ y. refl; last = λ x y z. refl; kept = λ y w. search kept_rows depth 40 fits 4000 }
 
+  -- sets no elements but those of rows 7 and 8
   pub chroma_weight_keeps : (i : ℕ) → Keeps (chroma_weight sps list i) own.chroma_weights_of
   unfolding chroma_weight chroma_component
   chroma_weight_keeps i = record { same = λ y. refl; last = λ x y z. refl; kept = λ y w. search kept_rows depth 40 fits 4000 }
 
+  -- sets no elements but those of rows 5 to 8
   place_keeps : (i : ℕ) → Keeps (place_weights sps list i) own.weights_of
   unfolding place_weights
   place_keeps i = record { same = λ y. refl; last = λ x y z. refl; kept = λ y w. then_filled (when_kept (luma_weight sps list i) own.luma_weights_of (luma_weight_keeps i) y _ (λ z b. when_kept (chroma_weight sps list i) own.chroma_weights_of (chroma_weight_keeps i) _ _ (λ u d. refl))) }
 
+  -- sets no elements but those of rows 5 to 8
   pub weights_keep : (count : ℕ) → Keeps (weights sps list count) own.weights_of
   unfolding weights
   weights_keep count = turns_keep (place_weights sps list) own.weights_of place_keeps count
 
+  -- the whole of it is written once all its turns are
   pub weights_written : (x : ListWeights) (n count : ℕ) {old new : List Bool} → WritesTurns (place_weights sps list) (own.SameWeights x) n old new → n ≡ count → Writes (weights sps list count) own.weights_with_inputs_of x old new
   unfolding weights
   weights_written x n count {old = old} {new = new} h e = subst (λ (k : ℕ). Writes (repeat (place_weights sps list) 0 k) own.weights_with_inputs_of x old new) e (all_turns (place_weights sps list) (own.SameWeights x) (λ z is. record {
@@ -60,6 +71,7 @@ module _ (sps : PlainSps) (list : ℕ) where
     chroma = (all_same _ _ _ (by is (λ r. r.delta_chroma_weight)), all_same _ _ _ (by is (λ r. r.delta_chroma_offset)));
   }) h)
 
+  -- there are always lines of list weights to write
   pub list_weights_fillable : (count : ℕ) → IsFillable (list_weights sps list count)
   unfolding list_weights flags
   list_weights_fillable count = record {
@@ -75,20 +87,24 @@ of_places sps list {x = x} {old = old} {new = new} e = subst (λ (k : ℕ). Writ
 pub fewer_luma : (x : ListWeights) (n : ℕ) (z : ListWeights) → own.same_luma x (n + 1) z → own.same_luma x n z
 fewer_luma x n z a = (fewer_same n _ _ a.0, fewer_same n _ _ a.1)
 
+-- weights of one place fewer
 pub fewer_chroma : (x : ListWeights) (n : ℕ) (z : ListWeights) → own.same_chroma x (n + 1) z → own.same_chroma x n z
 fewer_chroma x n z a = (fewer_same n _ _ a.0, fewer_same n _ _ a.1)
 
+-- sets no elements but those of rows 1 and 2
 pub denominators_keep : (sps : PlainSps) → Keeps (denominators sps) own.denominators_of
 unfolding denominators
 denominators_keep sps = record { same = λ y. refl; last = λ x y z. refl; kept = λ y w. search kept_rows depth 40 fits 4000 }
 
 -- ---- a number for Cb and one for Cr
 
+-- the later of two items in a place stays
 set_set : {X : Type 0} (l : List X) (c : ℕ) (a b : X) → set (set l c a) c b ≡ set l c b
 set_set [] c a b = refl
 set_set (x ∷ l) zero a b = refl
 set_set (x ∷ l) (suc c) a b = ap (λ (m : List _). x ∷ m) (set_set l c a b)
 
+-- both components of a place are those of the record
 pub both_components : (l xs : List (List ℤ)) (i : ℕ) (a b : ℤ) → i < length xs → length (get_or xs i []) ≡ 2 → SameBelow (i + 1) (component_set (component_set l i 0 a) i 1 b) xs
     → SameBelow i l xs × (a ≡ get_or (get_or xs i []) 0 (pos 0)) × (b ≡ get_or (get_or xs i []) 1 (pos 0))
 both_components l xs i a b lt two h =
@@ -106,6 +122,7 @@ both_components l xs i a b lt two h =
 
 -- ---- all of table 16
 
+-- there are always lines of pred weight table to write
 pub pred_weight_table_fillable : (sps : PlainSps) (is_b : Bool) (active_l0 active_l1 : ℕ) → IsFillable (pred_weight_table sps is_b active_l0 active_l1)
 unfolding pred_weight_table
 pred_weight_table_fillable sps is_b active_l0 active_l1 = record {

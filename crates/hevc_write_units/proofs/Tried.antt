@@ -20,6 +20,7 @@ pub record IsTried {A : Type 0} (t : Table A) (x : A) (bits : List Bool) : Type 
   pub parts : bits ≡ with_trailing_bits (joined lines)
 
 module _ {A : Type 0} (t : Table A) (x : A) (bits : List Bool) (written : WritesWhole t x bits) where
+  -- bits that are read as a record were tried
   pub tried : IsReadAs t x bits → IsTried t x bits
   unfolding WritesFormed
   tried is =
@@ -29,6 +30,7 @@ module _ {A : Type 0} (t : Table A) (x : A) (bits : List Bool) (written : Writes
       let are = f.2 ∙ formed.parts in
       record { lines = formed.lines; has = formed.has; good = formed.good; chosen = formed.chosen; fewest = λ others has good. writes_fewest t x written.front formed.lines others written.written formed.has formed.good (sym are) has good; parts = written.whole ∙ ap with_trailing_bits are }
 
+  -- lines of a record are read as it
   pub read_again : (lines : List Line) → HasLines t x lines → AreGood lines → IsReadAs t x bits
   unfolding ReadsBack
   read_again lines has good =

@@ -9,12 +9,14 @@ use Rattle.hevc_writing.proofs.Counting.{same_set}
 use Rattle.hevc_writing.specs.Deciding.{WritesFormed, ReadsBack}
 
 module _ {A : Type 0} (t : Table A) where
+  -- what is written are lines of the record
   pub writes_formed : WritesFormed t
   unfolding WritesFormed
   writes_formed x lines old new has good writes =
       let r = (writes.written old).all x lines has good in
       (r.0, r.1, sym (r.2 refl refl))
 
+  -- and they are read as it
   pub reads_back : ReadsBack t
   unfolding ReadsBack WritesFormed
   reads_back x written bits rest others writes e =

@@ -14,23 +14,27 @@ use Rattle.hevc_writing.specs.Choices.{is_chosen, AreChosen, IsFilled, flags_of_
 use Rattle.hevc_writing.proofs.Counting.{fewer_joined, none_first, one_fewer}
 use Rattle.hevc_writing.specs.Filling.{EachFilling}
 
+-- chosen lines that follow one another are chosen
 pub AreChosen-append : (a b : List Line) → AreChosen a → AreChosen b → AreChosen (a ++ b)
 AreChosen-append [] b p q = q
 AreChosen-append (l ∷ a) b p q = (p.0, AreChosen-append a b p.1 q)
 
 -- ---- a value that is spelled can be
 
+-- n bits spell a number below 2 ^ n
 bounded : (n v : ℕ) (bits : List Bool) → length bits ≡ n → number bits ≡ v → v < 2 ^ n
 bounded n v bits long is =
     let here : IsAtFront (u n) v bits [] = record { front = bits; spelled = (long, is); parts = sym (append-nil bits) } in
     spelled-bound n v bits [] here
 
+-- a number with an Exp-Golomb spelling is below 2 ^ 32 - 1
 golomb_bounded : (v : ℕ) (bits : List Bool) → IsExpGolomb v bits → v + 1 < 2 ^ 32
 golomb_bounded v bits s =
     let below = bounded (suc (length s.rest)) (number (true ∷ s.rest)) (true ∷ s.rest) refl refl in
     let few : suc (length s.rest) ≤ 32 = omega (arith, s.short) in
     omega (arith, s.value_is, below, pow_mono few)
 
+-- what bits spell can be spelled
 can_spell : (form : Form) (v : ℕ) (bits : List Bool) → IsSpelled form v bits → CanSpell form v
 can_spell (u n) v bits s = bounded n v bits s.0 s.1
 can_spell ue v bits s = golomb_bounded v bits s
@@ -65,6 +69,7 @@ same_lines others p has =
 -- ---- tables
 
 module _ {A : Type 0} {t : Table A} {w : List Bool} where
+  -- what is filled so that P holds is so that what follows from P holds
   pub weakened : {P Q : A → List Bool → Type 0} → EachFilling t w P → ((x : A) (all : List Bool) → P x all → Q x all) → EachFilling t w Q
   weakened h f = record { all = λ x lines has good. let r = h.all x lines has good in (r.0, r.1, f x (w ++ r.0) r.2) }
 
@@ -72,11 +77,13 @@ module _ {A : Type 0} {t : Table A} {w : List Bool} where
   pub beside : {K : A → Type 0} {Q : A → List Bool → Type 0} → EachFilling t w (λ x _. K x) → EachFilling t w Q → EachFilling t w (λ x all. K x × Q x all)
   beside h g = record { all = λ x lines has good. let r = g.all x lines has good in (r.0, r.1, ((h.all x lines has good).2, r.2)) }
 
+-- a table without rows
 pub done_filled : {A : Type 0} {x : A} {w : List Bool} {Q : A → List Bool → Type 0} → Q x w → EachFilling (done x) w Q
 done_filled {x = x} {w = w} {Q = Q} q = record {
   all = λ y lines has good. ([], record { formed = record { lines = []; has = (has.0, refl); good = tt; chosen = tt; parts = refl }; fewer = none_first lines }, subst (λ z. Q z (w ++ [])) has.0 (rw append-nil q));
 }
 
+-- one part after another
 pub then_filled : {A B : Type 0} {t : Table A} {k : A → Table B} {w : List Bool} {Q : B → List Bool → Type 0} → EachFilling t w (λ x all. EachFilling (k x) all Q) → EachFilling (part t k) w Q
 then_filled {t = t} {k = k} {w = w} {Q = Q} h = record {
   all = λ y lines has good.

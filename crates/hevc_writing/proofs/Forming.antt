@@ -13,9 +13,11 @@ use Rattle.hevc_bit_writer.proofs.Spellings.{is_spelled}
 use Rattle.hevc_writing.specs.Choices.{IsFormed, is_chosen}
 use Rattle.hevc_writing.proofs.Fillings.{AreChosen-append}
 
+-- a table without rows has no bits
 pub done_formed : {A : Type 0} (x : A) → IsFormed (done x) x []
 done_formed x = record { lines = []; has = (refl, refl); good = tt; chosen = tt; parts = refl }
 
+-- the bits of two parts follow one another
 pub part_formed : {A B : Type 0} {t : Table A} {k : A → Table B} {a : A} {x : B} {first others : List Bool} → IsFormed t a first → IsFormed (k a) x others → IsFormed (part t k) x (first ++ others)
 part_formed {a = a} f g = record {
   lines = f.lines ++ g.lines;
@@ -25,6 +27,7 @@ part_formed {a = a} f g = record {
   parts = ap₂ (λ (p q : List Bool). p ++ q) f.parts g.parts ∙ sym (joined-append f.lines g.lines);
 }
 
+-- the bits of a row spell its value
 pub element_formed : {A : Type 0} (r : Row) (form : Form) (allowed : ℕ → Bool) (value : ℕ → A) (v : ℕ) → allowed v ≡ true → CanSpell form v → is_chosen r form v ≡ true → IsFormed (element r form allowed value) (value v) (spelled form v)
 element_formed r form allowed value v good fits chosen =
     let l : Line = record { head = record { row = r; form = form; allowed = allowed }; value = v; bits = spelled form v } in
@@ -36,6 +39,7 @@ element_formed r form allowed value v good fits chosen =
       parts = sym (append-nil (spelled form v));
     }
 
+-- the bit of a flag is the flag
 pub flag_formed : (r : Row) (b : Bool) → is_chosen r (u 1) (if b then 1 else 0) ≡ true → IsFormed (flag_row r) b (b ∷ [])
 unfolding flag_row
 flag_formed r true chosen = element_formed r (u 1) (λ _. true) (λ v. v == 1) 1 refl (omega arith) chosen

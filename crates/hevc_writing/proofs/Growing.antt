@@ -29,12 +29,15 @@ module _ {X : Type 0} (item : ℕ → List X → Table X) (fillable : (i : ℕ) 
   abbrev pub grown : ℕ → List X → Table (List X)
   grown i ys = part (item i ys) (λ v. done (ys ++ v ∷ []))
 
+  -- there are always lines of one more item to write
   grown_fillable : (i : ℕ) (ys : List X) → IsFillable (grown i ys)
   grown_fillable i ys = record { fill = λ w. then_filled (filled (fillable i ys) (λ v all. done_filled tt)) }
 
+  -- and of all items
   pub items_fillable : (count : ℕ) → IsFillable (repeat grown 0 count [])
   items_fillable count = turns_fillable grown grown_fillable count []
 
+  -- each turn makes the list longer by one
   pub grows : (i k : ℕ) (y : List X) (w : List Bool) → EachFilling (repeat grown i k y) w (λ z _. length z ≡ length y + k)
   unfolding repeat
   grows i zero y w = done_filled (omega arith)

@@ -12,6 +12,7 @@ use Rattle.std.proofs.lemmas.Bool.{true≢false}
 
 -- ---- the last turn comes after the others
 
+-- lines of all turns are those of all but the last and those of the last
 last_turn : {S : Type 0} (body : ℕ → S → Table S) (i n : ℕ) (s z : S) (lines : List Line) → HasLines (repeat body i (suc n) s) z lines → HasLines (part (repeat body i n s) (body (i + n))) z lines
 unfolding repeat
 last_turn body i zero s z lines h =
@@ -31,6 +32,7 @@ last_turn body i (suc n) s z lines h =
       h.5 ∙ ap (λ (o : List Line). h.1 ++ o) r.5 ∙ sym (append_assoc h.1 r.1 r.2),
     )
 
+-- and the other way round
 turns_then : {S : Type 0} (body : ℕ → S → Table S) (i n : ℕ) (s z : S) (lines : List Line) → HasLines (part (repeat body i n s) (body (i + n))) z lines → HasLines (repeat body i (suc n) s) z lines
 unfolding repeat
 turns_then body i zero s z lines h =
@@ -45,6 +47,7 @@ turns_then body i (suc n) s z lines h =
     let rest = turns_then body (i + 1) n f.0 z (f.2 ++ h.2) (h.0, f.2, h.2, f.4, subst (λ (k : ℕ). HasLines (body k h.0) z h.2) here h.4, refl) in
     (f.0, f.1, f.2 ++ h.2, f.3, rest, h.5 ∙ ap (λ (o : List Line). o ++ h.2) f.5 ∙ append_assoc f.1 f.2 h.2)
 
+-- one turn more is filled
 one_more_filled : {S : Type 0} (body : ℕ → S → Table S) (n : ℕ) (s : S) {w : List Bool} {Q : S → List Bool → Type 0} → EachFilling (repeat body 0 n s) w (λ z all. EachFilling (body n z) all Q) → EachFilling (repeat body 0 (n + 1) s) w Q
 one_more_filled body n s {w = w} {Q = Q} h =
     let k : 0 + n ≡ n = omega arith in
@@ -64,6 +67,7 @@ module _ {S : Type 0} (body : ℕ → S → Table S) where
       from i zero y w = done_filled ((each 0).same y)
       from i (suc n) y w = then_filled (weakened ((each i).kept y w) (λ z all p. weakened (from (i + 1) n z all) (λ u more q. sym ((each 0).last y z u) ∙ ap (own u) p ∙ q)))
 
+  -- there are always lines of all turns to write
   pub turns_fillable : ((i : ℕ) (s : S) → IsFillable (body i s)) → (n : ℕ) (s : S) → IsFillable (repeat body 0 n s)
   unfolding repeat
   turns_fillable each n s = record { fill = λ w. from 0 n s w }
@@ -89,6 +93,7 @@ module _ {S : Type 0} (body : ℕ → S → Table S) where
 
 -- a part of a turn that is present only under a condition
 module _ {S : Type 0} (body : ℕ → S → Table S) (agrees : ℕ → S → Type 0) (own : S → S → S) (i : ℕ) (keeps : Keeps (body i) own) (y : S) (less : agrees (i + 1) y → agrees i y) {w old new : List Bool} {Q : S → List Bool → Type 0} where
+  -- what is there of it agrees with what was before
   pub when_turn_written : {c present : Bool} → WritesIf present (WritesTurn body agrees i) old new
       → ((z : S) (all : List Bool) → (c ≡ present → agrees (i + 1) (own z y) → agrees i y × (w ≡ old → all ≡ new)) → Q (own z y) all) → EachFilling (when c y (body i y)) w Q
   when_turn_written {c = c} {present = present} writes f = by_present present writes f
@@ -108,6 +113,7 @@ module _ {X : Type 0} where
   pub fewer_same : (n : ℕ) (xs ys : List X) → SameBelow (n + 1) xs ys → SameBelow n xs ys
   fewer_same n xs ys h = record { long = h.long; same = λ k d lt. h.same k d (omega arith) }
 
+  -- equal lists are the same as far as any number
   pub all_same : (n : ℕ) (xs ys : List X) → xs ≡ ys → SameBelow n xs ys
   all_same n xs ys e = record { long = ap length e; same = λ k d lt. ap (λ (zs : List X). get_or zs k d) e }
 

@@ -28,9 +28,11 @@ code_back v = by_parity (eqb (v % 2) 1) refl
         by_half zero d = omega arith
         by_half (suc h) d = omega arith
 
+-- a number is itself
 eqb-same : (v : ℕ) → eqb v v ≡ true
 eqb-same v = grind arith
 
+-- the bits of 0 are zeros
 pub zeros_low : (n : ℕ) → low_bits n 0 ≡ replicate n false
 zeros_low zero = refl
 zeros_low (suc n) =
@@ -41,12 +43,14 @@ zeros_low (suc n) =
 abbrev pub IsKept : Row → Type 0
 IsKept r = chosen_value r ≡ None
 
+-- any value of a row that is kept may be written
 any_chosen : (r : Row) (v : ℕ) → IsKept r → is_value (chosen_value r) v ≡ true
 any_chosen r v kept = rw kept refl
 
 -- ---- each row, where its element is some value and what was written is another's
 
 module _ (r : Row) {w old new : List Bool} where
+  -- a flag
   pub flag_written : IsKept r → {value : Bool} {Q : Bool → List Bool → Type 0} → WritesFlag value old new → ((v : Bool) (all : List Bool) → (v ≡ value → w ≡ old → all ≡ new) → Q v all) → EachFilling (flag_row r) w Q
   unfolding flag_row is_chosen
   flag_written kept {value = value} {Q = Q} writes h = element_filled r (u 1) (λ _. true) (λ v. eqb v 1) w Q (λ v a s. (v, refl, a, s, any_chosen r v kept, by_value v s, as_many r v))
@@ -73,6 +77,7 @@ module _ (r : Row) {w old new : List Bool} where
     as_many r v,
   ))
 
+  -- a number of n bits
   pub bits_written : IsKept r → (n min max : ℕ) {value : ℕ} {Q : ℕ → List Bool → Type 0} → WritesBits n value old new
       → ((v : ℕ) → in_range min max v ≡ true → (all : List Bool) → (v ≡ value → w ≡ old → all ≡ new) → Q v all) → EachFilling (bits_row r n min max) w Q
   unfolding bits_row is_chosen
@@ -84,6 +89,7 @@ module _ (r : Row) {w old new : List Bool} where
   unfolding is_chosen
   number_written kept n allowed {Q = Q} writes h = element_filled r (u n) allowed (λ v. v) w Q (λ v a s. (v, refl, a, s, any_chosen r v kept, h v _ (λ is at. rw (is, at) (sym writes)), as_many r v))
 
+  -- an Exp-Golomb number
   pub ue_written : IsKept r → (min max : ℕ) {value : ℕ} {Q : ℕ → List Bool → Type 0} → WritesUe value old new
       → ((v : ℕ) → in_range min max v ≡ true → (all : List Bool) → (v ≡ value → w ≡ old → all ≡ new) → Q v all) → EachFilling (ue_row r min max) w Q
   unfolding ue_row is_chosen
@@ -97,6 +103,7 @@ module _ (r : Row) {w old new : List Bool} where
     as_many r v,
   ))
 
+  -- a signed one
   pub se_written : IsKept r → (min max : ℤ) {value : ℤ} {Q : ℤ → List Bool → Type 0} → WritesSe value old new
       → ((z : ℤ) → (all : List Bool) → (z ≡ value → w ≡ old → all ≡ new) → Q z all) → EachFilling (se_row r min max) w Q
   unfolding se_row is_chosen
@@ -132,11 +139,13 @@ check_held r holds {w = w} {Q = Q} h = element_filled r check (λ _. holds) (λ 
 
 -- ---- rows that are present only under a condition
 
+-- a part under a condition is filled, or is absent
 pub when_filled : {A : Type 0} {t : Table A} {w : List Bool} {Q : A → List Bool → Type 0} {c : Bool} {absent : A} → (c ≡ true → EachFilling t w Q) → (c ≡ false → Q absent w) → EachFilling (when c absent t) w Q
 unfolding when
 when_filled {c = true} there not_there = there refl
 when_filled {c = false} there not_there = done_filled (not_there refl)
 
+-- one of two parts is filled
 pub either_filled : {A : Type 0} {t s : Table A} {w : List Bool} {Q : A → List Bool → Type 0} {c : Bool} → (c ≡ true → EachFilling t w Q) → (c ≡ false → EachFilling s w Q) → EachFilling (either c t s) w Q
 unfolding either
 either_filled {c = true} first second = first refl
