@@ -3,6 +3,7 @@ pub mod Fillings
 pub mod RowRules
 pub mod Parts
 pub mod Steps
+pub mod Chains
 pub mod Loops
 pub mod Growing
 pub mod Forming

@@ -1,18 +1,15 @@
 use Rattle.std.proofs.Common.{refl}
 use Rattle.hevc_tables.specs.HrdTable.{scales}
-use Rattle.hevc_writing.proofs.Steps.{bits_if_then, bits_then, by, done_filled}
+use Rattle.hevc_writing.proofs.Chains.{done_filled, bits_if_of, bits_of, writes, ◌>>=◌}
 use Rattle.hevc_write_parts.proofs.hrd_common.write_scales.Goals as goal
 
 pub returns : goal.returns
 unfolding scales
-returns c = record {
-  written = λ y w.
-      bits_then _ refl _ _ _ c.in_ok-bits_u8.ensures (λ v1 _ b1 h1.
-      bits_then _ refl _ _ _ c.in_ok-bits_u8-2.ensures (λ v2 _ b2 h2.
-      bits_if_then _ refl _ _ _ _ _ c.in_ok-bits_u8_if.ensures (λ v3 b3 h3.
-      bits_then _ refl _ _ _ c.in_ok-bits_u8-3.ensures (λ v4 _ b4 h4.
-      bits_then _ refl _ _ _ c.in_ok-bits_u8-4.ensures (λ v5 _ b5 h5.
-      bits_then _ refl _ _ _ c.in_ok-bits_u8-5.ensures (λ v6 _ b6 h6.
-      done_filled (λ e at.
-      h6 (by e (λ r. r.dpb_output_delay_length_minus1)) (h5 (by e (λ r. r.au_cpb_removal_delay_length_minus1)) (h4 (by e (λ r. r.initial_cpb_removal_delay_length_minus1)) (h3 (by e (λ r. r.sub_pic_hrd_params_present_flag)) (by e (λ r. r.cpb_size_du_scale)) (h2 (by e (λ r. r.cpb_size_scale)) (h1 (by e (λ r. r.bit_rate_scale)) at))))))))))));
-}
+returns c = writes λ y w none. do
+  rows ← bits_of _ refl _ _ _ (λ r. r.bit_rate_scale) none c.in_ok-bits_u8.ensures
+  rows ← bits_of _ refl _ _ _ (λ r. r.cpb_size_scale) rows.known c.in_ok-bits_u8-2.ensures
+  rows ← bits_if_of _ refl _ _ _ _ _ (λ r. r.sub_pic_hrd_params_present_flag) (λ r. r.cpb_size_du_scale) rows.known c.in_ok-bits_u8_if.ensures
+  rows ← bits_of _ refl _ _ _ (λ r. r.initial_cpb_removal_delay_length_minus1) rows.known c.in_ok-bits_u8-3.ensures
+  rows ← bits_of _ refl _ _ _ (λ r. r.au_cpb_removal_delay_length_minus1) rows.known c.in_ok-bits_u8-4.ensures
+  rows ← bits_of _ refl _ _ _ (λ r. r.dpb_output_delay_length_minus1) rows.known c.in_ok-bits_u8-5.ensures
+  done_filled (λ e at. rows.known.reach _ e refl at)

@@ -23,13 +23,13 @@ returns c =
     let same_schedules = λ (y : PlainHrdParams) (v : ℕ). pairs (flags y.sub_pic_hrd_params_present_flag j.0) (numbers v j.1) in
     record {
       written = λ y w.
-          flag_then _ refl c.in_ok-flag.ensures (λ v1 b1 h1.
-          flag_if_then _ refl _ _ c.in_ok-flag_if.ensures (λ v2 b2 h2.
-          ue_if_then _ refl _ _ _ _ c.in_ok-ue_if.ensures (λ v3 b3 h3.
-          flag_if_then _ refl _ _ c.in_ok-flag_if-2.ensures (λ v4 b4 h4.
-          ue_if_then _ refl _ _ _ _ c.in_ok-ue_if-2.ensures (λ v5 b5 h5.
-          then_filled (one_table_if_written (λ (k : Bool × ℕ). sub_layer_hrd_parameters k.0 k.1) (λ k. schedules_fillable k.0 k.1) (y.sub_pic_hrd_params_present_flag, v5) j _ _ (same_schedules y v5) c.in_ok-write_schedules_if.ensures (λ v6 b6 h6.
-          then_filled (one_table_if_written (λ (k : Bool × ℕ). sub_layer_hrd_parameters k.0 k.1) (λ k. schedules_fillable k.0 k.1) (y.sub_pic_hrd_params_present_flag, v5) j _ _ (same_schedules y v5) c.in_ok-write_schedules_if-2.ensures (λ v7 b7 h7.
+          flag_then _ refl c.in_ok-flag.ensures (λ v1 b1 fixed_row.
+          flag_if_then _ refl _ _ c.in_ok-flag_if.ensures (λ v2 b2 within_row.
+          ue_if_then _ refl _ _ _ _ c.in_ok-ue_if.ensures (λ v3 b3 duration_row.
+          flag_if_then _ refl _ _ c.in_ok-flag_if-2.ensures (λ v4 b4 low_delay_row.
+          ue_if_then _ refl _ _ _ _ c.in_ok-ue_if-2.ensures (λ v5 b5 count_row.
+          then_filled (one_table_if_written (λ (k : Bool × ℕ). sub_layer_hrd_parameters k.0 k.1) (λ k. schedules_fillable k.0 k.1) (y.sub_pic_hrd_params_present_flag, v5) j _ _ (same_schedules y v5) c.in_ok-write_schedules_if.ensures (λ v6 b6 nal_row.
+          then_filled (one_table_if_written (λ (k : Bool × ℕ). sub_layer_hrd_parameters k.0 k.1) (λ k. schedules_fillable k.0 k.1) (y.sub_pic_hrd_params_present_flag, v5) j _ _ (same_schedules y v5) c.in_ok-write_schedules_if-2.ensures (λ v7 b7 vcl_row.
           done_filled (λ a.
           let fixed = one_less i y.fixed_pic_rate_general_flag x.fixed_pic_rate_general_flag v1 false (omega arith) a.1 in
           let within = one_less i y.fixed_pic_rate_within_cvs_flag x.fixed_pic_rate_within_cvs_flag v2 false (omega arith) a.2 in
@@ -41,7 +41,7 @@ returns c =
           let which : (y.sub_pic_hrd_params_present_flag, v5) ≡ j = ap₂ (λ (b : Bool) (n : ℕ). (b, n)) a.0.units count.1 in (
             (record { nal = a.0.nal; vcl = a.0.vcl; units = a.0.units }, fixed.0, within.0, duration.0, low_delay.0, count.0, nal.0, vcl.0),
             λ at.
-                h7 a.0.vcl which (vcl.1 ∙ get_or-map plain_sublayer_hrd_parameters c.args.x.now.vcl_hrd i _ _ (omega arith)) (h6 a.0.nal which (nal.1 ∙ get_or-map plain_sublayer_hrd_parameters c.args.x.now.nal_hrd i _ _ (omega arith))
-                (h5 (ap not low_delay.1) count.1 (h4 (ap not within.1) low_delay.1 (h3 within.1 duration.1 (h2 (ap not fixed.1) within.1 (h1 fixed.1 at)))))),
+                vcl_row a.0.vcl which (vcl.1 ∙ get_or-map plain_sublayer_hrd_parameters c.args.x.now.vcl_hrd i _ _ (omega arith)) (nal_row a.0.nal which (nal.1 ∙ get_or-map plain_sublayer_hrd_parameters c.args.x.now.nal_hrd i _ _ (omega arith))
+                (count_row (ap not low_delay.1) count.1 (low_delay_row (ap not within.1) low_delay.1 (duration_row within.1 duration.1 (within_row (ap not fixed.1) within.1 (fixed_row fixed.1 at)))))),
           )))))))))));
     }

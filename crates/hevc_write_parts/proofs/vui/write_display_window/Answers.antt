@@ -1,16 +1,13 @@
 use Rattle.std.proofs.Common.{refl}
 use Rattle.hevc_tables.specs.VuiTable.{display_window}
-use Rattle.hevc_writing.proofs.Steps.{by, done_filled, ue_then}
+use Rattle.hevc_writing.proofs.Chains.{done_filled, ue_of, writes, ◌>>=◌}
 use Rattle.hevc_write_parts.proofs.vui.write_display_window.Goals as goal
 
 pub returns : goal.returns
 unfolding display_window
-returns c = record {
-  written = λ y w.
-      ue_then _ refl _ _ c.in_ok-ue.ensures (λ v1 _ b1 h1.
-      ue_then _ refl _ _ c.in_ok-ue-2.ensures (λ v2 _ b2 h2.
-      ue_then _ refl _ _ c.in_ok-ue-3.ensures (λ v3 _ b3 h3.
-      ue_then _ refl _ _ c.in_ok-ue-4.ensures (λ v4 _ b4 h4.
-      done_filled (λ e at.
-      h4 (by e (λ r. r.def_disp_win_bottom_offset)) (h3 (by e (λ r. r.def_disp_win_top_offset)) (h2 (by e (λ r. r.def_disp_win_right_offset)) (h1 (by e (λ r. r.def_disp_win_left_offset)) at))))))));
-}
+returns c = writes λ y w none. do
+  rows ← ue_of _ refl _ _ (λ r. r.def_disp_win_left_offset) none c.in_ok-ue.ensures
+  rows ← ue_of _ refl _ _ (λ r. r.def_disp_win_right_offset) rows.known c.in_ok-ue-2.ensures
+  rows ← ue_of _ refl _ _ (λ r. r.def_disp_win_top_offset) rows.known c.in_ok-ue-3.ensures
+  rows ← ue_of _ refl _ _ (λ r. r.def_disp_win_bottom_offset) rows.known c.in_ok-ue-4.ensures
+  done_filled (λ e at. rows.known.reach _ e refl at)

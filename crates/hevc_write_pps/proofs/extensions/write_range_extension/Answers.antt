@@ -9,7 +9,7 @@ pub returns : goal.returns
 unfolding range_extension
 returns c = λ sps. record {
   written = λ y w.
-      then_filled (one_table_written (pps_range_extension _) (pps_range_fillable _) _ _ (flags _ _) (c.in_ok-write_pps_range_extension.ensures _) (λ v1 b1 h1.
+      then_filled (one_table_written (pps_range_extension _) (pps_range_fillable _) _ _ (flags _ _) (c.in_ok-write_pps_range_extension.ensures _) (λ v1 b1 range_extension_row.
       done_filled (λ e at.
-      h1 (by e (λ r. r.transform_skip_enabled_flag)) (by e (λ r. r.range_extension)) at)));
+      range_extension_row (by e (λ r. r.transform_skip_enabled_flag)) (by e (λ r. r.range_extension)) at)));
 }

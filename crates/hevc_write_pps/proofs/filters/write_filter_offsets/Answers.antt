@@ -1,15 +1,12 @@
-use Rattle.std.proofs.Common.{arith, refl, ◌∙◌}
+use Rattle.std.proofs.Common.{arith, refl}
 use Rattle.std.proofs.lemmas.Int.{ints}
 use Rattle.hevc_tables.specs.PpsTable.{filter_offsets}
-use Rattle.hevc_writing.proofs.Steps.{by, done_filled, se_then}
+use Rattle.hevc_writing.proofs.Chains.{done_filled, se_of, writes, ◌>>=◌}
 use Rattle.hevc_write_pps.proofs.filters.write_filter_offsets.Goals as goal
 
 pub returns : goal.returns
 unfolding filter_offsets
-returns c = record {
-  written = λ y w.
-      se_then _ refl _ _ c.in_ok-se_i8.ensures (λ v1 b1 h1.
-      se_then _ refl _ _ c.in_ok-se_i8-2.ensures (λ v2 b2 h2.
-      done_filled (λ e at.
-      h2 (by e (λ r. r.tc_offset_div2) ∙ omega (arith, ints)) (h1 (by e (λ r. r.beta_offset_div2) ∙ omega (arith, ints)) at))));
-}
+returns c = writes λ y w none. do
+  rows ← se_of _ refl _ _ (λ r. r.beta_offset_div2) none (omega (arith, ints)) c.in_ok-se_i8.ensures
+  rows ← se_of _ refl _ _ (λ r. r.tc_offset_div2) rows.known (omega (arith, ints)) c.in_ok-se_i8-2.ensures
+  done_filled (λ e at. rows.known.reach _ e refl at)

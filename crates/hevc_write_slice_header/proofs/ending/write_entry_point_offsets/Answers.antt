@@ -12,10 +12,10 @@ returns c =
     let x = plain_slice_header c.args.x.now in
     record {
       written = λ y w.
-          ue_then _ refl _ _ c.in_ok-ue_u8.ensures (λ v1 few b1 h1.
-          then_filled (one_table_written (λ (k : ℕ). entry_points (k + 1) y.num_entry_point_offsets) (λ k. entry_points_fillable (k + 1) y.num_entry_point_offsets) v1 c.offset_len_minus1.result (numbers v1 c.offset_len_minus1.result) (c.in_ok-write_entry_points.ensures y.num_entry_point_offsets) (λ v2 b2 h2.
+          ue_then _ refl _ _ c.in_ok-ue_u8.ensures (λ v1 few b1 ue_u8_row.
+          then_filled (one_table_written (λ (k : ℕ). entry_points (k + 1) y.num_entry_point_offsets) (λ k. entry_points_fillable (k + 1) y.num_entry_point_offsets) v1 c.offset_len_minus1.result (numbers v1 c.offset_len_minus1.result) (c.in_ok-write_entry_points.ensures y.num_entry_point_offsets) (λ v2 b2 entry_point_offset_minus1_row.
           done_filled (λ e at.
           let len : v1 ≡ x.offset_len_minus1 = by e (λ r. r.offset_len_minus1) in
           let few_bits : x.offset_len_minus1 ≤ 31 = rw (← len) (grind (arith, nat_tests, few)) in
-          h2 (len ∙ sym (c.offset_len_minus1.ensures.value few_bits)) (by e (λ r. r.entry_point_offset_minus1) ∙ sym c.as_slice.ensures) (h1 len at)))));
+          entry_point_offset_minus1_row (len ∙ sym (c.offset_len_minus1.ensures.value few_bits)) (by e (λ r. r.entry_point_offset_minus1) ∙ sym c.as_slice.ensures) (ue_u8_row len at)))));
     }

@@ -3,14 +3,11 @@ use Rattle.hevc_tables.specs.SliceHeaderTable.{entry_point_offsets, parallel_par
 use Rattle.hevc_write_slice_header.specs.HeaderParts as own
 use Rattle.hevc_write_slice_header.proofs.HeaderKeeps.{entry_point_offsets_keeps}
 use Rattle.std.specs.Prelude.{◌==◌, not}
-use Rattle.hevc_writing.proofs.Steps.{by, ue_then, when_part_written}
+use Rattle.hevc_writing.proofs.Chains.{ending, part_if_of, ue_of, writes, ◌>>=◌}
 use Rattle.hevc_write_slice_header.proofs.ending.write_parallel_parts.Goals as goal
 
 pub returns : goal.returns
 unfolding parallel_parts
-returns c = record {
-  written = λ y w.
-      ue_then _ refl _ _ c.in_ok-ue.ensures (λ v1 _ b1 h1.
-      when_part_written entry_point_offsets own.entry_point_offsets_of entry_point_offsets_keeps _ c.in_ok-write_entry_point_offsets_if.ensures refl (λ v2 b2 h2 e at.
-      h2 (by e (λ r. not (r.num_entry_point_offsets == 0))) _ e refl (h1 (by e (λ r. r.num_entry_point_offsets)) at)));
-}
+returns c = writes λ y w none. do
+  rows ← ue_of _ refl _ _ (λ r. r.num_entry_point_offsets) none c.in_ok-ue.ensures
+  ending (part_if_of entry_point_offsets own.entry_point_offsets_of entry_point_offsets_keeps _ (λ r. not (r.num_entry_point_offsets == 0)) rows.known c.in_ok-write_entry_point_offsets_if.ensures refl) (λ _ _ rows e at. rows.reach _ e refl at)

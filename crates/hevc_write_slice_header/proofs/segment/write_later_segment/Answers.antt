@@ -1,14 +1,11 @@
 use Rattle.std.proofs.Common.{refl}
 use Rattle.hevc_tables.specs.SliceHeaderTable.{later_segment}
-use Rattle.hevc_writing.proofs.Steps.{bits_then, by, done_filled, flag_if_then}
+use Rattle.hevc_writing.proofs.Chains.{done_filled, bits_of, flag_if_of, writes, ◌>>=◌}
 use Rattle.hevc_write_slice_header.proofs.segment.write_later_segment.Goals as goal
 
 pub returns : goal.returns
 unfolding later_segment
-returns c = record {
-  written = λ y w.
-      flag_if_then _ refl _ _ c.in_ok-flag_if.ensures (λ v1 b1 h1.
-      bits_then _ refl _ _ _ c.in_ok-index.ensures (λ v2 _ b2 h2.
-      done_filled (λ e at.
-      h2 (by e (λ r. r.segment_address)) (h1 refl (by e (λ r. r.dependent_slice_segment_flag)) at))));
-}
+returns c = writes λ y w none. do
+  rows ← flag_if_of _ refl _ _ (λ _. _) (λ r. r.dependent_slice_segment_flag) none c.in_ok-flag_if.ensures
+  rows ← bits_of _ refl _ _ _ (λ r. r.segment_address) rows.known c.in_ok-index.ensures
+  done_filled (λ e at. rows.known.reach _ e refl at)

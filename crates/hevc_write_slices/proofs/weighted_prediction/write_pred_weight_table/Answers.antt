@@ -9,9 +9,9 @@ pub returns : goal.returns
 unfolding pred_weight_table with_list0 with_list1
 returns c = λ sps is_chroma. record {
   written = λ w.
-      part_then (denominators _) own.denominators_of (denominators_keep _) _ (c.in_ok-write_denominators.ensures sps is_chroma) refl (λ v1 b1 h1.
-      table_then (of_places sps 0 c.from-count0.ensures (c.in_ok-write_list_weights.ensures sps 0 is_chroma)) (λ v2 b2 h2.
-      then_filled (when_written _ _ _ (list_weights_fillable _ _ _) (where_present (of_places sps 1 c.from-count1.ensures) (c.in_ok-write_list_weights_if.ensures sps 1 is_chroma)) (λ v3 b3 h3.
+      part_then (denominators _) own.denominators_of (denominators_keep _) _ (c.in_ok-write_denominators.ensures sps is_chroma) refl (λ v1 b1 denominators_rows.
+      table_then (of_places sps 0 c.from-count0.ensures (c.in_ok-write_list_weights.ensures sps 0 is_chroma)) (λ v2 b2 own_row.
+      then_filled (when_written _ _ _ (list_weights_fillable _ _ _) (where_present (of_places sps 1 c.from-count1.ensures) (c.in_ok-write_list_weights_if.ensures sps 1 is_chroma)) (λ v3 b3 own_row_2.
       done_filled (λ e at.
-      h3 refl (by e own.list1_of ∙ sym c.list1-list1.ensures) (h2 (by e own.list0_of ∙ sym c.list0-list0.ensures) (h1 _ e refl at)))))));
+      own_row_2 refl (by e own.list1_of ∙ sym c.list1-list1.ensures) (own_row (by e own.list0_of ∙ sym c.list0-list0.ensures) (denominators_rows _ e refl at)))))));
 }

@@ -9,7 +9,7 @@ pub returns : goal.returns
 unfolding usability_information
 returns c = record {
   written = λ y w.
-      then_filled (one_table_written vui_parameters vui_fillable _ _ (numbers _ _) c.in_ok-write_vui_parameters.ensures (λ v1 b1 h1.
+      then_filled (one_table_written vui_parameters vui_fillable _ _ (numbers _ _) c.in_ok-write_vui_parameters.ensures (λ v1 b1 vui_parameters_row.
       done_filled (λ e at.
-      h1 (by e (λ r. r.max_sub_layers_minus1)) (by e (λ r. r.vui_parameters)) at)));
+      vui_parameters_row (by e (λ r. r.max_sub_layers_minus1)) (by e (λ r. r.vui_parameters)) at)));
 }

@@ -7,11 +7,11 @@ pub returns : goal.returns
 unfolding window
 returns c = record {
   written = λ y w.
-      ue_then _ refl _ _ c.in_ok-ue.ensures (λ v1 _ b1 h1.
-      ue_then _ refl _ _ c.in_ok-ue-2.ensures (λ v2 _ b2 h2.
-      ue_then _ refl _ _ c.in_ok-ue-3.ensures (λ v3 _ b3 h3.
-      ue_then _ refl _ _ c.in_ok-ue-4.ensures (λ v4 _ b4 h4.
+      ue_then _ refl _ _ c.in_ok-ue.ensures (λ v1 _ b1 conf_win_left_offset_row.
+      ue_then _ refl _ _ c.in_ok-ue-2.ensures (λ v2 _ b2 conf_win_right_offset_row.
+      ue_then _ refl _ _ c.in_ok-ue-3.ensures (λ v3 _ b3 conf_win_top_offset_row.
+      ue_then _ refl _ _ c.in_ok-ue-4.ensures (λ v4 _ b4 conf_win_bottom_offset_row.
       check_then _ _ (λ held5.
       done_filled (λ e at.
-      (h4 (by e (λ r. r.conf_win_bottom_offset)) (h3 (by e (λ r. r.conf_win_top_offset)) (h2 (by e (λ r. r.conf_win_right_offset)) (h1 (by e (λ r. r.conf_win_left_offset)) at))))))))));
+      (conf_win_bottom_offset_row (by e (λ r. r.conf_win_bottom_offset)) (conf_win_top_offset_row (by e (λ r. r.conf_win_top_offset)) (conf_win_right_offset_row (by e (λ r. r.conf_win_right_offset)) (conf_win_left_offset_row (by e (λ r. r.conf_win_left_offset)) at))))))))));
 }

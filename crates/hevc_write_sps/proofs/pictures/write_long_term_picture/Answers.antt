@@ -16,10 +16,10 @@ returns c =
     record {
       written = λ y w.
           then_filled (one_table_written (λ (k : ℕ). bits_row (row 5 39) (k + 4) 0 (2 ^ (k + 4) - 1)) (λ k. bits_fillable (row 5 39) refl (k + 4) 0 (2 ^ (k + 4) - 1)) y.log2_max_pic_order_cnt_lsb_minus4 x.log2_max_pic_order_cnt_lsb_minus4 (numbers _ _)
-          (bits_table (row 5 39) refl (x.log2_max_pic_order_cnt_lsb_minus4 + 4) 0 (2 ^ (x.log2_max_pic_order_cnt_lsb_minus4 + 4) - 1) (rw (← c.from-num_bits.ensures) first.1)) (λ v1 b1 h1.
-          flag_then _ refl second.1 (λ v2 b2 h2.
+          (bits_table (row 5 39) refl (x.log2_max_pic_order_cnt_lsb_minus4 + 4) 0 (2 ^ (x.log2_max_pic_order_cnt_lsb_minus4 + 4) - 1) (rw (← c.from-num_bits.ensures) first.1)) (λ v1 b1 lsb_row.
+          flag_then _ refl second.1 (λ v2 b2 used_row.
           done_filled (λ a.
           let lsb = one_less i y.lt_ref_pic_poc_lsb_sps x.lt_ref_pic_poc_lsb_sps v1 0 first.0 a.1 in
           let used = one_less i y.used_by_curr_pic_lt_sps_flag x.used_by_curr_pic_lt_sps_flag v2 false second.0 a.2 in
-          ((a.0, lsb.0, used.0), λ at. h2 used.1 (h1 a.0 lsb.1 at))))));
+          ((a.0, lsb.0, used.0), λ at. used_row used.1 (lsb_row a.0 lsb.1 at))))));
     }
