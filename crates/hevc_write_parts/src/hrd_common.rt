@@ -20,14 +20,9 @@ pub(crate) fn write_common_if(
         (Writes table.common_parameters own.common_parameters_of (plain_hrd_params x.now))
         w.old w.new) }
 {
-    if present { write_common(w, x) } else { Ok(()) }
-}
-
-/// Rows 1 to 9 of table 3.
-fn write_common(w: &mut BitWriter, x: &HrdParams) -> Result<(), AllocError>
-    ensures { OnOk result (Writes table.common_parameters own.common_parameters_of
-        (plain_hrd_params x.now) w.old w.new) }
-{
+    if !present {
+        return Ok(());
+    }
     flag(w, x.nal_hrd_parameters_present_flag)?; // Row(3, 1)
     flag(w, x.vcl_hrd_parameters_present_flag)?; // Row(3, 1)
     write_buffering_if(w, has_buffering(x), x)?;
@@ -47,18 +42,9 @@ fn write_buffering_if(w: &mut BitWriter, present: bool, x: &HrdParams) -> Result
     ensures { OnOk result (WritesIf present
         (Writes table.buffering own.buffering_of (plain_hrd_params x.now)) w.old w.new) }
 {
-    if present {
-        write_buffering(w, x)
-    } else {
-        Ok(())
+    if !present {
+        return Ok(());
     }
-}
-
-/// Rows 2 to 9 of table 3.
-fn write_buffering(w: &mut BitWriter, x: &HrdParams) -> Result<(), AllocError>
-    ensures { OnOk result
-        (Writes table.buffering own.buffering_of (plain_hrd_params x.now) w.old w.new) }
-{
     flag(w, x.sub_pic_hrd_params_present_flag)?; // Row(3, 2)
     write_units_if(w, x.sub_pic_hrd_params_present_flag, x)?;
     write_scales(w, x)?;
@@ -70,14 +56,9 @@ fn write_units_if(w: &mut BitWriter, present: bool, x: &HrdParams) -> Result<(),
     ensures { OnOk result (WritesIf present
         (Writes table.decoding_units own.decoding_units_of (plain_hrd_params x.now)) w.old w.new) }
 {
-    if present { write_units(w, x) } else { Ok(()) }
-}
-
-/// Rows 3 to 6 of table 3.
-fn write_units(w: &mut BitWriter, x: &HrdParams) -> Result<(), AllocError>
-    ensures { OnOk result
-        (Writes table.decoding_units own.decoding_units_of (plain_hrd_params x.now) w.old w.new) }
-{
+    if !present {
+        return Ok(());
+    }
     bits_u8(w, 8, x.tick_divisor_minus2)?; // Row(3, 3)
     bits_u8(w, 5, x.du_cpb_removal_delay_increment_length_minus1)?; // Row(3, 4)
     flag(w, x.sub_pic_cpb_params_in_pic_timing_sei_flag)?; // Row(3, 5)

@@ -81,19 +81,9 @@ fn write_profile_if(
     ensures { OnOk result (WritesIf present (WritesTurn table.sub_layer_profile
         (own.same_profiles (plain_profile_tier_level x.now)) i) w.old w.new) }
 {
-    if present {
-        write_profile(w, i, x)
-    } else {
-        Ok(())
+    if !present {
+        return Ok(());
     }
-}
-
-/// Row 30 of table 2, for one sub-layer.
-fn write_profile(w: &mut BitWriter, i: usize, x: &ProfileTierLevel) -> Result<(), AllocError>
-    requires { i < 6 }
-    ensures { OnOk result (WritesTurn table.sub_layer_profile
-        (own.same_profiles (plain_profile_tier_level x.now)) i w.old w.new) }
-{
     let layer = LayerProfile {
         profile_space: x.sub_layer_profile_space[i],
         tier_flag: x.sub_layer_tier_flag[i],
@@ -130,19 +120,9 @@ fn write_level_if(
     ensures { OnOk result (WritesIf present (WritesTurn table.sub_layer_level
         (own.same_levels (plain_profile_tier_level x.now)) i) w.old w.new) }
 {
-    if present {
-        write_level(w, i, x)
-    } else {
-        Ok(())
+    if !present {
+        return Ok(());
     }
-}
-
-/// Row 31 of table 2, for one sub-layer.
-fn write_level(w: &mut BitWriter, i: usize, x: &ProfileTierLevel) -> Result<(), AllocError>
-    requires { i < 6 }
-    ensures { OnOk result (WritesTurn table.sub_layer_level
-        (own.same_levels (plain_profile_tier_level x.now)) i w.old w.new) }
-{
     bits_u8(w, 8, x.sub_layer_level_idc[i].number())?; // Row(2, 31)
     Ok(())
 }

@@ -58,14 +58,9 @@ fn write_colours_if(w: &mut BitWriter, present: bool, x: &VuiParams) -> Result<(
     ensures { OnOk result (WritesIf present
         (Writes table.colours own.colours_of (plain_vui_params x.now)) w.old w.new) }
 {
-    if present { write_colours(w, x) } else { Ok(()) }
-}
-
-/// Row 9 of table 8.
-fn write_colours(w: &mut BitWriter, x: &VuiParams) -> Result<(), AllocError>
-    ensures { OnOk result
-        (Writes table.colours own.colours_of (plain_vui_params x.now) w.old w.new) }
-{
+    if !present {
+        return Ok(());
+    }
     bits(w, 8, x.colour_primaries)?; // Row(8, 9)
     bits(w, 8, x.transfer_characteristics)?; // Row(8, 9)
     bits(w, 8, x.matrix_coeffs)?; // Row(8, 9)
@@ -77,14 +72,9 @@ fn write_signal_if(w: &mut BitWriter, present: bool, x: &VuiParams) -> Result<()
     ensures { OnOk result (WritesIf present
         (Writes table.signal own.signal_of (plain_vui_params x.now)) w.old w.new) }
 {
-    if present { write_signal(w, x) } else { Ok(()) }
-}
-
-/// Rows 7 to 9 of table 8.
-fn write_signal(w: &mut BitWriter, x: &VuiParams) -> Result<(), AllocError>
-    ensures { OnOk result
-        (Writes table.signal own.signal_of (plain_vui_params x.now) w.old w.new) }
-{
+    if !present {
+        return Ok(());
+    }
     bits_u8(w, 3, x.video_format)?; // Row(8, 7)
     flag(w, x.video_full_range_flag)?; // Row(8, 8)
     flag(w, x.colour_description_present_flag)?; // Row(8, 8)
@@ -130,18 +120,9 @@ fn write_display_window_if(
     ensures { OnOk result (WritesIf present
         (Writes table.display_window own.display_window_of (plain_vui_params x.now)) w.old w.new) }
 {
-    if present {
-        write_display_window(w, x)
-    } else {
-        Ok(())
+    if !present {
+        return Ok(());
     }
-}
-
-/// Row 14 of table 8.
-fn write_display_window(w: &mut BitWriter, x: &VuiParams) -> Result<(), AllocError>
-    ensures { OnOk result
-        (Writes table.display_window own.display_window_of (plain_vui_params x.now) w.old w.new) }
-{
     ue(w, x.def_disp_win_left_offset)?; // Row(8, 14)
     ue(w, x.def_disp_win_right_offset)?; // Row(8, 14)
     ue(w, x.def_disp_win_top_offset)?; // Row(8, 14)
@@ -174,19 +155,9 @@ fn write_hrd_if(
         (Writes (table.hrd max_sub_layers_minus1) own.hrd_of (plain_vui_params x.now))
         w.old w.new) }
 {
-    if present {
-        write_hrd(w, max_sub_layers_minus1, x)
-    } else {
-        Ok(())
+    if !present {
+        return Ok(());
     }
-}
-
-/// Row 20 of table 8.
-fn write_hrd(w: &mut BitWriter, max_sub_layers_minus1: u8, x: &VuiParams) -> Result<(), AllocError>
-    requires { max_sub_layers_minus1 ≤ 6 }
-    ensures { OnOk result
-        (Writes (table.hrd max_sub_layers_minus1) own.hrd_of (plain_vui_params x.now) w.old w.new) }
-{
     write_hrd_parameters(w, true, max_sub_layers_minus1, &x.hrd)?; // Row(8, 20)
     Ok(())
 }
@@ -203,24 +174,9 @@ fn write_timing_if(
         (Writes (table.timing max_sub_layers_minus1) own.timing_of (plain_vui_params x.now))
         w.old w.new) }
 {
-    if present {
-        write_timing(w, max_sub_layers_minus1, x)
-    } else {
-        Ok(())
+    if !present {
+        return Ok(());
     }
-}
-
-/// Rows 16 to 20 of table 8.
-fn write_timing(
-    w: &mut BitWriter,
-    max_sub_layers_minus1: u8,
-    x: &VuiParams,
-) -> Result<(), AllocError>
-    requires { max_sub_layers_minus1 ≤ 6 }
-    ensures { OnOk result
-        (Writes (table.timing max_sub_layers_minus1) own.timing_of (plain_vui_params x.now)
-        w.old w.new) }
-{
     bits(w, 32, x.num_units_in_tick)?; // Row(8, 16)
     bits(w, 32, x.time_scale)?; // Row(8, 16)
     flag(w, x.poc_proportional_to_timing_flag)?; // Row(8, 17)
@@ -255,18 +211,9 @@ fn write_restrictions_if(w: &mut BitWriter, present: bool, x: &VuiParams) -> Res
     ensures { OnOk result (WritesIf present
         (Writes table.restrictions own.restrictions_of (plain_vui_params x.now)) w.old w.new) }
 {
-    if present {
-        write_restrictions(w, x)
-    } else {
-        Ok(())
+    if !present {
+        return Ok(());
     }
-}
-
-/// Rows 22 to 26 of table 8.
-fn write_restrictions(w: &mut BitWriter, x: &VuiParams) -> Result<(), AllocError>
-    ensures { OnOk result
-        (Writes table.restrictions own.restrictions_of (plain_vui_params x.now) w.old w.new) }
-{
     flag(w, x.tiles_fixed_structure_flag)?; // Row(8, 22)
     flag(w, x.motion_vectors_over_pic_boundaries_flag)?; // Row(8, 22)
     flag(w, x.restricted_ref_pic_lists_flag)?; // Row(8, 22)

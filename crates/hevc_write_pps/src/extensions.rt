@@ -35,18 +35,9 @@ fn write_extension_data_if(
         (Writes (table.extension_data (plain_sps sps.now)) own.extension_data_with_inputs_of
         (plain_pps x.now)) w.old w.new) }
 {
-    if present {
-        write_extension_data(w, sps, x)
-    } else {
-        Ok(())
+    if !present {
+        return Ok(());
     }
-}
-
-/// Rows 29 to 35 of table 11.
-fn write_extension_data(w: &mut BitWriter, sps: &Sps, x: &Pps) -> Result<(), AllocError>
-    ensures { OnOk result (Writes (table.extension_data (plain_sps sps.now))
-        own.extension_data_with_inputs_of (plain_pps x.now) w.old w.new) }
-{
     write_extension_flags(w, x)?;
     write_range_extension_if(w, x.range_extension_flag, x)?;
     write_scc_extension_if(w, x.scc_extension_flag, sps, x)?;
@@ -72,17 +63,9 @@ fn write_range_extension_if(w: &mut BitWriter, present: bool, x: &Pps) -> Result
         (Writes (table.range_extension sps) own.range_extension_with_inputs_of (plain_pps x.now))
         w.old w.new) }
 {
-    if present {
-        write_range_extension(w, x)?;
+    if !present {
+        return Ok(());
     }
-    Ok(())
-}
-
-/// Row 34 of table 11.
-fn write_range_extension(w: &mut BitWriter, x: &Pps) -> Result<(), AllocError>
-    ensures { (sps : PlainSps) → OnOk result (Writes (table.range_extension sps)
-        own.range_extension_with_inputs_of (plain_pps x.now) w.old w.new) }
-{
     write_pps_range_extension(w, x.transform_skip_enabled_flag, &x.range_extension)?; // Row(11, 34)
     Ok(())
 }
@@ -98,18 +81,9 @@ fn write_scc_extension_if(
         (Writes (table.scc_extension (plain_sps sps.now)) own.scc_extension_of (plain_pps x.now))
         w.old w.new) }
 {
-    if present {
-        write_scc_extension(w, sps, x)
-    } else {
-        Ok(())
+    if !present {
+        return Ok(());
     }
-}
-
-/// Row 35 of table 11.
-fn write_scc_extension(w: &mut BitWriter, sps: &Sps, x: &Pps) -> Result<(), AllocError>
-    ensures { OnOk result (Writes (table.scc_extension (plain_sps sps.now))
-        own.scc_extension_of (plain_pps x.now) w.old w.new) }
-{
     write_pps_scc_extension(w, sps, &x.scc_extension)?; // Row(11, 35)
     Ok(())
 }

@@ -26,18 +26,9 @@ fn write_deblocking_if(w: &mut BitWriter, present: bool, x: &Pps) -> Result<(), 
     ensures { OnOk result (WritesIf present
         (Writes table.deblocking own.deblocking_of (plain_pps x.now)) w.old w.new) }
 {
-    if present {
-        write_deblocking(w, x)
-    } else {
-        Ok(())
+    if !present {
+        return Ok(());
     }
-}
-
-/// Rows 21 to 23 of table 11.
-fn write_deblocking(w: &mut BitWriter, x: &Pps) -> Result<(), AllocError>
-    ensures { OnOk result (Writes table.deblocking
-        own.deblocking_of (plain_pps x.now) w.old w.new) }
-{
     flag(w, x.deblocking_filter_override_enabled_flag)?; // Row(11, 21)
     flag(w, x.deblocking_filter_disabled_flag)?; // Row(11, 21)
     write_filter_offsets_if(w, !x.deblocking_filter_disabled_flag, x)?;
@@ -49,18 +40,9 @@ fn write_filter_offsets_if(w: &mut BitWriter, present: bool, x: &Pps) -> Result<
     ensures { OnOk result (WritesIf present
         (Writes table.filter_offsets own.filter_offsets_of (plain_pps x.now)) w.old w.new) }
 {
-    if present {
-        write_filter_offsets(w, x)
-    } else {
-        Ok(())
+    if !present {
+        return Ok(());
     }
-}
-
-/// Rows 22 and 23 of table 11.
-fn write_filter_offsets(w: &mut BitWriter, x: &Pps) -> Result<(), AllocError>
-    ensures { OnOk result (Writes table.filter_offsets
-        own.filter_offsets_of (plain_pps x.now) w.old w.new) }
-{
     se_i8(w, x.beta_offset_div2)?; // Row(11, 22)
     se_i8(w, x.tc_offset_div2)?; // Row(11, 23)
     Ok(())

@@ -18,17 +18,9 @@ pub(crate) fn write_tiles_if(w: &mut BitWriter, present: bool, x: &Pps) -> Resul
     ensures { OnOk result ((sps : PlainSps) → WritesIf present
         (Writes (table.tiles sps) own.tiles_of (plain_pps x.now)) w.old w.new) }
 {
-    if present {
-        write_tiles(w, x)?;
+    if !present {
+        return Ok(());
     }
-    Ok(())
-}
-
-/// Rows 14 to 19 of table 11.
-pub(crate) fn write_tiles(w: &mut BitWriter, x: &Pps) -> Result<(), AllocError>
-    ensures { (sps : PlainSps) → OnOk result (Writes (table.tiles sps)
-        own.tiles_of (plain_pps x.now) w.old w.new) }
-{
     write_tile_counts(w, x)?;
     write_told_tiles_if(w, !x.uniform_spacing_flag, x)?;
     flag(w, x.loop_filter_across_tiles_enabled_flag)?; // Row(11, 19)
@@ -52,17 +44,9 @@ fn write_told_tiles_if(w: &mut BitWriter, present: bool, x: &Pps) -> Result<(), 
         (Writes (table.told_tiles sps) own.told_tiles_with_inputs_of (plain_pps x.now))
         w.old w.new) }
 {
-    if present {
-        write_told_tiles(w, x)?;
+    if !present {
+        return Ok(());
     }
-    Ok(())
-}
-
-/// Rows 17 and 18 of table 11.
-fn write_told_tiles(w: &mut BitWriter, x: &Pps) -> Result<(), AllocError>
-    ensures { (sps : PlainSps) → OnOk result (Writes (table.told_tiles sps)
-        own.told_tiles_with_inputs_of (plain_pps x.now) w.old w.new) }
-{
     write_told_sizes(w, &x.column_width_minus1, x.num_tile_columns_minus1)?; // Row(11, 17)
     write_told_sizes(w, &x.row_height_minus1, x.num_tile_rows_minus1)?; // Row(11, 18)
     Ok(())

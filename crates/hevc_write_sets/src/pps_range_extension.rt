@@ -43,18 +43,9 @@ fn write_offset_lists_if(
     ensures { OnOk result (WritesIf present (Writes table.offset_lists offset_lists_of
         (plain_pps_range_extension x.now)) w.old w.new) }
 {
-    if present {
-        write_offset_lists(w, x)
-    } else {
-        Ok(())
+    if !present {
+        return Ok(());
     }
-}
-
-/// Rows 3 to 5 of table 12.
-fn write_offset_lists(w: &mut BitWriter, x: &PpsRangeExtension) -> Result<(), AllocError>
-    ensures { OnOk result (Writes table.offset_lists offset_lists_of
-        (plain_pps_range_extension x.now) w.old w.new) }
-{
     ue(w, x.diff_cu_chroma_qp_offset_depth)?; // Row(12, 3)
     ue(w, x.chroma_qp_offset_list_len_minus1)?; // Row(12, 4)
     let count = x.chroma_qp_offset_list_len_minus1.min(5) as usize + 1;

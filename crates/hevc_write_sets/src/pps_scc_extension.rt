@@ -43,18 +43,9 @@ fn write_colour_transform_if(
         (Writes table.colour_transform own.colour_transform_of (plain_pps_scc_extension x.now))
         w.old w.new) }
 {
-    if present {
-        write_colour_transform(w, x)
-    } else {
-        Ok(())
+    if !present {
+        return Ok(());
     }
-}
-
-/// Rows 2 to 5 of table 13.
-fn write_colour_transform(w: &mut BitWriter, x: &PpsSccExtension) -> Result<(), AllocError>
-    ensures { OnOk result (Writes table.colour_transform own.colour_transform_of
-        (plain_pps_scc_extension x.now) w.old w.new) }
-{
     flag(w, x.slice_act_qp_offsets_present_flag)?; // Row(13, 2)
     se_i8(w, x.act_y_qp_offset_plus5)?; // Row(13, 3)
     se_i8(w, x.act_cb_qp_offset_plus5)?; // Row(13, 4)

@@ -41,23 +41,9 @@ fn write_parallel_parts_if(
         (Writes (table.parallel_parts (plain_sps sps.now) (plain_pps pps.now))
         own.parallel_parts_of (plain_slice_header x.now)) w.old w.new) }
 {
-    if present {
-        write_parallel_parts(w, sps, pps, x)
-    } else {
-        Ok(())
+    if !present {
+        return Ok(());
     }
-}
-
-/// Rows 48 to 50 of table 14.
-fn write_parallel_parts(
-    w: &mut BitWriter,
-    sps: &Sps,
-    pps: &Pps,
-    x: &SliceHeader,
-) -> Result<(), AllocError>
-    ensures { OnOk result (Writes (table.parallel_parts (plain_sps sps.now) (plain_pps pps.now))
-        own.parallel_parts_of (plain_slice_header x.now) w.old w.new) }
-{
     ue(w, x.num_entry_point_offsets)?; // Row(14, 48)
     write_entry_point_offsets_if(w, x.num_entry_point_offsets != 0, x)?;
     Ok(())
@@ -73,18 +59,9 @@ fn write_entry_point_offsets_if(
         (Writes table.entry_point_offsets
         own.entry_point_offsets_of (plain_slice_header x.now)) w.old w.new) }
 {
-    if present {
-        write_entry_point_offsets(w, x)
-    } else {
-        Ok(())
+    if !present {
+        return Ok(());
     }
-}
-
-/// Rows 49 and 50 of table 14.
-fn write_entry_point_offsets(w: &mut BitWriter, x: &SliceHeader) -> Result<(), AllocError>
-    ensures { OnOk result (Writes table.entry_point_offsets
-        own.entry_point_offsets_of (plain_slice_header x.now) w.old w.new) }
-{
     ue_u8(w, x.offset_len_minus1)?; // Row(14, 49)
     write_entry_points(
         w,
@@ -104,18 +81,9 @@ fn write_header_extension_if(
         (Writes table.header_extension
         own.header_extension_of (plain_slice_header x.now)) w.old w.new) }
 {
-    if present {
-        write_header_extension(w, x)
-    } else {
-        Ok(())
+    if !present {
+        return Ok(());
     }
-}
-
-/// Rows 51 and 52 of table 14: no extension.
-fn write_header_extension(w: &mut BitWriter, x: &SliceHeader) -> Result<(), AllocError>
-    ensures { OnOk result (Writes table.header_extension
-        own.header_extension_of (plain_slice_header x.now) w.old w.new) }
-{
     ue(w, 0)?; // Row(14, 51): no byte of Row(14, 52) follows
     Ok(())
 }

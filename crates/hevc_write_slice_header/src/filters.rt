@@ -53,18 +53,9 @@ fn write_own_deblocking_if(
         (Writes table.own_deblocking own.own_deblocking_of (plain_slice_header x.now))
         w.old w.new) }
 {
-    if present {
-        write_own_deblocking(w, x)
-    } else {
-        Ok(())
+    if !present {
+        return Ok(());
     }
-}
-
-/// Rows 44 to 46 of table 14.
-fn write_own_deblocking(w: &mut BitWriter, x: &SliceHeader) -> Result<(), AllocError>
-    ensures { OnOk result (Writes table.own_deblocking
-        own.own_deblocking_of (plain_slice_header x.now) w.old w.new) }
-{
     flag(w, x.deblocking_filter_disabled_flag)?; // Row(14, 44)
     write_filter_offsets_if(w, !x.deblocking_filter_disabled_flag, x)?;
     Ok(())
@@ -80,18 +71,9 @@ fn write_filter_offsets_if(
         (Writes table.filter_offsets own.filter_offsets_of (plain_slice_header x.now))
         w.old w.new) }
 {
-    if present {
-        write_filter_offsets(w, x)
-    } else {
-        Ok(())
+    if !present {
+        return Ok(());
     }
-}
-
-/// Rows 45 and 46 of table 14.
-fn write_filter_offsets(w: &mut BitWriter, x: &SliceHeader) -> Result<(), AllocError>
-    ensures { OnOk result (Writes table.filter_offsets
-        own.filter_offsets_of (plain_slice_header x.now) w.old w.new) }
-{
     se_i8(w, x.beta_offset_div2)?; // Row(14, 45)
     se_i8(w, x.tc_offset_div2)?; // Row(14, 46)
     Ok(())

@@ -50,18 +50,9 @@ fn write_own_active_counts_if(
         (Writes table.own_active_counts
         own.own_active_counts_with_inputs_of (plain_slice_header x.now)) w.old w.new) }
 {
-    if present {
-        write_own_active_counts(w, x)
-    } else {
-        Ok(())
+    if !present {
+        return Ok(());
     }
-}
-
-/// Rows 25 and 26 of table 14.
-fn write_own_active_counts(w: &mut BitWriter, x: &SliceHeader) -> Result<(), AllocError>
-    ensures { OnOk result (Writes table.own_active_counts
-        own.own_active_counts_with_inputs_of (plain_slice_header x.now) w.old w.new) }
-{
     ue_u8(w, x.num_ref_idx_l0_active_minus1)?; // Row(14, 25)
     ue_u8_if(w, is_b(x), x.num_ref_idx_l1_active_minus1)?; // Row(14, 26)
     Ok(())
@@ -77,18 +68,9 @@ fn write_list_modification_if(
         (Writes table.list_modification
         own.list_modification_with_inputs_of (plain_slice_header x.now)) w.old w.new) }
 {
-    if present {
-        write_list_modification(w, x)
-    } else {
-        Ok(())
+    if !present {
+        return Ok(());
     }
-}
-
-/// Row 27 of table 14.
-fn write_list_modification(w: &mut BitWriter, x: &SliceHeader) -> Result<(), AllocError>
-    ensures { OnOk result (Writes table.list_modification
-        own.list_modification_with_inputs_of (plain_slice_header x.now) w.old w.new) }
-{
     write_ref_pic_list_modification(
         w,
         is_b(x),

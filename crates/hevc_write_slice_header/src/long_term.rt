@@ -24,22 +24,9 @@ pub(crate) fn write_long_term_if(
         (Writes (table.long_term (plain_sps sps.now))
         own.long_term_of (plain_slice_header x.now)) w.old w.new) }
 {
-    if present {
-        write_long_term(w, sps, x)
-    } else {
-        Ok(())
+    if !present {
+        return Ok(());
     }
-}
-
-/// Rows 14 to 20 of table 14.
-pub(crate) fn write_long_term(
-    w: &mut BitWriter,
-    sps: &Sps,
-    x: &SliceHeader,
-) -> Result<(), AllocError>
-    ensures { OnOk result (Writes (table.long_term (plain_sps sps.now))
-        own.long_term_of (plain_slice_header x.now) w.old w.new) }
-{
     write_long_term_counts(w, sps, x)?;
     write_long_term_pictures(w, sps, x)?;
     Ok(())

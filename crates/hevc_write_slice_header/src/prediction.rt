@@ -32,23 +32,9 @@ pub(crate) fn write_prediction_if(
         (Writes (table.prediction (plain_sps sps.now) (plain_pps pps.now))
         own.prediction_with_inputs_of (plain_slice_header x.now)) w.old w.new) }
 {
-    if present {
-        write_prediction(w, sps, pps, x)
-    } else {
-        Ok(())
+    if !present {
+        return Ok(());
     }
-}
-
-/// Rows 24 to 34 of table 14.
-pub(crate) fn write_prediction(
-    w: &mut BitWriter,
-    sps: &Sps,
-    pps: &Pps,
-    x: &SliceHeader,
-) -> Result<(), AllocError>
-    ensures { OnOk result (Writes (table.prediction (plain_sps sps.now) (plain_pps pps.now))
-        own.prediction_with_inputs_of (plain_slice_header x.now) w.old w.new) }
-{
     write_reference_lists(w, sps, pps, x)?;
     write_motion(w, pps, x)?;
     write_weights(w, sps, pps, x)?;

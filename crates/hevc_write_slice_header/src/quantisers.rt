@@ -46,18 +46,9 @@ fn write_chroma_offsets_if(
         (Writes (table.chroma_offsets (plain_pps pps.now))
         own.chroma_offsets_of (plain_slice_header x.now)) w.old w.new) }
 {
-    if present {
-        write_chroma_offsets(w, pps, x)
-    } else {
-        Ok(())
+    if !present {
+        return Ok(());
     }
-}
-
-/// Rows 37 to 40 of table 14.
-fn write_chroma_offsets(w: &mut BitWriter, pps: &Pps, x: &SliceHeader) -> Result<(), AllocError>
-    ensures { OnOk result (Writes (table.chroma_offsets (plain_pps pps.now))
-        own.chroma_offsets_of (plain_slice_header x.now) w.old w.new) }
-{
     se_i8(w, x.cb_qp_offset)?; // Row(14, 37)
     se_i8(w, x.cr_qp_offset)?; // Row(14, 39)
     Ok(())
@@ -87,18 +78,9 @@ fn write_colour_transform_offsets_if(
         (Writes table.colour_transform_offsets
         own.colour_transform_offsets_of (plain_slice_header x.now)) w.old w.new) }
 {
-    if present {
-        write_colour_transform_offsets(w, x)
-    } else {
-        Ok(())
+    if !present {
+        return Ok(());
     }
-}
-
-/// Row 41 of table 14.
-fn write_colour_transform_offsets(w: &mut BitWriter, x: &SliceHeader) -> Result<(), AllocError>
-    ensures { OnOk result (Writes table.colour_transform_offsets
-        own.colour_transform_offsets_of (plain_slice_header x.now) w.old w.new) }
-{
     se_i8(w, x.slice_act_y_qp_offset)?; // Row(14, 41)
     se_i8(w, x.slice_act_cb_qp_offset)?; // Row(14, 41)
     se_i8(w, x.slice_act_cr_qp_offset)?; // Row(14, 41)

@@ -28,22 +28,9 @@ pub(crate) fn write_reference_pictures_if(
         (Writes (own.reference_picture_rows (plain_sps sps.now))
         own.reference_pictures_elements_of (plain_slice_header x.now)) w.old w.new) }
 {
-    if present {
-        write_reference_pictures(w, sps, x)
-    } else {
-        Ok(())
+    if !present {
+        return Ok(());
     }
-}
-
-/// Rows 10 to 21 of table 14.
-pub(crate) fn write_reference_pictures(
-    w: &mut BitWriter,
-    sps: &Sps,
-    x: &SliceHeader,
-) -> Result<(), AllocError>
-    ensures { OnOk result (Writes (own.reference_picture_rows (plain_sps sps.now))
-        own.reference_pictures_elements_of (plain_slice_header x.now) w.old w.new) }
-{
     write_short_term(w, sps, x)?;
     write_long_term_if(w, sps.long_term_ref_pics_present_flag, sps, x)?;
     flag_if(

@@ -47,23 +47,9 @@ pub(crate) fn write_later_segment_if(
         (Writes (table.later_segment (plain_sps sps.now) (plain_pps pps.now))
         own.later_segment_of (plain_slice_header x.now)) w.old w.new) }
 {
-    if present {
-        write_later_segment(w, sps, pps, x)
-    } else {
-        Ok(())
+    if !present {
+        return Ok(());
     }
-}
-
-/// Rows 4 and 5 of table 14.
-pub(crate) fn write_later_segment(
-    w: &mut BitWriter,
-    sps: &Sps,
-    pps: &Pps,
-    x: &SliceHeader,
-) -> Result<(), AllocError>
-    ensures { OnOk result (Writes (table.later_segment (plain_sps sps.now) (plain_pps pps.now))
-        own.later_segment_of (plain_slice_header x.now) w.old w.new) }
-{
     flag_if(
         w,
         pps.dependent_slice_segments_enabled_flag,
@@ -87,25 +73,9 @@ pub(crate) fn write_independent_segment_if(
         (plain_sps sps.now) (plain_pps pps.now))
         own.independent_segment_elements_of (plain_slice_header x.now)) w.old w.new) }
 {
-    if present {
-        write_independent_segment(w, nalu_type, sps, pps, x)
-    } else {
-        Ok(())
+    if !present {
+        return Ok(());
     }
-}
-
-/// Rows 6 to 47 of table 14.
-pub(crate) fn write_independent_segment(
-    w: &mut BitWriter,
-    nalu_type: NaluType,
-    sps: &Sps,
-    pps: &Pps,
-    x: &SliceHeader,
-) -> Result<(), AllocError>
-    ensures { OnOk result (Writes
-        (own.independent_rows (nalu_type_number nalu_type) (plain_sps sps.now) (plain_pps pps.now))
-        own.independent_segment_elements_of (plain_slice_header x.now) w.old w.new) }
-{
     write_kind(w, sps, pps, x)?;
     write_reference_pictures_if(w, !nalu_type.is_idr(), sps, x)?;
     write_adaptive_offset(w, sps, x)?;

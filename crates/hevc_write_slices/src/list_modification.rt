@@ -62,22 +62,9 @@ fn write_l1_if(
         (Writes (table.modification_l1 num_pic_total_curr active_l1) own.modification_l1_of
         (plain_ref_pic_list_modification x.now)) w.old w.new) }
 {
-    if present {
-        write_l1(w, num_pic_total_curr, x)?;
+    if !present {
+        return Ok(());
     }
-    Ok(())
-}
-
-/// Rows 3 and 4 of table 15.
-fn write_l1(
-    w: &mut BitWriter,
-    num_pic_total_curr: u32,
-    x: &RefPicListModification,
-) -> Result<(), AllocError>
-    ensures { (active_l1 : ℕ) → OnOk result
-        (Writes (table.modification_l1 num_pic_total_curr active_l1) own.modification_l1_of
-        (plain_ref_pic_list_modification x.now) w.old w.new) }
-{
     let entries = x.list_entry_l1.as_slice();
     flag(w, x.ref_pic_list_modification_flag_l1)?; // Row(15, 3)
     write_entries_if(

@@ -189,19 +189,9 @@ fn write_luma_weight_if(
         (WritesTurn (table.luma_weight sps list)
         (own.same_luma (own.plain_list_weights x.now)) i) w.old w.new) }
 {
-    if present {
-        write_luma_weight(w, i, x)?;
+    if !present {
+        return Ok(());
     }
-    Ok(())
-}
-
-/// Rows 5 and 6 of table 16, of one place.
-fn write_luma_weight(w: &mut BitWriter, i: usize, x: &ListWeights) -> Result<(), AllocError>
-    requires { i < 15 }
-    ensures { (sps : PlainSps) (list : ℕ) → OnOk result
-        (WritesTurn (table.luma_weight sps list)
-        (own.same_luma (own.plain_list_weights x.now)) i w.old w.new) }
-{
     se_i8(w, x.delta_luma_weight[i])?; // Row(16, 5), Row(16, 11)
     se_i16(w, x.luma_offset[i])?; // Row(16, 6), Row(16, 12)
     Ok(())
@@ -219,19 +209,9 @@ fn write_chroma_weight_if(
         (WritesTurn (table.chroma_weight sps list)
         (own.same_chroma (own.plain_list_weights x.now)) i) w.old w.new) }
 {
-    if present {
-        write_chroma_weight(w, i, x)?;
+    if !present {
+        return Ok(());
     }
-    Ok(())
-}
-
-/// Rows 7 and 8 of table 16, of one place, for Cb and Cr.
-fn write_chroma_weight(w: &mut BitWriter, i: usize, x: &ListWeights) -> Result<(), AllocError>
-    requires { i < 15 }
-    ensures { (sps : PlainSps) (list : ℕ) → OnOk result
-        (WritesTurn (table.chroma_weight sps list)
-        (own.same_chroma (own.plain_list_weights x.now)) i w.old w.new) }
-{
     let weights = &x.delta_chroma_weight[i];
     let offsets = &x.delta_chroma_offset[i];
     are_pairs(weights, offsets);

@@ -34,18 +34,9 @@ fn write_scaling_lists_if(w: &mut BitWriter, present: bool, x: &Sps) -> Result<(
     ensures { OnOk result (WritesIf present
         (Writes table.scaling_lists own.scaling_lists_of (plain_sps x.now)) w.old w.new) }
 {
-    if present {
-        write_scaling_lists(w, x)
-    } else {
-        Ok(())
+    if !present {
+        return Ok(());
     }
-}
-
-/// Row 29 of table 5.
-fn write_scaling_lists(w: &mut BitWriter, x: &Sps) -> Result<(), AllocError>
-    ensures { OnOk result (Writes table.scaling_lists
-        own.scaling_lists_of (plain_sps x.now) w.old w.new) }
-{
     write_scaling_list_data(w, &x.scaling_list)?; // Row(5, 29)
     Ok(())
 }
@@ -72,18 +63,9 @@ fn write_pulse_code_modulation_if(
         (Writes table.pulse_code_modulation own.pulse_code_modulation_of (plain_sps x.now))
         w.old w.new) }
 {
-    if present {
-        write_pulse_code_modulation(w, x)
-    } else {
-        Ok(())
+    if !present {
+        return Ok(());
     }
-}
-
-/// Rows 31 to 34 of table 5.
-fn write_pulse_code_modulation(w: &mut BitWriter, x: &Sps) -> Result<(), AllocError>
-    ensures { OnOk result (Writes table.pulse_code_modulation
-        own.pulse_code_modulation_of (plain_sps x.now) w.old w.new) }
-{
     bits_u8(w, 4, x.pcm_sample_bit_depth_luma_minus1)?; // Row(5, 31)
     bits_u8(w, 4, x.pcm_sample_bit_depth_chroma_minus1)?; // Row(5, 31)
     ue_u8(w, x.log2_min_pcm_luma_coding_block_size_minus3)?; // Row(5, 32)
@@ -114,18 +96,9 @@ fn write_usability_information_if(
         (Writes table.usability_information own.usability_information_with_inputs_of
         (plain_sps x.now)) w.old w.new) }
 {
-    if present {
-        write_usability_information(w, x)
-    } else {
-        Ok(())
+    if !present {
+        return Ok(());
     }
-}
-
-/// Row 42 of table 5.
-fn write_usability_information(w: &mut BitWriter, x: &Sps) -> Result<(), AllocError>
-    ensures { OnOk result (Writes table.usability_information
-        own.usability_information_with_inputs_of (plain_sps x.now) w.old w.new) }
-{
     write_vui_parameters(w, x.max_sub_layers_minus1, &x.vui_parameters)?; // Row(5, 42)
     Ok(())
 }

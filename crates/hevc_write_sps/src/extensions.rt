@@ -27,18 +27,9 @@ fn write_extension_data_if(w: &mut BitWriter, present: bool, x: &Sps) -> Result<
         (Writes table.extension_data own.extension_data_with_inputs_of (plain_sps x.now))
         w.old w.new) }
 {
-    if present {
-        write_extension_data(w, x)
-    } else {
-        Ok(())
+    if !present {
+        return Ok(());
     }
-}
-
-/// Rows 44 to 50 of table 5.
-fn write_extension_data(w: &mut BitWriter, x: &Sps) -> Result<(), AllocError>
-    ensures { OnOk result (Writes table.extension_data
-        own.extension_data_with_inputs_of (plain_sps x.now) w.old w.new) }
-{
     write_extension_flags(w, x)?;
     write_range_extension_if(w, x.range_extension_flag, x)?;
     write_scc_extension_if(w, x.scc_extension_flag, x)?;
@@ -64,18 +55,9 @@ fn write_range_extension_if(w: &mut BitWriter, present: bool, x: &Sps) -> Result
         (Writes table.range_extension own.range_extension_elements_of (plain_sps x.now))
         w.old w.new) }
 {
-    if present {
-        write_range_extension(w, x)
-    } else {
-        Ok(())
+    if !present {
+        return Ok(());
     }
-}
-
-/// Row 49 of table 5.
-fn write_range_extension(w: &mut BitWriter, x: &Sps) -> Result<(), AllocError>
-    ensures { OnOk result (Writes table.range_extension
-        own.range_extension_elements_of (plain_sps x.now) w.old w.new) }
-{
     write_sps_range_extension(w, &x.range_extension)?; // Row(5, 49)
     Ok(())
 }
@@ -86,18 +68,9 @@ fn write_scc_extension_if(w: &mut BitWriter, present: bool, x: &Sps) -> Result<(
         (Writes table.scc_extension own.scc_extension_with_inputs_of (plain_sps x.now))
         w.old w.new) }
 {
-    if present {
-        write_scc_extension(w, x)
-    } else {
-        Ok(())
+    if !present {
+        return Ok(());
     }
-}
-
-/// Row 50 of table 5.
-fn write_scc_extension(w: &mut BitWriter, x: &Sps) -> Result<(), AllocError>
-    ensures { OnOk result (Writes table.scc_extension
-        own.scc_extension_with_inputs_of (plain_sps x.now) w.old w.new) }
-{
     write_sps_scc_extension(w, x)?; // Row(5, 50)
     Ok(())
 }

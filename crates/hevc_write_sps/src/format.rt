@@ -43,14 +43,9 @@ fn write_window_if(w: &mut BitWriter, present: bool, x: &Sps) -> Result<(), Allo
     ensures { OnOk result (WritesIf present
         (Writes table.window own.window_elements_of (plain_sps x.now)) w.old w.new) }
 {
-    if present { write_window(w, x) } else { Ok(()) }
-}
-
-/// Rows 11 and 12 of table 5.
-fn write_window(w: &mut BitWriter, x: &Sps) -> Result<(), AllocError>
-    ensures { OnOk result (Writes table.window
-        own.window_elements_of (plain_sps x.now) w.old w.new) }
-{
+    if !present {
+        return Ok(());
+    }
     ue(w, x.conf_win_left_offset)?; // Row(5, 11)
     ue(w, x.conf_win_right_offset)?; // Row(5, 11)
     ue(w, x.conf_win_top_offset)?; // Row(5, 11)

@@ -27,14 +27,9 @@ fn write_timing_if(w: &mut BitWriter, present: bool, x: &Vps) -> Result<(), Allo
     ensures { OnOk result (WritesIf present
         (Writes own.timing_rows own.timing_with_inputs_of (plain_vps x.now)) w.old w.new) }
 {
-    if present { write_timing(w, x) } else { Ok(()) }
-}
-
-/// Rows 18 to 24 of table 1.
-fn write_timing(w: &mut BitWriter, x: &Vps) -> Result<(), AllocError>
-    ensures { OnOk result (Writes own.timing_rows
-        own.timing_with_inputs_of (plain_vps x.now) w.old w.new) }
-{
+    if !present {
+        return Ok(());
+    }
     bits(w, 32, x.num_units_in_tick)?; // Row(1, 18)
     bits(w, 32, x.time_scale)?; // Row(1, 18)
     flag(w, x.poc_proportional_to_timing_flag)?; // Row(1, 19)
