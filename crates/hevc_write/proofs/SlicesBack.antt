@@ -19,8 +19,8 @@ use Rattle.hevc_slice_header.specs.Answers.{ReadsSlice}
 use Rattle.hevc_tables.specs.SliceHeaderTable.{ActiveSets, active_sets, with_named_sequence_set, elements, slice_segment_header, with_sizes}
 use Rattle.hevc_picture_slice.specs.declared.slice_header.SliceHeader.{SliceHeader}
 use Rattle.hevc_picture_slice.specs.SliceHeader.{plain_slice_header}
-use Rattle.hevc_writing.specs.Choices.{AreChosen, set_flags}
-use Rattle.hevc_writing.proofs.Counting.{same_set}
+use Rattle.hevc_write_elements.specs.Choices.{AreChosen, set_flags}
+use Rattle.hevc_write_elements.proofs.Counting.{same_set}
 use Rattle.hevc_write_units.specs.Payloads.{AddsPayload, with_trailing_bits}
 use Rattle.hevc_write_units.specs.Slices.{HasElements, IsSameButSizes, SliceLines, WritesSized, with_sizes_of, only_picture_set, only_sets}
 use Rattle.hevc_write_units.specs.Values.{only_sequence_set}

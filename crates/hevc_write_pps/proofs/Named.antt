@@ -4,8 +4,8 @@ use Rattle.std.specs.Prelude.{Option, Some, None}
 use Rattle.hevc_spec.specs.declared.Row.{Row}
 use Rattle.hevc_spec.specs.Table.{Table, part}
 use Rattle.hevc_tables.specs.PpsTable.{named}
-use Rattle.hevc_writing.specs.Filling.{EachFilling, Keeps, Writes}
-use Rattle.hevc_writing.proofs.Steps.{then_filled, done_filled, Follows, IsDecided, numbers, part_kept, part_written}
+use Rattle.hevc_write_elements.specs.Filling.{EachFilling, Keeps, Writes}
+use Rattle.hevc_write_elements.proofs.Steps.{then_filled, done_filled, Follows, IsDecided, numbers, part_kept, part_written}
 
 -- what comes after the set, where one is kept
 pub named_then : {A B : Type 0} (r : Row) (id : ℕ) (o : Option A) {k : A → Table B} {w : List Bool} {Q : B → List Bool → Type 0} → ((s : A) → o ≡ Some s → EachFilling (k s) w Q) → EachFilling (part (named r id o) k) w Q

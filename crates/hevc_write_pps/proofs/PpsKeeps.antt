@@ -6,13 +6,13 @@ use Rattle.hevc_spec.specs.declared.Row.{Row}
 use Rattle.hevc_spec.specs.Rows.{row, repeat}
 use Rattle.hevc_records.specs.Sps.{PlainSps}
 use Rattle.hevc_tables.specs.PpsTable.{Parts, coding, deblocking, extension_data, extension_flags, extensions, filter_offsets, filters, ids, merging, picture_set_of, presence, quantiser, range_extension, scaling, scc_extension, tile_counts, tiles, told_parts, told_size, told_sizes, told_tiles, tools, with_even_tiles}
-use Rattle.hevc_writing.specs.Choices.{chosen_value}
-use Rattle.hevc_writing.specs.Filling.{EachFilling, Keeps, SameBelow, WritesTable, WritesTurn, WritesTurns, WritesUe}
-use Rattle.hevc_writing.proofs.Fillings.{weakened}
-use Rattle.hevc_writing.proofs.Steps.{IsFillable, bits_fillable, done_filled, either_done_kept, filled, flag_fillable, part_kept, se_fillable, then_filled, ue_fillable, ue_then, when_fillable, when_kept, zero_fillable, zeros_fillable}
-use Rattle.hevc_writing.proofs.Loops.{one_less, turns_fillable}
+use Rattle.hevc_write_elements.specs.Choices.{chosen_value}
+use Rattle.hevc_write_elements.specs.Filling.{EachFilling, Keeps, SameBelow, WritesTable, WritesTurn, WritesTurns, WritesUe}
+use Rattle.hevc_write_elements.proofs.Fillings.{weakened}
+use Rattle.hevc_write_elements.proofs.Steps.{IsFillable, bits_fillable, done_filled, either_done_kept, filled, flag_fillable, part_kept, se_fillable, then_filled, ue_fillable, ue_then, when_fillable, when_kept, zero_fillable, zeros_fillable}
+use Rattle.hevc_write_elements.proofs.Loops.{one_less, turns_fillable}
 use Rattle.hevc_write_scaling.proofs.Coded.{scaling_lists_fillable}
-use Rattle.hevc_write_sets.proofs.Extensions.{pps_range_fillable, pps_scc_fillable}
+use Rattle.hevc_write_extensions.proofs.Extensions.{pps_range_fillable, pps_scc_fillable}
 use Rattle.hevc_write_pps.specs.PpsParts as own
 
 -- ---- told sizes

@@ -6,13 +6,13 @@ ghost use Rattle.hevc_tables.specs.ScalingListTable.{scaling_list_data};
 ghost use Rattle.hevc_set_parts.specs.ScalingLists.{plain_scaling_lists};
 ghost use Rattle.hevc_picture_slice.specs.Pps.{plain_pps};
 ghost use Rattle.hevc_write_pps.specs.PpsParts as own;
-ghost use Rattle.hevc_writing.specs.Filling.{Writes, WritesIf, WritesTable};
+ghost use Rattle.hevc_write_elements.specs.Filling.{Writes, WritesIf, WritesTable};
 
 use crate::tiles::write_tiles_if;
 use hevc_bit_writer::BitWriter;
 use hevc_picture_slice::Pps;
+use hevc_write_elements::rows::{bits_u8, flag, se_i8, ue_u8, ue_u8_if};
 use hevc_write_scaling::write_scaling_list_data;
-use hevc_writing::rows::{bits_u8, flag, se_i8, ue_u8, ue_u8_if};
 use std::alloc::AllocError;
 
 /// Rows 3 to 19 of table 11.

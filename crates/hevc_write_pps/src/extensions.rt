@@ -5,13 +5,13 @@ ghost use Rattle.hevc_tables.specs.PpsTable as table;
 ghost use Rattle.hevc_sequence_set.specs.Sps.{plain_sps};
 ghost use Rattle.hevc_picture_slice.specs.Pps.{plain_pps};
 ghost use Rattle.hevc_write_pps.specs.PpsParts as own;
-ghost use Rattle.hevc_writing.specs.Filling.{Writes, WritesIf};
+ghost use Rattle.hevc_write_elements.specs.Filling.{Writes, WritesIf};
 
 use hevc_bit_writer::BitWriter;
 use hevc_picture_slice::Pps;
 use hevc_sequence_set::Sps;
-use hevc_write_sets::{write_pps_range_extension, write_pps_scc_extension};
-use hevc_writing::rows::{flag, zeros};
+use hevc_write_elements::rows::{flag, zeros};
+use hevc_write_extensions::{write_pps_range_extension, write_pps_scc_extension};
 use std::alloc::AllocError;
 
 /// The last flag of row 28, and rows 29 to 35 of table 11.

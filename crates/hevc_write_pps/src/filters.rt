@@ -3,11 +3,11 @@ ghost use Rattle.std.specs.Prelude.{OnOk};
 ghost use Rattle.hevc_tables.specs.PpsTable as table;
 ghost use Rattle.hevc_picture_slice.specs.Pps.{plain_pps};
 ghost use Rattle.hevc_write_pps.specs.PpsParts as own;
-ghost use Rattle.hevc_writing.specs.Filling.{Writes, WritesIf};
+ghost use Rattle.hevc_write_elements.specs.Filling.{Writes, WritesIf};
 
 use hevc_bit_writer::BitWriter;
 use hevc_picture_slice::Pps;
-use hevc_writing::rows::{flag, se_i8};
+use hevc_write_elements::rows::{flag, se_i8};
 use std::alloc::AllocError;
 
 /// Rows 20 to 23 of table 11.

@@ -5,7 +5,7 @@ ghost use Rattle.hevc_tables.specs.PpsTable as table;
 ghost use Rattle.hevc_sequence_set.specs.Sps.{plain_sps};
 ghost use Rattle.hevc_picture_slice.specs.Pps.{plain_pps};
 ghost use Rattle.hevc_write_pps.specs.PpsParts as own;
-ghost use Rattle.hevc_writing.specs.Filling.{Writes, WritesTable};
+ghost use Rattle.hevc_write_elements.specs.Filling.{Writes, WritesTable};
 
 use crate::coding::{write_coding, write_merging, write_scaling};
 use crate::extensions::write_extensions;
@@ -13,7 +13,7 @@ use crate::filters::write_filters;
 use hevc_bit_writer::BitWriter;
 use hevc_picture_slice::Pps;
 use hevc_sequence_set::Sps;
-use hevc_writing::rows::ue_u8;
+use hevc_write_elements::rows::ue_u8;
 use std::alloc::AllocError;
 
 /// Table 11, with the sequence set that the set names.

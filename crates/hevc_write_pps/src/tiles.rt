@@ -5,12 +5,12 @@ ghost use Rattle.hevc_records.specs.Sps.{PlainSps};
 ghost use Rattle.hevc_tables.specs.PpsTable as table;
 ghost use Rattle.hevc_picture_slice.specs.Pps.{plain_pps};
 ghost use Rattle.hevc_write_pps.specs.PpsParts as own;
-ghost use Rattle.hevc_writing.specs.Choices.{chosen_value};
-ghost use Rattle.hevc_writing.specs.Filling.{Writes, WritesIf, WritesTable};
+ghost use Rattle.hevc_write_elements.specs.Choices.{chosen_value};
+ghost use Rattle.hevc_write_elements.specs.Filling.{Writes, WritesIf, WritesTable};
 
 use hevc_bit_writer::BitWriter;
 use hevc_picture_slice::Pps;
-use hevc_writing::rows::{flag, ue, ue_u8};
+use hevc_write_elements::rows::{flag, ue, ue_u8};
 use std::alloc::AllocError;
 
 /// Rows 14 to 19 of table 11, where they are present.

@@ -14,13 +14,13 @@ use Rattle.hevc_bit_writer.proofs.Spellings.{signed_back}
 use Rattle.hevc_records.specs.ScalingLists.{PlainScalingLists}
 use Rattle.hevc_records.specs.DefaultScalingLists.{flat_list, intra_list, inter_list, default_lists_8x8}
 use Rattle.hevc_tables.specs.ScalingListTable.{Size, size_4x4, size_8x8, size_16x16, size_32x32, coef_num, has_dc_coef, matrix_step, has_matrix, Coefs, sum_modulo_256, next_entry, coefs, Matrices, list_of, with_matrix, coded_matrix, predicted_matrix, matrix, next_matrix, matrices, scaling_list_data}
-use Rattle.hevc_writing.specs.Choices.{IsFormed, is_chosen}
-use Rattle.hevc_writing.specs.Filling.{EachFilling, WritesTable}
-use Rattle.hevc_writing.proofs.Fillings.{weakened, instead_filled, done_filled}
-use Rattle.hevc_writing.proofs.Counting.{SetsNone, none_filled, done_none, element_none, then_none, when_none, either_none, turns_none}
-use Rattle.hevc_writing.proofs.Parts.{IsFillable}
+use Rattle.hevc_write_elements.specs.Choices.{IsFormed, is_chosen}
+use Rattle.hevc_write_elements.specs.Filling.{EachFilling, WritesTable}
+use Rattle.hevc_write_elements.proofs.Fillings.{weakened, instead_filled, done_filled}
+use Rattle.hevc_write_elements.proofs.Counting.{SetsNone, none_filled, done_none, element_none, then_none, when_none, either_none, turns_none}
+use Rattle.hevc_write_elements.proofs.Parts.{IsFillable}
 use Rattle.hevc_spec.specs.Lines.{Line, HasLines}
-use Rattle.hevc_writing.proofs.Forming.{done_formed, part_formed, element_formed, flag_formed}
+use Rattle.hevc_write_elements.proofs.Forming.{done_formed, part_formed, element_formed, flag_formed}
 use Rattle.hevc_write_scaling.specs.Matrices.{step_modulo_256, signed_bits, coef_bits, kept_dc, matrix_bits, matrices_bits, no_dc, scaling_list_bits}
 use Rattle.hevc_write_scaling.proofs.Shapes.{AllBytes, IsList, IsDc, IsOne, AreShaped, Shaped, matrices_given}
 

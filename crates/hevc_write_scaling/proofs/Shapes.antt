@@ -11,7 +11,7 @@ use Rattle.hevc_spec.specs.Table.{done, part}
 use Rattle.hevc_spec.specs.Rows.{row}
 use Rattle.hevc_records.specs.DefaultScalingLists.{flat_list, default_lists_8x8}
 use Rattle.hevc_tables.specs.ScalingListTable.{Size, size_4x4, size_8x8, size_16x16, size_32x32, coef_num, has_dc_coef, matrix_step, has_matrix, Coefs, sum_modulo_256, next_entry, coefs, Matrices, no_matrices, list_of, with_matrix, with_default, with_copy, ref_matrix, coded_matrix, predicted_matrix, matrix, next_matrix, matrices}
-use Rattle.hevc_writing.proofs.Given.{EachGiven, done_given, then_given, flag_given, ue_given, se_given, when_given, either_given, turns_given}
+use Rattle.hevc_write_elements.proofs.Given.{EachGiven, done_given, then_given, flag_given, ue_given, se_given, when_given, either_given, turns_given}
 
 -- ---- shapes
 

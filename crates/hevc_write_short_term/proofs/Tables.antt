@@ -9,14 +9,14 @@ use Rattle.hevc_tables.specs.declared.member_flags.MemberFlags.{MemberFlags}
 use Rattle.hevc_tables.specs.declared.short_term_member.ShortTermMember.{ShortTermMember}
 use Rattle.hevc_tables.specs.ShortTermTable.{last_delta, member_before, next_member_before, member_after, next_member_after, listed_before, listed_after, listed_set, member_flags, next_member_flags, all_member_flags, fitting_set, prediction, predicted_set, short_term_ref_pic_set, with_members, rising, shifted, differences, shift_of, reference_index, members_before, members_after, has_room, predicted_members}
 use Rattle.hevc_spec.specs.Bits.{u}
-use Rattle.hevc_writing.specs.Choices.{IsFormed, IsFilled, is_chosen, set_flags}
-use Rattle.hevc_writing.specs.Filling.{EachFilling, Keeps, WritesTable, WritesTurn, WritesTurns, are_first}
-use Rattle.hevc_writing.proofs.Fillings.{weakened, then_filled, done_filled, instead_filled}
-use Rattle.hevc_writing.proofs.RowRules.{check_held}
-use Rattle.hevc_writing.proofs.Steps.{IsFillable, filled, IsDecided, numbers, flags, integers, lists_decided, both_decided, flag_fillable, ue_fillable, when_fillable, pairs, either_kept}
-use Rattle.hevc_writing.proofs.Growing.{item_written, items_written, items_fillable, grows}
-use Rattle.hevc_writing.proofs.Counting.{set_flags-append, one_line, no_lines}
-use Rattle.hevc_writing.proofs.Forming.{done_formed, part_formed, flag_formed}
+use Rattle.hevc_write_elements.specs.Choices.{IsFormed, IsFilled, is_chosen, set_flags}
+use Rattle.hevc_write_elements.specs.Filling.{EachFilling, Keeps, WritesTable, WritesTurn, WritesTurns, are_first}
+use Rattle.hevc_write_elements.proofs.Fillings.{weakened, then_filled, done_filled, instead_filled}
+use Rattle.hevc_write_elements.proofs.RowRules.{check_held}
+use Rattle.hevc_write_elements.proofs.Steps.{IsFillable, filled, IsDecided, numbers, flags, integers, lists_decided, both_decided, flag_fillable, ue_fillable, when_fillable, pairs, either_kept}
+use Rattle.hevc_write_elements.proofs.Growing.{item_written, items_written, items_fillable, grows}
+use Rattle.hevc_write_elements.proofs.Counting.{set_flags-append, one_line, no_lines}
+use Rattle.hevc_write_elements.proofs.Forming.{done_formed, part_formed, flag_formed}
 use Rattle.hevc_write_short_term.specs.Members.{members_of, use_of, flags_of, chosen_flags, flag_bits, WritesFlags}
 use Rattle.hevc_write_short_term.proofs.Chosen.{Distinct, sides_of, one_set, all_set, chosen_give_the_same}
 use Rattle.hevc_write_short_term.proofs.MemberLists.{members_same, chosen-length, bits_append}

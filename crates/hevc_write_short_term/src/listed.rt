@@ -3,13 +3,13 @@ ghost use Rattle.std.specs.Prelude.{◌≡◌, ◌+◌, ◌<◌, ◌^◌, ◌-�
 ghost use Rattle.hevc_tables.specs.ShortTermTable as table;
 ghost use Rattle.hevc_set_parts.specs.ShortTermRefPicSet.{plain_short_term_ref_pic_set};
 ghost use Rattle.hevc_write_short_term.specs.Members as own;
-ghost use Rattle.hevc_writing.specs.Filling.{Writes, WritesTable};
+ghost use Rattle.hevc_write_elements.specs.Filling.{Writes, WritesTable};
 
 use crate::members::{members_after, members_before};
 use hevc_bit_writer::BitWriter;
 use hevc_set_parts::ShortTermRefPicSet;
 use hevc_tables::ShortTermMember;
-use hevc_writing::rows::{flag, ue, ue_u8};
+use hevc_write_elements::rows::{flag, ue, ue_u8};
 use std::alloc::AllocError;
 
 /// Rows 7 to 12 of table 7.

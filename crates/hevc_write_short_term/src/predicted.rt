@@ -4,13 +4,13 @@ ghost use Rattle.hevc_records.specs.ShortTermRefPicSet.{default_short_term_ref_p
 ghost use Rattle.hevc_tables.specs.ShortTermTable as table;
 ghost use Rattle.hevc_set_parts.specs.ShortTermRefPicSet.{plain_short_term_ref_pic_set};
 ghost use Rattle.hevc_write_short_term.specs.Members as own;
-ghost use Rattle.hevc_writing.specs.Filling.{Writes};
+ghost use Rattle.hevc_write_elements.specs.Filling.{Writes};
 
 use crate::member_flags::write_flags_for;
 use crate::members::all_members;
 use hevc_bit_writer::BitWriter;
 use hevc_set_parts::ShortTermRefPicSet;
-use hevc_writing::rows::{flag, ue, ue_u8_if};
+use hevc_write_elements::rows::{flag, ue, ue_u8_if};
 use std::alloc::AllocError;
 
 /// Rows 2 to 6 of table 7, for number `st_rps_idx` of `count` sets or for one after them.

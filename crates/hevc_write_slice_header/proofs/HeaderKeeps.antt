@@ -13,17 +13,17 @@ use Rattle.hevc_records.specs.SliceHeader.{PlainSliceSegmentHeader}
 use Rattle.hevc_records.specs.Sps.{PlainSps}
 use Rattle.hevc_tables.specs.SliceTypes.{is_i}
 use Rattle.hevc_tables.specs.SliceHeaderTable.{across_slices, active_counts, adaptive_offset, beginning, candidate_long_term_picture, candidate_short_term_set, chroma_offset, chroma_offsets, colour_transform_offsets, ending, entry_point, entry_point_offsets, entry_points, extension_offsets, filter_offsets, filters, header_extension, kind, later_segment, list_modification, long_term, long_term_counts, long_term_picture, long_term_pictures, motion, msb_cycles, other_long_term_picture, own_active_counts, own_deblocking, parallel_parts, prediction, quantiser, quantisers, reference_lists, short_term_flag, weights, with_default_active_counts, with_pictures}
-use Rattle.hevc_writing.specs.Choices.{IsFormed, chosen_value, is_chosen}
-use Rattle.hevc_writing.specs.Filling.{EachFilling, Keeps, Writes, WritesBits, WritesFlag, WritesTable, WritesTurn, WritesTurns, WritesUe, are_first}
-use Rattle.hevc_writing.proofs.RowRules.{IsKept, flag_written, zero_written, either_filled}
-use Rattle.hevc_writing.proofs.Steps.{IsFillable, bits_fillable, by, check_fillable, check_then, counted_part_written, done_either_kept, done_filled, either_kept, filled, flag_fillable, part_kept, se_fillable, then_filled, ue_fillable, when_fillable, when_kept, zeros_fillable, numbers, lists_decided, bits_table}
-use Rattle.hevc_writing.proofs.Loops.{turns_keep, all_turns, all_same}
-use Rattle.hevc_writing.proofs.Growing.{item_written, items_written, items_fillable}
-use Rattle.hevc_writing.proofs.Counting.{done_none, element_none, none_filled, then_none}
-use Rattle.hevc_writing.proofs.Forming.{done_formed, part_formed, element_formed}
+use Rattle.hevc_write_elements.specs.Choices.{IsFormed, chosen_value, is_chosen}
+use Rattle.hevc_write_elements.specs.Filling.{EachFilling, Keeps, Writes, WritesBits, WritesFlag, WritesTable, WritesTurn, WritesTurns, WritesUe, are_first}
+use Rattle.hevc_write_elements.proofs.RowRules.{IsKept, flag_written, zero_written, either_filled}
+use Rattle.hevc_write_elements.proofs.Steps.{IsFillable, bits_fillable, by, check_fillable, check_then, counted_part_written, done_either_kept, done_filled, either_kept, filled, flag_fillable, part_kept, se_fillable, then_filled, ue_fillable, when_fillable, when_kept, zeros_fillable, numbers, lists_decided, bits_table}
+use Rattle.hevc_write_elements.proofs.Loops.{turns_keep, all_turns, all_same}
+use Rattle.hevc_write_elements.proofs.Growing.{item_written, items_written, items_fillable}
+use Rattle.hevc_write_elements.proofs.Counting.{done_none, element_none, none_filled, then_none}
+use Rattle.hevc_write_elements.proofs.Forming.{done_formed, part_formed, element_formed}
 use Rattle.hevc_write_short_term.proofs.Tables.{short_term_set_fillable}
-use Rattle.hevc_write_slices.proofs.ListKeeps.{list_modification_fillable}
-use Rattle.hevc_write_slices.proofs.WeightKeeps.{pred_weight_table_fillable}
+use Rattle.hevc_write_slice_parts.proofs.ListKeeps.{list_modification_fillable}
+use Rattle.hevc_write_slice_parts.proofs.WeightKeeps.{pred_weight_table_fillable}
 use Rattle.hevc_write_slice_header.specs.HeaderParts as own
 
 -- ---- elements of two kinds

@@ -10,11 +10,11 @@ use Rattle.hevc_spec.specs.Rows.{row, ue_row, when, either}
 use Rattle.hevc_records.specs.SliceHeader.{PlainSliceSegmentHeader}
 use Rattle.hevc_records.specs.Sps.{PlainSps}
 use Rattle.hevc_tables.specs.SliceHeaderTable.{lsb_bits, candidate_long_term_picture, other_long_term_picture, cycles_before, msb_cycles, long_term_picture}
-use Rattle.hevc_writing.specs.Filling.{EachFilling, SameBelow, WritesEither, WritesTurn}
-use Rattle.hevc_writing.proofs.Fillings.{weakened, beside}
-use Rattle.hevc_writing.proofs.RowRules.{ue_written, either_filled}
-use Rattle.hevc_writing.proofs.Steps.{then_filled, done_filled, filled, flag_fillable, bits_fillable, ue_fillable, when_fillable, when_filled, when_written, where_present, ue_table, flag_then, bits_then, bits_if_then}
-use Rattle.hevc_writing.proofs.Loops.{one_less, fewer_same}
+use Rattle.hevc_write_elements.specs.Filling.{EachFilling, SameBelow, WritesEither, WritesTurn}
+use Rattle.hevc_write_elements.proofs.Fillings.{weakened, beside}
+use Rattle.hevc_write_elements.proofs.RowRules.{ue_written, either_filled}
+use Rattle.hevc_write_elements.proofs.Steps.{then_filled, done_filled, filled, flag_fillable, bits_fillable, ue_fillable, when_fillable, when_filled, when_written, where_present, ue_table, flag_then, bits_then, bits_if_then}
+use Rattle.hevc_write_elements.proofs.Loops.{one_less, fewer_same}
 use Rattle.hevc_write_slice_header.specs.HeaderParts as own
 
 -- slice segment headers

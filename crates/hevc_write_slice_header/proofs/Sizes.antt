@@ -14,7 +14,7 @@ use Rattle.hevc_tables.specs.ShortTermTable.{short_term_ref_pic_set}
 use Rattle.hevc_tables.specs.SpsTable.{highest_buffering}
 use Rattle.hevc_tables.specs.SliceTypes.{is_i}
 use Rattle.hevc_tables.specs.SliceHeaderTable.{ActiveSets, across_slices, active_counts, adaptive_offset, beginning, candidate_long_term_picture, candidate_short_term_set, chroma_offsets, colour_transform_offsets, elements, ending, entry_point_offsets, extension_offsets, filter_offsets, filters, header_extension, header_of, independent_segment, kind, later_segment, list_modification, long_term, long_term_counts, long_term_picture, long_term_pictures, motion, msb_cycles, num_pic_total_curr, other_long_term_picture, own_active_counts, own_deblocking, own_short_term_set, parallel_parts, prediction, quantiser, quantisers, reference_lists, reference_pictures, short_term, weights, with_default_active_counts, with_pictures}
-use Rattle.hevc_writing.specs.Filling.{EachFilling}
+use Rattle.hevc_write_elements.specs.Filling.{EachFilling}
 use Rattle.hevc_write_units.specs.Slices.{IsSameButSizes, WritesSized}
 use Rattle.hevc_write_slice_header.specs.HeaderParts as own
 

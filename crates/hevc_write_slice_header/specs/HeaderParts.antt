@@ -13,7 +13,7 @@ use Rattle.hevc_tables.specs.SliceHeaderTable as table
 use Rattle.hevc_tables.specs.SliceHeaderTable.{ActiveSets, lsb_bits, cycles_before, short_term_flag, with_defaults}
 use Rattle.hevc_tables.specs.SliceTypes.{is_i}
 use Rattle.hevc_tables.specs.SpsTable.{highest_buffering}
-use Rattle.hevc_writing.specs.Filling.{SameBelow, WritesBits, WritesFlag, WritesIf, WritesUe}
+use Rattle.hevc_write_elements.specs.Filling.{SameBelow, WritesBits, WritesFlag, WritesIf, WritesUe}
 
 -- rows 1 to 3
 abbrev pub beginning_of : PlainSliceSegmentHeader → PlainSliceSegmentHeader

@@ -5,13 +5,13 @@ ghost use Rattle.hevc_sequence_set.specs.Sps.{plain_sps};
 ghost use Rattle.hevc_picture_slice.specs.Pps.{plain_pps};
 ghost use Rattle.hevc_picture_slice.specs.SliceHeader.{plain_slice_header};
 ghost use Rattle.hevc_write_slice_header.specs.HeaderParts as own;
-ghost use Rattle.hevc_writing.specs.Filling.{Writes, WritesIf, WritesTable};
+ghost use Rattle.hevc_write_elements.specs.Filling.{Writes, WritesIf, WritesTable};
 
 use crate::rows::has_parallel_parts;
 use hevc_bit_writer::BitWriter;
 use hevc_picture_slice::{Pps, SliceHeader};
 use hevc_sequence_set::Sps;
-use hevc_writing::rows::{bits, ue, ue_u8};
+use hevc_write_elements::rows::{bits, ue, ue_u8};
 use std::alloc::AllocError;
 
 /// Rows 48 to 52 of table 14.

@@ -5,14 +5,14 @@ ghost use Rattle.hevc_sequence_set.specs.Sps.{plain_sps};
 ghost use Rattle.hevc_picture_slice.specs.Pps.{plain_pps};
 ghost use Rattle.hevc_picture_slice.specs.SliceHeader.{plain_slice_header};
 ghost use Rattle.hevc_write_slice_header.specs.HeaderParts as own;
-ghost use Rattle.hevc_writing.specs.Filling.{Writes, WritesIf};
+ghost use Rattle.hevc_write_elements.specs.Filling.{Writes, WritesIf};
 
 use crate::rows::{has_list_modification, is_b};
 use hevc_bit_writer::BitWriter;
 use hevc_picture_slice::{Pps, SliceHeader};
 use hevc_sequence_set::Sps;
-use hevc_write_slices::write_ref_pic_list_modification;
-use hevc_writing::rows::{flag, ue_u8, ue_u8_if};
+use hevc_write_elements::rows::{flag, ue_u8, ue_u8_if};
+use hevc_write_slice_parts::write_ref_pic_list_modification;
 use std::alloc::AllocError;
 
 /// Rows 24 to 27 of table 14.

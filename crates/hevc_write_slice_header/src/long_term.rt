@@ -4,13 +4,13 @@ ghost use Rattle.hevc_tables.specs.SliceHeaderTable as table;
 ghost use Rattle.hevc_sequence_set.specs.Sps.{plain_sps};
 ghost use Rattle.hevc_picture_slice.specs.SliceHeader.{plain_slice_header};
 ghost use Rattle.hevc_write_slice_header.specs.HeaderParts as own;
-ghost use Rattle.hevc_writing.specs.Filling.{Writes, WritesEither, WritesFlag, WritesIf, WritesTurn};
+ghost use Rattle.hevc_write_elements.specs.Filling.{Writes, WritesEither, WritesFlag, WritesIf, WritesTurn};
 
 use crate::rows::{index_if, order_count_bits};
 use hevc_bit_writer::BitWriter;
 use hevc_picture_slice::SliceHeader;
 use hevc_sequence_set::Sps;
-use hevc_writing::rows::{flag, ue_if, ue_u8, ue_u8_if};
+use hevc_write_elements::rows::{flag, ue_if, ue_u8, ue_u8_if};
 use std::alloc::AllocError;
 
 /// Rows 14 to 20 of table 14, where they are present.

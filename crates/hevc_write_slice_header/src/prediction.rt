@@ -9,15 +9,15 @@ ghost use Rattle.hevc_sequence_set.specs.Sps.{plain_sps};
 ghost use Rattle.hevc_picture_slice.specs.Pps.{plain_pps};
 ghost use Rattle.hevc_picture_slice.specs.SliceHeader.{plain_slice_header};
 ghost use Rattle.hevc_write_slice_header.specs.HeaderParts as own;
-ghost use Rattle.hevc_writing.specs.Filling.{Writes, WritesIf, WritesTable};
+ghost use Rattle.hevc_write_elements.specs.Filling.{Writes, WritesIf, WritesTable};
 
 use crate::lists::write_reference_lists;
 use crate::rows::{has_chroma, has_collocated_index, has_collocated_list, is_b, is_weighted};
 use hevc_bit_writer::BitWriter;
 use hevc_picture_slice::{Pps, SliceHeader};
 use hevc_sequence_set::Sps;
-use hevc_write_slices::write_pred_weight_table;
-use hevc_writing::rows::{flag_if, ue_u8, ue_u8_if};
+use hevc_write_elements::rows::{flag_if, ue_u8, ue_u8_if};
+use hevc_write_slice_parts::write_pred_weight_table;
 use std::alloc::AllocError;
 
 /// Rows 24 to 34 of table 14, where they are present.

@@ -4,11 +4,11 @@ ghost use Rattle.hevc_tables.specs.SliceHeaderTable as table;
 ghost use Rattle.hevc_picture_slice.specs.Pps.{plain_pps};
 ghost use Rattle.hevc_picture_slice.specs.SliceHeader.{plain_slice_header};
 ghost use Rattle.hevc_write_slice_header.specs.HeaderParts as own;
-ghost use Rattle.hevc_writing.specs.Filling.{Writes, WritesIf};
+ghost use Rattle.hevc_write_elements.specs.Filling.{Writes, WritesIf};
 
 use hevc_bit_writer::BitWriter;
 use hevc_picture_slice::{Pps, SliceHeader};
-use hevc_writing::rows::{flag_if, se_i8};
+use hevc_write_elements::rows::{flag_if, se_i8};
 use std::alloc::AllocError;
 
 /// Rows 35 to 42 of table 14.

@@ -6,15 +6,15 @@ ghost use Rattle.hevc_tables.specs.SliceHeaderTable as table;
 ghost use Rattle.hevc_sequence_set.specs.Sps.{plain_sps};
 ghost use Rattle.hevc_picture_slice.specs.SliceHeader.{plain_slice_header};
 ghost use Rattle.hevc_write_slice_header.specs.HeaderParts as own;
-ghost use Rattle.hevc_writing.specs.Filling.{Writes, WritesEither, WritesIf, WritesTable};
+ghost use Rattle.hevc_write_elements.specs.Filling.{Writes, WritesEither, WritesIf, WritesTable};
 
 use crate::long_term::write_long_term_if;
 use crate::rows::{index_if, order_count};
 use hevc_bit_writer::BitWriter;
 use hevc_picture_slice::SliceHeader;
 use hevc_sequence_set::Sps;
+use hevc_write_elements::rows::{flag, flag_if};
 use hevc_write_short_term::write_short_term_ref_pic_set;
-use hevc_writing::rows::{flag, flag_if};
 use std::alloc::AllocError;
 
 /// Rows 10 to 21 of table 14, where they are present.

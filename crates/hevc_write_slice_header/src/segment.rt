@@ -6,7 +6,7 @@ ghost use Rattle.hevc_sequence_set.specs.Sps.{plain_sps};
 ghost use Rattle.hevc_picture_slice.specs.Pps.{plain_pps};
 ghost use Rattle.hevc_picture_slice.specs.SliceHeader.{plain_slice_header};
 ghost use Rattle.hevc_write_slice_header.specs.HeaderParts as own;
-ghost use Rattle.hevc_writing.specs.Filling.{Writes, WritesIf};
+ghost use Rattle.hevc_write_elements.specs.Filling.{Writes, WritesIf};
 
 use crate::filters::{write_adaptive_offset, write_filters};
 use crate::prediction::write_prediction_if;
@@ -17,7 +17,7 @@ use hevc_bit_writer::BitWriter;
 use hevc_bits::NaluType;
 use hevc_picture_slice::{Pps, SliceHeader};
 use hevc_sequence_set::Sps;
-use hevc_writing::rows::{bits_u8_if, flag, flag_if, ue_u8};
+use hevc_write_elements::rows::{bits_u8_if, flag, flag_if, ue_u8};
 use std::alloc::AllocError;
 
 /// Rows 1 to 3 of table 14.

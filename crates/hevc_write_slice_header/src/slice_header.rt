@@ -9,7 +9,7 @@ ghost use Rattle.hevc_picture_slice.specs.Pps.{plain_pps};
 ghost use Rattle.hevc_picture_slice.specs.SliceHeader.{plain_slice_header};
 ghost use Rattle.hevc_write_slice_header.specs.HeaderParts as own;
 ghost use Rattle.hevc_write_units.specs.Slices.{WritesSized};
-ghost use Rattle.hevc_writing.specs.Filling.{Writes, WritesIf};
+ghost use Rattle.hevc_write_elements.specs.Filling.{Writes, WritesIf};
 
 use crate::ending::write_ending;
 use crate::segment::{write_beginning, write_independent_segment_if, write_later_segment_if};

@@ -8,14 +8,14 @@ use Rattle.hevc_tables.specs.ShortTermTable.{short_term_ref_pic_set}
 use Rattle.hevc_tables.specs.SpsSccExtensionTable.{SampleFormat}
 use Rattle.hevc_tables.specs.SpsTable.{blocks, coding, common_ordering, cropping, depths, extension_data, extension_flags, extensions, format, identity, long_term, long_term_picture, long_term_pictures, orderings, own_ordering, own_orderings, pulse_code_modulation, range_extension, sample_format, samples, scaling, scaling_lists, scc_extension, short_term, short_term_set, short_term_sets, tools, usability, usability_information, window, with_block_sizes, with_half_ranges, with_picture_size}
 use Rattle.hevc_tables.specs.VpsTable.{up_to_highest}
-use Rattle.hevc_writing.specs.Filling.{EachFilling, Keeps, Writes, WritesTable, WritesTurn, WritesTurns, are_first}
-use Rattle.hevc_writing.proofs.Steps.{IsDecided, IsFillable, bits_fillable, bits_table, by, check_fillable, counted_part_written, decided_by, done_filled, either_kept, filled, flag_fillable, flags, integers, joined_filled, lists_decided, numbers, one_table_written, pairs, part_kept, then_filled, ue_fillable, when_fillable, when_filled, when_kept, zero_fillable, zeros_fillable}
-use Rattle.hevc_writing.proofs.Loops.{turns_keep, all_turns, all_same}
-use Rattle.hevc_writing.proofs.Growing.{item_written, items_written, items_fillable}
-use Rattle.hevc_write_parts.proofs.ProfileKeeps.{profile_tier_level_fillable}
-use Rattle.hevc_write_parts.proofs.VuiKeeps.{vui_fillable}
+use Rattle.hevc_write_elements.specs.Filling.{EachFilling, Keeps, Writes, WritesTable, WritesTurn, WritesTurns, are_first}
+use Rattle.hevc_write_elements.proofs.Steps.{IsDecided, IsFillable, bits_fillable, bits_table, by, check_fillable, counted_part_written, decided_by, done_filled, either_kept, filled, flag_fillable, flags, integers, joined_filled, lists_decided, numbers, one_table_written, pairs, part_kept, then_filled, ue_fillable, when_fillable, when_filled, when_kept, zero_fillable, zeros_fillable}
+use Rattle.hevc_write_elements.proofs.Loops.{turns_keep, all_turns, all_same}
+use Rattle.hevc_write_elements.proofs.Growing.{item_written, items_written, items_fillable}
+use Rattle.hevc_write_set_parts.proofs.ProfileKeeps.{profile_tier_level_fillable}
+use Rattle.hevc_write_set_parts.proofs.VuiKeeps.{vui_fillable}
 use Rattle.hevc_write_scaling.proofs.Coded.{scaling_lists_fillable}
-use Rattle.hevc_write_sets.proofs.Extensions.{sps_range_fillable, sps_scc_fillable}
+use Rattle.hevc_write_extensions.proofs.Extensions.{sps_range_fillable, sps_scc_fillable}
 use Rattle.hevc_write_short_term.proofs.Tables.{short_term_set_fillable}
 use Rattle.hevc_write_sps.specs.SpsParts as own
 

@@ -3,7 +3,7 @@ use Rattle.std.specs.Prelude.{◌≡◌, ℕ}
 use Rattle.hevc_spec.specs.Table.{Table, ◌>>=◌}
 use Rattle.hevc_records.specs.Sps.{PlainSps}
 use Rattle.hevc_tables.specs.SpsTable.{samples, cropping}
-use Rattle.hevc_writing.specs.Filling.{SameBelow}
+use Rattle.hevc_write_elements.specs.Filling.{SameBelow}
 
 -- rows 6 to 12
 abbrev pub framing_rows : PlainSps → Table PlainSps

@@ -3,13 +3,13 @@ ghost use Rattle.std.specs.Prelude.{OnOk};
 ghost use Rattle.hevc_tables.specs.SpsTable as table;
 ghost use Rattle.hevc_sequence_set.specs.Sps.{plain_sps};
 ghost use Rattle.hevc_write_sps.specs.SpsParts as own;
-ghost use Rattle.hevc_writing.specs.Filling.{Writes, WritesIf};
+ghost use Rattle.hevc_write_elements.specs.Filling.{Writes, WritesIf};
 
 use hevc_bit_writer::BitWriter;
 use hevc_sequence_set::Sps;
-use hevc_write_parts::write_vui_parameters;
+use hevc_write_elements::rows::{bits_u8, flag, flag_if, ue_u8};
 use hevc_write_scaling::write_scaling_list_data;
-use hevc_writing::rows::{bits_u8, flag, flag_if, ue_u8};
+use hevc_write_set_parts::write_vui_parameters;
 use std::alloc::AllocError;
 
 /// Rows 25 to 29 of table 5.

@@ -3,12 +3,12 @@ ghost use Rattle.std.specs.Prelude.{OnOk};
 ghost use Rattle.hevc_tables.specs.SpsTable as table;
 ghost use Rattle.hevc_sequence_set.specs.Sps.{plain_sps};
 ghost use Rattle.hevc_write_sps.specs.SpsParts as own;
-ghost use Rattle.hevc_writing.specs.Filling.{Writes, WritesIf};
+ghost use Rattle.hevc_write_elements.specs.Filling.{Writes, WritesIf};
 
 use hevc_bit_writer::BitWriter;
 use hevc_sequence_set::Sps;
-use hevc_write_sets::{write_sps_range_extension, write_sps_scc_extension};
-use hevc_writing::rows::{flag, zeros};
+use hevc_write_elements::rows::{flag, zeros};
+use hevc_write_extensions::{write_sps_range_extension, write_sps_scc_extension};
 use std::alloc::AllocError;
 
 /// Rows 43 to 50 of table 5.

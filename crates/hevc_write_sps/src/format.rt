@@ -3,12 +3,12 @@ ghost use Rattle.std.specs.Prelude.{OnOk};
 ghost use Rattle.hevc_tables.specs.SpsTable as table;
 ghost use Rattle.hevc_sequence_set.specs.Sps.{plain_sps};
 ghost use Rattle.hevc_write_sps.specs.SpsParts as own;
-ghost use Rattle.hevc_writing.specs.Filling.{Writes, WritesIf};
+ghost use Rattle.hevc_write_elements.specs.Filling.{Writes, WritesIf};
 
 use hevc_bit_writer::BitWriter;
 use hevc_sequence_set::Sps;
-use hevc_write_parts::write_profile_tier_level;
-use hevc_writing::rows::{bits_u8, flag, flag_if, ue, ue_u8, ue_u16};
+use hevc_write_elements::rows::{bits_u8, flag, flag_if, ue, ue_u8, ue_u16};
+use hevc_write_set_parts::write_profile_tier_level;
 use std::alloc::AllocError;
 
 /// Rows 1 to 5 of table 5.

@@ -3,11 +3,11 @@ ghost use Rattle.std.specs.Prelude.{◌<◌, length, slice_index, OnOk};
 ghost use Rattle.hevc_tables.specs.SpsTable as table;
 ghost use Rattle.hevc_sequence_set.specs.Sps.{plain_sps};
 ghost use Rattle.hevc_write_sps.specs.SpsParts as own;
-ghost use Rattle.hevc_writing.specs.Filling.{Writes, WritesEither, WritesTurn, WritesUe};
+ghost use Rattle.hevc_write_elements.specs.Filling.{Writes, WritesEither, WritesTurn, WritesUe};
 
 use hevc_bit_writer::BitWriter;
 use hevc_sequence_set::Sps;
-use hevc_writing::rows::{flag, ue_u8};
+use hevc_write_elements::rows::{flag, ue_u8};
 use std::alloc::AllocError;
 
 /// Rows 16 to 19 of table 5.
@@ -35,7 +35,7 @@ fn write_own_orderings_or_common_ordering(w: &mut BitWriter, x: &Sps) -> Result<
 }
 
 /// Rows 17 to 19 of table 5, for each sub-layer.
-#[tactic(auto, using(hevc_writing::proofs::Loops::turns, crate::proofs::SpsKeeps::orderings_written))]
+#[tactic(auto, using(hevc_write_elements::proofs::Loops::turns, crate::proofs::SpsKeeps::orderings_written))]
 fn write_own_orderings(w: &mut BitWriter, x: &Sps) -> Result<(), AllocError>
     ensures { OnOk result (Writes table.own_orderings
         own.own_orderings_with_inputs_of (plain_sps x.now) w.old w.new) }

@@ -3,12 +3,12 @@ ghost use Rattle.std.specs.Prelude.{◌≤◌, ◌<◌, ℕ, false, length, slic
 ghost use Rattle.hevc_tables.specs.SpsTable as table;
 ghost use Rattle.hevc_sequence_set.specs.Sps.{plain_sps};
 ghost use Rattle.hevc_write_sps.specs.SpsParts as own;
-ghost use Rattle.hevc_writing.specs.Filling.{Writes, WritesBits, WritesFlag, WritesTable, WritesTurn};
+ghost use Rattle.hevc_write_elements.specs.Filling.{Writes, WritesBits, WritesFlag, WritesTable, WritesTurn};
 
 use hevc_bit_writer::BitWriter;
 use hevc_sequence_set::Sps;
+use hevc_write_elements::rows::{bits, flag, ue_u8, ue_u8_if};
 use hevc_write_short_term::write_short_term_ref_pic_set;
-use hevc_writing::rows::{bits, flag, ue_u8, ue_u8_if};
 use std::alloc::AllocError;
 
 /// Rows 35 and 36 of table 5.
@@ -51,7 +51,7 @@ fn write_short_term_sets(w: &mut BitWriter, x: &Sps) -> Result<(), AllocError>
 }
 
 /// Rows 39 and 40 of table 5, for each picture.
-#[tactic(auto, using(hevc_writing::proofs::Loops::turns, crate::proofs::SpsKeeps::pictures_written))]
+#[tactic(auto, using(hevc_write_elements::proofs::Loops::turns, crate::proofs::SpsKeeps::pictures_written))]
 fn write_long_term_pictures(w: &mut BitWriter, x: &Sps) -> Result<(), AllocError>
     ensures { OnOk result (Writes table.long_term_pictures
         own.long_term_pictures_with_inputs_of (plain_sps x.now) w.old w.new) }

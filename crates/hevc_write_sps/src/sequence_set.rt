@@ -3,7 +3,7 @@ ghost use Rattle.std.specs.Prelude.{OnOk};
 ghost use Rattle.hevc_tables.specs.SpsTable as table;
 ghost use Rattle.hevc_sequence_set.specs.Sps.{plain_sps};
 ghost use Rattle.hevc_write_sps.specs.SpsParts as own;
-ghost use Rattle.hevc_writing.specs.Filling.{Writes, WritesTable};
+ghost use Rattle.hevc_write_elements.specs.Filling.{Writes, WritesTable};
 
 use crate::coding::{write_scaling, write_tools, write_usability};
 use crate::extensions::write_extensions;

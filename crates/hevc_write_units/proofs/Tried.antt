@@ -4,9 +4,9 @@ use Rattle.hevc_spec.specs.Lines.{Line, HasLines, AreGood, joined}
 use Rattle.hevc_spec.specs.Table.{Table, read}
 use Rattle.hevc_reading_laws.proofs.TableLaws.{spelled_from_read, read_lines}
 use Rattle.hevc_bit_writer.specs.Writing.{trailing_bits}
-use Rattle.hevc_writing.specs.Choices.{AreChosen, set_flags}
-use Rattle.hevc_writing.specs.Deciding.{WritesFormed, ReadsBack}
-use Rattle.hevc_writing.proofs.Deciding.{writes_formed, writes_fewest, reads_back}
+use Rattle.hevc_write_elements.specs.Choices.{AreChosen, set_flags}
+use Rattle.hevc_write_elements.specs.Deciding.{WritesFormed, ReadsBack}
+use Rattle.hevc_write_elements.proofs.Deciding.{writes_formed, writes_fewest, reads_back}
 use Rattle.hevc_write_units.specs.Payloads.{with_trailing_bits}
 use Rattle.hevc_write_units.specs.Trials.{IsReadAs, WritesWhole}
 

@@ -9,13 +9,13 @@ use Rattle.hevc_spec.specs.Rows.{row, repeat, when}
 use Rattle.hevc_records.specs.HrdParams.{PlainHrdParams, default_hrd_params}
 use Rattle.hevc_records.specs.Vps.{PlainVps}
 use Rattle.hevc_tables.specs.VpsTable.{identity, own_ordering, own_orderings, common_ordering, orderings, layer_sets, structure, structures, timing, timing_info, extension, up_to_highest}
-use Rattle.hevc_writing.specs.Filling.{EachFilling, Keeps, Writes, WritesTurns}
-use Rattle.hevc_writing.proofs.Fillings.{weakened, beside}
-use Rattle.hevc_writing.proofs.Steps.{IsFillable, when_filled, then_filled, done_filled, filled, part_kept, when_kept, either_kept, flag_fillable, bits_fillable, ue_fillable, when_fillable, skip_fillable, some_zeros_written, check_if_then, counted_part_written, IsDecided, numbers, by}
-use Rattle.hevc_writing.proofs.Loops.{turns_keep, all_turns, all_same}
-use Rattle.hevc_writing.proofs.Growing.{last_item}
-use Rattle.hevc_write_parts.proofs.ProfileKeeps.{profile_tier_level_fillable}
-use Rattle.hevc_write_parts.proofs.HrdKeeps.{hrd_fillable}
+use Rattle.hevc_write_elements.specs.Filling.{EachFilling, Keeps, Writes, WritesTurns}
+use Rattle.hevc_write_elements.proofs.Fillings.{weakened, beside}
+use Rattle.hevc_write_elements.proofs.Steps.{IsFillable, when_filled, then_filled, done_filled, filled, part_kept, when_kept, either_kept, flag_fillable, bits_fillable, ue_fillable, when_fillable, skip_fillable, some_zeros_written, check_if_then, counted_part_written, IsDecided, numbers, by}
+use Rattle.hevc_write_elements.proofs.Loops.{turns_keep, all_turns, all_same}
+use Rattle.hevc_write_elements.proofs.Growing.{last_item}
+use Rattle.hevc_write_set_parts.proofs.ProfileKeeps.{profile_tier_level_fillable}
+use Rattle.hevc_write_set_parts.proofs.HrdKeeps.{hrd_fillable}
 use Rattle.hevc_write_vps.specs.VpsParts as own
 
 -- sets no elements but those of rows 1 to 7

@@ -3,7 +3,7 @@ use Rattle.std.specs.Prelude.{◌≡◌, ℕ, ◌==◌, Bool, true, List, [], �
 use Rattle.hevc_spec.specs.Table.{Table}
 use Rattle.hevc_records.specs.Vps.{PlainVps}
 use Rattle.hevc_tables.specs.VpsTable as table
-use Rattle.hevc_writing.specs.Filling.{SameBelow}
+use Rattle.hevc_write_elements.specs.Filling.{SameBelow}
 
 -- a set without structures; the flag of the first one is there, and is set (7.4.3.1)
 abbrev pub without_structures : PlainVps → PlainVps

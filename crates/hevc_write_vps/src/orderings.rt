@@ -3,11 +3,11 @@ ghost use Rattle.std.specs.Prelude.{◌<◌, length, slice_index, OnOk};
 ghost use Rattle.hevc_tables.specs.VpsTable as table;
 ghost use Rattle.hevc_video_set.specs.Vps.{plain_vps};
 ghost use Rattle.hevc_write_vps.specs.VpsParts as own;
-ghost use Rattle.hevc_writing.specs.Filling.{Writes, WritesEither, WritesTurn, WritesUe};
+ghost use Rattle.hevc_write_elements.specs.Filling.{Writes, WritesEither, WritesTurn, WritesUe};
 
 use hevc_bit_writer::BitWriter;
 use hevc_video_set::Vps;
-use hevc_writing::rows::{flag, ue};
+use hevc_write_elements::rows::{flag, ue};
 use std::alloc::AllocError;
 
 /// Rows 8 to 13 of table 1.
@@ -35,7 +35,7 @@ fn write_own_orderings_or_common_ordering(w: &mut BitWriter, x: &Vps) -> Result<
 }
 
 /// Rows 9 to 13 of table 1, for each sub-layer.
-#[tactic(auto, using(hevc_writing::proofs::Loops::turns, crate::proofs::VpsKeeps::orderings_written))]
+#[tactic(auto, using(hevc_write_elements::proofs::Loops::turns, crate::proofs::VpsKeeps::orderings_written))]
 fn write_own_orderings(w: &mut BitWriter, x: &Vps) -> Result<(), AllocError>
     ensures { OnOk result (Writes table.own_orderings
         own.own_orderings_with_inputs_of (plain_vps x.now) w.old w.new) }

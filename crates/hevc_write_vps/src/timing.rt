@@ -4,12 +4,12 @@ ghost use Rattle.std.specs.Prelude.{◌≡◌, ◌<◌, false, true, ◌==◌, i
 ghost use Rattle.hevc_tables.specs.VpsTable as table;
 ghost use Rattle.hevc_video_set.specs.Vps.{plain_vps};
 ghost use Rattle.hevc_write_vps.specs.VpsParts as own;
-ghost use Rattle.hevc_writing.specs.Filling.{Writes, WritesIf, WritesTurn};
+ghost use Rattle.hevc_write_elements.specs.Filling.{Writes, WritesIf, WritesTurn};
 
 use hevc_bit_writer::BitWriter;
 use hevc_video_set::Vps;
-use hevc_write_parts::write_hrd_parameters;
-use hevc_writing::rows::{bits, flag, flag_if, ue, ue_if, ue_u16};
+use hevc_write_elements::rows::{bits, flag, flag_if, ue, ue_if, ue_u16};
+use hevc_write_set_parts::write_hrd_parameters;
 use std::alloc::AllocError;
 
 /// Rows 17 to 24 of table 1.

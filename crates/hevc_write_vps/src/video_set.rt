@@ -3,14 +3,14 @@ ghost use Rattle.std.specs.Prelude.{◌≡◌, ◌≤◌, ◌+◌, ◌*◌, OnOk
 ghost use Rattle.hevc_tables.specs.VpsTable as table;
 ghost use Rattle.hevc_video_set.specs.Vps.{plain_vps};
 ghost use Rattle.hevc_write_vps.specs.VpsParts as own;
-ghost use Rattle.hevc_writing.specs.Filling.{Writes, WritesTable};
+ghost use Rattle.hevc_write_elements.specs.Filling.{Writes, WritesTable};
 
 use crate::orderings::write_orderings;
 use crate::timing::write_timing_info;
 use hevc_bit_writer::BitWriter;
 use hevc_video_set::Vps;
-use hevc_write_parts::write_profile_tier_level;
-use hevc_writing::rows::{bits, bits_u8, flag, ue, zeros};
+use hevc_write_elements::rows::{bits, bits_u8, flag, ue, zeros};
+use hevc_write_set_parts::write_profile_tier_level;
 use std::alloc::AllocError;
 
 /// Table 1.

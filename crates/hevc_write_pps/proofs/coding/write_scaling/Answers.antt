@@ -2,7 +2,7 @@ use Rattle.std.proofs.Common.{refl}
 use Rattle.hevc_tables.specs.PpsTable.{scaling}
 use Rattle.hevc_tables.specs.ScalingListTable.{scaling_list_data}
 use Rattle.hevc_write_scaling.proofs.Coded.{scaling_lists_fillable}
-use Rattle.hevc_writing.proofs.Steps.{by, done_filled, flag_then, then_filled, when_written}
+use Rattle.hevc_write_elements.proofs.Steps.{by, done_filled, flag_then, then_filled, when_written}
 use Rattle.hevc_write_pps.proofs.coding.write_scaling.Goals as goal
 
 pub returns : goal.returns

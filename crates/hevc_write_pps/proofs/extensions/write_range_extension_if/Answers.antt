@@ -1,9 +1,9 @@
 use Rattle.std.proofs.Common.{refl}
 use Rattle.hevc_tables.specs.PpsTable.{range_extension}
 use Rattle.hevc_tables.specs.PpsRangeExtensionTable.{pps_range_extension}
-use Rattle.hevc_write_sets.proofs.Extensions.{pps_range_fillable}
-use Rattle.hevc_writing.proofs.Steps.{by, done_filled, flags, one_table_written, then_filled}
-use Rattle.hevc_writing.proofs.Chains.{is_present}
+use Rattle.hevc_write_extensions.proofs.Extensions.{pps_range_fillable}
+use Rattle.hevc_write_elements.proofs.Steps.{by, done_filled, flags, one_table_written, then_filled}
+use Rattle.hevc_write_elements.proofs.Chains.{is_present}
 use Rattle.hevc_write_pps.proofs.extensions.write_range_extension_if.Goals as goal
 
 pub returns : goal.returns

@@ -2,7 +2,7 @@ use Rattle.std.proofs.Common.{refl}
 use Rattle.hevc_tables.specs.PpsTable.{coding, extensions, filters, merging, picture_set_of, scaling}
 use Rattle.hevc_write_pps.specs.PpsParts as own
 use Rattle.hevc_write_pps.proofs.PpsKeeps.{coding_keeps, extensions_keeps, filters_keeps, merging_keeps, scaling_keeps}
-use Rattle.hevc_writing.proofs.Chains.{ending, part_of, writes, ◌>>=◌}
+use Rattle.hevc_write_elements.proofs.Chains.{ending, part_of, writes, ◌>>=◌}
 use Rattle.hevc_write_pps.proofs.picture_set.write_picture_set_of.Goals as goal
 
 pub returns : goal.returns

@@ -1,6 +1,6 @@
 use Rattle.std.proofs.Common.{refl}
 use Rattle.hevc_tables.specs.PpsTable.{picture_parameter_set, picture_set_of, ids}
-use Rattle.hevc_writing.proofs.Steps.{by, part_then}
+use Rattle.hevc_write_elements.proofs.Steps.{by, part_then}
 use Rattle.hevc_write_pps.specs.PpsParts as own
 use Rattle.hevc_write_pps.proofs.PpsKeeps.{ids_keeps, picture_set_of_keeps}
 use Rattle.hevc_write_pps.proofs.Named.{named_then, named_part_written}

@@ -3,8 +3,8 @@ use Rattle.std.specs.Prelude.{not}
 use Rattle.hevc_tables.specs.PpsTable.{tiles, tile_counts, told_tiles, with_even_tiles}
 use Rattle.hevc_write_pps.specs.PpsParts as own
 use Rattle.hevc_write_pps.proofs.PpsKeeps.{tile_counts_keeps, told_tiles_keeps}
-use Rattle.hevc_writing.proofs.Steps.{by, done_filled, then_filled, flag_then, part_then, either_done_written}
-use Rattle.hevc_writing.proofs.Chains.{is_present}
+use Rattle.hevc_write_elements.proofs.Steps.{by, done_filled, then_filled, flag_then, part_then, either_done_written}
+use Rattle.hevc_write_elements.proofs.Chains.{is_present}
 use Rattle.hevc_write_pps.proofs.tiles.write_tiles_if.Goals as goal
 
 pub returns : goal.returns

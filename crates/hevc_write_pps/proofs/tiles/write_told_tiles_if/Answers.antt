@@ -2,8 +2,8 @@ use Rattle.std.proofs.Common.{refl}
 use Rattle.hevc_tables.specs.PpsTable.{told_sizes, told_tiles}
 use Rattle.hevc_spec.specs.Rows.{row}
 use Rattle.hevc_write_pps.proofs.PpsKeeps.{told_sizes_fillable}
-use Rattle.hevc_writing.proofs.Steps.{by, done_filled, numbers, one_table_written, then_filled}
-use Rattle.hevc_writing.proofs.Chains.{is_present}
+use Rattle.hevc_write_elements.proofs.Steps.{by, done_filled, numbers, one_table_written, then_filled}
+use Rattle.hevc_write_elements.proofs.Chains.{is_present}
 use Rattle.hevc_write_pps.proofs.tiles.write_told_tiles_if.Goals as goal
 
 pub returns : goal.returns

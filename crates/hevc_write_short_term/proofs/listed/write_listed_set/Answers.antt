@@ -1,7 +1,7 @@
 use Rattle.std.proofs.Common.{refl, sym, ap, ◌∙◌}
 use Rattle.hevc_tables.specs.ShortTermTable.{listed_set, with_members}
-use Rattle.hevc_writing.proofs.Fillings.{weakened, beside}
-use Rattle.hevc_writing.proofs.Steps.{by, done_filled, then_filled, ue_then}
+use Rattle.hevc_write_elements.proofs.Fillings.{weakened, beside}
+use Rattle.hevc_write_elements.proofs.Steps.{by, done_filled, then_filled, ue_then}
 use Rattle.hevc_write_short_term.specs.Members.{before_of, after_of}
 use Rattle.hevc_write_short_term.proofs.MemberLists.{before_same, after_same}
 use Rattle.hevc_write_short_term.proofs.Tables.{listed_before_long, listed_after_long}

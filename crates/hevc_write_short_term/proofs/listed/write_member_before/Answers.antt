@@ -2,7 +2,7 @@ use Rattle.std.proofs.Common.{◌<◌, ◌^◌, refl, sym, arith}
 use Rattle.std.proofs.lemmas.Int.{ints}
 use Rattle.std.proofs.lemmas.Bool.Decides.{nat_tests}
 use Rattle.hevc_tables.specs.ShortTermTable.{member_before}
-use Rattle.hevc_writing.proofs.Steps.{by, done_filled, flag_then, ue_then}
+use Rattle.hevc_write_elements.proofs.Steps.{by, done_filled, flag_then, ue_then}
 use Rattle.hevc_write_short_term.proofs.listed.write_member_before.Goals as goal
 
 pub returns : goal.returns

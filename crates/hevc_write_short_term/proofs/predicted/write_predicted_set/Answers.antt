@@ -3,8 +3,8 @@ use Rattle.hevc_set_parts.specs.ShortTermRefPicSet.{plain_short_term_ref_pic_set
 use Rattle.hevc_tables.specs.ShortTermTable.{differences, shift_of, predicted_set, prediction, predicted_members}
 use Rattle.hevc_records.specs.ShortTermRefPicSet.{PlainShortTermRefPicSet}
 use Rattle.hevc_write_short_term.specs.Members.{chosen_flags, members_of, WritesFlags}
-use Rattle.hevc_writing.proofs.Fillings.{weakened, beside}
-use Rattle.hevc_writing.proofs.Steps.{by, done_filled, then_filled, flag_then, ue_then, ue_if_then}
+use Rattle.hevc_write_elements.proofs.Fillings.{weakened, beside}
+use Rattle.hevc_write_elements.proofs.Steps.{by, done_filled, then_filled, flag_then, ue_then, ue_if_then}
 use Rattle.hevc_write_short_term.proofs.Distinct.{apart, many}
 use Rattle.hevc_write_short_term.proofs.Tables.{members_written, rows_before_kept}
 use Rattle.hevc_write_short_term.proofs.predicted.write_predicted_set.Goals as goal

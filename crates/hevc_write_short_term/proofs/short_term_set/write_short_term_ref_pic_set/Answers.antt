@@ -1,6 +1,6 @@
 use Rattle.std.proofs.Common.{refl}
 use Rattle.hevc_tables.specs.ShortTermTable.{short_term_ref_pic_set, predicted_set, listed_set}
-use Rattle.hevc_writing.proofs.Steps.{by, flag_if_then, either_part_written}
+use Rattle.hevc_write_elements.proofs.Steps.{by, flag_if_then, either_part_written}
 use Rattle.hevc_write_short_term.proofs.Tables.{members, predicted_keeps, listed_keeps}
 use Rattle.hevc_write_short_term.proofs.short_term_set.write_short_term_ref_pic_set.Goals as goal
 

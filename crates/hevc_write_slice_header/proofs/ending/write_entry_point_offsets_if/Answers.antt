@@ -2,9 +2,9 @@ use Rattle.std.proofs.Common.{◌≡◌, ◌≤◌, ◌+◌, ℕ, refl, sym, sub
 use Rattle.std.proofs.lemmas.Bool.Decides.{nat_tests}
 use Rattle.hevc_tables.specs.SliceHeaderTable.{entry_point_offsets, entry_points}
 use Rattle.hevc_picture_slice.specs.SliceHeader.{plain_slice_header}
-use Rattle.hevc_writing.proofs.Steps.{by, done_filled, then_filled, ue_then, one_table_written, numbers}
+use Rattle.hevc_write_elements.proofs.Steps.{by, done_filled, then_filled, ue_then, one_table_written, numbers}
 use Rattle.hevc_write_slice_header.proofs.HeaderKeeps.{entry_points_fillable}
-use Rattle.hevc_writing.proofs.Chains.{is_present}
+use Rattle.hevc_write_elements.proofs.Chains.{is_present}
 use Rattle.hevc_write_slice_header.proofs.ending.write_entry_point_offsets_if.Goals as goal
 
 pub returns : goal.returns

@@ -1,7 +1,7 @@
 use Rattle.std.proofs.Common.{Bool, ap, refl, sym, ◌∙◌}
 use Rattle.hevc_tables.specs.SliceHeaderTable.{across_slices, has_filters}
 use Rattle.std.specs.Prelude.{◌&&◌}
-use Rattle.hevc_writing.proofs.Steps.{by, done_filled, flag_if_then}
+use Rattle.hevc_write_elements.proofs.Steps.{by, done_filled, flag_if_then}
 use Rattle.hevc_write_slice_header.proofs.filters.write_across_slices.Goals as goal
 
 pub returns : goal.returns

@@ -2,7 +2,7 @@ use Rattle.std.proofs.Common.{refl}
 use Rattle.hevc_tables.specs.SliceHeaderTable.{active_counts, own_active_counts, with_default_active_counts}
 use Rattle.hevc_write_slice_header.specs.HeaderParts as own
 use Rattle.hevc_write_slice_header.proofs.HeaderKeeps.{own_active_counts_keeps}
-use Rattle.hevc_writing.proofs.Steps.{by, flag_then, done_either_written}
+use Rattle.hevc_write_elements.proofs.Steps.{by, flag_then, done_either_written}
 use Rattle.hevc_write_slice_header.proofs.lists.write_active_counts.Goals as goal
 
 pub returns : goal.returns

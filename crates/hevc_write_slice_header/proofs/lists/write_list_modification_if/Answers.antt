@@ -2,9 +2,9 @@ use Rattle.std.proofs.Common.{Bool, ap₂, refl, sym, ℕ, ◌∙◌}
 use Rattle.hevc_tables.specs.SliceHeaderTable.{list_modification}
 use Rattle.hevc_tables.specs.SliceTypes.{is_b}
 use Rattle.hevc_tables.specs.RefPicListModificationTable.{ref_pic_list_modification}
-use Rattle.hevc_write_slices.proofs.ListKeeps.{list_modification_fillable}
-use Rattle.hevc_writing.proofs.Steps.{by, done_filled, flags, numbers, one_table_written, pairs, then_filled}
-use Rattle.hevc_writing.proofs.Chains.{is_present}
+use Rattle.hevc_write_slice_parts.proofs.ListKeeps.{list_modification_fillable}
+use Rattle.hevc_write_elements.proofs.Steps.{by, done_filled, flags, numbers, one_table_written, pairs, then_filled}
+use Rattle.hevc_write_elements.proofs.Chains.{is_present}
 use Rattle.hevc_write_slice_header.proofs.lists.write_list_modification_if.Goals as goal
 
 pub returns : goal.returns

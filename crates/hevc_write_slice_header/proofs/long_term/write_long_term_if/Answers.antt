@@ -2,7 +2,7 @@ use Rattle.std.proofs.Common.{refl}
 use Rattle.hevc_tables.specs.SliceHeaderTable.{long_term, long_term_counts, long_term_pictures}
 use Rattle.hevc_write_slice_header.specs.HeaderParts as own
 use Rattle.hevc_write_slice_header.proofs.HeaderKeeps.{long_term_counts_keeps, long_term_pictures_keeps}
-use Rattle.hevc_writing.proofs.Chains.{ending, part_of, writes_if, ◌>>=◌}
+use Rattle.hevc_write_elements.proofs.Chains.{ending, part_of, writes_if, ◌>>=◌}
 use Rattle.hevc_write_slice_header.proofs.long_term.write_long_term_if.Goals as goal
 
 pub returns : goal.returns

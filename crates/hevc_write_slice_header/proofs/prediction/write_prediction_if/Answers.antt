@@ -2,7 +2,7 @@ use Rattle.std.proofs.Common.{refl}
 use Rattle.hevc_tables.specs.SliceHeaderTable.{motion, prediction, reference_lists, weights}
 use Rattle.hevc_write_slice_header.specs.HeaderParts as own
 use Rattle.hevc_write_slice_header.proofs.HeaderKeeps.{motion_keeps, reference_lists_keeps, weights_keeps}
-use Rattle.hevc_writing.proofs.Chains.{ending, part_of, writes_if, ◌>>=◌}
+use Rattle.hevc_write_elements.proofs.Chains.{ending, part_of, writes_if, ◌>>=◌}
 use Rattle.hevc_write_slice_header.proofs.prediction.write_prediction_if.Goals as goal
 
 pub returns : goal.returns

@@ -5,8 +5,8 @@ use Rattle.hevc_tables.specs.WeightedPredictionTable.{pred_weight_table}
 use Rattle.hevc_sequence_set.specs.Sps.{plain_sps}
 use Rattle.hevc_picture_slice.specs.Pps.{plain_pps}
 use Rattle.hevc_picture_slice.specs.SliceHeader.{plain_slice_header}
-use Rattle.hevc_write_slices.proofs.WeightKeeps.{pred_weight_table_fillable}
-use Rattle.hevc_writing.proofs.Steps.{by, done_filled, then_filled, flag_if_then, ue_then, one_table_if_written, flags, numbers, pairs}
+use Rattle.hevc_write_slice_parts.proofs.WeightKeeps.{pred_weight_table_fillable}
+use Rattle.hevc_write_elements.proofs.Steps.{by, done_filled, then_filled, flag_if_then, ue_then, one_table_if_written, flags, numbers, pairs}
 use Rattle.hevc_write_slice_header.proofs.prediction.write_weights.Goals as goal
 
 pub returns : goal.returns

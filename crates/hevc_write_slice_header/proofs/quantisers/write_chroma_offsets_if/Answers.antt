@@ -1,8 +1,8 @@
 use Rattle.std.proofs.Common.{arith, refl, ◌∙◌}
 use Rattle.std.proofs.lemmas.Int.{ints}
 use Rattle.hevc_tables.specs.SliceHeaderTable.{chroma_offset, chroma_offsets}
-use Rattle.hevc_writing.proofs.Steps.{by, check_then, done_filled, then_filled, se_then}
-use Rattle.hevc_writing.proofs.Chains.{is_present}
+use Rattle.hevc_write_elements.proofs.Steps.{by, check_then, done_filled, then_filled, se_then}
+use Rattle.hevc_write_elements.proofs.Chains.{is_present}
 use Rattle.hevc_write_slice_header.proofs.quantisers.write_chroma_offsets_if.Goals as goal
 
 pub returns : goal.returns

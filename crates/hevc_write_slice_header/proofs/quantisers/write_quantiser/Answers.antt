@@ -3,7 +3,7 @@ use Rattle.std.proofs.lemmas.Int.{ints}
 use Rattle.hevc_tables.specs.SliceHeaderTable.{chroma_offsets, quantiser}
 use Rattle.hevc_write_slice_header.specs.HeaderParts as own
 use Rattle.hevc_write_slice_header.proofs.HeaderKeeps.{chroma_offsets_keeps}
-use Rattle.hevc_writing.proofs.Steps.{by, check_then, se_then, when_part_written}
+use Rattle.hevc_write_elements.proofs.Steps.{by, check_then, se_then, when_part_written}
 use Rattle.hevc_write_slice_header.proofs.quantisers.write_quantiser.Goals as goal
 
 pub returns : goal.returns

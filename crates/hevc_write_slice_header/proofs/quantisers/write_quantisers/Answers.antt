@@ -2,7 +2,7 @@ use Rattle.std.proofs.Common.{refl}
 use Rattle.hevc_tables.specs.SliceHeaderTable.{extension_offsets, quantiser, quantisers}
 use Rattle.hevc_write_slice_header.specs.HeaderParts as own
 use Rattle.hevc_write_slice_header.proofs.HeaderKeeps.{extension_offsets_keeps, quantiser_keeps}
-use Rattle.hevc_writing.proofs.Chains.{ending, part_of, writes, ◌>>=◌}
+use Rattle.hevc_write_elements.proofs.Chains.{ending, part_of, writes, ◌>>=◌}
 use Rattle.hevc_write_slice_header.proofs.quantisers.write_quantisers.Goals as goal
 
 pub returns : goal.returns

@@ -6,7 +6,7 @@ use Rattle.hevc_write_slice_header.specs.HeaderParts as own
 use Rattle.hevc_write_slice_header.proofs.HeaderKeeps.{candidate_short_term_set_keeps, own_short_term_set_keeps}
 use Rattle.hevc_spec.specs.Rows.{row}
 use Rattle.hevc_write_slice_header.proofs.HeaderKeeps.{some_flag_written}
-use Rattle.hevc_writing.proofs.Steps.{bits_then, by, either_part_written, then_filled}
+use Rattle.hevc_write_elements.proofs.Steps.{bits_then, by, either_part_written, then_filled}
 use Rattle.hevc_write_slice_header.proofs.references.write_short_term.Goals as goal
 
 pub returns : goal.returns

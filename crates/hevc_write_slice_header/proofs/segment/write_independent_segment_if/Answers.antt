@@ -4,8 +4,8 @@ use Rattle.hevc_write_slice_header.specs.HeaderParts as own
 use Rattle.hevc_write_slice_header.proofs.HeaderKeeps.{adaptive_offset_keeps, filters_keeps, kind_keeps, prediction_keeps, quantisers_keeps, reference_pictures_keeps}
 use Rattle.std.specs.Prelude.{not}
 use Rattle.hevc_tables.specs.SliceTypes.{is_i}
-use Rattle.hevc_writing.proofs.Steps.{by, part_if_then, part_then, part_written}
-use Rattle.hevc_writing.proofs.Chains.{is_present}
+use Rattle.hevc_write_elements.proofs.Steps.{by, part_if_then, part_then, part_written}
+use Rattle.hevc_write_elements.proofs.Chains.{is_present}
 use Rattle.hevc_write_slice_header.proofs.segment.write_independent_segment_if.Goals as goal
 
 pub returns : goal.returns

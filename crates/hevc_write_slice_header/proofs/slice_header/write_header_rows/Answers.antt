@@ -6,7 +6,7 @@ use Rattle.hevc_sequence_set.specs.Sps.{plain_sps}
 use Rattle.hevc_picture_slice.specs.Pps.{plain_pps}
 use Rattle.hevc_write_slice_header.specs.HeaderParts as own
 use Rattle.hevc_write_slice_header.proofs.HeaderKeeps.{ending_keeps, independent_segment_keeps, later_segment_keeps}
-use Rattle.hevc_writing.proofs.Steps.{by, part_if_then, part_written}
+use Rattle.hevc_write_elements.proofs.Steps.{by, part_if_then, part_written}
 use Rattle.hevc_write_slice_header.proofs.slice_header.write_header_rows.Goals as goal
 
 pub returns : goal.returns

@@ -7,8 +7,8 @@ use Rattle.hevc_picture_slice.specs.Pps.{plain_pps}
 use Rattle.hevc_picture_slice.specs.SliceHeader.{plain_slice_header}
 use Rattle.hevc_write_pps.proofs.Named.{named_then, named_part_written}
 use Rattle.hevc_write_units.specs.Slices.{WritesSized, with_sizes_of}
-use Rattle.hevc_writing.specs.Filling.{Writes}
-use Rattle.hevc_writing.proofs.Steps.{by, part_then}
+use Rattle.hevc_write_elements.specs.Filling.{Writes}
+use Rattle.hevc_write_elements.proofs.Steps.{by, part_then}
 use Rattle.hevc_write_slice_header.specs.HeaderParts as own
 use Rattle.hevc_write_slice_header.proofs.HeaderKeeps.{beginning_keeps, header_keeps}
 use Rattle.hevc_write_slice_header.proofs.Sizes.{sized_written}

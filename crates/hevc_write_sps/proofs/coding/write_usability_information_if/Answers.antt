@@ -1,9 +1,9 @@
 use Rattle.std.proofs.Common.{refl}
 use Rattle.hevc_tables.specs.SpsTable.{usability_information}
 use Rattle.hevc_tables.specs.VuiTable.{vui_parameters}
-use Rattle.hevc_write_parts.proofs.VuiKeeps.{vui_fillable}
-use Rattle.hevc_writing.proofs.Steps.{by, done_filled, numbers, one_table_written, then_filled}
-use Rattle.hevc_writing.proofs.Chains.{is_present}
+use Rattle.hevc_write_set_parts.proofs.VuiKeeps.{vui_fillable}
+use Rattle.hevc_write_elements.proofs.Steps.{by, done_filled, numbers, one_table_written, then_filled}
+use Rattle.hevc_write_elements.proofs.Chains.{is_present}
 use Rattle.hevc_write_sps.proofs.coding.write_usability_information_if.Goals as goal
 
 pub returns : goal.returns

@@ -1,10 +1,10 @@
 use Rattle.std.proofs.Common.{refl}
 use Rattle.hevc_tables.specs.SpsTable.{sample_format, scc_extension}
 use Rattle.hevc_tables.specs.SpsSccExtensionTable.{sps_scc_extension}
-use Rattle.hevc_write_sets.proofs.Extensions.{sps_scc_fillable}
+use Rattle.hevc_write_extensions.proofs.Extensions.{sps_scc_fillable}
 use Rattle.hevc_write_sps.proofs.SpsKeeps.{formats}
-use Rattle.hevc_writing.proofs.Steps.{by, done_filled, one_table_written, then_filled}
-use Rattle.hevc_writing.proofs.Chains.{is_present}
+use Rattle.hevc_write_elements.proofs.Steps.{by, done_filled, one_table_written, then_filled}
+use Rattle.hevc_write_elements.proofs.Chains.{is_present}
 use Rattle.hevc_write_sps.proofs.extensions.write_scc_extension_if.Goals as goal
 
 pub returns : goal.returns

@@ -1,6 +1,6 @@
 use Rattle.std.proofs.Common.{refl}
 use Rattle.hevc_tables.specs.SpsTable.{blocks, with_block_sizes, with_picture_size}
-use Rattle.hevc_writing.proofs.Steps.{by, check_then, done_filled, ue_then}
+use Rattle.hevc_write_elements.proofs.Steps.{by, check_then, done_filled, ue_then}
 use Rattle.hevc_write_sps.proofs.format.write_blocks.Goals as goal
 
 pub returns : goal.returns

@@ -1,8 +1,8 @@
 use Rattle.std.proofs.Common.{◌≡◌, Bool, List, refl, ◌∙◌}
 use Rattle.std.specs.Prelude.{◌==◌}
 use Rattle.hevc_tables.specs.SpsTable.{samples, with_picture_size, cropping, window}
-use Rattle.hevc_writing.proofs.Fillings.{weakened, beside}
-use Rattle.hevc_writing.proofs.Steps.{by, done_filled, then_filled, flag_then, flag_if_then, ue_then, when_part_written}
+use Rattle.hevc_write_elements.proofs.Fillings.{weakened, beside}
+use Rattle.hevc_write_elements.proofs.Steps.{by, done_filled, then_filled, flag_then, flag_if_then, ue_then, when_part_written}
 use Rattle.hevc_sequence_set.specs.Sps.{plain_sps}
 use Rattle.hevc_write_sps.specs.SpsParts as own
 use Rattle.hevc_write_sps.proofs.SpsKeeps.{window_keeps, window_told}

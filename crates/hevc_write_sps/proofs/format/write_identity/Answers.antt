@@ -1,8 +1,8 @@
 use Rattle.std.proofs.Common.{refl}
 use Rattle.hevc_tables.specs.SpsTable.{identity}
 use Rattle.hevc_tables.specs.ProfileTierLevelTable.{profile_tier_level}
-use Rattle.hevc_write_parts.proofs.ProfileKeeps.{profile_tier_level_fillable}
-use Rattle.hevc_writing.proofs.Steps.{bits_then, by, done_filled, flag_then, numbers, one_table_written, then_filled, ue_then}
+use Rattle.hevc_write_set_parts.proofs.ProfileKeeps.{profile_tier_level_fillable}
+use Rattle.hevc_write_elements.proofs.Steps.{bits_then, by, done_filled, flag_then, numbers, one_table_written, then_filled, ue_then}
 use Rattle.hevc_write_sps.proofs.format.write_identity.Goals as goal
 
 pub returns : goal.returns

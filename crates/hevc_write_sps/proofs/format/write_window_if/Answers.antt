@@ -1,7 +1,7 @@
 use Rattle.std.proofs.Common.{refl}
 use Rattle.hevc_tables.specs.SpsTable.{window}
-use Rattle.hevc_writing.proofs.Steps.{by, check_then, done_filled, ue_then}
-use Rattle.hevc_writing.proofs.Chains.{is_present}
+use Rattle.hevc_write_elements.proofs.Steps.{by, check_then, done_filled, ue_then}
+use Rattle.hevc_write_elements.proofs.Chains.{is_present}
 use Rattle.hevc_write_sps.proofs.format.write_window_if.Goals as goal
 
 pub returns : goal.returns

@@ -1,7 +1,7 @@
 use Rattle.std.proofs.Common.{◌≡◌, ℕ, List, get_or, refl, sym, ap, ap₂, ◌∙◌}
 use Rattle.hevc_tables.specs.SpsTable.{common_ordering}
 use Rattle.hevc_sequence_set.specs.Sps.{plain_sps}
-use Rattle.hevc_writing.proofs.Steps.{by, done_filled, ue_then}
+use Rattle.hevc_write_elements.proofs.Steps.{by, done_filled, ue_then}
 use Rattle.hevc_write_sps.proofs.SpsKeeps.{at_highest}
 use Rattle.hevc_write_sps.proofs.orderings.write_common_ordering.Goals as goal
 

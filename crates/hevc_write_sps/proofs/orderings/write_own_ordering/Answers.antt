@@ -1,8 +1,8 @@
 use Rattle.std.proofs.Common.{refl}
 use Rattle.hevc_tables.specs.SpsTable.{own_ordering}
 use Rattle.hevc_sequence_set.specs.Sps.{plain_sps}
-use Rattle.hevc_writing.proofs.Steps.{done_filled, ue_then}
-use Rattle.hevc_writing.proofs.Loops.{one_less}
+use Rattle.hevc_write_elements.proofs.Steps.{done_filled, ue_then}
+use Rattle.hevc_write_elements.proofs.Loops.{one_less}
 use Rattle.hevc_write_sps.proofs.orderings.write_own_ordering.Goals as goal
 
 pub returns : goal.returns

@@ -2,8 +2,8 @@ use Rattle.std.proofs.Common.{ℕ, ◌+◌, ◌-◌, ◌^◌, false, refl}
 use Rattle.hevc_spec.specs.Rows.{row, bits_row}
 use Rattle.hevc_tables.specs.SpsTable.{long_term_picture}
 use Rattle.hevc_sequence_set.specs.Sps.{plain_sps}
-use Rattle.hevc_writing.proofs.Steps.{done_filled, then_filled, flag_then, one_table_written, bits_fillable, bits_table, numbers}
-use Rattle.hevc_writing.proofs.Loops.{one_less}
+use Rattle.hevc_write_elements.proofs.Steps.{done_filled, then_filled, flag_then, one_table_written, bits_fillable, bits_table, numbers}
+use Rattle.hevc_write_elements.proofs.Loops.{one_less}
 use Rattle.hevc_write_sps.proofs.pictures.write_long_term_picture.Goals as goal
 
 pub returns : goal.returns

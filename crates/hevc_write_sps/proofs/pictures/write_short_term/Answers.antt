@@ -1,7 +1,7 @@
 use Rattle.std.proofs.Common.{ℕ, refl}
 use Rattle.hevc_tables.specs.SpsTable.{highest_buffering, short_term, short_term_sets}
 use Rattle.hevc_write_sps.proofs.SpsKeeps.{short_term_sets_fillable}
-use Rattle.hevc_writing.proofs.Steps.{by, done_filled, numbers, one_table_written, then_filled, ue_then}
+use Rattle.hevc_write_elements.proofs.Steps.{by, done_filled, numbers, one_table_written, then_filled, ue_then}
 use Rattle.hevc_write_sps.proofs.pictures.write_short_term.Goals as goal
 
 pub returns : goal.returns

@@ -2,7 +2,7 @@ use Rattle.std.proofs.Common.{refl}
 use Rattle.hevc_tables.specs.SpsTable.{coding, extensions, long_term, scaling, short_term, tools, usability}
 use Rattle.hevc_write_sps.specs.SpsParts as own
 use Rattle.hevc_write_sps.proofs.SpsKeeps.{extensions_keeps, long_term_keeps, scaling_keeps, short_term_keeps, tools_keeps, usability_keeps}
-use Rattle.hevc_writing.proofs.Chains.{ending, part_of, writes, ◌>>=◌}
+use Rattle.hevc_write_elements.proofs.Chains.{ending, part_of, writes, ◌>>=◌}
 use Rattle.hevc_write_sps.proofs.sequence_set.write_coding.Goals as goal
 
 pub returns : goal.returns

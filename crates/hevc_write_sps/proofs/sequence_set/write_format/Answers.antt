@@ -2,7 +2,7 @@ use Rattle.std.proofs.Common.{refl}
 use Rattle.hevc_tables.specs.SpsTable.{blocks, depths, format, identity, orderings}
 use Rattle.hevc_write_sps.specs.SpsParts as own
 use Rattle.hevc_write_sps.proofs.SpsKeeps.{blocks_keeps, depths_keeps, framing_keeps, identity_keeps, orderings_keeps}
-use Rattle.hevc_writing.proofs.Steps.{joined_filled, part_then, part_written}
+use Rattle.hevc_write_elements.proofs.Steps.{joined_filled, part_then, part_written}
 use Rattle.hevc_write_sps.proofs.sequence_set.write_format.Goals as goal
 
 pub returns : goal.returns

@@ -2,7 +2,7 @@ use Rattle.std.proofs.Common.{refl}
 use Rattle.hevc_tables.specs.SpsTable.{coding, format, sequence_parameter_set}
 use Rattle.hevc_write_sps.specs.SpsParts as own
 use Rattle.hevc_write_sps.proofs.SpsKeeps.{coding_keeps, format_keeps}
-use Rattle.hevc_writing.proofs.Chains.{ending, part_of, writes_table, ◌>>=◌}
+use Rattle.hevc_write_elements.proofs.Chains.{ending, part_of, writes_table, ◌>>=◌}
 use Rattle.hevc_write_sps.proofs.sequence_set.write_sps.Goals as goal
 
 pub returns : goal.returns

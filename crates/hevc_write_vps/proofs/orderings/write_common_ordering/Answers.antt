@@ -1,7 +1,7 @@
 use Rattle.std.proofs.Common.{◌≡◌, ℕ, List, get_or, refl, sym, ap, ap₂, ◌∙◌}
 use Rattle.hevc_tables.specs.VpsTable.{common_ordering}
 use Rattle.hevc_video_set.specs.Vps.{plain_vps}
-use Rattle.hevc_writing.proofs.Steps.{by, done_filled, ue_then}
+use Rattle.hevc_write_elements.proofs.Steps.{by, done_filled, ue_then}
 use Rattle.hevc_write_vps.proofs.VpsKeeps.{at_highest}
 use Rattle.hevc_write_vps.proofs.orderings.write_common_ordering.Goals as goal
 

@@ -1,8 +1,8 @@
 use Rattle.std.proofs.Common.{refl}
 use Rattle.hevc_tables.specs.VpsTable.{own_ordering}
 use Rattle.hevc_video_set.specs.Vps.{plain_vps}
-use Rattle.hevc_writing.proofs.Steps.{check_if_then, done_filled, ue_then}
-use Rattle.hevc_writing.proofs.Loops.{one_less}
+use Rattle.hevc_write_elements.proofs.Steps.{check_if_then, done_filled, ue_then}
+use Rattle.hevc_write_elements.proofs.Loops.{one_less}
 use Rattle.hevc_write_vps.proofs.orderings.write_own_ordering.Goals as goal
 
 pub returns : goal.returns

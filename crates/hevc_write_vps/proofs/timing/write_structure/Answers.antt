@@ -8,9 +8,9 @@ use Rattle.hevc_tables.specs.VpsTable.{structure, last_structure}
 use Rattle.hevc_video_set.specs.Vps.{plain_vps}
 use Rattle.hevc_video_set.specs.declared.hrd_params.HrdParams.{HrdParams}
 use Rattle.hevc_video_set.specs.HrdParams.{plain_hrd_params}
-use Rattle.hevc_writing.proofs.Fillings.{weakened, beside}
-use Rattle.hevc_writing.proofs.Steps.{done_filled, then_filled, ue_then, when_written, where_present, flag_table, flag_fillable, one_table_written, pairs, flags, numbers}
-use Rattle.hevc_write_parts.proofs.HrdKeeps.{hrd_fillable}
+use Rattle.hevc_write_elements.proofs.Fillings.{weakened, beside}
+use Rattle.hevc_write_elements.proofs.Steps.{done_filled, then_filled, ue_then, when_written, where_present, flag_table, flag_fillable, one_table_written, pairs, flags, numbers}
+use Rattle.hevc_write_set_parts.proofs.HrdKeeps.{hrd_fillable}
 use Rattle.hevc_write_vps.proofs.VpsKeeps.{one_structure_less, absent_told, common_same}
 use Rattle.hevc_write_vps.proofs.timing.write_structure.Goals as goal
 

@@ -2,8 +2,8 @@ use Rattle.std.proofs.Common.{refl, arith}
 use Rattle.hevc_tables.specs.VpsTable.{identity}
 use Rattle.hevc_spec.specs.Rows.{row}
 use Rattle.hevc_tables.specs.ProfileTierLevelTable.{profile_tier_level}
-use Rattle.hevc_write_parts.proofs.ProfileKeeps.{profile_tier_level_fillable}
-use Rattle.hevc_writing.proofs.Steps.{bits_then, by, done_filled, flag_then, numbers, one_table_written, skip_written, then_filled}
+use Rattle.hevc_write_set_parts.proofs.ProfileKeeps.{profile_tier_level_fillable}
+use Rattle.hevc_write_elements.proofs.Steps.{bits_then, by, done_filled, flag_then, numbers, one_table_written, skip_written, then_filled}
 use Rattle.hevc_write_vps.proofs.video_set.write_identity.Goals as goal
 
 pub returns : goal.returns

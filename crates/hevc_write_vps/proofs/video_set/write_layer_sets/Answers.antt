@@ -3,7 +3,7 @@ use Rattle.std.proofs.lemmas.Bool.Decides.{nat_tests}
 use Rattle.hevc_spec.specs.Rows.{row}
 use Rattle.hevc_tables.specs.VpsTable.{layer_sets}
 use Rattle.hevc_video_set.specs.Vps.{plain_vps}
-use Rattle.hevc_writing.proofs.Steps.{bits_then, by, done_filled, some_zeros_written, then_filled, ue_then}
+use Rattle.hevc_write_elements.proofs.Steps.{bits_then, by, done_filled, some_zeros_written, then_filled, ue_then}
 use Rattle.hevc_write_vps.proofs.video_set.write_layer_sets.Goals as goal
 
 pub returns : goal.returns

@@ -3,7 +3,7 @@ use Rattle.hevc_records.specs.Vps.{default_vps}
 use Rattle.hevc_tables.specs.VpsTable.{extension, identity, layer_sets, orderings, video_parameter_set}
 use Rattle.hevc_write_vps.specs.VpsParts as own
 use Rattle.hevc_write_vps.proofs.VpsKeeps.{extension_keeps, identity_keeps, layer_sets_keeps, orderings_keeps, timing_info_keeps}
-use Rattle.hevc_writing.proofs.Chains.{ending, part_of, writes_table, ◌>>=◌}
+use Rattle.hevc_write_elements.proofs.Chains.{ending, part_of, writes_table, ◌>>=◌}
 use Rattle.hevc_write_vps.proofs.video_set.write_vps.Goals as goal
 
 pub returns : goal.returns
