@@ -83,17 +83,17 @@ module _ (r : Row) (kept : IsKept r) {A T : Type 0} {x : A} {P : Type 0} {g : A 
   flag_of so_far f writes = record { filled = λ Q next. flag_written r kept writes (λ v all h. next v all (more f so_far h)) }
 
   -- a number of n bits
-  pub bits_of : (n min max : ℕ) Reaches x P g values w old → (f : A → ℕ) → WritesBits n (f x) old new
+  pub bits_of : (n min max : ℕ) → Reaches x P g values w old → (f : A → ℕ) → WritesBits n (f x) old new
       → Step (bits_row r n min max) w (λ v. v) (λ v all. Reaches x P (λ s. (f s, g s)) (v, values) all new)
   bits_of n min max so_far f writes = record { filled = λ Q next. bits_written r kept n min max writes (λ v is all h. next v all (more f so_far h)) }
 
   -- an Exp-Golomb number
-  pub ue_of : (min max : ℕ) Reaches x P g values w old → (f : A → ℕ) → WritesUe (f x) old new
+  pub ue_of : (min max : ℕ) → Reaches x P g values w old → (f : A → ℕ) → WritesUe (f x) old new
       → Step (ue_row r min max) w (λ v. v) (λ v all. Reaches x P (λ s. (f s, g s)) (v, values) all new)
   ue_of min max so_far f writes = record { filled = λ Q next. ue_written r kept min max writes (λ v is all h. next v all (more f so_far h)) }
 
   -- what was written is that value as a number of some size
-  pub se_of : (min max : ℤ) Reaches x P g values w old → (f : A → ℤ) → {value : ℤ} → f x ≡ value → WritesSe value old new
+  pub se_of : (min max : ℤ) → Reaches x P g values w old → (f : A → ℤ) → {value : ℤ} → f x ≡ value → WritesSe value old new
       → Step (se_row r min max) w (λ v. v) (λ v all. Reaches x P (λ s. (f s, g s)) (v, values) all new)
   se_of min max so_far f is writes = record { filled = λ Q next. se_written r kept min max writes (λ v all h. next v all (more f so_far (λ e. h (e ∙ is)))) }
 
@@ -105,21 +105,21 @@ module _ (r : Row) (kept : IsKept r) {A T : Type 0} {x : A} {P : Type 0} {g : A 
 
   -- rows that are present where p holds of the record
   module _ (c : Bool) where
-    pub flag_if_of : (absent : Bool) (p : A → Bool) Reaches x P g values w old → (f : A → Bool) → WritesIf (p x) (WritesFlag (f x)) old new
+    pub flag_if_of : (absent : Bool) → Reaches x P g values w old → (p : A → Bool) (f : A → Bool) → WritesIf (p x) (WritesFlag (f x)) old new
         → Step (when c absent (flag_row r)) w (λ v. v) (λ v all. Reaches x P (λ s. ((p s, f s), g s)) ((c, v), values) all new)
     flag_if_of absent so_far p f writes = record {
       filled = λ Q next. when_written (flag_row r) c absent (flag_fillable r kept) (where_present (flag_table r kept) writes) (λ v all h. next v all (more (λ s. (p s, f s)) so_far
           (λ e. h (ap (λ (q : Bool × Bool). q.0) e) (ap (λ (q : Bool × Bool). q.1) e))));
     }
 
-    pub bits_if_of : (n min max absent : ℕ) (p : A → Bool) Reaches x P g values w old → (f : A → ℕ) → WritesIf (p x) (WritesBits n (f x)) old new
+    pub bits_if_of : (n min max absent : ℕ) → Reaches x P g values w old → (p : A → Bool) (f : A → ℕ) → WritesIf (p x) (WritesBits n (f x)) old new
         → Step (when c absent (bits_row r n min max)) w (λ v. v) (λ v all. Reaches x P (λ s. ((p s, f s), g s)) ((c, v), values) all new)
     bits_if_of n min max absent so_far p f writes = record {
       filled = λ Q next. when_written (bits_row r n min max) c absent (bits_fillable r kept n min max) (where_present (bits_table r kept n min max) writes) (λ v all h. next v all (more (λ s. (p s, f s)) so_far
           (λ e. h (ap (λ (q : Bool × ℕ). q.0) e) (ap (λ (q : Bool × ℕ). q.1) e))));
     }
 
-    pub ue_if_of : (min max absent : ℕ) (p : A → Bool) Reaches x P g values w old → (f : A → ℕ) → WritesIf (p x) (WritesUe (f x)) old new
+    pub ue_if_of : (min max absent : ℕ) → Reaches x P g values w old → (p : A → Bool) (f : A → ℕ) → WritesIf (p x) (WritesUe (f x)) old new
         → Step (when c absent (ue_row r min max)) w (λ v. v) (λ v all. Reaches x P (λ s. ((p s, f s), g s)) ((c, v), values) all new)
     ue_if_of min max absent so_far p f writes = record {
       filled = λ Q next. when_written (ue_row r min max) c absent (ue_fillable r kept min max) (where_present (ue_table r kept min max) writes) (λ v all h. next v all (more (λ s. (p s, f s)) so_far
