@@ -112,17 +112,6 @@ pub common_ordering_keeps : Keeps common_ordering own.own_orderings_of
 unfolding common_ordering
 common_ordering_keeps = record { same = λ y. refl; last = λ x y z. refl; kept = λ y w. then_filled (filled (ue_fillable _ refl _ _) (λ v1 b1. then_filled (filled (ue_fillable _ refl _ _) (λ v2 b2. then_filled (filled (ue_fillable _ refl _ _) (λ v3 b3. done_filled refl)))))) }
 
--- the number of the highest sub-layer
-pub at_highest : (m v : ℕ) → get_or (up_to_highest m v) m 0 ≡ v
-at_highest m v = rw (← replicate_more m v) (from m)
-  where
-    replicate_more : (m v : ℕ) → replicate (suc m) v ++ replicate (6 - m) 0 ≡ up_to_highest m v
-    replicate_more m v = let e : suc m ≡ m + 1 = omega arith in ap (λ (k : ℕ). replicate k v ++ replicate (6 - m) 0) e
-
-    from : (k : ℕ) → get_or (replicate (suc k) v ++ replicate (6 - m) 0) k 0 ≡ v
-    from zero = refl
-    from (suc k) = from k
-
 -- sets no elements but those of rows 16 to 19
 pub orderings_keeps : Keeps orderings own.orderings_of
 unfolding orderings

@@ -89,17 +89,6 @@ pub extension_keeps : Keeps extension own.extension_of
 unfolding extension
 extension_keeps = record { same = λ y. refl; last = λ x y z. refl; kept = λ y w. then_filled (filled (flag_fillable _ refl) (λ v1 b1. done_filled refl)) }
 
--- the number of the highest sub-layer
-pub at_highest : (m v : ℕ) → get_or (up_to_highest m v) m 0 ≡ v
-at_highest m v = rw (← replicate_more m v) (from m)
-  where
-    replicate_more : (m v : ℕ) → replicate (suc m) v ++ replicate (6 - m) 0 ≡ up_to_highest m v
-    replicate_more m v = let e : suc m ≡ m + 1 = omega arith in ap (λ (k : ℕ). replicate k v ++ replicate (6 - m) 0) e
-
-    from : (k : ℕ) → get_or (replicate (suc k) v ++ replicate (6 - m) 0) k 0 ≡ v
-    from zero = refl
-    from (suc k) = from k
-
 -- ---- structures
 
 -- so many structures, each with a layer set and a flag

@@ -1,8 +1,7 @@
-use Rattle.std.proofs.Common.{◌≡◌, ℕ, List, get_or, refl, sym, ap, ap₂, ◌∙◌}
+use Rattle.std.proofs.Common.{refl, sym, ◌∙◌}
 use Rattle.hevc_tables.specs.SpsTable.{common_ordering}
-use Rattle.hevc_sequence_set.specs.Sps.{plain_sps}
 use Rattle.hevc_write_elements.proofs.Steps.{by, done_filled, ue_then}
-use Rattle.hevc_write_sps.proofs.SpsKeeps.{at_highest}
+use Rattle.hevc_write_set_parts.proofs.Orderings.{highest_is}
 use Rattle.hevc_write_sps.proofs.orderings.write_common_ordering.Goals as goal
 
 pub returns : goal.returns
@@ -18,8 +17,7 @@ returns c =
           ue_then _ refl _ _ third.1 (λ v3 _ b3 max_latency_increase_plus1_row.
           done_filled (λ e at.
           let m = by e (λ r. r.max_sub_layers_minus1) ∙ sym c.from-highest.ensures in
-          let at_place = λ (l : List ℕ) (k : ℕ). get_or l k 0 in
-          max_latency_increase_plus1_row (sym (at_highest y.max_sub_layers_minus1 v3) ∙ ap₂ at_place (by e (λ r. r.max_latency_increase_plus1)) m)
-          (max_num_reorder_pics_row (sym (at_highest y.max_sub_layers_minus1 v2) ∙ ap₂ at_place (by e (λ r. r.max_num_reorder_pics)) m)
-          (max_dec_pic_buffering_minus1_row (sym (at_highest y.max_sub_layers_minus1 v1) ∙ ap₂ at_place (by e (λ r. r.max_dec_pic_buffering_minus1)) m) at))))));
+          max_latency_increase_plus1_row (highest_is y.max_sub_layers_minus1 v3 _ _ (by e (λ r. r.max_latency_increase_plus1)) m)
+          (max_num_reorder_pics_row (highest_is y.max_sub_layers_minus1 v2 _ _ (by e (λ r. r.max_num_reorder_pics)) m)
+          (max_dec_pic_buffering_minus1_row (highest_is y.max_sub_layers_minus1 v1 _ _ (by e (λ r. r.max_dec_pic_buffering_minus1)) m) at))))));
     }
