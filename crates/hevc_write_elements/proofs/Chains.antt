@@ -76,6 +76,10 @@ ending {Q = Q} step rest = step.filled Q rest
 
 -- ---- rows
 
+-- what is had of any record, as it comes from elsewhere
+abbrev pub always : {A B : Type 0} → B → A → B
+always b x = b
+
 module _ (r : Row) (kept : IsKept r) {A T : Type 0} {x : A} {P : Type 0} {g : A → T} {values : T} {w old new : List Bool} where
   -- a flag that f has of the record
   pub flag_of : Reaches x P g values w old → (f : A → Bool) → WritesFlag (f x) old new
