@@ -1,3 +1,4 @@
+use Rattle.std.proofs.Common.{refl}
 use Rattle.hevc_tables.specs.ProfileTierLevelTable.{reserved_bits}
 use Rattle.hevc_write_set_parts.proofs.LayerKeeps.{layer_zeros}
 use Rattle.hevc_write_elements.proofs.Chains.{done_filled, writes, zeros_of, ◌>>=◌}

@@ -1,3 +1,4 @@
+use Rattle.std.proofs.Common.{refl}
 use Rattle.hevc_tables.specs.VuiTable.{hrd}
 use Rattle.hevc_write_elements.proofs.Chains.{done_filled, table_of, writes_if, ◌>>=◌}
 use Rattle.hevc_write_set_parts.proofs.vui.write_hrd_if.Goals as goal
