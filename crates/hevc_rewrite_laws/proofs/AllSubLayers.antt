@@ -12,6 +12,7 @@ use Rattle.hevc_stream.specs.Stream.{with_content, with_picture_set_unit, with_w
 use Rattle.hevc_rewrite_laws.specs.Replaced.{is_all, MeansTheSame, StandFor}
 use Rattle.hevc_rewrite_laws.proofs.SameMeanings.{same_meanings}
 
+-- a temporal id is at most 6
 low_checked : (h g : UnitHeader) → h.nuh_temporal_id_plus1 ≤ 7 → checked_header h ≡ Ok g → temporal_id g ≤ 6
 low_checked h g low e = by_tests (nat_le 48 h.nal_unit_type) (h.nuh_temporal_id_plus1 == 0) e
   where
@@ -22,12 +23,14 @@ low_checked h g low e = by_tests (nat_le 48 h.nal_unit_type) (h.nuh_temporal_id_
         let same : h ≡ g = cc e in
         subst (λ (x : UnitHeader). temporal_id x ≤ 6) same (omega arith)
 
+-- so is that of a header
 pub low_header : (bytes : List ℕ) (h : UnitHeader) → unit_header bytes ≡ Ok h → temporal_id h ≤ 6
 low_header [] h e = absurd (cc e)
 low_header (_ ∷ []) h e = absurd (cc e)
 low_header (first ∷ second ∷ bytes) h e = low_checked (header_fields first second) h (omega arith) e
 
 module _ (options : Options) (all : 6 ≤ options.highest_tid) where
+  -- with all sub-layers a unit has the content that it has by default
   pub content_by_default : (kept : Kept) (bytes : List ℕ) → content options kept bytes ≡ content default_options kept bytes
   unfolding content
   content_by_default kept bytes = by_header (unit_header bytes) (low_header bytes)
@@ -38,12 +41,14 @@ module _ (options : Options) (all : 6 ≤ options.highest_tid) where
           let at = low h refl in
           rw (le-ltb options.highest_tid (temporal_id h) (omega arith), le-ltb 6 (temporal_id h) at) refl
 
+  -- so have units that waited
   waited_by_default : (waiting : List (List ℕ)) (kept : Kept) → fold (with_waited options) kept waiting ≡ fold (with_waited default_options) kept waiting
   waited_by_default [] kept = refl
   waited_by_default (bytes ∷ waiting) kept =
       ap (λ (c : Content). fold (with_waited options) (with_picture_set_unit bytes c kept) waiting) (content_by_default kept bytes)
       ∙ waited_by_default waiting (with_waited default_options kept bytes)
 
+  -- what is kept after it is the same
   with_content_by_default : (bytes : List ℕ) (kept : Kept) (c : Content) → with_content options bytes c kept ≡ with_content default_options bytes c kept
   with_content_by_default bytes kept (sequence_set set) = waited_by_default kept.waiting (record (with_sequence_set set kept) { waiting = [] })
   with_content_by_default bytes kept (video_set set) = refl
@@ -55,11 +60,13 @@ module _ (options : Options) (all : 6 ≤ options.highest_tid) where
   with_content_by_default bytes kept end_of_bitstream = refl
   with_content_by_default bytes kept nothing = refl
 
+  -- so is what is kept after a unit
   kept_by_default : (kept : Kept) (bytes : List ℕ) → kept_behind options kept bytes ≡ kept_behind default_options kept bytes
   unfolding kept_behind
   kept_by_default kept bytes =
       ap (λ (c : Content). with_content options bytes c kept) (content_by_default kept bytes) ∙ with_content_by_default bytes kept (content default_options kept bytes)
 
+  -- a unit that stands for another by default stands for it
   one_by_default : (kept : Kept) (bytes others : List ℕ) → (others ≡ bytes) ⊎ MeansTheSame default_options kept bytes others → (others ≡ bytes) ⊎ MeansTheSame options kept bytes others
   one_by_default kept bytes others (inl e) = inl e
   one_by_default kept bytes others (inr h) = inr (record {
@@ -67,6 +74,7 @@ module _ (options : Options) (all : 6 ≤ options.highest_tid) where
     same = content_by_default kept others ∙ h.same ∙ sym (content_by_default kept bytes);
   })
 
+  -- so do all units of a stream
   stand_by_default : (kept : Kept) (us vs : List NalUnit) → StandFor default_options kept us vs → StandFor options kept us vs
   stand_by_default kept [] [] h = tt
   stand_by_default kept [] (v ∷ vs) h = absurd h
@@ -76,5 +84,6 @@ module _ (options : Options) (all : 6 ≤ options.highest_tid) where
     subst (λ (k : Kept). StandFor options k us vs) (sym (kept_by_default kept u.bytes)) (stand_by_default (kept_behind default_options kept u.bytes) us vs h.1),
   )
 
+-- so the stream means the same
 pub same_by_default : (options : Options) (kept : Kept) (us vs : List NalUnit) → 6 ≤ options.highest_tid → StandFor default_options kept us vs → meanings_behind options kept vs ≡ meanings_behind options kept us
 same_by_default options kept us vs all h = same_meanings options kept us vs (stand_by_default options all kept us vs h)

@@ -10,6 +10,7 @@ use Rattle.hevc_stream.specs.Stream.{with_content, kept_behind, meaning_of, mean
 use Rattle.hevc_rewrite_laws.specs.Replaced.{is_all, MeansTheSame, StandFor}
 
 module _ (options : Options) (kept : Kept) (bytes others : List ℕ) where
+  -- content of all sub-layers is kept whatever the bytes are
   kept_alike : (c : Content) → is_all c ≡ true → with_content options others c kept ≡ with_content options bytes c kept
   kept_alike (refused cause) e = refl
   kept_alike (video_set set) e = refl
@@ -21,6 +22,7 @@ module _ (options : Options) (kept : Kept) (bytes others : List ℕ) where
   kept_alike end_of_bitstream e = refl
   kept_alike nothing e = refl
 
+  -- and means the same
   meaning_alike : (c : Content) → is_all c ≡ true → meaning_of options kept others c ≡ meaning_of options kept bytes c
   meaning_alike (refused cause) e = refl
   meaning_alike (video_set set) e = refl
@@ -32,16 +34,19 @@ module _ (options : Options) (kept : Kept) (bytes others : List ℕ) where
   meaning_alike end_of_bitstream e = refl
   meaning_alike nothing e = refl
 
+  -- after a unit that stands for another the same is kept
   one_kept : (others ≡ bytes) ⊎ MeansTheSame options kept bytes others → kept_behind options kept others ≡ kept_behind options kept bytes
   unfolding kept_behind
   one_kept (inl e) = ap (λ (b : List ℕ). with_content options b (content options kept b) kept) e
   one_kept (inr h) = ap (λ (c : Content). with_content options others c kept) h.same ∙ kept_alike (content options kept bytes) h.all
 
+  -- and it means the same
   one_meaning : (others ≡ bytes) ⊎ MeansTheSame options kept bytes others → meaning options kept others ≡ meaning options kept bytes
   unfolding meaning
   one_meaning (inl e) = ap (λ (b : List ℕ). meaning_of options kept b (content options kept b)) e
   one_meaning (inr h) = ap (λ (c : Content). meaning_of options kept others c) h.same ∙ meaning_alike (content options kept bytes) h.all
 
+-- so do all units after it
 pub same_meanings : (options : Options) (kept : Kept) (us vs : List NalUnit) → StandFor options kept us vs → meanings_behind options kept vs ≡ meanings_behind options kept us
 same_meanings options kept [] [] h = refl
 same_meanings options kept [] (v ∷ vs) h = absurd h

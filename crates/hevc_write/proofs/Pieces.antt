@@ -17,6 +17,7 @@ use Rattle.hevc_write_units.proofs.Trimmed.{trimmed_cons}
 
 -- ---- what is cut out before a header is looked at
 
+-- without zeros at its end a list is its own beginning
 trimmed_is_front : (xs : List ℕ) → (n : ℕ) × (without_trailing_zeros xs ≡ take n xs)
 trimmed_is_front [] = (0, refl)
 trimmed_is_front (x ∷ xs) = by_test (eqb x 0 && is_empty (without_trailing_zeros xs)) (trimmed_is_front xs)
@@ -25,6 +26,7 @@ trimmed_is_front (x ∷ xs) = by_test (eqb x 0 && is_empty (without_trailing_zer
     by_test true p = (0, refl)
     by_test false p = (suc p.0, ap (λ (bytes : List ℕ). x ∷ bytes) p.1)
 
+-- no zeros are left
 trimmed_twice : (xs : List ℕ) → without_trailing_zeros (without_trailing_zeros xs) ≡ without_trailing_zeros xs
 trimmed_twice [] = refl
 trimmed_twice (x ∷ xs) = by_test (eqb x 0 && is_empty (without_trailing_zeros xs)) refl (trimmed_twice xs)
@@ -34,6 +36,7 @@ trimmed_twice (x ∷ xs) = by_test (eqb x 0 && is_empty (without_trailing_zeros 
     by_test true e twice = refl
     by_test false e twice = rw (twice, e) refl
 
+-- what is before a start code is a piece, without zeros at its end
 cut_is_piece : (xs : List ℕ) → IsPiece (without_trailing_zeros (before_start_code xs))
 cut_is_piece xs =
     let cut = before_start_code xs in
@@ -56,6 +59,7 @@ raw_pieces place (x ∷ xs) = by_test (begins_with_start_code (x ∷ xs)) (raw_p
 abbrev pub own : NalUnit → NalUnit
 own u = record { offset = u.offset; bytes = kept_bytes u.bytes }
 
+-- units with bytes of their own are at the same places
 owned_at : (place : ℕ) (xs : List ℕ) → units_at kept_bytes place xs ≡ map own (units_at raw place xs)
 owned_at place [] = refl
 owned_at place (x ∷ xs) = by_test (begins_with_start_code (x ∷ xs)) (owned_at (place + 1) xs)
@@ -69,10 +73,12 @@ owned_at place (x ∷ xs) = by_test (begins_with_start_code (x ∷ xs)) (owned_a
     by_test true more = ap (λ (us : List NalUnit). record { offset = place + 3; bytes = kept_bytes cut } ∷ us) more
     by_test false more = more
 
+-- so are all of a stream
 pub owned : (place : ℕ) (stream : List ℕ) → units_from kept_bytes place stream ≡ map own (units_from raw place stream)
 unfolding units_from
 owned place stream = owned_at place (drop place stream)
 
+-- the first unit is a piece
 pub first_piece : (place : ℕ) (stream : List ℕ) (u : NalUnit) (us : List NalUnit) → units_from raw place stream ≡ u ∷ us → IsPiece u.bytes
 unfolding units_from
 first_piece place stream u us e = All-head (λ u. IsPiece u.bytes) u us (subst (λ (vs : List NalUnit). All (λ u. IsPiece u.bytes) vs) e (raw_pieces place (drop place stream)))
@@ -82,6 +88,7 @@ first_piece place stream u us e = All-head (λ u. IsPiece u.bytes) u us (subst (
 abbrev Headed : NalUnit → Type 0
 Headed u = (h : UnitHeader) → unit_header u.bytes ≡ Ok h → IsWholePiece u.bytes
 
+-- what units have of headers goes by no place
 shifted : (place other : ℕ) (xs : List ℕ) → All Headed (units_at kept_bytes place xs) → All Headed (units_at kept_bytes other xs)
 shifted place other [] all = All-nil Headed
 shifted place other (x ∷ xs) all = by_test (begins_with_start_code (x ∷ xs)) (shifted (place + 1) (other + 1) xs) all
@@ -95,6 +102,7 @@ shifted place other (x ∷ xs) all = by_test (begins_with_start_code (x ∷ xs))
         All-cons Headed there (units_at kept_bytes (other + 1) xs) (All-head Headed here (units_at kept_bytes (place + 1) xs) all) (more (All-tail Headed here (units_at kept_bytes (place + 1) xs) all))
     by_test false more all = more all
 
+-- a unit with a header is a whole piece
 pub headed_piece : (place : ℕ) (stream : List ℕ) (u : NalUnit) (us : List NalUnit) (h : UnitHeader) → units_from kept_bytes place stream ≡ u ∷ us → unit_header u.bytes ≡ Ok h → IsWholePiece u.bytes
 unfolding units_from
 headed_piece place stream u us h e parsed =
@@ -113,6 +121,7 @@ second_is_set a b rest h e = by_test (eqb b 0) refl
     by_test false f = refl
     by_test true f = absurd (no_header (nat_le 48 (a / 2 % 64)) (unspecified_type (a / 2 % 64)) (rw (eqb-true b 0 f) at e))
 
+-- what is not so is not so with more
 and_false : (t : Bool) → (t && false) ≡ false
 and_false true = refl
 and_false false = refl
@@ -126,15 +135,18 @@ headed_complete (a ∷ b ∷ c ∷ bytes) h e = refl
 
 -- ---- any unit, completed
 
+-- three such bytes are no start code
 begins_not : (a b : ℕ) → begins_with_start_code (a ∷ b ∷ 128 ∷ []) ≡ false
 begins_not a b = and_false (eqb a 0 && eqb b 0)
 
+-- two bytes and 80 are a piece
 ended : (a b : ℕ) → IsPiece (a ∷ b ∷ 128 ∷ [])
 ended a b = record {
   whole = rw (begins_not a b) refl;
   trimmed = trimmed_cons a (b ∷ 128 ∷ []) (trimmed_cons b (128 ∷ []) refl (λ none. absurd (cc none))) (λ none. absurd (cc none));
 }
 
+-- two bytes of which the last is not 0 are a piece
 two_piece : (a b : ℕ) → eqb b 0 ≡ false → IsPiece (a ∷ b ∷ [])
 two_piece a b e = record { whole = refl; trimmed = trimmed_cons a (b ∷ []) (trimmed_cons b [] refl (λ none. e)) (λ none. absurd (cc none)) }
 
@@ -143,18 +155,22 @@ pub record IsCompleted (bytes piece : List ℕ) : Type 0 where
   pub found : IsPiece piece
   pub same : kept_bytes piece ≡ bytes
 
+-- two bytes are completed by 80 where they end in 0
 two_completed : (a b : ℕ) (t z : Bool) → is_end (nal_unit_type (a ∷ [])) ≡ t → eqb b 0 ≡ z → (t ≡ false → IsPiece (a ∷ b ∷ [])) → IsCompleted (a ∷ b ∷ []) (cond (t && z) (a ∷ b ∷ 128 ∷ []) (a ∷ b ∷ []))
 two_completed a b true true e f piece = record { found = ended a b; same = rw e refl }
 two_completed a b true false e f piece = record { found = two_piece a b f; same = rw e refl }
 two_completed a b false z e f piece = record { found = piece refl; same = rw e refl }
 
+-- two bytes are the same whatever the test says
 either_way : (t : Bool) (a b : ℕ) → cond t (a ∷ b ∷ []) (a ∷ b ∷ []) ≡ a ∷ b ∷ []
 either_way true a b = refl
 either_way false a b = refl
 
+-- what is kept of a piece is completed
 as_kept : (xs ys : List ℕ) → kept_bytes xs ≡ ys → IsCompleted ys (completed ys) → IsCompleted (kept_bytes xs) (completed (kept_bytes xs))
 as_kept xs ys e is = subst (λ (bytes : List ℕ). IsCompleted bytes (completed bytes)) (sym e) is
 
+-- a piece is completed
 pub completed_piece : (bytes : List ℕ) → IsPiece bytes → IsCompleted (kept_bytes bytes) (completed (kept_bytes bytes))
 completed_piece [] is = record { found = is; same = refl }
 completed_piece (a ∷ []) is = record { found = is; same = refl }
@@ -175,6 +191,7 @@ completed_piece (a ∷ b ∷ c ∷ bytes) is = by_end (is_end (nal_unit_type (a 
 
 -- ---- a unit whose header is refused is found without its header
 
+-- a unit that is found has a place
 pub piece_found : {T H : Type 0} (h : H) (r : Result T UnitError) (us : List NalUnit) → us ≢ [] → (IsErrOf r NoNal ↔ (us ≡ []))
     → IfErr r (λ e. e ≢ NoNal → (u : NalUnit) × (others : List NalUnit) × (us ≡ u ∷ others) × (◌≡◌ {A = Result H UnitError} (Ok h) (Err e))) → IsOk r
 piece_found h (Ok x) us some none refused = refl
@@ -183,13 +200,16 @@ piece_found h (Err TruncatedNalu) us some none refused = absurd (cc (refused (λ
 piece_found h (Err (InvalidNaluType n)) us some none refused = absurd (cc (refused (λ e. cc e)).3)
 piece_found h (Err TemporalIdZero) us some none refused = absurd (cc (refused (λ e. cc e)).3)
 
+-- where a unit is found there are bytes
 pub some_raw : (place : ℕ) (stream : List ℕ) (u : NalUnit) (others : List NalUnit) → units_from kept_bytes place stream ≡ u ∷ others → units_from raw place stream ≢ []
 some_raw place stream u others e none = cc (sym e ∙ owned place stream ∙ ap (map own) none)
 
+-- what holds of what is there on Ok
 pub at_ok : {T E : Type 0} (r : Result T E) (x : T) (P : T → Type 0) → r ≡ Ok x → IfOk r P → P x
 at_ok (Ok y) x P e p = subst P (cc e) p
 at_ok (Err f) x P e p = absurd (cc e)
 
+-- equal lists have equal first units
 heads : (u v : NalUnit) (us vs : List NalUnit) → u ∷ us ≡ v ∷ vs → u ≡ v
 heads u v us vs e = cc
 
@@ -199,6 +219,7 @@ pub record IsOwn (place next : ℕ) (stream : List ℕ) (piece u : NalUnit) : Ty
   pub same : u ≡ own piece
   pub is : IsPiece piece.bytes
 
+-- the unit that is found is that of the bytes
 pub own_found : (place next : ℕ) (stream : List ℕ) (piece u : NalUnit) (others : List NalUnit) → units_from raw place stream ≡ piece ∷ units_from raw next stream → units_from kept_bytes place stream ≡ u ∷ others → IsOwn place next stream piece u
 own_found place next stream piece u others e f =
     let first : units_from kept_bytes place stream ≡ own piece ∷ units_from kept_bytes next stream =

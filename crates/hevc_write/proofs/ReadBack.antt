@@ -16,6 +16,7 @@ use Rattle.hevc_write_units.specs.Trials.{IsReadAs, WritesWhole}
 use Rattle.hevc_write_units.specs.Values.{PictureSetLines, SetLines, only_sequence_set}
 use Rattle.hevc_write_units.proofs.Tried.{tried, read_again}
 
+-- two readings of the same bits give the same
 gives_one : {A : Type 0} (x y : A) (r s : List Bool) → Path (Reading A) (gives x r) (gives y s) → x ≡ y
 gives_one x y r s e = cc
 
@@ -27,6 +28,7 @@ same_read view t x y bits same is test was = (
 )
 
 module _ {A : Type 0} (n : ℕ) (t : Table A) (x : A) (header : UnitHeader) (bits : List Bool) (written : WritesWhole t x bits) where
+  -- a set that is read back is added
   pub set_added : (payload old new : List ℕ) → header.nal_unit_type ≡ n → IsReadAs t x bits → payload ≡ packed bits → new ≡ old ++ payload → AddsPayload (SetLines n t x header) [] old new
   set_added payload old new typed is bytes grew =
       let was = tried t x bits written is in
@@ -39,9 +41,11 @@ module _ {A : Type 0} (n : ℕ) (t : Table A) (x : A) (header : UnitHeader) (bit
       } in
       record { payload = payload; parts = grew; is_payload = is_payload }
 
+  -- one that is not has no lines
   pub none_written : ¬ (IsReadAs t x bits) → (lines : List Line) → ¬ (SetLines n t x header lines)
   none_written other lines has = other (read_again t x bits written lines has.has has.good)
 
+-- false is not so
 pub not_true : (b : Bool) → b ≡ false → ¬ (IsTrue b)
 not_true true e = λ t. cc e
 not_true false e = λ t. cc t
@@ -50,12 +54,14 @@ not_true false e = λ t. cc t
 pub trial_read : {A : Type 0} (t : Table A) (x : A) (bits others : List Bool) → others ≡ bits → IsReadAs t x others → IsReadAs t x bits
 trial_read t x bits others e is = (is.0, ap (read t) (sym e) ∙ is.1)
 
+-- both are so
 and_first : (a b : Bool) → (a && b) ≡ true → (a ≡ true) × (b ≡ true)
 and_first true b e = (refl, e)
 and_first false b e = absurd (cc e)
 
 -- a picture set
 module _ (sps : PlainSps) (pps : PlainPps) (header : UnitHeader) (bits : List Bool) (written : WritesWhole (picture_parameter_set (temporal_id header) (only_sequence_set sps)) pps bits) where
+  -- a picture set that is read back is added
   pub picture_added : (payload old new : List ℕ) → header.nal_unit_type ≡ 34 → (pps.seq_parameter_set_id == sps.seq_parameter_set_id) ≡ true
       → IsReadAs (picture_parameter_set (temporal_id header) (only_sequence_set sps)) pps bits → payload ≡ packed bits → new ≡ old ++ payload → AddsPayload (PictureSetLines sps pps header) [] old new
   picture_added payload old new typed named is bytes grew =
@@ -73,8 +79,10 @@ module _ (sps : PlainSps) (pps : PlainPps) (header : UnitHeader) (bits : List Bo
         };
       }
 
+  -- one that is not has no lines
   pub no_picture_written : ¬ (IsReadAs (picture_parameter_set (temporal_id header) (only_sequence_set sps)) pps bits) → (lines : List Line) → ¬ (PictureSetLines sps pps header lines)
   no_picture_written other lines has = other (read_again (picture_parameter_set (temporal_id header) (only_sequence_set sps)) pps bits written lines has.set.has has.set.good)
 
+-- two pairs of numbers that are equal
 pub both_equal : (a b d e : ℕ) → (a == b && d == e) ≡ true → (a ≡ b) × (d ≡ e)
 both_equal a b d e is = let both = and_first (a == b) (d == e) is in (eqb-true a b both.0, eqb-true d e both.1)

@@ -39,6 +39,7 @@ use Rattle.hevc_write.specs.Rewriting.{completed, is_read_set, set_lines}
 use Rattle.hevc_write.specs.Steps.{TakesOne}
 use Rattle.hevc_write.proofs.Pieces.{completed_piece, headed_complete, headed_piece}
 
+-- a header that is parsed is the one that the model reads
 pub header_is : (bytes : List ℕ) (h : UnitHeader) → parsed_header bytes ≡ Ok h → unit_header bytes ≡ Ok h
 header_is bytes h e = by_result (unit_header bytes) e
   where
@@ -46,6 +47,7 @@ header_is bytes h e = by_result (unit_header bytes) e
     by_result (Ok g) e = ap Ok (cc e)
     by_result (Err fault) e = absurd (cc e)
 
+-- a test has one answer
 not_both : (b : Bool) → b ≡ true → b ≡ false → ⊥
 not_both b e f = cc (sym e ∙ f)
 
@@ -55,6 +57,7 @@ abbrev is_sequence_set : Content → Bool
 is_sequence_set (sequence_set set) = true
 is_sequence_set other = false
 
+-- a picture set changes no sequence set
 unit_sequences : (bytes : List ℕ) (kept : Kept) (c : Content) → (with_picture_set_unit bytes c kept).sequence_sets ≡ kept.sequence_sets
 unit_sequences bytes kept (refused cause) = refl
 unit_sequences bytes kept (video_set set) = refl
@@ -66,10 +69,12 @@ unit_sequences bytes kept end_of_sequence = refl
 unit_sequences bytes kept end_of_bitstream = refl
 unit_sequences bytes kept nothing = refl
 
+-- nor do picture sets that waited
 waited_sequences : (waiting : List (List ℕ)) (kept : Kept) → (fold (with_waited default_options) kept waiting).sequence_sets ≡ kept.sequence_sets
 waited_sequences [] kept = refl
 waited_sequences (bytes ∷ waiting) kept = waited_sequences waiting (with_waited default_options kept bytes) ∙ unit_sequences bytes kept (content default_options kept bytes)
 
+-- nor does anything but a sequence set
 content_sequences : (bytes : List ℕ) (kept : Kept) (c : Content) → is_sequence_set c ≡ false → (with_content default_options bytes c kept).sequence_sets ≡ kept.sequence_sets
 content_sequences bytes kept (refused cause) e = refl
 content_sequences bytes kept (video_set set) e = refl
@@ -81,10 +86,12 @@ content_sequences bytes kept end_of_sequence e = refl
 content_sequences bytes kept end_of_bitstream e = refl
 content_sequences bytes kept nothing e = refl
 
+-- nor does a unit without one
 pub other_sequences : (bytes : List ℕ) (kept : Kept) (c : Content) → content default_options kept bytes ≡ c → is_sequence_set c ≡ false → (kept_behind default_options kept bytes).sequence_sets ≡ kept.sequence_sets
 unfolding kept_behind
 other_sequences bytes kept c e other = content_sequences bytes kept (content default_options kept bytes) (ap is_sequence_set e ∙ other)
 
+-- a sequence set is kept under its id
 pub own_sequences : (bytes : List ℕ) (kept : Kept) (set : PlainSps) → content default_options kept bytes ≡ sequence_set set → (kept_behind default_options kept bytes).sequence_sets ≡ with_set set.seq_parameter_set_id set kept.sequence_sets
 unfolding kept_behind
 own_sequences bytes kept set e =
@@ -92,6 +99,7 @@ own_sequences bytes kept set e =
 
 -- ---- what is written anew
 
+-- a set that is read is of all sub-layers
 read_is_all : (c : Content) → is_read_set c ≡ true → is_all c ≡ true
 read_is_all (refused cause) e = refl
 read_is_all (video_set set) e = refl
@@ -103,6 +111,7 @@ read_is_all end_of_sequence e = refl
 read_is_all end_of_bitstream e = refl
 read_is_all nothing e = refl
 
+-- a set is written anew
 pub anew : (kept : Kept) (bytes : List ℕ) (header : UnitHeader) (c : Content) (Lines : List Line → Type 0) (Means : List ℕ → Type 0) (old new : List ℕ) (sets : ℕ → Option PlainSps)
     → unit_header bytes ≡ Ok header → content default_options kept bytes ≡ c → is_read_set c ≡ true → (added : AddsUnit header Lines [] Means old new)
     → ((lines : List Line) → Lines lines → set_lines kept header c lines) → ((lines : List Line) → set_lines kept header c lines → Lines lines) → content default_options kept added.bytes ≡ c
@@ -134,6 +143,7 @@ anew kept bytes header c Lines Means old new sets parsed is set added all back m
 
 -- ---- what is copied
 
+-- what is no set is no sequence set
 no_sequence : (c : Content) → is_read_set c ≡ false → is_sequence_set c ≡ false
 no_sequence (refused cause) e = refl
 no_sequence (video_set set) e = refl
@@ -145,6 +155,7 @@ no_sequence end_of_sequence e = refl
 no_sequence end_of_bitstream e = refl
 no_sequence nothing e = refl
 
+-- a unit is copied
 pub copied : (kept : Kept) (bytes : List ℕ) (header : UnitHeader) (place : ℕ) (stream : List ℕ) (u : NalUnit) (us : List NalUnit) (old new : List ℕ) (sets : ℕ → Option PlainSps) → u.bytes ≡ bytes
     → units_from kept_bytes place stream ≡ u ∷ us → unit_header bytes ≡ Ok header → is_read_set (content default_options kept bytes) ≡ false → new ≡ old ++ started bytes → sets ≡ kept.sequence_sets → TakesOne kept bytes old new sets
 copied kept bytes header place stream u us old new sets same cut parsed other grown before =
@@ -163,31 +174,39 @@ copied kept bytes header place stream u us old new sets same cut parsed other gr
 
 -- ---- contents
 
+-- what is refused is no set
 refused_by : {A : Type 0} (means : A → Content) (r : Reading A) (fault : Fault) (rest : List Bool) → r ≡ refuses fault rest → is_read_set (content_read means r) ≡ false
 refused_by means r fault rest e = rw e refl
 
+-- units of all sub-layers are wanted
 pub wanted : (bytes : List ℕ) (header : UnitHeader) → unit_header bytes ≡ Ok header → temporal_id header ≤ default_options.highest_tid
 wanted bytes header parsed = low_header bytes header parsed
 
 module _ (kept : Kept) (bytes : List ℕ) (header : UnitHeader) (parsed : unit_header bytes ≡ Ok header) where
+  -- a video set that is refused is none
   pub video_unread : (fault : Fault) (rest : List Bool) → header.nal_unit_type ≡ 32 → read video_parameter_set (payload bytes) ≡ refuses fault rest → is_read_set (content default_options kept bytes) ≡ false
   video_unread fault rest typed e =
       ap is_read_set (of_video_set default_options kept bytes header parsed (wanted bytes header parsed) typed) ∙ refused_by video_set (read video_parameter_set (payload bytes)) fault rest e
 
+  -- so is a sequence set
   pub sequence_unread : (fault : Fault) (rest : List Bool) → header.nal_unit_type ≡ 33 → read sequence_parameter_set (payload bytes) ≡ refuses fault rest → is_read_set (content default_options kept bytes) ≡ false
   sequence_unread fault rest typed e =
       ap is_read_set (of_sequence_set default_options kept bytes header parsed (wanted bytes header parsed) typed) ∙ refused_by sequence_set (read sequence_parameter_set (payload bytes)) fault rest e
 
+  -- so is a picture set
   pub picture_unread : (fault : Fault) (rest : List Bool) → header.nal_unit_type ≡ 34 → read (picture_parameter_set (temporal_id header) kept.sequence_sets) (payload bytes) ≡ refuses fault rest → is_read_set (content default_options kept bytes) ≡ false
   picture_unread fault rest typed e =
       ap is_read_set (of_picture_set default_options kept bytes header parsed (wanted bytes header parsed) typed) ∙ ap (λ (r : Reading PlainPps). is_read_set (picture_set_read r)) e
 
+  -- a video set that is read is the content
   pub video_is : (set : PlainVps) (rest : List Bool) → header.nal_unit_type ≡ 32 → read video_parameter_set (payload bytes) ≡ gives set rest → content default_options kept bytes ≡ video_set set
   video_is set rest typed e = of_video_set default_options kept bytes header parsed (wanted bytes header parsed) typed ∙ ap (content_read video_set) e
 
+  -- so is a sequence set
   pub sequence_is : (set : PlainSps) (rest : List Bool) → header.nal_unit_type ≡ 33 → read sequence_parameter_set (payload bytes) ≡ gives set rest → content default_options kept bytes ≡ sequence_set set
   sequence_is set rest typed e = of_sequence_set default_options kept bytes header parsed (wanted bytes header parsed) typed ∙ ap (content_read sequence_set) e
 
+  -- so is a picture set
   pub picture_is : (set : PlainPps) (rest : List Bool) → header.nal_unit_type ≡ 34 → read (picture_parameter_set (temporal_id header) kept.sequence_sets) (payload bytes) ≡ gives set rest → content default_options kept bytes ≡ picture_set set
   picture_is set rest typed e = of_picture_set default_options kept bytes header parsed (wanted bytes header parsed) typed ∙ ap picture_set_read e
 
@@ -199,10 +218,12 @@ lines_of n t set header bits rest typed e =
 
 -- ---- results
 
+-- what follows from what holds on Ok
 pub on_ok : {T E : Type 0} (r : Result T E) (P Q : Type 0) → (P → Q) → OnOk r P → OnOk r Q
 on_ok (Ok x) P Q by p = by p
 on_ok (Err e) P Q by p = tt
 
+-- a set that is refused is at some fault
 pub refuses_set : {A : Type 0} (e : ParseError) (r : Reading A) → e ≢ NoMemory → RefusesSet e r → (fault : Fault) × (rest : List Bool) × (r ≡ refuses fault rest)
 refuses_set WrongNaluType r other h = absurd h
 refuses_set OutOfBits r other h = (_, h.0, h.1)
@@ -213,6 +234,7 @@ refuses_set NoMemory r other h = absurd (other refl)
 
 -- ---- other units
 
+-- a slice is no set
 no_set_read : (kept : Kept) (header : UnitHeader) (bytes : List ℕ) → is_read_set (coded_content kept header bytes) ≡ false
 no_set_read kept header bytes = by_tests kept.has_sequence_set (is_slice header.nal_unit_type) (header.nal_unit_type == 36) (header.nal_unit_type == 37) (of_slice_read (read (slice_segment_header header.nal_unit_type (drop 2 bytes) (active_sets kept.sequence_sets kept.picture_sets)) (payload bytes)))
   where
@@ -228,6 +250,7 @@ no_set_read kept header bytes = by_tests kept.has_sequence_set (is_slice header.
     by_tests true false false true e = refl
     by_tests true false false false e = refl
 
+-- nor is a unit of another type
 pub other_type : (kept : Kept) (bytes : List ℕ) (header : UnitHeader) → unit_header bytes ≡ Ok header → header.nal_unit_type ≢ 32 → header.nal_unit_type ≢ 33 → header.nal_unit_type ≢ 34 → is_read_set (content default_options kept bytes) ≡ false
 unfolding content
 other_type kept bytes header parsed video sequence picture =
@@ -239,6 +262,7 @@ other_type kept bytes header parsed video sequence picture =
 
 -- ---- refused units
 
+-- nor is one without a header
 refused_header : (kept : Kept) (bytes : List ℕ) (e : UnitError) → parsed_header bytes ≡ Err e → is_read_set (content default_options kept bytes) ≡ false
 unfolding content
 refused_header kept bytes e parsed = by_result (unit_header bytes) parsed
@@ -247,6 +271,7 @@ refused_header kept bytes e parsed = by_result (unit_header bytes) parsed
     by_result (Ok h) f = absurd (cc f)
     by_result (Err fault) f = refl
 
+-- a unit without a header is copied
 pub refused_takes : (kept : Kept) (piece : List ℕ) (e : UnitError) (old new : List ℕ) (sets : ℕ → Option PlainSps) → IsPiece piece → parsed_header (kept_bytes piece) ≡ Err e
     → new ≡ old ++ started (completed (kept_bytes piece)) → sets ≡ kept.sequence_sets → TakesOne kept (kept_bytes piece) old new sets
 refused_takes kept piece e old new sets is parsed grown before =

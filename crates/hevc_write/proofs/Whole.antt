@@ -7,6 +7,7 @@ pub record Whole (byte : ℕ) (bytes : List ℕ) : Type 0 where
   pub here : begins_with_start_code (byte ∷ bytes) ≡ false
   pub after : before_start_code bytes ≡ bytes
 
+-- bytes without a start code are whole
 pub whole : (byte : ℕ) (bytes : List ℕ) → before_start_code (byte ∷ bytes) ≡ byte ∷ bytes → Whole byte bytes
 whole byte bytes e = by_test (begins_with_start_code (byte ∷ bytes)) refl e
   where
@@ -25,6 +26,7 @@ none_before x (y ∷ z ∷ xs) h = by_test (begins_with_start_code (y ∷ z ∷ 
     by_test false true = refl
     by_test false false = h
 
+-- what is before a start code has none
 pub before_whole : (xs : List ℕ) → before_start_code (before_start_code xs) ≡ before_start_code xs
 before_whole [] = refl
 before_whole (x ∷ xs) = by_test (begins_with_start_code (x ∷ xs)) refl (before_whole xs)
@@ -41,6 +43,7 @@ none_in_front (suc zero) x (y ∷ xs) h = refl
 none_in_front (suc (suc n)) x (y ∷ []) h = refl
 none_in_front (suc (suc n)) x (y ∷ z ∷ xs) h = h
 
+-- nor has its beginning
 pub front_whole : (n : ℕ) (xs : List ℕ) → before_start_code xs ≡ xs → before_start_code (take n xs) ≡ take n xs
 front_whole zero xs h = refl
 front_whole (suc n) [] h = refl

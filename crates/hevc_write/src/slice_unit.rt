@@ -101,7 +101,7 @@ fn written(
 {
     let mut w = BitWriter::new(alloc);
     write_slice_header(&mut w, header, slice.sps, slice.pps, slice.header)?;
-    w.write_trailing_bits()?;
+    w.write_trailing_bits()?; // Row(14, 53)
     Ok(w)
 }
 

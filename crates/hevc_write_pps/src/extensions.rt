@@ -5,21 +5,21 @@ ghost use Rattle.hevc_tables.specs.PpsTable as table;
 ghost use Rattle.hevc_sequence_set.specs.Sps.{plain_sps};
 ghost use Rattle.hevc_picture_slice.specs.Pps.{plain_pps};
 ghost use Rattle.hevc_write_pps.specs.PpsParts as own;
-ghost use Rattle.hevc_writing.specs.Filling.{Writes, WritesIf};
+ghost use Rattle.hevc_write_elements.specs.Filling.{Writes, WritesIf};
 
 use hevc_bit_writer::BitWriter;
 use hevc_picture_slice::Pps;
 use hevc_sequence_set::Sps;
-use hevc_write_sets::{write_pps_range_extension, write_pps_scc_extension};
-use hevc_writing::rows::{flag, zeros};
+use hevc_write_elements::rows::{flag, zeros};
+use hevc_write_extensions::{write_pps_range_extension, write_pps_scc_extension};
 use std::alloc::AllocError;
 
 /// The last flag of row 28, and rows 29 to 35 of table 11.
 pub(crate) fn write_extensions(w: &mut BitWriter, sps: &Sps, x: &Pps) -> Result<(), AllocError>
     ensures { OnOk result (Writes (table.extensions (plain_sps sps.now))
-        own.seen_by_extensions (plain_pps x.now) w.old w.new) }
+        own.extensions_with_inputs_of (plain_pps x.now) w.old w.new) }
 {
-    flag(w, x.extension_present_flag)?;
+    flag(w, x.extension_present_flag)?; // Row(11, 28)
     write_extension_data_if(w, x.extension_present_flag, sps, x)?;
     Ok(())
 }
@@ -32,20 +32,12 @@ fn write_extension_data_if(
     x: &Pps,
 ) -> Result<(), AllocError>
     ensures { OnOk result (WritesIf present
-        (Writes (table.extension_data (plain_sps sps.now)) own.seen_by_extension_data (plain_pps x.now)) w.old w.new) }
+        (Writes (table.extension_data (plain_sps sps.now)) own.extension_data_with_inputs_of
+        (plain_pps x.now)) w.old w.new) }
 {
-    if present {
-        write_extension_data(w, sps, x)
-    } else {
-        Ok(())
+    if !present {
+        return Ok(());
     }
-}
-
-/// Rows 29 to 35 of table 11.
-fn write_extension_data(w: &mut BitWriter, sps: &Sps, x: &Pps) -> Result<(), AllocError>
-    ensures { OnOk result (Writes (table.extension_data (plain_sps sps.now))
-        own.seen_by_extension_data (plain_pps x.now) w.old w.new) }
-{
     write_extension_flags(w, x)?;
     write_range_extension_if(w, x.range_extension_flag, x)?;
     write_scc_extension_if(w, x.scc_extension_flag, sps, x)?;
@@ -55,33 +47,26 @@ fn write_extension_data(w: &mut BitWriter, sps: &Sps, x: &Pps) -> Result<(), All
 /// Rows 29 to 33 of table 11.
 fn write_extension_flags(w: &mut BitWriter, x: &Pps) -> Result<(), AllocError>
     ensures { OnOk result (Writes table.extension_flags
-        own.extension_flags (plain_pps x.now) w.old w.new) }
+        own.extension_flags_of (plain_pps x.now) w.old w.new) }
 {
-    flag(w, x.range_extension_flag)?;
-    flag(w, false)?;
-    flag(w, false)?;
-    flag(w, x.scc_extension_flag)?;
-    zeros(w, 4)?;
+    flag(w, x.range_extension_flag)?; // Row(11, 29)
+    flag(w, false)?; // Row(11, 30)
+    flag(w, false)?; // Row(11, 31)
+    flag(w, x.scc_extension_flag)?; // Row(11, 32)
+    zeros(w, 4)?; // Row(11, 33)
     Ok(())
 }
 
 /// Row 34 of table 11, where it is present.
 fn write_range_extension_if(w: &mut BitWriter, present: bool, x: &Pps) -> Result<(), AllocError>
     ensures { OnOk result ((sps : PlainSps) → WritesIf present
-        (Writes (table.range_extension sps) own.seen_by_range_extension (plain_pps x.now)) w.old w.new) }
+        (Writes (table.range_extension sps) own.range_extension_with_inputs_of (plain_pps x.now))
+        w.old w.new) }
 {
-    if present {
-        write_range_extension(w, x)?;
+    if !present {
+        return Ok(());
     }
-    Ok(())
-}
-
-/// Row 34 of table 11.
-fn write_range_extension(w: &mut BitWriter, x: &Pps) -> Result<(), AllocError>
-    ensures { (sps : PlainSps) → OnOk result (Writes (table.range_extension sps)
-        own.seen_by_range_extension (plain_pps x.now) w.old w.new) }
-{
-    write_pps_range_extension(w, x.transform_skip_enabled_flag, &x.range_extension)?;
+    write_pps_range_extension(w, x.transform_skip_enabled_flag, &x.range_extension)?; // Row(11, 34)
     Ok(())
 }
 
@@ -93,20 +78,12 @@ fn write_scc_extension_if(
     x: &Pps,
 ) -> Result<(), AllocError>
     ensures { OnOk result (WritesIf present
-        (Writes (table.scc_extension (plain_sps sps.now)) own.scc_extension (plain_pps x.now)) w.old w.new) }
+        (Writes (table.scc_extension (plain_sps sps.now)) own.scc_extension_of (plain_pps x.now))
+        w.old w.new) }
 {
-    if present {
-        write_scc_extension(w, sps, x)
-    } else {
-        Ok(())
+    if !present {
+        return Ok(());
     }
-}
-
-/// Row 35 of table 11.
-fn write_scc_extension(w: &mut BitWriter, sps: &Sps, x: &Pps) -> Result<(), AllocError>
-    ensures { OnOk result (Writes (table.scc_extension (plain_sps sps.now))
-        own.scc_extension (plain_pps x.now) w.old w.new) }
-{
-    write_pps_scc_extension(w, sps, &x.scc_extension)?;
+    write_pps_scc_extension(w, sps, &x.scc_extension)?; // Row(11, 35)
     Ok(())
 }

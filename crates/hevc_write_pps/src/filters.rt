@@ -3,20 +3,20 @@ ghost use Rattle.std.specs.Prelude.{OnOk};
 ghost use Rattle.hevc_tables.specs.PpsTable as table;
 ghost use Rattle.hevc_picture_slice.specs.Pps.{plain_pps};
 ghost use Rattle.hevc_write_pps.specs.PpsParts as own;
-ghost use Rattle.hevc_writing.specs.Filling.{Writes, WritesIf};
+ghost use Rattle.hevc_write_elements.specs.Filling.{Writes, WritesIf};
 
 use hevc_bit_writer::BitWriter;
 use hevc_picture_slice::Pps;
-use hevc_writing::rows::{flag, se_i8};
+use hevc_write_elements::rows::{flag, se_i8};
 use std::alloc::AllocError;
 
 /// Rows 20 to 23 of table 11.
 pub(crate) fn write_filters(w: &mut BitWriter, x: &Pps) -> Result<(), AllocError>
     ensures { OnOk result (Writes table.filters
-        own.filters (plain_pps x.now) w.old w.new) }
+        own.filters_of (plain_pps x.now) w.old w.new) }
 {
-    flag(w, x.loop_filter_across_slices_enabled_flag)?;
-    flag(w, x.deblocking_filter_control_present_flag)?;
+    flag(w, x.loop_filter_across_slices_enabled_flag)?; // Row(11, 20)
+    flag(w, x.deblocking_filter_control_present_flag)?; // Row(11, 20)
     write_deblocking_if(w, x.deblocking_filter_control_present_flag, x)?;
     Ok(())
 }
@@ -24,22 +24,13 @@ pub(crate) fn write_filters(w: &mut BitWriter, x: &Pps) -> Result<(), AllocError
 /// Rows 21 to 23 of table 11, where they are present.
 fn write_deblocking_if(w: &mut BitWriter, present: bool, x: &Pps) -> Result<(), AllocError>
     ensures { OnOk result (WritesIf present
-        (Writes table.deblocking own.deblocking (plain_pps x.now)) w.old w.new) }
+        (Writes table.deblocking own.deblocking_of (plain_pps x.now)) w.old w.new) }
 {
-    if present {
-        write_deblocking(w, x)
-    } else {
-        Ok(())
+    if !present {
+        return Ok(());
     }
-}
-
-/// Rows 21 to 23 of table 11.
-fn write_deblocking(w: &mut BitWriter, x: &Pps) -> Result<(), AllocError>
-    ensures { OnOk result (Writes table.deblocking
-        own.deblocking (plain_pps x.now) w.old w.new) }
-{
-    flag(w, x.deblocking_filter_override_enabled_flag)?;
-    flag(w, x.deblocking_filter_disabled_flag)?;
+    flag(w, x.deblocking_filter_override_enabled_flag)?; // Row(11, 21)
+    flag(w, x.deblocking_filter_disabled_flag)?; // Row(11, 21)
     write_filter_offsets_if(w, !x.deblocking_filter_disabled_flag, x)?;
     Ok(())
 }
@@ -47,21 +38,12 @@ fn write_deblocking(w: &mut BitWriter, x: &Pps) -> Result<(), AllocError>
 /// Rows 22 and 23 of table 11, where they are present.
 fn write_filter_offsets_if(w: &mut BitWriter, present: bool, x: &Pps) -> Result<(), AllocError>
     ensures { OnOk result (WritesIf present
-        (Writes table.filter_offsets own.filter_offsets (plain_pps x.now)) w.old w.new) }
+        (Writes table.filter_offsets own.filter_offsets_of (plain_pps x.now)) w.old w.new) }
 {
-    if present {
-        write_filter_offsets(w, x)
-    } else {
-        Ok(())
+    if !present {
+        return Ok(());
     }
-}
-
-/// Rows 22 and 23 of table 11.
-fn write_filter_offsets(w: &mut BitWriter, x: &Pps) -> Result<(), AllocError>
-    ensures { OnOk result (Writes table.filter_offsets
-        own.filter_offsets (plain_pps x.now) w.old w.new) }
-{
-    se_i8(w, x.beta_offset_div2)?;
-    se_i8(w, x.tc_offset_div2)?;
+    se_i8(w, x.beta_offset_div2)?; // Row(11, 22)
+    se_i8(w, x.tc_offset_div2)?; // Row(11, 23)
     Ok(())
 }

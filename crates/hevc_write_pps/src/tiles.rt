@@ -5,69 +5,55 @@ ghost use Rattle.hevc_records.specs.Sps.{PlainSps};
 ghost use Rattle.hevc_tables.specs.PpsTable as table;
 ghost use Rattle.hevc_picture_slice.specs.Pps.{plain_pps};
 ghost use Rattle.hevc_write_pps.specs.PpsParts as own;
-ghost use Rattle.hevc_writing.specs.Choices.{chosen_value};
-ghost use Rattle.hevc_writing.specs.Filling.{Writes, WritesIf, WritesTable};
+ghost use Rattle.hevc_write_elements.specs.Choices.{chosen_value};
+ghost use Rattle.hevc_write_elements.specs.Filling.{Writes, WritesIf, WritesTable};
 
 use hevc_bit_writer::BitWriter;
 use hevc_picture_slice::Pps;
-use hevc_writing::rows::{flag, ue, ue_u8};
+use hevc_write_elements::rows::{flag, ue, ue_u8};
 use std::alloc::AllocError;
 
 /// Rows 14 to 19 of table 11, where they are present.
 pub(crate) fn write_tiles_if(w: &mut BitWriter, present: bool, x: &Pps) -> Result<(), AllocError>
     ensures { OnOk result ((sps : PlainSps) → WritesIf present
-        (Writes (table.tiles sps) own.tiles (plain_pps x.now)) w.old w.new) }
+        (Writes (table.tiles sps) own.tiles_of (plain_pps x.now)) w.old w.new) }
 {
-    if present {
-        write_tiles(w, x)?;
+    if !present {
+        return Ok(());
     }
-    Ok(())
-}
-
-/// Rows 14 to 19 of table 11.
-pub(crate) fn write_tiles(w: &mut BitWriter, x: &Pps) -> Result<(), AllocError>
-    ensures { (sps : PlainSps) → OnOk result (Writes (table.tiles sps)
-        own.tiles (plain_pps x.now) w.old w.new) }
-{
     write_tile_counts(w, x)?;
     write_told_tiles_if(w, !x.uniform_spacing_flag, x)?;
-    flag(w, x.loop_filter_across_tiles_enabled_flag)?;
+    flag(w, x.loop_filter_across_tiles_enabled_flag)?; // Row(11, 19)
     Ok(())
 }
 
 /// Rows 14 to 16 of table 11.
 fn write_tile_counts(w: &mut BitWriter, x: &Pps) -> Result<(), AllocError>
     ensures { (sps : PlainSps) → OnOk result (Writes (table.tile_counts sps)
-        own.tile_counts (plain_pps x.now) w.old w.new) }
+        own.tile_counts_of (plain_pps x.now) w.old w.new) }
 {
-    ue_u8(w, x.num_tile_columns_minus1)?;
-    ue_u8(w, x.num_tile_rows_minus1)?;
-    flag(w, x.uniform_spacing_flag)?;
+    ue_u8(w, x.num_tile_columns_minus1)?; // Row(11, 14)
+    ue_u8(w, x.num_tile_rows_minus1)?; // Row(11, 15)
+    flag(w, x.uniform_spacing_flag)?; // Row(11, 16)
     Ok(())
 }
 
 /// Rows 17 and 18 of table 11, where they are present.
 fn write_told_tiles_if(w: &mut BitWriter, present: bool, x: &Pps) -> Result<(), AllocError>
     ensures { OnOk result ((sps : PlainSps) → WritesIf present
-        (Writes (table.told_tiles sps) own.seen_by_told_tiles (plain_pps x.now)) w.old w.new) }
+        (Writes (table.told_tiles sps) own.told_tiles_with_inputs_of (plain_pps x.now))
+        w.old w.new) }
 {
-    if present {
-        write_told_tiles(w, x)?;
+    if !present {
+        return Ok(());
     }
+    write_told_sizes(w, &x.column_width_minus1, x.num_tile_columns_minus1)?; // Row(11, 17)
+    write_told_sizes(w, &x.row_height_minus1, x.num_tile_rows_minus1)?; // Row(11, 18)
     Ok(())
 }
 
-/// Rows 17 and 18 of table 11.
-fn write_told_tiles(w: &mut BitWriter, x: &Pps) -> Result<(), AllocError>
-    ensures { (sps : PlainSps) → OnOk result (Writes (table.told_tiles sps)
-        own.seen_by_told_tiles (plain_pps x.now) w.old w.new) }
-{
-    write_told_sizes(w, &x.column_width_minus1, x.num_tile_columns_minus1)?;
-    write_told_sizes(w, &x.row_height_minus1, x.num_tile_rows_minus1)?;
-    Ok(())
-}
-
-/// Row 17 or 18 of table 11: the sizes of all columns or rows but the last one's, which takes what is left.
+/// Row 17 or 18 of table 11: the sizes of all columns or rows but the last one's, which takes what
+/// is left.
 fn write_told_sizes(w: &mut BitWriter, sizes: &[u32], last: u8) -> Result<(), AllocError>
     requires { last < length sizes.now }
     ensures { (r : Row) → chosen_value r ≡ None → (places blocks : ℕ) → OnOk result

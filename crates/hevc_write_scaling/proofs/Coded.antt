@@ -14,18 +14,19 @@ use Rattle.hevc_bit_writer.proofs.Spellings.{signed_back}
 use Rattle.hevc_records.specs.ScalingLists.{PlainScalingLists}
 use Rattle.hevc_records.specs.DefaultScalingLists.{flat_list, intra_list, inter_list, default_lists_8x8}
 use Rattle.hevc_tables.specs.ScalingListTable.{Size, size_4x4, size_8x8, size_16x16, size_32x32, coef_num, has_dc_coef, matrix_step, has_matrix, Coefs, sum_modulo_256, next_entry, coefs, Matrices, list_of, with_matrix, coded_matrix, predicted_matrix, matrix, next_matrix, matrices, scaling_list_data}
-use Rattle.hevc_writing.specs.Choices.{IsFormed, is_chosen}
-use Rattle.hevc_writing.specs.Filling.{EachFilling, WritesTable}
-use Rattle.hevc_writing.proofs.Fillings.{weakened, instead_filled, done_filled}
-use Rattle.hevc_writing.proofs.Counting.{SetsNone, none_filled, done_none, element_none, then_none, when_none, either_none, turns_none}
-use Rattle.hevc_writing.proofs.Parts.{IsFillable}
+use Rattle.hevc_write_elements.specs.Choices.{IsFormed, is_chosen}
+use Rattle.hevc_write_elements.specs.Filling.{EachFilling, WritesTable}
+use Rattle.hevc_write_elements.proofs.Fillings.{weakened, instead_filled, done_filled}
+use Rattle.hevc_write_elements.proofs.Counting.{SetsNone, none_filled, done_none, element_none, then_none, when_none, either_none, turns_none}
+use Rattle.hevc_write_elements.proofs.Parts.{IsFillable}
 use Rattle.hevc_spec.specs.Lines.{Line, HasLines}
-use Rattle.hevc_writing.proofs.Forming.{done_formed, part_formed, element_formed, flag_formed}
+use Rattle.hevc_write_elements.proofs.Forming.{done_formed, part_formed, element_formed, flag_formed}
 use Rattle.hevc_write_scaling.specs.Matrices.{step_modulo_256, signed_bits, coef_bits, kept_dc, matrix_bits, matrices_bits, no_dc, scaling_list_bits}
 use Rattle.hevc_write_scaling.proofs.Shapes.{AllBytes, IsList, IsDc, IsOne, AreShaped, Shaped, matrices_given}
 
 -- ---- numbers
 
+-- a difference leads from one entry to the next
 step_sum : (from to : ℕ) → from < 256 → to < 256 → sum_modulo_256 from (step_modulo_256 from to) ≡ to
 step_sum from to a b = by_test (nat_lt ((to + 256 - from) % 256) 128)
   where
@@ -33,6 +34,7 @@ step_sum from to a b = by_test (nat_lt ((to + 256 - from) % 256) 128)
     by_test true = omega (arith, ints)
     by_test false = omega (arith, ints)
 
+-- a difference has 8 bits with its sign
 step_range : (from to : ℕ) → (code_number (step_modulo_256 from to) < 1000) × (negsuc 127 ≤ℤ step_modulo_256 from to) × (step_modulo_256 from to ≤ℤ pos 127)
 step_range from to = by_test (nat_lt ((to + 256 - from) % 256) 128) refl
   where
@@ -45,10 +47,12 @@ step_range from to = by_test (nat_lt ((to + 256 - from) % 256) 128) refl
         code_of (pos n) low high = omega (arith, ints, low, high)
         code_of (negsuc n) low high = omega (arith, ints, low, high)
 
+-- a first entry, less 8, can be spelled
 dc_small : (d : ℤ) → negsuc 6 ≤ℤ d → d ≤ℤ pos 247 → code_number d < 1000
 dc_small (pos n) low high = omega (arith, ints, low, high)
 dc_small (negsuc n) low high = omega (arith, ints, low, high)
 
+-- and is a byte with 8 added
 start_byte : (d : ℤ) → negsuc 6 ≤ℤ d → d ≤ℤ pos 247 → unsigned_abs (d +ℤ pos 8) < 256
 start_byte d low high = omega (arith, ints, low, high)
 
@@ -61,10 +65,12 @@ signed_formed r min max d small least most chosen =
 
 -- ---- the entries of one matrix
 
+-- an entry is put after those before it
 set_next : (pre : List ℕ) (k v : ℕ) → set (pre ++ replicate (suc k) 0) (length pre) v ≡ (pre ++ v ∷ []) ++ replicate k 0
 set_next [] k v = refl
 set_next (p ∷ pre) k v = ap (λ (l : List ℕ). p ∷ l) (set_next pre k v)
 
+-- all entries of a matrix are spelled
 coefs_formed : (pre es : List ℕ) (next : ℕ) → next < 256 → AllBytes es
     → (last : ℕ) × IsFormed (repeat next_entry (length pre) (length es) (record { next_coef = next; entries = pre ++ replicate (length es) 0 })) (record { next_coef = last; entries = pre ++ es }) (coef_bits next es)
 unfolding repeat next_entry is_chosen
@@ -92,10 +98,12 @@ coefs_formed pre (e ∷ es) next small bytes =
 
 -- ---- a matrix
 
+-- a first entry is spelled
 dc_formed : (d : ℤ) → IsDc d → IsFormed (se_row (row 6 3) (negsuc 6) (pos 247)) d (signed_bits d)
 unfolding is_chosen
 dc_formed d dc = signed_formed (row 6 3) (negsuc 6) (pos 247) d (dc_small d dc.least dc.most) dc.least dc.most refl
 
+-- the entries of a matrix are spelled, the first one apart where the size has it so
 coded_formed : (size : Size) (i : ℕ) (m : Matrices) (d : ℤ) (l : List ℕ) → IsDc d → IsList size l
     → IsFormed (coded_matrix size i m) (with_matrix m i (kept_dc (has_dc_coef size) d) l) ((if has_dc_coef size then signed_bits d else []) ++ coef_bits (unsigned_abs (kept_dc (has_dc_coef size) d +ℤ pos 8)) l)
 unfolding coded_matrix coefs when
@@ -114,16 +122,19 @@ coded_formed size i m d l dc is = by_test (has_dc_coef size)
     by_test true = part_formed (dc_formed d dc) (entries d dc)
     by_test false = part_formed (done_formed (pos 0)) (entries (pos 0) (record { least = grind arith; most = grind arith }))
 
+-- a matrix is spelled with its own entries
 matrix_formed : (size : Size) (defaults : List (List ℕ)) (i : ℕ) (m : Matrices) (d : ℤ) (l : List ℕ) → IsDc d → IsList size l → IsFormed (matrix size defaults i m) (with_matrix m i (kept_dc (has_dc_coef size) d) l) (matrix_bits (has_dc_coef size) d l)
 unfolding matrix either is_chosen
 matrix_formed size defaults i m d l dc is = part_formed (flag_formed (row 6 1) true refl) (coded_formed size i m d l dc is)
 
 -- ---- the matrices of a size
 
+-- an item is put after those before it
 set_after : {X : Type 0} (pre : List X) (k : ℕ) (none v : X) → set (pre ++ replicate (suc k) none) (length pre) v ≡ (pre ++ v ∷ []) ++ replicate k none
 set_after [] k none v = refl
 set_after (p ∷ pre) k none v = ap (λ l. p ∷ l) (set_after pre k none v)
 
+-- or left as it was
 keep_after : {X : Type 0} (pre : List X) (k : ℕ) (none : X) → pre ++ replicate (suc k) none ≡ (pre ++ none ∷ []) ++ replicate k none
 keep_after pre k none = sym (append_assoc pre (none ∷ []) (replicate k none))
 
@@ -135,6 +146,7 @@ module _ (size : Size) (defaults : List (List ℕ)) where
   abbrev state : List ℤ → List (List ℕ) → ℕ → Matrices
   state ds ls k = record { dc_coef_minus8 = ds ++ replicate k (pos 0); entries = ls ++ replicate k zeros }
 
+  -- the next matrix is spelled, if the size has it
   next_formed : (pds : List ℤ) (pls : List (List ℕ)) (i k : ℕ) (d : ℤ) (l : List ℕ) → i ≡ length pds → i ≡ length pls → IsOne size i d l
       → IsFormed (next_matrix size defaults i (state pds pls (suc k))) (state (pds ++ kept_dc (has_dc_coef size) d ∷ []) (pls ++ l ∷ []) k) (if i % matrix_step size == 0 then matrix_bits (has_dc_coef size) d l else [])
   unfolding next_matrix when with_matrix
@@ -160,6 +172,7 @@ module _ (size : Size) (defaults : List (List ℕ)) where
           ∙ ap₂ (λ (z : ℤ) (b : List ℕ). state (pds ++ z ∷ []) (pls ++ b ∷ []) k) (sym kept) (sym none.1) in
           subst (λ (m : Matrices). IsFormed (done (state pds pls (suc k))) m []) same (done_formed (state pds pls (suc k)))
 
+  -- and so are all that are left
   all_formed : (pds : List ℤ) (pls : List (List ℕ)) (i : ℕ) (ds : List ℤ) (ls : List (List ℕ)) → i ≡ length pds → i ≡ length pls → AreShaped size i ds ls
       → IsFormed (repeat (next_matrix size defaults) i (length ds) (state pds pls (length ds))) (record { dc_coef_minus8 = pds ++ map (kept_dc (has_dc_coef size)) ds; entries = pls ++ ls }) (matrices_bits (has_dc_coef size) (matrix_step size) i ds ls)
   unfolding repeat
@@ -174,6 +187,7 @@ module _ (size : Size) (defaults : List (List ℕ)) where
       subst (λ (m : Matrices). IsFormed (repeat (next_matrix size defaults) i (suc (length ds)) (state pds pls (suc (length ds)))) m (matrices_bits (has_dc_coef size) (matrix_step size) i (d ∷ ds) (l ∷ ls))) all
       (part_formed (next_formed pds pls i (length ds) d l at_d at_l shaped.0) rest)
 
+  -- all matrices of a size are spelled
   pub matrices_formed : (m : Matrices) → Shaped size m → IsFormed (matrices size defaults) (record { dc_coef_minus8 = map (kept_dc (has_dc_coef size)) m.dc_coef_minus8; entries = m.entries }) (matrices_bits (has_dc_coef size) (matrix_step size) 0 m.dc_coef_minus8 m.entries)
   unfolding matrices
   matrices_formed m shaped = subst (λ (n : ℕ). IsFormed (repeat (next_matrix size defaults) 0 n (state [] [] n)) (record { dc_coef_minus8 = map (kept_dc (has_dc_coef size)) m.dc_coef_minus8; entries = m.entries }) (matrices_bits (has_dc_coef size) (matrix_step size) 0 m.dc_coef_minus8 m.entries))
@@ -181,10 +195,12 @@ module _ (size : Size) (defaults : List (List ℕ)) where
 
 -- ---- the default lists
 
+-- all are bytes, as a test
 bytes_test : List ℕ → Bool
 bytes_test [] = true
 bytes_test (e ∷ es) = nat_lt e 256 && bytes_test es
 
+-- the test tells it
 bytes_tested : (l : List ℕ) → bytes_test l ≡ true → AllBytes l
 unfolding bytes_test
 bytes_tested [] e = tt
@@ -194,9 +210,11 @@ bytes_tested (n ∷ es) e = by_test (λ more. bytes_tested es more) (nat_lt n 25
     by_test again true small more = (grind (arith, nat_tests, small), again more)
     by_test again false small more = absurd cc
 
+-- a list of bytes of the right length is one of the size
 list_tested : (size : Size) (l : List ℕ) → length l ≡ coef_num size → bytes_test l ≡ true → IsList size l
 list_tested size l long bytes = record { long = long; bytes = bytes_tested l bytes }
 
+-- the flat lists are lists of their size
 flat_are : (i : ℕ) → i < 6 → IsList size_4x4 (list_of (replicate 6 flat_list) i)
 unfolding bytes_test
 flat_are zero lt = list_tested size_4x4 flat_list refl refl
@@ -207,6 +225,7 @@ flat_are (suc (suc (suc (suc zero)))) lt = list_tested size_4x4 flat_list refl r
 flat_are (suc (suc (suc (suc (suc zero))))) lt = list_tested size_4x4 flat_list refl refl
 flat_are (suc (suc (suc (suc (suc (suc i)))))) lt = absurd (omega arith)
 
+-- so are the default lists of larger sizes
 larger_are : (size : Size) → coef_num size ≡ 64 → (i : ℕ) → i < 6 → IsList size (list_of default_lists_8x8 i)
 unfolding bytes_test
 larger_are size e zero lt = list_tested size intra_list (sym e) refl
@@ -227,10 +246,12 @@ bits_any step i (d ∷ ds) [] ls e = absurd (omega (arith, e))
 bits_any step i (d ∷ ds) (c ∷ es) [] e = refl
 bits_any step i (d ∷ ds) (c ∷ es) (l ∷ ls) e = ap (λ (b : List Bool). (if i % step == 0 then matrix_bits false d l else []) ++ b) (bits_any step (i + 1) ds es ls (omega (arith, e)))
 
+-- all first entries are kept as they are
 kept_all : (ds : List ℤ) → map (kept_dc true) ds ≡ ds
 kept_all [] = refl
 kept_all (d ∷ ds) = ap (λ (es : List ℤ). d ∷ es) (kept_all ds)
 
+-- no row of them is row 5 of table 7
 matrices_none : (size : Size) (defaults : List (List ℕ)) → SetsNone (matrices size defaults)
 unfolding matrices next_matrix matrix coded_matrix predicted_matrix coefs next_entry flag_row ue_row se_row
 matrices_none size defaults =
@@ -271,10 +292,12 @@ module _ {B : Type 0} (size : Size) (defaults : List (List ℕ)) (are : (i : ℕ
         f m,
       ))
 
+-- four pieces after one another
 four_joined : (w a b c d : List Bool) → w ++ a ++ b ++ c ++ d ≡ w ++ (a ++ b ++ c ++ d)
 four_joined w a b c d =
     ap (λ (o : List Bool). o ++ c ++ d) (append_assoc w a b) ∙ ap (λ (o : List Bool). o ++ d) (append_assoc w (a ++ b) c) ∙ append_assoc w (a ++ b ++ c) d
 
+-- the bits of scaling lists are those that are written
 pub scaling_list_data_filled : (w : List Bool) → EachFilling scaling_list_data w (λ z all. all ≡ w ++ scaling_list_bits z)
 unfolding scaling_list_data scaling_list_bits
 scaling_list_data_filled w =
@@ -284,6 +307,7 @@ scaling_list_data_filled w =
     numbered_then size_32x32 default_lists_8x8 (larger_are size_32x32 refl) _ refl (λ of_32x32.
     done_filled (four_joined w (matrices_bits false 1 0 no_dc of_4x4.entries) (matrices_bits false 1 0 no_dc of_8x8.entries) (matrices_bits true 1 0 of_16x16.dc_coef_minus8 of_16x16.entries) (matrices_bits true 3 0 of_32x32.dc_coef_minus8 of_32x32.entries))))))
 
+-- there are always lines of scaling list data to write
 pub scaling_lists_fillable : IsFillable scaling_list_data
 scaling_lists_fillable = record { fill = λ w. weakened (scaling_list_data_filled w) (λ z all e. tt) }
 

@@ -57,9 +57,9 @@ fn write_matrix(
     requires most { dc_coef_minus8 ≤ℤ pos 247 }
     ensures { OnOk result (w.new ≡ w.old ++ own.matrix_bits has_dc dc_coef_minus8 entries.now) }
 {
-    w.write_flag(true)?;
+    w.write_flag(true)?; // Row(6, 1): its own entries, without Row(6, 2)
     if has_dc {
-        w.write_se(i32::from(dc_coef_minus8))?;
+        w.write_se(i32::from(dc_coef_minus8))?; // Row(6, 3)
     }
     let start = if has_dc {
         (dc_coef_minus8 + 8) as u8
@@ -75,7 +75,7 @@ fn write_coefs(w: &mut BitWriter, start: u8, entries: &[u8]) -> Result<(), Alloc
 {
     let mut next_coef = start;
     for i in 0..entries.len() {
-        write_step(w, next_coef, entries[i])?;
+        write_step(w, next_coef, entries[i])?; // Row(6, 4)
         next_coef = entries[i];
     }
     Ok(())

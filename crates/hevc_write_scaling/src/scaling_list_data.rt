@@ -2,7 +2,7 @@
 ghost use Rattle.std.specs.Prelude.{OnOk};
 ghost use Rattle.hevc_tables.specs.ScalingListTable.{scaling_list_data};
 ghost use Rattle.hevc_set_parts.specs.ScalingLists.{plain_scaling_lists};
-ghost use Rattle.hevc_writing.specs.Filling.{WritesTable};
+ghost use Rattle.hevc_write_elements.specs.Filling.{WritesTable};
 
 use crate::matrices::write_matrices;
 use hevc_bit_writer::BitWriter;

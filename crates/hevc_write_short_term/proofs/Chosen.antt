@@ -35,32 +35,39 @@ sides_of shift ds flags = members_before (rising (shifted shift ds flags)) ++ me
 
 -- ---- members of lists
 
+-- what is in the first list is in both together
 in_append_first : {X : Type 0} (x : X) (a b : List X) → In x a → In x (a ++ b)
 in_append_first x [] b h = absurd h
 in_append_first x (y ∷ a) b (inl e) = inl e
 in_append_first x (y ∷ a) b (inr h) = inr (in_append_first x a b h)
 
+-- so is what is in the second
 in_append_second : {X : Type 0} (x : X) (a b : List X) → In x b → In x (a ++ b)
 in_append_second x [] b h = h
 in_append_second x (y ∷ a) b h = inr (in_append_second x a b h)
 
+-- what is in both together is in one of them
 pub in_append : {X : Type 0} (x : X) (a b : List X) → In x (a ++ b) → In x a ⊎ In x b
 in_append x [] b h = inr h
 in_append x (y ∷ a) b (inl e) = inl (inl e)
 in_append x (y ∷ a) b (inr h) = elim (in_append x a b h) [ inl p ↦ inl (inr p) | inr q ↦ inr q ]
 
+-- the first item comes last
 reverse-cons : {X : Type 0} (x : X) (xs : List X) → reverse (x ∷ xs) ≡ reverse xs ++ x ∷ []
 reverse-cons x xs = reverse-append (x ∷ []) xs
 
+-- what is in a list is in it reversed
 in_reverse : {X : Type 0} (x : X) (a : List X) → In x a → In x (reverse a)
 in_reverse x [] h = absurd h
 in_reverse x (y ∷ a) (inl e) = rw (reverse-cons y a) (in_append_second x (reverse a) (y ∷ []) (inl e))
 in_reverse x (y ∷ a) (inr h) = rw (reverse-cons y a) (in_append_first x (reverse a) (y ∷ []) (in_reverse x a h))
 
+-- and the other way round
 from_reverse : {X : Type 0} (x : X) (a : List X) → In x (reverse a) → In x a
 from_reverse x [] h = h
 from_reverse x (y ∷ a) h = elim (in_append x (reverse a) (y ∷ []) (rw (reverse-cons y a) at h)) [ inl p ↦ inr (from_reverse x a p) | inr (inl e) ↦ inl e | inr (inr q) ↦ absurd q ]
 
+-- what is in a list and passes the test is in what the test leaves
 in_filter : {X : Type 0} (p : X → Bool) (x : X) (a : List X) → p x ≡ true → In x a → In x (filter p a)
 in_filter p x [] e h = absurd h
 in_filter p x (y ∷ a) e (inl same) = rw (ap p (sym same) ∙ e) (inl same)
@@ -70,6 +77,7 @@ in_filter p x (y ∷ a) e (inr h) = by_test (p y) (in_filter p x a e h)
     by_test true h = inr h
     by_test false h = h
 
+-- what is left was in the list
 from_filter : {X : Type 0} (p : X → Bool) (x : X) (a : List X) → In x (filter p a) → In x a
 from_filter p x [] h = h
 from_filter p x (y ∷ a) h = by_test (λ q. from_filter p x a q) (p y) h
@@ -79,6 +87,7 @@ from_filter p x (y ∷ a) h = by_test (λ q. from_filter p x a q) (p y) h
     by_test again true (inr h) = inr (again h)
     by_test again false h = inr (again h)
 
+-- a member that is put in is there, as are the others
 in_insert : (x m : ShortTermMember) (ns : List ShortTermMember) → In x (m ∷ ns) → In x (insert_rising m ns)
 in_insert x m [] h = h
 in_insert x m (n ∷ ns) h = by_test (λ q. in_insert x m ns q) (int_lt m.delta_poc n.delta_poc) h
@@ -89,6 +98,7 @@ in_insert x m (n ∷ ns) h = by_test (λ q. in_insert x m ns q) (int_lt m.delta_
     by_test again false (inr (inl e)) = inl e
     by_test again false (inr (inr h)) = inr (again (inr h))
 
+-- and no other is
 from_insert : (x m : ShortTermMember) (ns : List ShortTermMember) → In x (insert_rising m ns) → In x (m ∷ ns)
 from_insert x m [] h = h
 from_insert x m (n ∷ ns) h = by_test (λ q. from_insert x m ns q) (int_lt m.delta_poc n.delta_poc) h
@@ -98,17 +108,20 @@ from_insert x m (n ∷ ns) h = by_test (λ q. from_insert x m ns q) (int_lt m.de
     by_test again false (inl e) = inr (inl e)
     by_test again false (inr h) = elim (again h) [ inl e ↦ inl e | inr q ↦ inr (inr q) ]
 
+-- rising order loses no member
 in_rising : (x : ShortTermMember) (ms : List ShortTermMember) → In x ms → In x (rising ms)
 unfolding rising
 in_rising x [] h = absurd h
 in_rising x (m ∷ ms) (inl e) = in_insert x m (rising ms) (inl e)
 in_rising x (m ∷ ms) (inr h) = in_insert x m (rising ms) (inr (in_rising x ms h))
 
+-- and adds none
 from_rising : (x : ShortTermMember) (ms : List ShortTermMember) → In x (rising ms) → In x ms
 unfolding rising
 from_rising x [] h = h
 from_rising x (m ∷ ms) h = elim (from_insert x m (rising ms) h) [ inl e ↦ inl e | inr q ↦ inr (from_rising x ms q) ]
 
+-- a number that is not 0 and not below it is above it
 above : (d : ℤ) → d ≢ pos 0 → int_lt d (pos 0) ≡ false → int_lt (pos 0) d ≡ true
 above (pos zero) some e = absurd (some refl)
 above (pos (suc n)) some e = grind arith
@@ -123,6 +136,7 @@ in_sides x ms some h = by_sign (int_lt x.delta_poc (pos 0)) refl
     by_sign true e = in_append_first x _ _ (in_reverse x _ (in_filter (λ (m : ShortTermMember). int_lt m.delta_poc (pos 0)) x ms e h))
     by_sign false e = in_append_second x _ _ (in_filter (λ (m : ShortTermMember). int_lt (pos 0) m.delta_poc) x ms (above x.delta_poc some e) h)
 
+-- members before and after the current picture are members
 from_sides : (x : ShortTermMember) (ms : List ShortTermMember) → In x (members_before ms ++ members_after ms) → In x ms
 unfolding members_before members_after
 from_sides x ms h = elim (in_append x (reverse (filter (λ m. int_lt m.delta_poc (pos 0)) ms)) (filter (λ m. int_lt (pos 0) m.delta_poc) ms) h) [
@@ -132,15 +146,19 @@ from_sides x ms h = elim (in_append x (reverse (filter (λ m. int_lt m.delta_poc
 
 -- ---- what is found
 
+-- a number is equal to itself
 int_eq-same : (d : ℤ) → int_eq d d ≡ true
 int_eq-same d = (Decides-int_eq d d).1 refl
 
+-- the test tells equal numbers
 int_eq-true : (d e : ℤ) → int_eq d e ≡ true → d ≡ e
 int_eq-true d e h = (Decides-int_eq d e).0 h
 
+-- and others
 int_eq-false : (d e : ℤ) → int_eq d e ≡ false → d ≢ e
 int_eq-false d e h = λ same. true≢false (sym (int_eq-same d) ∙ ap (λ (z : ℤ). int_eq d z) same ∙ h)
 
+-- a member that is found is there
 use_found : (d : ℤ) (u : Bool) (ms : List ShortTermMember) → use_of d ms ≡ Some u → In (record { delta_poc = d; used_by_curr_pic = u }) ms
 use_found d u [] e = absurd cc
 use_found d u (m ∷ ms) e = by_test (λ q. use_found d u ms q) (int_eq m.delta_poc d) refl e
@@ -155,6 +173,7 @@ use_found d u (m ∷ ms) e = by_test (λ q. use_found d u ms q) (int_eq m.delta_
         make z b = record { delta_poc = z; used_by_curr_pic = b }
     by_test again false same e = inr (again e)
 
+-- a member that is there is found
 use_some : (d : ℤ) (u : Bool) (ms : List ShortTermMember) → In (record { delta_poc = d; used_by_curr_pic = u }) ms → (v : Bool) × (use_of d ms ≡ Some v)
 use_some d u [] h = absurd h
 use_some d u (m ∷ ms) h = by_test (λ q. use_some d u ms q) (int_eq m.delta_poc d) refl h
@@ -166,6 +185,7 @@ use_some d u (m ∷ ms) h = by_test (λ q. use_some d u ms q) (int_eq m.delta_po
 
 -- ---- shifted members
 
+-- a shifted difference is one with the shift added
 one_is : (shift d : ℤ) (f : MemberFlags) (m : ShortTermMember) → In m (shifted_one shift d f) → m.delta_poc ≡ d +ℤ shift
 unfolding shifted_one
 one_is shift d f m h = by_test (f.use_delta_flag && not (int_eq (d +ℤ shift) (pos 0))) h
@@ -175,6 +195,7 @@ one_is shift d f m h = by_test (f.use_delta_flag && not (int_eq (d +ℤ shift) (
     by_test true (inr h) = absurd h
     by_test false h = absurd h
 
+-- what is not so is not so with more
 and_false : (t : Bool) → (t && false) ≡ false
 and_false true = refl
 and_false false = refl
@@ -233,6 +254,7 @@ module _ (shift : ℤ) (all : List ShortTermMember) where
       by_use (Some false) e true true back = omega arith
       by_use (Some false) e false true back = omega arith
 
+  -- the members that chosen flags give are those that any flags give
   same_shifted : (ds : List ℤ) (fs : List MemberFlags) → Distinct ds → length fs ≡ length ds → ((m : ShortTermMember) → m.delta_poc ≢ pos 0 → In m (shifted shift ds fs) → In m all)
       → ((m : ShortTermMember) (d : ℤ) → In d ds → m.delta_poc ≡ d +ℤ shift → In m all → In m (shifted shift ds fs)) → (shifted shift ds (chosen_flags shift ds all) ≡ shifted shift ds fs) × (all_set (chosen_flags shift ds all) ≤ all_set fs)
   unfolding shifted

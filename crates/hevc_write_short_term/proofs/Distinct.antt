@@ -10,19 +10,23 @@ use Rattle.hevc_short_term_laws.specs.Orders.{AllAbove, AllBelow, Rises, Falls}
 use Rattle.hevc_short_term_laws.proofs.OrderLaws.{AllAbove-append, AllAbove-weaken, falls_from, rises_from}
 use Rattle.hevc_write_short_term.proofs.Chosen.{In, Distinct, in_append}
 
+-- each of them is below
 below_in : (b d : ℤ) (ds : List ℤ) → AllBelow b ds → In d ds → d <ℤ b
 below_in b d [] h i = absurd i
 below_in b d (e ∷ ds) h (inl same) = rw same h.0
 below_in b d (e ∷ ds) h (inr i) = below_in b d ds h.1 i
 
+-- each of them is above
 above_in : (b d : ℤ) (ds : List ℤ) → AllAbove b ds → In d ds → b <ℤ d
 above_in b d [] h i = absurd i
 above_in b d (e ∷ ds) h (inl same) = rw same h.0
 above_in b d (e ∷ ds) h (inr i) = above_in b d ds h.1 i
 
+-- no number is below itself
 not_below_itself : (d : ℤ) → d <ℤ d → ⊥
 not_below_itself d h = omega (arith, ints, h)
 
+-- rising differences above 0 are distinct, with 0
 distinct_after : (ds : List ℤ) → AllAbove (pos 0) ds → Rises ds → Distinct (ds ++ pos 0 ∷ [])
 distinct_after [] above rises = ((λ i. i), tt)
 distinct_after (d ∷ ds) above rises = (
@@ -34,6 +38,7 @@ distinct_after (d ∷ ds) above rises = (
   distinct_after ds above.1 rises.1,
 )
 
+-- so are falling ones below 0, with others above
 distinct_before : (ds rest : List ℤ) → AllBelow (pos 0) ds → Falls ds → AllAbove (negsuc 0) rest → Distinct rest → Distinct (ds ++ rest)
 distinct_before [] rest below falls above apart = apart
 distinct_before (d ∷ ds) rest below falls above apart = (
@@ -48,6 +53,7 @@ distinct_before (d ∷ ds) rest below falls above apart = (
     between low high = omega (arith, ints, low, high)
 
 module _ (s : ShortTermRefPicSet) (long_before : length s.delta_poc_s0 ≡ 16) (long_after : length s.delta_poc_s1 ≡ 16) where
+  -- the differences of a set are distinct, with that of its own picture
   pub apart : Distinct (differences (plain_short_term_ref_pic_set s) ++ pos 0 ∷ [])
   unfolding differences
   apart =
@@ -59,6 +65,7 @@ module _ (s : ShortTermRefPicSet) (long_before : length s.delta_poc_s0 ≡ 16) (
       subst Distinct (sym (append_assoc (take s.num_negative_pics s.delta_poc_s0) (take s.num_positive_pics s.delta_poc_s1) (pos 0 ∷ [])))
       (distinct_before _ _ before.0 before.1 above (distinct_after _ after.0 after.1))
 
+  -- there are as many as the set counts, and one
   pub many : length (differences (plain_short_term_ref_pic_set s) ++ pos 0 ∷ []) ≡ s.num_delta_pocs + 1
   unfolding differences
   many =

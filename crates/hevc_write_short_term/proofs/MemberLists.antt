@@ -10,10 +10,12 @@ use Rattle.hevc_write_short_term.specs.Members.{members_from, members_of, before
 
 -- ---- members from lists
 
+-- the first member of what is left
 pub from_drop : (i : ℕ) (ds : List ℤ) (us : List Bool) → i < length ds → i < length us
     → members_from (drop i ds) (drop i us) ≡ record { delta_poc = get_or ds i (pos 0); used_by_curr_pic = get_or us i false } ∷ members_from (drop (i + 1) ds) (drop (i + 1) us)
 from_drop i ds us lt lu = rw (drop_more ds i (pos 0) lt, drop_more us i false lu) refl
 
+-- the first items of an array are those that it begins with
 first_of : {X : Type 0} (d : X) (xs : List X) (n : ℕ) → take (length xs) (xs ++ replicate n d) ≡ xs
 first_of d [] n = take_none n
   where
@@ -22,10 +24,12 @@ first_of d [] n = take_none n
     take_none (suc n) = refl
 first_of d (x ∷ xs) n = ap (λ ys. x ∷ ys) (first_of d xs n)
 
+-- members are made of their differences and uses
 from_members : (ms : List ShortTermMember) → members_from (deltas ms) (used ms) ≡ ms
 from_members [] = refl
 from_members (m ∷ ms) = ap (λ ns. m ∷ ns) (from_members ms)
 
+-- also where these are in arrays
 from_arrays : (ms : List ShortTermMember) → members_from (take (length ms) (array_of (pos 0) (deltas ms))) (take (length ms) (array_of false (used ms))) ≡ ms
 from_arrays ms =
     let d : take (length ms) (array_of (pos 0) (deltas ms)) ≡ deltas ms = rw (sym (length-map ms (λ m. m.delta_poc))) (first_of (pos 0) (deltas ms) _) in
@@ -33,32 +37,39 @@ from_arrays ms =
     ap₂ members_from d u ∙ from_members ms
 
 module _ (set : PlainShortTermRefPicSet) (before after : List ShortTermMember) where
+  -- the members before the current picture are those that the set was given
   pub before_same : before_of (with_members set before after) ≡ before
   unfolding with_members
   before_same = from_arrays before
 
+  -- so are those after it
   pub after_same : after_of (with_members set before after) ≡ after
   unfolding with_members
   after_same = from_arrays after
 
+  -- so are all
   pub members_same : members_of (with_members set before after) ≡ before ++ after
   members_same = ap₂ (λ (p q : List ShortTermMember). p ++ q) before_same after_same
 
 -- ---- flags
 
+-- bits of flags follow one another
 pub bits_append : (fs gs : List MemberFlags) → flag_bits (fs ++ gs) ≡ flag_bits fs ++ flag_bits gs
 bits_append [] gs = refl
 bits_append (f ∷ fs) gs = ap (λ bs. f.used_by_curr_pic_flag ∷ (if f.used_by_curr_pic_flag then [] else f.use_delta_flag ∷ []) ++ bs) (bits_append fs gs)
     ∙ ap (λ bs. f.used_by_curr_pic_flag ∷ bs) (sym (append_assoc (if f.used_by_curr_pic_flag then [] else f.use_delta_flag ∷ []) (flag_bits fs) (flag_bits gs)))
 
+-- so do chosen flags
 pub chosen-append : (shift : ℤ) (ds es : List ℤ) (ms : List ShortTermMember) → chosen_flags shift (ds ++ es) ms ≡ chosen_flags shift ds ms ++ chosen_flags shift es ms
 chosen-append shift [] es ms = refl
 chosen-append shift (d ∷ ds) es ms = ap (λ fs. flags_of (use_of (d +ℤ shift) ms) ∷ fs) (chosen-append shift ds es ms)
 
+-- each difference has its flags
 pub chosen-length : (shift : ℤ) (ds : List ℤ) (ms : List ShortTermMember) → length (chosen_flags shift ds ms) ≡ length ds
 chosen-length shift [] ms = refl
 chosen-length shift (d ∷ ds) ms = ap suc (chosen-length shift ds ms)
 
+-- the first flags of those that are left
 chosen-drop : (shift : ℤ) (ds : List ℤ) (ms : List ShortTermMember) (i : ℕ) → i < length ds
     → chosen_flags shift (drop i ds) ms ≡ flags_of (use_of (get_or ds i (pos 0) +ℤ shift) ms) ∷ chosen_flags shift (drop (i + 1) ds) ms
 chosen-drop shift ds ms i lt = rw (drop_more ds i (pos 0) lt) refl

@@ -9,76 +9,90 @@ use Rattle.hevc_tables.specs.declared.member_flags.MemberFlags.{MemberFlags}
 use Rattle.hevc_tables.specs.declared.short_term_member.ShortTermMember.{ShortTermMember}
 use Rattle.hevc_tables.specs.ShortTermTable.{last_delta, member_before, next_member_before, member_after, next_member_after, listed_before, listed_after, listed_set, member_flags, next_member_flags, all_member_flags, fitting_set, prediction, predicted_set, short_term_ref_pic_set, with_members, rising, shifted, differences, shift_of, reference_index, members_before, members_after, has_room, predicted_members}
 use Rattle.hevc_spec.specs.Bits.{u}
-use Rattle.hevc_writing.specs.Choices.{IsFormed, IsFilled, is_chosen, set_flags}
-use Rattle.hevc_writing.specs.Filling.{EachFilling, Keeps, WritesTable, WritesTurn, WritesTurns, are_first}
-use Rattle.hevc_writing.proofs.Fillings.{weakened, then_filled, done_filled, instead_filled}
-use Rattle.hevc_writing.proofs.RowRules.{check_held}
-use Rattle.hevc_writing.proofs.Steps.{IsFillable, filled, IsDecided, numbers, flags, integers, lists_decided, both_decided, flag_fillable, ue_fillable, when_fillable, pairs, either_kept}
-use Rattle.hevc_writing.proofs.Growing.{item_written, items_written, items_fillable, grows}
-use Rattle.hevc_writing.proofs.Counting.{set_flags-append, one_line, no_lines}
-use Rattle.hevc_writing.proofs.Forming.{done_formed, part_formed, flag_formed}
+use Rattle.hevc_write_elements.specs.Choices.{IsFormed, IsFilled, is_chosen, set_flags}
+use Rattle.hevc_write_elements.specs.Filling.{EachFilling, Keeps, WritesTable, WritesTurn, WritesTurns, are_first}
+use Rattle.hevc_write_elements.proofs.Fillings.{weakened, then_filled, done_filled, instead_filled}
+use Rattle.hevc_write_elements.proofs.RowRules.{check_held}
+use Rattle.hevc_write_elements.proofs.Steps.{IsFillable, filled, IsDecided, numbers, flags, integers, lists_decided, both_decided, flag_fillable, ue_fillable, when_fillable, pairs, either_kept}
+use Rattle.hevc_write_elements.proofs.Growing.{item_written, items_written, items_fillable, grows}
+use Rattle.hevc_write_elements.proofs.Counting.{set_flags-append, one_line, no_lines}
+use Rattle.hevc_write_elements.proofs.Forming.{done_formed, part_formed, flag_formed}
 use Rattle.hevc_write_short_term.specs.Members.{members_of, use_of, flags_of, chosen_flags, flag_bits, WritesFlags}
 use Rattle.hevc_write_short_term.proofs.Chosen.{Distinct, sides_of, one_set, all_set, chosen_give_the_same}
 use Rattle.hevc_write_short_term.proofs.MemberLists.{members_same, chosen-length, bits_append}
 
 -- ---- members that are written out
 
+-- two members are the same or not
 pub members_decided : (a b : ShortTermMember) → IsDecided a b
 members_decided a b = both_decided (λ (m : ShortTermMember). m.delta_poc) (λ m. m.used_by_curr_pic) make (integers a.delta_poc b.delta_poc) (flags a.used_by_curr_pic b.used_by_curr_pic)
   where
     make : a.delta_poc ≡ b.delta_poc → a.used_by_curr_pic ≡ b.used_by_curr_pic → a ≡ b
     make p q = λ i. record { delta_poc = p i; used_by_curr_pic = q i }
 
+-- there are always lines of member before to write
 before_fillable : (i : ℕ) (ms : List ShortTermMember) → IsFillable (member_before (last_delta ms))
 unfolding member_before
 before_fillable i ms = record { fill = λ w. then_filled (filled (ue_fillable (row 7 9) refl 0 32767) (λ v all. then_filled (filled (flag_fillable (row 7 10) refl) (λ v2 more. done_filled tt)))) }
 
+-- there are always lines of member after to write
 after_fillable : (i : ℕ) (ms : List ShortTermMember) → IsFillable (member_after (last_delta ms))
 unfolding member_after
 after_fillable i ms = record { fill = λ w. then_filled (filled (ue_fillable (row 7 11) refl 0 32767) (λ v all. then_filled (filled (flag_fillable (row 7 12) refl) (λ v2 more. done_filled tt)))) }
 
+-- one member before the current picture is written
 pub before_written : (ms : List ShortTermMember) (i : ℕ) (d : ShortTermMember) {old new : List Bool} → i < length ms → WritesTable (member_before (last_delta (take i ms))) (get_or ms i d) old new → WritesTurn next_member_before (are_first ms) i old new
 unfolding next_member_before
 before_written ms i d lt writes = item_written (λ i ms. member_before (last_delta ms)) before_fillable ms i d (lists_decided members_decided) lt writes
 
+-- one after it is
 pub after_written : (ms : List ShortTermMember) (i : ℕ) (d : ShortTermMember) {old new : List Bool} → i < length ms → WritesTable (member_after (last_delta (take i ms))) (get_or ms i d) old new → WritesTurn next_member_after (are_first ms) i old new
 unfolding next_member_after
 after_written ms i d lt writes = item_written (λ i ms. member_after (last_delta ms)) after_fillable ms i d (lists_decided members_decided) lt writes
 
+-- the whole of it is written once all its turns are
 pub listed_before_written : (ms : List ShortTermMember) (n count : ℕ) {old new : List Bool} → WritesTurns next_member_before (are_first ms) n old new → n ≡ length ms → WritesTable (listed_before count) ms old new
 unfolding listed_before next_member_before
 listed_before_written ms n count turns e = items_written (λ i ms. member_before (last_delta ms)) before_fillable ms n count turns e
 
+-- the whole of it is written once all its turns are
 pub listed_after_written : (ms : List ShortTermMember) (n count : ℕ) {old new : List Bool} → WritesTurns next_member_after (are_first ms) n old new → n ≡ length ms → WritesTable (listed_after count) ms old new
 unfolding listed_after next_member_after
 listed_after_written ms n count turns e = items_written (λ i ms. member_after (last_delta ms)) after_fillable ms n count turns e
 
+-- there are always lines of listed before to write
 pub listed_before_fillable : (n : ℕ) → IsFillable (listed_before n)
 unfolding listed_before next_member_before
 listed_before_fillable n = items_fillable (λ i ms. member_before (last_delta ms)) before_fillable n
 
+-- there are always lines of listed after to write
 pub listed_after_fillable : (n : ℕ) → IsFillable (listed_after n)
 unfolding listed_after next_member_after
 listed_after_fillable n = items_fillable (λ i ms. member_after (last_delta ms)) after_fillable n
 
+-- as many members before it as were told
 pub listed_before_long : (n : ℕ) (w : List Bool) → EachFilling (listed_before n) w (λ ms _. length ms ≡ n)
 unfolding listed_before next_member_before
 listed_before_long n w = weakened (grows (λ i ms. member_before (last_delta ms)) before_fillable 0 n [] w) (λ ms all long. omega (arith, long))
 
+-- as many after it
 pub listed_after_long : (n : ℕ) (w : List Bool) → EachFilling (listed_after n) w (λ ms _. length ms ≡ n)
 unfolding listed_after next_member_after
 listed_after_long n w = weakened (grows (λ i ms. member_after (last_delta ms)) after_fillable 0 n [] w) (λ ms all long. omega (arith, long))
 
 -- ---- row 5
 
+-- there are always lines of member flags to write
 flags_fillable : (i : ℕ) (fs : List MemberFlags) → IsFillable member_flags
 unfolding member_flags
 flags_fillable i fs = record { fill = λ w. then_filled (filled (flag_fillable (row 7 5) refl) (λ v all. then_filled (filled (when_fillable (not v) true (flag_fillable (row 7 5) refl)) (λ v2 more. done_filled tt)))) }
 
+-- there are always lines of all member flags to write
 pub all_flags_fillable : (n : ℕ) → IsFillable (all_member_flags n)
 unfolding all_member_flags next_member_flags
 all_flags_fillable n = items_fillable (λ i fs. member_flags) flags_fillable (n + 1)
 
+-- flags for each member of the other set, and one
 all_flags_long : (n : ℕ) (w : List Bool) → EachFilling (all_member_flags n) w (λ fs _. length fs ≡ n + 1)
 unfolding all_member_flags next_member_flags
 all_flags_long n w = weakened (grows (λ i fs. member_flags) flags_fillable 0 (n + 1) [] w) (λ fs all long. omega (arith, long))
@@ -91,6 +105,7 @@ abbrev pub AreUsable : List MemberFlags → Type 0
 AreUsable [] = Unit {0}
 AreUsable (f ∷ fs) = IsUsable f × AreUsable fs
 
+-- chosen flags can be written
 pub chosen_usable : (shift : ℤ) (ds : List ℤ) (ms : List ShortTermMember) → AreUsable (chosen_flags shift ds ms)
 chosen_usable shift [] ms = tt
 chosen_usable shift (d ∷ ds) ms = (by_use (use_of (d +ℤ shift) ms), chosen_usable shift ds ms)
@@ -99,6 +114,7 @@ chosen_usable shift (d ∷ ds) ms = (by_use (use_of (d +ℤ shift) ms), chosen_u
     by_use None e = e
     by_use (Some used) e = refl
 
+-- the flags of one member are written
 one_formed : (f : MemberFlags) → IsUsable f → IsFormed member_flags f (flag_bits (f ∷ []))
 unfolding member_flags when is_chosen
 one_formed f usable = by_flags f.used_by_curr_pic_flag f.use_delta_flag usable
@@ -111,6 +127,7 @@ one_formed f usable = by_flags f.used_by_curr_pic_flag f.use_delta_flag usable
         by_flag true = refl
         by_flag false = refl
 
+-- so are those of so many
 flags_formed : (i : ℕ) (ys fs : List MemberFlags) → AreUsable fs → IsFormed (repeat next_member_flags i (length fs) ys) (ys ++ fs) (flag_bits fs)
 unfolding repeat next_member_flags
 flags_formed i ys [] usable = subst (λ (zs : List MemberFlags). IsFormed (done ys) zs []) (sym (append-nil ys)) (done_formed ys)
@@ -122,17 +139,20 @@ flags_formed i ys (f ∷ fs) usable =
     subst (λ (b : List Bool). IsFormed (repeat next_member_flags i (suc (length fs)) ys) (ys ++ f ∷ fs) b) bits
     (subst (λ (zs : List MemberFlags). IsFormed (repeat next_member_flags i (suc (length fs)) ys) zs ((flag_bits (f ∷ []) ++ []) ++ flag_bits fs)) value all)
 
+-- so are all
 all_flags_formed : (n : ℕ) (fs : List MemberFlags) → AreUsable fs → length fs ≡ n + 1 → IsFormed (all_member_flags n) fs (flag_bits fs)
 unfolding all_member_flags
 all_flags_formed n fs usable long = subst (λ (k : ℕ). IsFormed (repeat next_member_flags 0 k []) fs (flag_bits fs)) long (flags_formed 0 [] fs usable)
 
 -- ---- how many flags are set
 
+-- a flag that is set counts
 flag_counted : (b : Bool) (lines : List Line) → HasLines (flag_row (row 7 5)) b lines → set_flags lines ≡ (if b then 1 else 0)
 unfolding flag_row
 flag_counted b lines has =
     one_line _ lines has.3 ∙ ap (λ (t : Bool). if t then 1 else 0) has.2
 
+-- the flags of a member count
 one_counted : (f : MemberFlags) (lines : List Line) → HasLines member_flags f lines → set_flags lines ≡ one_set f
 unfolding member_flags when
 one_counted f lines has = by_used has.0 has.1 has.2 (flag_counted has.0 has.1 has.3) has.4 has.5
@@ -144,10 +164,12 @@ one_counted f lines has = by_used has.0 has.1 has.2 (flag_counted has.0 has.1 ha
     by_used false first others count has e =
         omega (arith, count, ap set_flags e, set_flags-append first others, ap set_flags has.5, set_flags-append has.1 has.2, flag_counted has.0 has.1 has.3, no_lines has.2 has.4.1, ap one_set has.4.0)
 
+-- flags of two lists add up
 all_set-append : (fs gs : List MemberFlags) → all_set (fs ++ gs) ≡ all_set fs + all_set gs
 all_set-append [] gs = omega arith
 all_set-append (f ∷ fs) gs = omega (arith, all_set-append fs gs)
 
+-- so do those of turns
 turns_counted : (i n : ℕ) (ys fs : List MemberFlags) (lines : List Line) → HasLines (repeat next_member_flags i n ys) fs lines → all_set ys + set_flags lines ≡ all_set fs
 unfolding repeat next_member_flags
 turns_counted i zero ys fs lines has = omega (arith, ap all_set has.0, no_lines lines has.1)
@@ -166,12 +188,14 @@ turns_counted i (suc n) ys fs lines has =
       set_flags-append has.1 has.2,
     )
 
+-- the count of lines is that of the flags
 flags_counted : (n : ℕ) (fs : List MemberFlags) (lines : List Line) → HasLines (all_member_flags n) fs lines → set_flags lines ≡ all_set fs
 unfolding all_member_flags
 flags_counted n fs lines has = omega (arith, turns_counted 0 (n + 1) [] fs lines has)
 
 -- ---- row 6
 
+-- row 6 has no bits, and the set has its members
 fitting_filled : (ms : List ShortTermMember) (set : PlainShortTermRefPicSet) {w : List Bool} {Q : PlainShortTermRefPicSet → List Bool → Type 0} → Q (with_members set (members_before ms) (members_after ms)) w → EachFilling (fitting_set ms set) w Q
 unfolding fitting_set
 fitting_filled ms set q = then_filled (check_held (row 7 6) (has_room ms) (λ _. done_filled q))
@@ -182,9 +206,11 @@ fitting_filled ms set q = then_filled (check_held (row 7 6) (has_room ms) (λ _.
 abbrev rows_five : ℕ → ℤ → List ℤ → PlainShortTermRefPicSet → Table PlainShortTermRefPicSet
 rows_five n shift ds set = part (all_member_flags n) (λ flags. fitting_set (rising (shifted shift (ds ++ pos 0 ∷ []) flags)) set)
 
+-- there are always flags to write
 rows_five_fillable : (n : ℕ) (shift : ℤ) (ds : List ℤ) (set : PlainShortTermRefPicSet) (w : List Bool) {Q : PlainShortTermRefPicSet → List Bool → Type 0} → ((before after : List ShortTermMember) (all : List Bool) → Q (with_members set before after) all) → EachFilling (rows_five n shift ds set) w Q
 rows_five_fillable n shift ds set w q = then_filled (filled (all_flags_fillable n) (λ flags all. fitting_filled _ set (q _ _ all)))
 
+-- the chosen flags are written, and give the same set
 rows_five_written : (x set : PlainShortTermRefPicSet) (n : ℕ) (shift : ℤ) (ds : List ℤ) (w old new : List Bool) → Distinct (ds ++ pos 0 ∷ []) → length (ds ++ pos 0 ∷ []) ≡ n + 1 → WritesFlags (chosen_flags shift (ds ++ pos 0 ∷ []) (members_of x)) old new
     → EachFilling (rows_five n shift ds set) w (λ z all. z ≡ x → w ≡ old → all ≡ new)
 rows_five_written x set n shift ds w old new apart long writes =
@@ -231,6 +257,7 @@ module _ (sets : List PlainShortTermRefPicSet) (idx : ℕ) where
   abbrev pub rows_from_five : PlainShortTermRefPicSet → Table PlainShortTermRefPicSet
   rows_from_five set = rows_five (other_of set).num_delta_pocs (shift_of set) (differences (other_of set)) set
 
+  -- so they are for the set that predicts this one
   pub members_written : (x set j : PlainShortTermRefPicSet) (w old new : List Bool) → j ≡ other_of x → Distinct (differences j ++ pos 0 ∷ []) → length (differences j ++ pos 0 ∷ []) ≡ j.num_delta_pocs + 1
       → WritesFlags (chosen_flags (shift_of x) (differences j ++ pos 0 ∷ []) (members_of x)) old new → EachFilling (rows_from_five set) w (λ z all. z ≡ x → w ≡ old → all ≡ new)
   unfolding with_members shift_of
@@ -243,6 +270,7 @@ module _ (sets : List PlainShortTermRefPicSet) (idx : ℕ) where
       by_decision (inl same) = subst (λ (k : ℕ × (ℤ × List ℤ)). EachFilling (rows_five k.0 k.1.0 k.1.1 set) w (λ z all. z ≡ x → w ≡ old → all ≡ new)) (sym same) (rows_five_written x set j.num_delta_pocs (shift_of x) (differences j) w old new apart long writes)
       by_decision (inr differ) = rows_five_fillable _ _ _ set w (λ before after all e at. absurd (differ (same_key before after e)))
 
+  -- a predicted set sets its members alone
   pub members_kept : (set : PlainShortTermRefPicSet) (w : List Bool) {Q : PlainShortTermRefPicSet → List Bool → Type 0} → ((before after : List ShortTermMember) (all : List Bool) → Q (with_members set before after) all) → EachFilling (rows_from_five set) w Q
   members_kept set w q = rows_five_fillable _ _ _ set w q
 
@@ -258,6 +286,7 @@ module _ (sets : List PlainShortTermRefPicSet) (idx : ℕ) where
 abbrev pub members : PlainShortTermRefPicSet → PlainShortTermRefPicSet → PlainShortTermRefPicSet
 members from x = record from { inter_ref_pic_set_prediction_flag = x.inter_ref_pic_set_prediction_flag }
 
+-- rows 2 to 6 set no elements but members and prediction
 pub predicted_keeps : (sets : List PlainShortTermRefPicSet) (count idx : ℕ) → Keeps (predicted_set sets count idx) members
 unfolding predicted_set prediction with_members predicted_members
 predicted_keeps sets count idx = record {
@@ -269,6 +298,7 @@ predicted_keeps sets count idx = record {
       done_filled (members_kept sets idx _ b3 (λ before after all. refl)))))))));
 }
 
+-- nor do rows 7 to 12
 pub listed_keeps : (most : ℕ) → Keeps (listed_set most) members
 unfolding listed_set with_members
 listed_keeps most = record {
@@ -280,6 +310,7 @@ listed_keeps most = record {
       then_filled (filled (listed_after_fillable v2) (λ v4 b4. done_filled refl))))))));
 }
 
+-- there are always lines of short term ref pic set to write
 pub short_term_set_fillable : (sets : List PlainShortTermRefPicSet) (count most idx : ℕ) → IsFillable (short_term_ref_pic_set sets count most idx)
 unfolding short_term_ref_pic_set
 short_term_set_fillable sets count most idx = record {

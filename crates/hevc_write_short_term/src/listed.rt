@@ -3,13 +3,13 @@ ghost use Rattle.std.specs.Prelude.{◌≡◌, ◌+◌, ◌<◌, ◌^◌, ◌-�
 ghost use Rattle.hevc_tables.specs.ShortTermTable as table;
 ghost use Rattle.hevc_set_parts.specs.ShortTermRefPicSet.{plain_short_term_ref_pic_set};
 ghost use Rattle.hevc_write_short_term.specs.Members as own;
-ghost use Rattle.hevc_writing.specs.Filling.{Writes, WritesTable};
+ghost use Rattle.hevc_write_elements.specs.Filling.{Writes, WritesTable};
 
 use crate::members::{members_after, members_before};
 use hevc_bit_writer::BitWriter;
 use hevc_set_parts::ShortTermRefPicSet;
 use hevc_tables::ShortTermMember;
-use hevc_writing::rows::{flag, ue, ue_u8};
+use hevc_write_elements::rows::{flag, ue, ue_u8};
 use std::alloc::AllocError;
 
 /// Rows 7 to 12 of table 7.
@@ -18,8 +18,8 @@ pub(crate) fn write_listed_set(w: &mut BitWriter, x: &ShortTermRefPicSet) -> Res
         (Writes (table.listed_set max_dec_pic_buffering_minus1) own.whole
         (plain_short_term_ref_pic_set x.now) w.old w.new) }
 {
-    ue_u8(w, x.num_negative_pics)?;
-    ue_u8(w, x.num_positive_pics)?;
+    ue_u8(w, x.num_negative_pics)?; // Row(7, 7)
+    ue_u8(w, x.num_positive_pics)?; // Row(7, 8)
     write_members_before(w, members_before(x).as_slice())?;
     write_members_after(w, members_after(x).as_slice())?;
     Ok(())
@@ -44,8 +44,8 @@ fn write_member_before(
 ) -> Result<(), AllocError>
     ensures { OnOk result (WritesTable (table.member_before last) member w.old w.new) }
 {
-    ue(w, gap_minus1(last, member.delta_poc))?;
-    flag(w, member.used_by_curr_pic)?;
+    ue(w, gap_minus1(last, member.delta_poc))?; // Row(7, 9)
+    flag(w, member.used_by_curr_pic)?; // Row(7, 10)
     Ok(())
 }
 
@@ -68,8 +68,8 @@ fn write_member_after(
 ) -> Result<(), AllocError>
     ensures { OnOk result (WritesTable (table.member_after last) member w.old w.new) }
 {
-    ue(w, gap_minus1(member.delta_poc, last))?;
-    flag(w, member.used_by_curr_pic)?;
+    ue(w, gap_minus1(member.delta_poc, last))?; // Row(7, 11)
+    flag(w, member.used_by_curr_pic)?; // Row(7, 12)
     Ok(())
 }
 

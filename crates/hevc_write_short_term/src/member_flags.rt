@@ -30,9 +30,9 @@ pub(crate) fn write_flags_for(
 fn write_flags(w: &mut BitWriter, flags: MemberFlags) -> Result<(), AllocError>
     ensures { OnOk result (own.WritesFlags (flags ∷ []) w.old w.new) }
 {
-    w.write_flag(flags.used_by_curr_pic_flag)?;
+    w.write_flag(flags.used_by_curr_pic_flag)?; // Row(7, 5)
     if !flags.used_by_curr_pic_flag {
-        w.write_flag(flags.use_delta_flag)?;
+        w.write_flag(flags.use_delta_flag)?; // Row(7, 5)
     }
     Ok(())
 }

@@ -4,13 +4,13 @@ ghost use Rattle.hevc_records.specs.ShortTermRefPicSet.{default_short_term_ref_p
 ghost use Rattle.hevc_tables.specs.ShortTermTable as table;
 ghost use Rattle.hevc_set_parts.specs.ShortTermRefPicSet.{plain_short_term_ref_pic_set};
 ghost use Rattle.hevc_write_short_term.specs.Members as own;
-ghost use Rattle.hevc_writing.specs.Filling.{Writes};
+ghost use Rattle.hevc_write_elements.specs.Filling.{Writes};
 
 use crate::member_flags::write_flags_for;
 use crate::members::all_members;
 use hevc_bit_writer::BitWriter;
 use hevc_set_parts::ShortTermRefPicSet;
-use hevc_writing::rows::{flag, ue, ue_u8_if};
+use hevc_write_elements::rows::{flag, ue, ue_u8_if};
 use std::alloc::AllocError;
 
 /// Rows 2 to 6 of table 7, for number `st_rps_idx` of `count` sets or for one after them.
@@ -28,9 +28,9 @@ pub(crate) fn write_predicted_set(
         (own.flags_of_set (map plain_short_term_ref_pic_set sets.now) st_rps_idx
         (plain_short_term_ref_pic_set x.now)) w.new) }
 {
-    ue_u8_if(w, st_rps_idx == count, x.delta_idx_minus1)?;
-    flag(w, x.delta_rps_sign)?;
-    ue(w, u32::from(x.abs_delta_rps_minus1))?;
+    ue_u8_if(w, st_rps_idx == count, x.delta_idx_minus1)?; // Row(7, 2)
+    flag(w, x.delta_rps_sign)?; // Row(7, 3)
+    ue(w, u32::from(x.abs_delta_rps_minus1))?; // Row(7, 4)
     write_member_flags(w, &other_set(sets, st_rps_idx, x), x)?;
     Ok(())
 }

@@ -3,13 +3,13 @@ ghost use Rattle.std.specs.Prelude.{◌≡◌, ℕ, true, map, not, ◌==◌, On
 ghost use Rattle.hevc_tables.specs.ShortTermTable as table;
 ghost use Rattle.hevc_set_parts.specs.ShortTermRefPicSet.{plain_short_term_ref_pic_set};
 ghost use Rattle.hevc_write_short_term.specs.Members as own;
-ghost use Rattle.hevc_writing.specs.Filling.{Writes, WritesEither, WritesTable};
+ghost use Rattle.hevc_write_elements.specs.Filling.{Writes, WritesEither, WritesTable};
 
 use crate::listed::write_listed_set;
 use crate::predicted::write_predicted_set;
 use hevc_bit_writer::BitWriter;
 use hevc_set_parts::ShortTermRefPicSet;
-use hevc_writing::rows::flag_if;
+use hevc_write_elements::rows::flag_if;
 use std::alloc::AllocError;
 
 /// Table 7, for number `st_rps_idx` of `count` sets of a sequence set or for one after them; `sets` are those before it.
@@ -31,7 +31,7 @@ pub fn write_short_term_ref_pic_set(
         (own.flags_of_set (map plain_short_term_ref_pic_set sets.now) st_rps_idx
         (plain_short_term_ref_pic_set x.now)) w.new) }
 {
-    flag_if(w, st_rps_idx != 0, x.inter_ref_pic_set_prediction_flag)?;
+    flag_if(w, st_rps_idx != 0, x.inter_ref_pic_set_prediction_flag)?; // Row(7, 1)
     write_members(w, sets, count, st_rps_idx, x)?;
     Ok(())
 }

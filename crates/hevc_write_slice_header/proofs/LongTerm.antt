@@ -10,13 +10,14 @@ use Rattle.hevc_spec.specs.Rows.{row, ue_row, when, either}
 use Rattle.hevc_records.specs.SliceHeader.{PlainSliceSegmentHeader}
 use Rattle.hevc_records.specs.Sps.{PlainSps}
 use Rattle.hevc_tables.specs.SliceHeaderTable.{lsb_bits, candidate_long_term_picture, other_long_term_picture, cycles_before, msb_cycles, long_term_picture}
-use Rattle.hevc_writing.specs.Filling.{EachFilling, SameBelow, WritesEither, WritesTurn}
-use Rattle.hevc_writing.proofs.Fillings.{weakened, beside}
-use Rattle.hevc_writing.proofs.RowRules.{ue_written, either_filled}
-use Rattle.hevc_writing.proofs.Steps.{then_filled, done_filled, filled, flag_fillable, bits_fillable, ue_fillable, when_fillable, when_filled, when_written, where_present, ue_table, flag_then, bits_then, bits_if_then}
-use Rattle.hevc_writing.proofs.Loops.{one_less, fewer_same}
+use Rattle.hevc_write_elements.specs.Filling.{EachFilling, SameBelow, WritesEither, WritesTurn}
+use Rattle.hevc_write_elements.proofs.Fillings.{weakened, beside}
+use Rattle.hevc_write_elements.proofs.RowRules.{ue_written, either_filled}
+use Rattle.hevc_write_elements.proofs.Steps.{then_filled, done_filled, filled, flag_fillable, bits_fillable, ue_fillable, when_fillable, when_filled, when_written, where_present, ue_table, flag_then, bits_then, bits_if_then}
+use Rattle.hevc_write_elements.proofs.Loops.{one_less, fewer_same}
 use Rattle.hevc_write_slice_header.specs.HeaderParts as own
 
+-- slice segment headers
 H : Type 0
 H = PlainSliceSegmentHeader
 
@@ -38,6 +39,7 @@ record PlaceTold (x y : PlainSliceSegmentHeader) (i : ℕ) (w old mid : List Boo
   cycles : h.delta_poc_msb_cycle_lt ≡ y.delta_poc_msb_cycle_lt
 
 module _ (sps : PlainSps) (x : PlainSliceSegmentHeader) (i : ℕ) where
+  -- which picture it is
   place_filled : (y : PlainSliceSegmentHeader) (w : List Bool) {old mid : List Bool} → WritesEither (nat_lt i x.num_long_term_sps) (own.WritesCandidate sps i x.lt_idx_sps) (own.WritesOther sps i x.poc_lsb_lt x.used_by_curr_pic_lt) old mid
       → EachFilling (either (nat_lt i y.num_long_term_sps) (candidate_long_term_picture sps i y) (other_long_term_picture sps i y)) w (PlaceTold x y i w old mid)
   unfolding candidate_long_term_picture other_long_term_picture
@@ -75,6 +77,7 @@ module _ (sps : PlainSps) (x : PlainSliceSegmentHeader) (i : ℕ) where
             cycles = refl;
           }))))
 
+  -- the cycles before a picture are those of the record
   same_before : (h : PlainSliceSegmentHeader) → h.num_long_term_sps ≡ x.num_long_term_sps → SameBelow i h.delta_poc_msb_cycle_lt x.delta_poc_msb_cycle_lt → cycles_before i h ≡ cycles_before i x
   same_before h counts same = by_test (i == 0) refl
     where
@@ -84,6 +87,7 @@ module _ (sps : PlainSps) (x : PlainSliceSegmentHeader) (i : ℕ) where
           let some : i - 1 < i = grind (arith, nat_tests, is) in
           ap (λ (n : ℕ). if i == n then 0 else get_or h.delta_poc_msb_cycle_lt (i - 1) 0) counts ∙ ap (λ (v : ℕ). if i == x.num_long_term_sps then 0 else v) (same.same (i - 1) 0 some)
 
+  -- cycles have 32 bits
   few_cycles : (c : Bool) (w : List Bool) → EachFilling (when c 0 (ue_row (row 14 20) 0 (2 ^ (32 - lsb_bits sps)))) w (λ v _. v < 2 ^ 32)
   few_cycles c w = when_filled (λ is. ue_written (row 14 20) {old = []} refl 0 (2 ^ (32 - lsb_bits sps)) {value = 0} (λ _. refl) (λ v within all h.
       let most : v ≤ 2 ^ (32 - lsb_bits sps) = grind (arith, nat_tests, within) in
@@ -91,6 +95,7 @@ module _ (sps : PlainSps) (x : PlainSliceSegmentHeader) (i : ℕ) where
       let low : 2 ^ (32 - lsb_bits sps) ≤ 2 ^ 28 = pow_mono few in
       omega (arith, most, low))) (λ is. omega arith)
 
+  -- the cycles of a picture
   cycles_filled : (h : PlainSliceSegmentHeader) (w : List Bool) {mid new : List Bool} → own.WritesCycles x i mid new
       → EachFilling (msb_cycles sps i h) w (λ z all. own.SameLongTerm x (i + 1) z → SamePlaces x (i + 1) h × SameBelow i h.delta_poc_msb_present_flag x.delta_poc_msb_present_flag × SameBelow i h.delta_poc_msb_cycle_lt x.delta_poc_msb_cycle_lt × (w ≡ mid → all ≡ new))
   unfolding msb_cycles
@@ -106,6 +111,7 @@ module _ (sps : PlainSps) (x : PlainSliceSegmentHeader) (i : ℕ) where
         λ at. h2.1 presence.1 (writes.is_own v2 h2.0 same) (h1 presence.1 at),
       )))))
 
+  -- one picture is written
   pub picture_written : {old mid new : List Bool} → WritesEither (nat_lt i x.num_long_term_sps) (own.WritesCandidate sps i x.lt_idx_sps) (own.WritesOther sps i x.poc_lsb_lt x.used_by_curr_pic_lt) old mid → own.WritesCycles x i mid new
       → WritesTurn (long_term_picture sps) (own.SameLongTerm x) i old new
   unfolding long_term_picture

@@ -13,76 +13,78 @@ use Rattle.hevc_tables.specs.SliceHeaderTable as table
 use Rattle.hevc_tables.specs.SliceHeaderTable.{ActiveSets, lsb_bits, cycles_before, short_term_flag, with_defaults}
 use Rattle.hevc_tables.specs.SliceTypes.{is_i}
 use Rattle.hevc_tables.specs.SpsTable.{highest_buffering}
-use Rattle.hevc_writing.specs.Filling.{SameBelow, WritesBits, WritesFlag, WritesIf, WritesUe}
+use Rattle.hevc_write_elements.specs.Filling.{SameBelow, WritesBits, WritesFlag, WritesIf, WritesUe}
 
 -- rows 1 to 3
-abbrev pub beginning : PlainSliceSegmentHeader → PlainSliceSegmentHeader → PlainSliceSegmentHeader
-beginning from x = record x {
+abbrev pub beginning_of : PlainSliceSegmentHeader → PlainSliceSegmentHeader
+    → PlainSliceSegmentHeader
+beginning_of from x = record x {
   first_slice_segment_in_pic_flag = from.first_slice_segment_in_pic_flag;
   no_output_of_prior_pics_flag = from.no_output_of_prior_pics_flag;
   pic_parameter_set_id = from.pic_parameter_set_id;
 }
 
 -- rows 4 and 5
-abbrev pub later_segment : PlainSliceSegmentHeader → PlainSliceSegmentHeader
+abbrev pub later_segment_of : PlainSliceSegmentHeader → PlainSliceSegmentHeader
     → PlainSliceSegmentHeader
-later_segment from x = record x {
+later_segment_of from x = record x {
   dependent_slice_segment_flag = from.dependent_slice_segment_flag;
   segment_address = from.segment_address;
 }
 
 -- rows 6 to 9
-abbrev pub kind : PlainSliceSegmentHeader → PlainSliceSegmentHeader → PlainSliceSegmentHeader
-kind from x = record x {
+abbrev pub kind_of : PlainSliceSegmentHeader → PlainSliceSegmentHeader → PlainSliceSegmentHeader
+kind_of from x = record x {
   type_ = from.type_;
   pic_output_flag = from.pic_output_flag;
   colour_plane_id = from.colour_plane_id;
 }
 
 -- rows 12 and 13
-abbrev pub short_term_elements : PlainSliceSegmentHeader → PlainSliceSegmentHeader
+abbrev pub short_term_set_elements_of : PlainSliceSegmentHeader → PlainSliceSegmentHeader
     → PlainSliceSegmentHeader
-short_term_elements from x = record x {
+short_term_set_elements_of from x = record x {
   short_term_ref_pic_set_idx = from.short_term_ref_pic_set_idx;
   short_term_ref_pic_set = from.short_term_ref_pic_set;
 }
 
--- rows 12 and 13
-abbrev pub short_term_sets : PlainSliceSegmentHeader → PlainSliceSegmentHeader
+-- rows 12 and 13, and which set is the current one
+abbrev pub short_term_sets_of : PlainSliceSegmentHeader → PlainSliceSegmentHeader
     → PlainSliceSegmentHeader
-short_term_sets from x = record x {
+short_term_sets_of from x = record x {
   short_term_ref_pic_set_idx = from.short_term_ref_pic_set_idx;
   curr_rps_idx = from.curr_rps_idx;
   short_term_ref_pic_set = from.short_term_ref_pic_set;
 }
 
 -- rows 10 to 13
-abbrev pub seen_by_short_term : PlainSliceSegmentHeader → PlainSliceSegmentHeader
+abbrev pub short_term_elements_of : PlainSliceSegmentHeader → PlainSliceSegmentHeader
     → PlainSliceSegmentHeader
-seen_by_short_term from x = record (short_term_elements from x) {
+short_term_elements_of from x = record (short_term_set_elements_of from x) {
   pic_order_cnt_lsb = from.pic_order_cnt_lsb;
   short_term_ref_pic_set_sps_flag = from.short_term_ref_pic_set_sps_flag;
 }
 
--- rows 10 to 13
-abbrev pub short_term : PlainSliceSegmentHeader → PlainSliceSegmentHeader → PlainSliceSegmentHeader
-short_term from x = record (short_term_sets from x) {
+-- rows 10 to 13, and which set is the current one
+abbrev pub short_term_of : PlainSliceSegmentHeader → PlainSliceSegmentHeader
+    → PlainSliceSegmentHeader
+short_term_of from x = record (short_term_sets_of from x) {
   pic_order_cnt_lsb = from.pic_order_cnt_lsb;
   short_term_ref_pic_set_sps_flag = from.short_term_ref_pic_set_sps_flag;
 }
 
 -- rows 14 and 15
-abbrev pub long_term_counts : PlainSliceSegmentHeader → PlainSliceSegmentHeader
+abbrev pub long_term_counts_of : PlainSliceSegmentHeader → PlainSliceSegmentHeader
     → PlainSliceSegmentHeader
-long_term_counts from x = record x {
+long_term_counts_of from x = record x {
   num_long_term_sps = from.num_long_term_sps;
   num_long_term_pics = from.num_long_term_pics;
 }
 
 -- rows 16 to 20
-abbrev pub long_term_pictures : PlainSliceSegmentHeader → PlainSliceSegmentHeader
+abbrev pub long_term_pictures_of : PlainSliceSegmentHeader → PlainSliceSegmentHeader
     → PlainSliceSegmentHeader
-long_term_pictures from x = record x {
+long_term_pictures_of from x = record x {
   lt_idx_sps = from.lt_idx_sps;
   poc_lsb_lt = from.poc_lsb_lt;
   used_by_curr_pic_lt = from.used_by_curr_pic_lt;
@@ -90,103 +92,108 @@ long_term_pictures from x = record x {
   delta_poc_msb_cycle_lt = from.delta_poc_msb_cycle_lt;
 }
 
--- rows 16 to 20, with what they go by
-abbrev pub seen_by_pictures : PlainSliceSegmentHeader → PlainSliceSegmentHeader
+-- rows 16 to 20, with rows 14 and 15, their number
+abbrev pub long_term_pictures_with_inputs_of : PlainSliceSegmentHeader → PlainSliceSegmentHeader
     → PlainSliceSegmentHeader
-seen_by_pictures from x = record (long_term_pictures from x) {
+long_term_pictures_with_inputs_of from x = record (long_term_pictures_of from x) {
   num_long_term_sps = from.num_long_term_sps;
   num_long_term_pics = from.num_long_term_pics;
 }
 
 -- rows 14 to 20
-abbrev pub long_term : PlainSliceSegmentHeader → PlainSliceSegmentHeader → PlainSliceSegmentHeader
-long_term from x = long_term_pictures from (long_term_counts from x)
+abbrev pub long_term_of : PlainSliceSegmentHeader → PlainSliceSegmentHeader
+    → PlainSliceSegmentHeader
+long_term_of from x = long_term_pictures_of from (long_term_counts_of from x)
 
 -- rows 10 to 21
-abbrev pub seen_by_reference_pictures : PlainSliceSegmentHeader → PlainSliceSegmentHeader
+abbrev pub reference_pictures_elements_of : PlainSliceSegmentHeader → PlainSliceSegmentHeader
     → PlainSliceSegmentHeader
-seen_by_reference_pictures from x = record (long_term from (seen_by_short_term from x)) {
+reference_pictures_elements_of from x = record (long_term_of from (short_term_elements_of from x)) {
   temporal_mvp_enabled_flag = from.temporal_mvp_enabled_flag;
 }
 
--- rows 10 to 21
-abbrev pub reference_pictures : PlainSliceSegmentHeader → PlainSliceSegmentHeader
+-- rows 10 to 21, and which short-term set is the current one
+abbrev pub reference_pictures_of : PlainSliceSegmentHeader → PlainSliceSegmentHeader
     → PlainSliceSegmentHeader
-reference_pictures from x = record (long_term from (short_term from x)) {
+reference_pictures_of from x = record (long_term_of from (short_term_of from x)) {
   temporal_mvp_enabled_flag = from.temporal_mvp_enabled_flag;
 }
 
 -- rows 22 and 23
-abbrev pub adaptive_offset : PlainSliceSegmentHeader → PlainSliceSegmentHeader
+abbrev pub adaptive_offset_of : PlainSliceSegmentHeader → PlainSliceSegmentHeader
     → PlainSliceSegmentHeader
-adaptive_offset from x = record x {
+adaptive_offset_of from x = record x {
   sao_luma_flag = from.sao_luma_flag;
   sao_chroma_flag = from.sao_chroma_flag;
 }
 
 -- rows 25 and 26
-abbrev pub own_active_counts : PlainSliceSegmentHeader → PlainSliceSegmentHeader
+abbrev pub own_active_counts_of : PlainSliceSegmentHeader → PlainSliceSegmentHeader
     → PlainSliceSegmentHeader
-own_active_counts from x = record x {
+own_active_counts_of from x = record x {
   num_ref_idx_l0_active_minus1 = from.num_ref_idx_l0_active_minus1;
   num_ref_idx_l1_active_minus1 = from.num_ref_idx_l1_active_minus1;
 }
 
--- rows 25 and 26, with what they go by
-abbrev pub seen_by_own_counts : PlainSliceSegmentHeader → PlainSliceSegmentHeader
+-- rows 25 and 26, with row 7, the type of the slice
+abbrev pub own_active_counts_with_inputs_of : PlainSliceSegmentHeader → PlainSliceSegmentHeader
     → PlainSliceSegmentHeader
-seen_by_own_counts from x = record (own_active_counts from x) { type_ = from.type_ }
+own_active_counts_with_inputs_of from x = record (own_active_counts_of from x) {
+  type_ = from.type_;
+}
 
 -- rows 24 to 26
-abbrev pub active_counts : PlainSliceSegmentHeader → PlainSliceSegmentHeader
+abbrev pub active_counts_of : PlainSliceSegmentHeader → PlainSliceSegmentHeader
     → PlainSliceSegmentHeader
-active_counts from x = record (own_active_counts from x) {
+active_counts_of from x = record (own_active_counts_of from x) {
   num_ref_idx_active_override_flag = from.num_ref_idx_active_override_flag;
 }
 
--- rows 24 to 26, with what they go by
-abbrev pub seen_by_counts : PlainSliceSegmentHeader → PlainSliceSegmentHeader
+-- rows 24 to 26, with row 7, the type of the slice
+abbrev pub active_counts_with_inputs_of : PlainSliceSegmentHeader → PlainSliceSegmentHeader
     → PlainSliceSegmentHeader
-seen_by_counts from x = record (active_counts from x) { type_ = from.type_ }
+active_counts_with_inputs_of from x = record (active_counts_of from x) { type_ = from.type_ }
 
 -- row 27
-abbrev pub list_modification : PlainSliceSegmentHeader → PlainSliceSegmentHeader
+abbrev pub list_modification_of : PlainSliceSegmentHeader → PlainSliceSegmentHeader
     → PlainSliceSegmentHeader
-list_modification from x = record x { ref_pic_list_modification = from.ref_pic_list_modification }
+list_modification_of from x = record x {
+  ref_pic_list_modification = from.ref_pic_list_modification;
+}
 
--- row 27, with what they go by
-abbrev pub seen_by_list_modification : PlainSliceSegmentHeader → PlainSliceSegmentHeader
+-- row 27, with row 7 and NumPicTotalCurr
+abbrev pub list_modification_with_inputs_of : PlainSliceSegmentHeader → PlainSliceSegmentHeader
     → PlainSliceSegmentHeader
-seen_by_list_modification from x = record (list_modification from x) {
+list_modification_with_inputs_of from x = record (list_modification_of from x) {
   type_ = from.type_;
   num_pic_total_curr = from.num_pic_total_curr;
 }
 
--- rows 24 to 27
-abbrev pub reference_lists : PlainSliceSegmentHeader → PlainSliceSegmentHeader
+-- rows 24 to 27, with NumPicTotalCurr
+abbrev pub reference_lists_of : PlainSliceSegmentHeader → PlainSliceSegmentHeader
     → PlainSliceSegmentHeader
-reference_lists from x = record (list_modification from (active_counts from x)) {
+reference_lists_of from x = record (list_modification_of from (active_counts_of from x)) {
   num_pic_total_curr = from.num_pic_total_curr;
 }
 
--- rows 24 to 27, with what they go by
-abbrev pub seen_by_lists : PlainSliceSegmentHeader → PlainSliceSegmentHeader
+-- rows 24 to 27, with NumPicTotalCurr and row 7
+abbrev pub reference_lists_with_inputs_of : PlainSliceSegmentHeader → PlainSliceSegmentHeader
     → PlainSliceSegmentHeader
-seen_by_lists from x = record (reference_lists from x) { type_ = from.type_ }
+reference_lists_with_inputs_of from x = record (reference_lists_of from x) { type_ = from.type_ }
 
 -- rows 28 to 31
-abbrev pub motion : PlainSliceSegmentHeader → PlainSliceSegmentHeader → PlainSliceSegmentHeader
-motion from x = record x {
+abbrev pub motion_of : PlainSliceSegmentHeader → PlainSliceSegmentHeader → PlainSliceSegmentHeader
+motion_of from x = record x {
   mvd_l1_zero_flag = from.mvd_l1_zero_flag;
   cabac_init_flag = from.cabac_init_flag;
   collocated_from_l0_flag = from.collocated_from_l0_flag;
   collocated_ref_idx = from.collocated_ref_idx;
 }
 
--- rows 28 to 31, with what they go by
-abbrev pub seen_by_motion : PlainSliceSegmentHeader → PlainSliceSegmentHeader
+-- rows 28 to 31, with rows 7, 21, 25 and 26
+abbrev pub motion_with_inputs_of : PlainSliceSegmentHeader → PlainSliceSegmentHeader
     → PlainSliceSegmentHeader
-seen_by_motion from x = record (motion from x) {
+motion_with_inputs_of from x = record (motion_of from x) {
   type_ = from.type_;
   temporal_mvp_enabled_flag = from.temporal_mvp_enabled_flag;
   num_ref_idx_l0_active_minus1 = from.num_ref_idx_l0_active_minus1;
@@ -194,150 +201,153 @@ seen_by_motion from x = record (motion from x) {
 }
 
 -- rows 32 to 34
-abbrev pub weights : PlainSliceSegmentHeader → PlainSliceSegmentHeader → PlainSliceSegmentHeader
-weights from x = record x {
+abbrev pub weights_of : PlainSliceSegmentHeader → PlainSliceSegmentHeader → PlainSliceSegmentHeader
+weights_of from x = record x {
   pred_weight_table = from.pred_weight_table;
   five_minus_max_num_merge_cand = from.five_minus_max_num_merge_cand;
   use_integer_mv_flag = from.use_integer_mv_flag;
 }
 
--- rows 32 to 34, with what they go by
-abbrev pub seen_by_weights : PlainSliceSegmentHeader → PlainSliceSegmentHeader
+-- rows 32 to 34, with rows 7, 25 and 26
+abbrev pub weights_with_inputs_of : PlainSliceSegmentHeader → PlainSliceSegmentHeader
     → PlainSliceSegmentHeader
-seen_by_weights from x = record (weights from x) {
+weights_with_inputs_of from x = record (weights_of from x) {
   type_ = from.type_;
   num_ref_idx_l0_active_minus1 = from.num_ref_idx_l0_active_minus1;
   num_ref_idx_l1_active_minus1 = from.num_ref_idx_l1_active_minus1;
 }
 
 -- rows 24 to 34
-abbrev pub prediction : PlainSliceSegmentHeader → PlainSliceSegmentHeader → PlainSliceSegmentHeader
-prediction from x = weights from (motion from (reference_lists from x))
-
--- rows 24 to 34, with what they go by
-abbrev pub seen_by_prediction : PlainSliceSegmentHeader → PlainSliceSegmentHeader
+abbrev pub prediction_of : PlainSliceSegmentHeader → PlainSliceSegmentHeader
     → PlainSliceSegmentHeader
-seen_by_prediction from x = record (prediction from x) {
+prediction_of from x = weights_of from (motion_of from (reference_lists_of from x))
+
+-- rows 24 to 34, with rows 7 and 21
+abbrev pub prediction_with_inputs_of : PlainSliceSegmentHeader → PlainSliceSegmentHeader
+    → PlainSliceSegmentHeader
+prediction_with_inputs_of from x = record (prediction_of from x) {
   type_ = from.type_;
   temporal_mvp_enabled_flag = from.temporal_mvp_enabled_flag;
 }
 
 -- rows 37 to 40
-abbrev pub chroma_offsets : PlainSliceSegmentHeader → PlainSliceSegmentHeader
+abbrev pub chroma_offsets_of : PlainSliceSegmentHeader → PlainSliceSegmentHeader
     → PlainSliceSegmentHeader
-chroma_offsets from x = record x {
+chroma_offsets_of from x = record x {
   cb_qp_offset = from.cb_qp_offset;
   cr_qp_offset = from.cr_qp_offset;
 }
 
 -- row 41
-abbrev pub colour_transform_offsets : PlainSliceSegmentHeader → PlainSliceSegmentHeader
+abbrev pub colour_transform_offsets_of : PlainSliceSegmentHeader → PlainSliceSegmentHeader
     → PlainSliceSegmentHeader
-colour_transform_offsets from x = record x {
+colour_transform_offsets_of from x = record x {
   slice_act_y_qp_offset = from.slice_act_y_qp_offset;
   slice_act_cb_qp_offset = from.slice_act_cb_qp_offset;
   slice_act_cr_qp_offset = from.slice_act_cr_qp_offset;
 }
 
 -- rows 35 to 40
-abbrev pub quantiser : PlainSliceSegmentHeader → PlainSliceSegmentHeader → PlainSliceSegmentHeader
-quantiser from x = record (chroma_offsets from x) { qp_delta = from.qp_delta }
+abbrev pub quantiser_of : PlainSliceSegmentHeader → PlainSliceSegmentHeader
+    → PlainSliceSegmentHeader
+quantiser_of from x = record (chroma_offsets_of from x) { qp_delta = from.qp_delta }
 
 -- rows 41 and 42
-abbrev pub extension_offsets : PlainSliceSegmentHeader → PlainSliceSegmentHeader
+abbrev pub extension_offsets_of : PlainSliceSegmentHeader → PlainSliceSegmentHeader
     → PlainSliceSegmentHeader
-extension_offsets from x = record (colour_transform_offsets from x) {
+extension_offsets_of from x = record (colour_transform_offsets_of from x) {
   cu_chroma_qp_offset_enabled_flag = from.cu_chroma_qp_offset_enabled_flag;
 }
 
 -- rows 35 to 42
-abbrev pub quantisers : PlainSliceSegmentHeader → PlainSliceSegmentHeader → PlainSliceSegmentHeader
-quantisers from x = extension_offsets from (quantiser from x)
+abbrev pub quantisers_of : PlainSliceSegmentHeader → PlainSliceSegmentHeader
+    → PlainSliceSegmentHeader
+quantisers_of from x = extension_offsets_of from (quantiser_of from x)
 
 -- rows 45 and 46
-abbrev pub filter_offsets : PlainSliceSegmentHeader → PlainSliceSegmentHeader
+abbrev pub filter_offsets_of : PlainSliceSegmentHeader → PlainSliceSegmentHeader
     → PlainSliceSegmentHeader
-filter_offsets from x = record x {
+filter_offsets_of from x = record x {
   beta_offset_div2 = from.beta_offset_div2;
   tc_offset_div2 = from.tc_offset_div2;
 }
 
 -- rows 44 to 46
-abbrev pub own_deblocking : PlainSliceSegmentHeader → PlainSliceSegmentHeader
+abbrev pub own_deblocking_of : PlainSliceSegmentHeader → PlainSliceSegmentHeader
     → PlainSliceSegmentHeader
-own_deblocking from x = record (filter_offsets from x) {
+own_deblocking_of from x = record (filter_offsets_of from x) {
   deblocking_filter_disabled_flag = from.deblocking_filter_disabled_flag;
 }
 
 -- row 47
-abbrev pub across_slices : PlainSliceSegmentHeader → PlainSliceSegmentHeader
+abbrev pub across_slices_of : PlainSliceSegmentHeader → PlainSliceSegmentHeader
     → PlainSliceSegmentHeader
-across_slices from x = record x {
+across_slices_of from x = record x {
   loop_filter_across_slices_enabled_flag = from.loop_filter_across_slices_enabled_flag;
 }
 
--- row 47, with what they go by
-abbrev pub seen_by_across_slices : PlainSliceSegmentHeader → PlainSliceSegmentHeader
+-- row 47, with rows 22, 23 and 44
+abbrev pub across_slices_with_inputs_of : PlainSliceSegmentHeader → PlainSliceSegmentHeader
     → PlainSliceSegmentHeader
-seen_by_across_slices from x = record (across_slices from x) {
+across_slices_with_inputs_of from x = record (across_slices_of from x) {
   sao_luma_flag = from.sao_luma_flag;
   sao_chroma_flag = from.sao_chroma_flag;
   deblocking_filter_disabled_flag = from.deblocking_filter_disabled_flag;
 }
 
 -- rows 43 to 47
-abbrev pub filters : PlainSliceSegmentHeader → PlainSliceSegmentHeader → PlainSliceSegmentHeader
-filters from x = record (across_slices from (own_deblocking from x)) {
+abbrev pub filters_of : PlainSliceSegmentHeader → PlainSliceSegmentHeader → PlainSliceSegmentHeader
+filters_of from x = record (across_slices_of from (own_deblocking_of from x)) {
   deblocking_filter_override_flag = from.deblocking_filter_override_flag;
 }
 
--- rows 43 to 47, with what they go by
-abbrev pub seen_by_filters : PlainSliceSegmentHeader → PlainSliceSegmentHeader
+-- rows 43 to 47, with rows 22 and 23
+abbrev pub filters_with_inputs_of : PlainSliceSegmentHeader → PlainSliceSegmentHeader
     → PlainSliceSegmentHeader
-seen_by_filters from x = record (filters from x) {
+filters_with_inputs_of from x = record (filters_of from x) {
   sao_luma_flag = from.sao_luma_flag;
   sao_chroma_flag = from.sao_chroma_flag;
 }
 
 -- rows 6 to 47
-abbrev pub seen_by_independent_segment : PlainSliceSegmentHeader → PlainSliceSegmentHeader
+abbrev pub independent_segment_elements_of : PlainSliceSegmentHeader → PlainSliceSegmentHeader
     → PlainSliceSegmentHeader
-seen_by_independent_segment from x = filters from (quantisers from (prediction from
-    (adaptive_offset from (seen_by_reference_pictures from (kind from x)))))
+independent_segment_elements_of from x = filters_of from (quantisers_of from (prediction_of from
+    (adaptive_offset_of from (reference_pictures_elements_of from (kind_of from x)))))
 
--- rows 6 to 47
-abbrev pub independent_segment : PlainSliceSegmentHeader → PlainSliceSegmentHeader
+-- rows 6 to 47, and which short-term set is the current one
+abbrev pub independent_segment_of : PlainSliceSegmentHeader → PlainSliceSegmentHeader
     → PlainSliceSegmentHeader
-independent_segment from x = filters from (quantisers from (prediction from
-    (adaptive_offset from (reference_pictures from (kind from x)))))
+independent_segment_of from x = filters_of from (quantisers_of from (prediction_of from
+    (adaptive_offset_of from (reference_pictures_of from (kind_of from x)))))
 
 -- rows 49 and 50
-abbrev pub entry_point_offsets : PlainSliceSegmentHeader → PlainSliceSegmentHeader
+abbrev pub entry_point_offsets_of : PlainSliceSegmentHeader → PlainSliceSegmentHeader
     → PlainSliceSegmentHeader
-entry_point_offsets from x = record x {
+entry_point_offsets_of from x = record x {
   offset_len_minus1 = from.offset_len_minus1;
   entry_point_offset_minus1 = from.entry_point_offset_minus1;
 }
 
 -- rows 48 to 50
-abbrev pub parallel_parts : PlainSliceSegmentHeader → PlainSliceSegmentHeader
+abbrev pub parallel_parts_of : PlainSliceSegmentHeader → PlainSliceSegmentHeader
     → PlainSliceSegmentHeader
-parallel_parts from x = record (entry_point_offsets from x) {
+parallel_parts_of from x = record (entry_point_offsets_of from x) {
   num_entry_point_offsets = from.num_entry_point_offsets;
 }
 
 -- rows 51 and 52
-abbrev pub header_extension : PlainSliceSegmentHeader → PlainSliceSegmentHeader
+abbrev pub header_extension_of : PlainSliceSegmentHeader → PlainSliceSegmentHeader
     → PlainSliceSegmentHeader
-header_extension from x = x
+header_extension_of from x = x
 
 -- rows 48 to 52
-abbrev pub ending : PlainSliceSegmentHeader → PlainSliceSegmentHeader → PlainSliceSegmentHeader
-ending from x = parallel_parts from x
+abbrev pub ending_of : PlainSliceSegmentHeader → PlainSliceSegmentHeader → PlainSliceSegmentHeader
+ending_of from x = parallel_parts_of from x
 
 -- what the sets infer (7.4.7.1)
-abbrev pub inferred : PlainSliceSegmentHeader → PlainSliceSegmentHeader → PlainSliceSegmentHeader
-inferred from x = record x {
+abbrev pub inferred_of : PlainSliceSegmentHeader → PlainSliceSegmentHeader → PlainSliceSegmentHeader
+inferred_of from x = record x {
   deblocking_filter_disabled_flag = from.deblocking_filter_disabled_flag;
   beta_offset_div2 = from.beta_offset_div2;
   tc_offset_div2 = from.tc_offset_div2;
@@ -347,14 +357,15 @@ inferred from x = record x {
 }
 
 -- rows 4 to 52, and what the sets infer
-abbrev pub header : PlainSliceSegmentHeader → PlainSliceSegmentHeader → PlainSliceSegmentHeader
-header from x = ending from (independent_segment from (later_segment from (inferred from x)))
+abbrev pub header_of : PlainSliceSegmentHeader → PlainSliceSegmentHeader → PlainSliceSegmentHeader
+header_of from x =
+    ending_of from (independent_segment_of from (later_segment_of from (inferred_of from x)))
 
--- rows 4 to 52, with what they go by
-abbrev pub seen_by_header : PlainSliceSegmentHeader → PlainSliceSegmentHeader
+-- rows 4 to 52, with row 1
+abbrev pub header_with_inputs_of : PlainSliceSegmentHeader → PlainSliceSegmentHeader
     → PlainSliceSegmentHeader
-seen_by_header from x =
-    record (ending from (seen_by_independent_segment from (later_segment from x))) {
+header_with_inputs_of from x =
+    record (ending_of from (independent_segment_elements_of from (later_segment_of from x))) {
       first_slice_segment_in_pic_flag = from.first_slice_segment_in_pic_flag;
     }
 

@@ -5,13 +5,13 @@ ghost use Rattle.hevc_sequence_set.specs.Sps.{plain_sps};
 ghost use Rattle.hevc_picture_slice.specs.Pps.{plain_pps};
 ghost use Rattle.hevc_picture_slice.specs.SliceHeader.{plain_slice_header};
 ghost use Rattle.hevc_write_slice_header.specs.HeaderParts as own;
-ghost use Rattle.hevc_writing.specs.Filling.{Writes, WritesIf, WritesTable};
+ghost use Rattle.hevc_write_elements.specs.Filling.{Writes, WritesIf, WritesTable};
 
 use crate::rows::has_parallel_parts;
 use hevc_bit_writer::BitWriter;
 use hevc_picture_slice::{Pps, SliceHeader};
 use hevc_sequence_set::Sps;
-use hevc_writing::rows::{bits, ue, ue_u8};
+use hevc_write_elements::rows::{bits, ue, ue_u8};
 use std::alloc::AllocError;
 
 /// Rows 48 to 52 of table 14.
@@ -22,7 +22,7 @@ pub(crate) fn write_ending(
     x: &SliceHeader,
 ) -> Result<(), AllocError>
     ensures { OnOk result (Writes (table.ending (plain_sps sps.now) (plain_pps pps.now))
-        own.ending (plain_slice_header x.now) w.old w.new) }
+        own.ending_of (plain_slice_header x.now) w.old w.new) }
 {
     write_parallel_parts_if(w, has_parallel_parts(pps), sps, pps, x)?;
     write_header_extension_if(w, pps.slice_segment_header_extension_present_flag, x)?;
@@ -39,26 +39,12 @@ fn write_parallel_parts_if(
 ) -> Result<(), AllocError>
     ensures { OnOk result (WritesIf present
         (Writes (table.parallel_parts (plain_sps sps.now) (plain_pps pps.now))
-        own.parallel_parts (plain_slice_header x.now)) w.old w.new) }
+        own.parallel_parts_of (plain_slice_header x.now)) w.old w.new) }
 {
-    if present {
-        write_parallel_parts(w, sps, pps, x)
-    } else {
-        Ok(())
+    if !present {
+        return Ok(());
     }
-}
-
-/// Rows 48 to 50 of table 14.
-fn write_parallel_parts(
-    w: &mut BitWriter,
-    sps: &Sps,
-    pps: &Pps,
-    x: &SliceHeader,
-) -> Result<(), AllocError>
-    ensures { OnOk result (Writes (table.parallel_parts (plain_sps sps.now) (plain_pps pps.now))
-        own.parallel_parts (plain_slice_header x.now) w.old w.new) }
-{
-    ue(w, x.num_entry_point_offsets)?;
+    ue(w, x.num_entry_point_offsets)?; // Row(14, 48)
     write_entry_point_offsets_if(w, x.num_entry_point_offsets != 0, x)?;
     Ok(())
 }
@@ -71,21 +57,12 @@ fn write_entry_point_offsets_if(
 ) -> Result<(), AllocError>
     ensures { OnOk result (WritesIf present
         (Writes table.entry_point_offsets
-        own.entry_point_offsets (plain_slice_header x.now)) w.old w.new) }
+        own.entry_point_offsets_of (plain_slice_header x.now)) w.old w.new) }
 {
-    if present {
-        write_entry_point_offsets(w, x)
-    } else {
-        Ok(())
+    if !present {
+        return Ok(());
     }
-}
-
-/// Rows 49 and 50 of table 14.
-fn write_entry_point_offsets(w: &mut BitWriter, x: &SliceHeader) -> Result<(), AllocError>
-    ensures { OnOk result (Writes table.entry_point_offsets
-        own.entry_point_offsets (plain_slice_header x.now) w.old w.new) }
-{
-    ue_u8(w, x.offset_len_minus1)?;
+    ue_u8(w, x.offset_len_minus1)?; // Row(14, 49)
     write_entry_points(
         w,
         offset_len_minus1(x),
@@ -102,21 +79,12 @@ fn write_header_extension_if(
 ) -> Result<(), AllocError>
     ensures { OnOk result (WritesIf present
         (Writes table.header_extension
-        own.header_extension (plain_slice_header x.now)) w.old w.new) }
+        own.header_extension_of (plain_slice_header x.now)) w.old w.new) }
 {
-    if present {
-        write_header_extension(w, x)
-    } else {
-        Ok(())
+    if !present {
+        return Ok(());
     }
-}
-
-/// Rows 51 and 52 of table 14: no extension.
-fn write_header_extension(w: &mut BitWriter, x: &SliceHeader) -> Result<(), AllocError>
-    ensures { OnOk result (Writes table.header_extension
-        own.header_extension (plain_slice_header x.now) w.old w.new) }
-{
-    ue(w, 0)?;
+    ue(w, 0)?; // Row(14, 51): no byte of Row(14, 52) follows
     Ok(())
 }
 
@@ -140,7 +108,7 @@ fn write_entry_points(
 {
     let num_bits = u32::from(num_bits_minus1) + 1;
     for i in 0..offsets.len() {
-        bits(w, num_bits, offsets[i])?;
+        bits(w, num_bits, offsets[i])?; // Row(14, 50)
     }
     Ok(())
 }

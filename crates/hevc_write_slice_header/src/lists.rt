@@ -5,14 +5,14 @@ ghost use Rattle.hevc_sequence_set.specs.Sps.{plain_sps};
 ghost use Rattle.hevc_picture_slice.specs.Pps.{plain_pps};
 ghost use Rattle.hevc_picture_slice.specs.SliceHeader.{plain_slice_header};
 ghost use Rattle.hevc_write_slice_header.specs.HeaderParts as own;
-ghost use Rattle.hevc_writing.specs.Filling.{Writes, WritesIf};
+ghost use Rattle.hevc_write_elements.specs.Filling.{Writes, WritesIf};
 
 use crate::rows::{has_list_modification, is_b};
 use hevc_bit_writer::BitWriter;
 use hevc_picture_slice::{Pps, SliceHeader};
 use hevc_sequence_set::Sps;
-use hevc_write_slices::write_ref_pic_list_modification;
-use hevc_writing::rows::{flag, ue_u8, ue_u8_if};
+use hevc_write_elements::rows::{flag, ue_u8, ue_u8_if};
+use hevc_write_slice_parts::write_ref_pic_list_modification;
 use std::alloc::AllocError;
 
 /// Rows 24 to 27 of table 14.
@@ -23,7 +23,7 @@ pub(crate) fn write_reference_lists(
     x: &SliceHeader,
 ) -> Result<(), AllocError>
     ensures { OnOk result (Writes (table.reference_lists (plain_sps sps.now) (plain_pps pps.now))
-        own.seen_by_lists (plain_slice_header x.now) w.old w.new) }
+        own.reference_lists_with_inputs_of (plain_slice_header x.now) w.old w.new) }
 {
     write_active_counts(w, pps, x)?;
     write_list_modification_if(w, has_list_modification(pps, x), x)?;
@@ -33,9 +33,9 @@ pub(crate) fn write_reference_lists(
 /// Rows 24 to 26 of table 14.
 fn write_active_counts(w: &mut BitWriter, pps: &Pps, x: &SliceHeader) -> Result<(), AllocError>
     ensures { OnOk result (Writes (table.active_counts (plain_pps pps.now))
-        own.seen_by_counts (plain_slice_header x.now) w.old w.new) }
+        own.active_counts_with_inputs_of (plain_slice_header x.now) w.old w.new) }
 {
-    flag(w, x.num_ref_idx_active_override_flag)?;
+    flag(w, x.num_ref_idx_active_override_flag)?; // Row(14, 24)
     write_own_active_counts_if(w, x.num_ref_idx_active_override_flag, x)?;
     Ok(())
 }
@@ -48,22 +48,13 @@ fn write_own_active_counts_if(
 ) -> Result<(), AllocError>
     ensures { OnOk result (WritesIf present
         (Writes table.own_active_counts
-        own.seen_by_own_counts (plain_slice_header x.now)) w.old w.new) }
+        own.own_active_counts_with_inputs_of (plain_slice_header x.now)) w.old w.new) }
 {
-    if present {
-        write_own_active_counts(w, x)
-    } else {
-        Ok(())
+    if !present {
+        return Ok(());
     }
-}
-
-/// Rows 25 and 26 of table 14.
-fn write_own_active_counts(w: &mut BitWriter, x: &SliceHeader) -> Result<(), AllocError>
-    ensures { OnOk result (Writes table.own_active_counts
-        own.seen_by_own_counts (plain_slice_header x.now) w.old w.new) }
-{
-    ue_u8(w, x.num_ref_idx_l0_active_minus1)?;
-    ue_u8_if(w, is_b(x), x.num_ref_idx_l1_active_minus1)?;
+    ue_u8(w, x.num_ref_idx_l0_active_minus1)?; // Row(14, 25)
+    ue_u8_if(w, is_b(x), x.num_ref_idx_l1_active_minus1)?; // Row(14, 26)
     Ok(())
 }
 
@@ -75,25 +66,16 @@ fn write_list_modification_if(
 ) -> Result<(), AllocError>
     ensures { OnOk result (WritesIf present
         (Writes table.list_modification
-        own.seen_by_list_modification (plain_slice_header x.now)) w.old w.new) }
+        own.list_modification_with_inputs_of (plain_slice_header x.now)) w.old w.new) }
 {
-    if present {
-        write_list_modification(w, x)
-    } else {
-        Ok(())
+    if !present {
+        return Ok(());
     }
-}
-
-/// Row 27 of table 14.
-fn write_list_modification(w: &mut BitWriter, x: &SliceHeader) -> Result<(), AllocError>
-    ensures { OnOk result (Writes table.list_modification
-        own.seen_by_list_modification (plain_slice_header x.now) w.old w.new) }
-{
     write_ref_pic_list_modification(
         w,
         is_b(x),
         x.num_pic_total_curr,
         &x.ref_pic_list_modification,
-    )?;
+    )?; // Row(14, 27)
     Ok(())
 }

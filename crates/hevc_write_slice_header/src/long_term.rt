@@ -4,13 +4,13 @@ ghost use Rattle.hevc_tables.specs.SliceHeaderTable as table;
 ghost use Rattle.hevc_sequence_set.specs.Sps.{plain_sps};
 ghost use Rattle.hevc_picture_slice.specs.SliceHeader.{plain_slice_header};
 ghost use Rattle.hevc_write_slice_header.specs.HeaderParts as own;
-ghost use Rattle.hevc_writing.specs.Filling.{Writes, WritesEither, WritesFlag, WritesIf, WritesTurn};
+ghost use Rattle.hevc_write_elements.specs.Filling.{Writes, WritesEither, WritesFlag, WritesIf, WritesTurn};
 
 use crate::rows::{index_if, order_count_bits};
 use hevc_bit_writer::BitWriter;
 use hevc_picture_slice::SliceHeader;
 use hevc_sequence_set::Sps;
-use hevc_writing::rows::{flag, ue_if, ue_u8, ue_u8_if};
+use hevc_write_elements::rows::{flag, ue_if, ue_u8, ue_u8_if};
 use std::alloc::AllocError;
 
 /// Rows 14 to 20 of table 14, where they are present.
@@ -22,24 +22,11 @@ pub(crate) fn write_long_term_if(
 ) -> Result<(), AllocError>
     ensures { OnOk result (WritesIf present
         (Writes (table.long_term (plain_sps sps.now))
-        own.long_term (plain_slice_header x.now)) w.old w.new) }
+        own.long_term_of (plain_slice_header x.now)) w.old w.new) }
 {
-    if present {
-        write_long_term(w, sps, x)
-    } else {
-        Ok(())
+    if !present {
+        return Ok(());
     }
-}
-
-/// Rows 14 to 20 of table 14.
-pub(crate) fn write_long_term(
-    w: &mut BitWriter,
-    sps: &Sps,
-    x: &SliceHeader,
-) -> Result<(), AllocError>
-    ensures { OnOk result (Writes (table.long_term (plain_sps sps.now))
-        own.long_term (plain_slice_header x.now) w.old w.new) }
-{
     write_long_term_counts(w, sps, x)?;
     write_long_term_pictures(w, sps, x)?;
     Ok(())
@@ -48,17 +35,17 @@ pub(crate) fn write_long_term(
 /// Rows 14 and 15 of table 14.
 fn write_long_term_counts(w: &mut BitWriter, sps: &Sps, x: &SliceHeader) -> Result<(), AllocError>
     ensures { OnOk result (Writes (table.long_term_counts (plain_sps sps.now))
-        own.long_term_counts (plain_slice_header x.now) w.old w.new) }
+        own.long_term_counts_of (plain_slice_header x.now) w.old w.new) }
 {
-    ue_u8_if(w, sps.num_long_term_ref_pics_sps != 0, x.num_long_term_sps)?;
-    ue_u8(w, x.num_long_term_pics)?;
+    ue_u8_if(w, sps.num_long_term_ref_pics_sps != 0, x.num_long_term_sps)?; // Row(14, 14)
+    ue_u8(w, x.num_long_term_pics)?; // Row(14, 15)
     Ok(())
 }
 
 /// Rows 16 to 20 of table 14, for each picture.
 fn write_long_term_pictures(w: &mut BitWriter, sps: &Sps, x: &SliceHeader) -> Result<(), AllocError>
     ensures { OnOk result (Writes (table.long_term_pictures (plain_sps sps.now))
-        own.seen_by_pictures (plain_slice_header x.now) w.old w.new) }
+        own.long_term_pictures_with_inputs_of (plain_slice_header x.now) w.old w.new) }
 {
     for i in 0..usize::from(x.num_long_term_sps) + usize::from(x.num_long_term_pics) {
         write_long_term_picture(w, sps, i, x)?;
@@ -108,7 +95,7 @@ fn write_candidate(
     ensures { OnOk result
         (own.WritesCandidate (plain_sps sps.now) i indices.now w.old w.new) }
 {
-    index_if(w, sps.num_long_term_ref_pics_sps, indices[i])?;
+    index_if(w, sps.num_long_term_ref_pics_sps, indices[i])?; // Row(14, 16)
     Ok(())
 }
 
@@ -124,8 +111,8 @@ fn write_other(
     ensures { OnOk result
         (own.WritesOther (plain_sps sps.now) i lsbs.now used.now w.old w.new) }
 {
-    order_count_bits(w, sps, lsbs[i])?;
-    flag(w, used[i])?;
+    order_count_bits(w, sps, lsbs[i])?; // Row(14, 17)
+    flag(w, used[i])?; // Row(14, 18)
     Ok(())
 }
 
@@ -136,8 +123,8 @@ fn write_cycles(w: &mut BitWriter, i: usize, x: &SliceHeader) -> Result<(), Allo
 {
     let cycles = own_cycles(i, x.num_long_term_sps, &x.delta_poc_msb_cycle_lt);
     let present = presence(i, &x.delta_poc_msb_present_flag);
-    flag(w, present)?;
-    ue_if(w, present, cycles)?;
+    flag(w, present)?; // Row(14, 19)
+    ue_if(w, present, cycles)?; // Row(14, 20)
     Ok(())
 }
 

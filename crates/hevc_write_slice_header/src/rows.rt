@@ -8,14 +8,14 @@ ghost use Rattle.hevc_set_parts.specs.SliceType.{slice_type_number};
 ghost use Rattle.hevc_sequence_set.specs.Sps.{plain_sps};
 ghost use Rattle.hevc_picture_slice.specs.Pps.{plain_pps};
 ghost use Rattle.hevc_picture_slice.specs.SliceHeader.{plain_slice_header};
-ghost use Rattle.hevc_writing.specs.Filling.{WritesBits, WritesIf, WritesUe, WritesZeros};
+ghost use Rattle.hevc_write_elements.specs.Filling.{WritesBits, WritesIf, WritesUe, WritesZeros};
 
 use hevc_bit_writer::BitWriter;
 use hevc_picture_slice::{Pps, SliceHeader};
 use hevc_sequence_set::Sps;
 use hevc_set_parts::SliceType;
 use hevc_slice_parts::ceil_log2;
-use hevc_writing::rows::{bits, ue, zeros};
+use hevc_write_elements::rows::{bits, ue, zeros};
 use std::alloc::AllocError;
 
 /// Writes so many zeros.

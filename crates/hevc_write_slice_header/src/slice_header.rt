@@ -9,7 +9,7 @@ ghost use Rattle.hevc_picture_slice.specs.Pps.{plain_pps};
 ghost use Rattle.hevc_picture_slice.specs.SliceHeader.{plain_slice_header};
 ghost use Rattle.hevc_write_slice_header.specs.HeaderParts as own;
 ghost use Rattle.hevc_write_units.specs.Slices.{WritesSized};
-ghost use Rattle.hevc_writing.specs.Filling.{Writes, WritesIf};
+ghost use Rattle.hevc_write_elements.specs.Filling.{Writes, WritesIf};
 
 use crate::ending::write_ending;
 use crate::segment::{write_beginning, write_independent_segment_if, write_later_segment_if};
@@ -50,7 +50,7 @@ fn write_header_rows(
 ) -> Result<(), AllocError>
     ensures { OnOk result (Writes
         (own.header_rows (nalu_type_number nalu_type) (plain_sps sps.now) (plain_pps pps.now))
-        own.seen_by_header (plain_slice_header x.now) w.old w.new) }
+        own.header_with_inputs_of (plain_slice_header x.now) w.old w.new) }
 {
     write_later_segment_if(w, !x.first_slice_segment_in_pic_flag, sps, pps, x)?;
     write_independent_segment_if(w, !x.dependent_slice_segment_flag, nalu_type, sps, pps, x)?;

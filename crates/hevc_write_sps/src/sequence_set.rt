@@ -3,7 +3,7 @@ ghost use Rattle.std.specs.Prelude.{OnOk};
 ghost use Rattle.hevc_tables.specs.SpsTable as table;
 ghost use Rattle.hevc_sequence_set.specs.Sps.{plain_sps};
 ghost use Rattle.hevc_write_sps.specs.SpsParts as own;
-ghost use Rattle.hevc_writing.specs.Filling.{Writes, WritesTable};
+ghost use Rattle.hevc_write_elements.specs.Filling.{Writes, WritesTable};
 
 use crate::coding::{write_scaling, write_tools, write_usability};
 use crate::extensions::write_extensions;
@@ -27,7 +27,7 @@ pub fn write_sps(w: &mut BitWriter, x: &Sps) -> Result<(), AllocError>
 /// Rows 1 to 24 of table 5: the format of pictures.
 fn write_format(w: &mut BitWriter, x: &Sps) -> Result<(), AllocError>
     ensures { OnOk result (Writes table.format
-        own.format_elements (plain_sps x.now) w.old w.new) }
+        own.format_elements_of (plain_sps x.now) w.old w.new) }
 {
     write_identity(w, x)?;
     write_framing(w, x)?;
@@ -40,7 +40,7 @@ fn write_format(w: &mut BitWriter, x: &Sps) -> Result<(), AllocError>
 /// Rows 25 to 50 of table 5: how pictures are coded.
 fn write_coding(w: &mut BitWriter, x: &Sps) -> Result<(), AllocError>
     ensures { OnOk result (Writes table.coding
-        own.seen_by_coding (plain_sps x.now) w.old w.new) }
+        own.coding_with_inputs_of (plain_sps x.now) w.old w.new) }
 {
     write_scaling(w, x)?;
     write_tools(w, x)?;

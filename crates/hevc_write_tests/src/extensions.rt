@@ -4,7 +4,7 @@ use crate::written::assert_written;
 use hevc_bit_writer::BitWriter;
 use hevc_sequence_set::{Sps, SpsRangeExtension, SpsSccExtension};
 use hevc_set_parts::{PpsRangeExtension, PpsSccExtension};
-use hevc_write_sets::{
+use hevc_write_extensions::{
     write_pps_range_extension, write_pps_scc_extension, write_sps_range_extension,
     write_sps_scc_extension,
 };

@@ -5,7 +5,7 @@ use hevc_bit_writer::BitWriter;
 use hevc_elements::ElementReader;
 use hevc_readers::{read_hrd_parameters, read_profile_tier_level, read_vui_parameters};
 use hevc_video_set::{HrdParams, VuiParams};
-use hevc_write_parts::{write_hrd_parameters, write_profile_tier_level, write_vui_parameters};
+use hevc_write_set_parts::{write_hrd_parameters, write_profile_tier_level, write_vui_parameters};
 
 /// Usability with every group of elements, and a one after its last bit.
 const USABILITY: &[u8] = &[

@@ -5,7 +5,7 @@ use hevc_bit_writer::BitWriter;
 use hevc_elements::ElementReader;
 use hevc_slice_parts::read_ref_pic_list_modification;
 use hevc_video_set::PredWeightTable;
-use hevc_write_slices::{write_pred_weight_table, write_ref_pic_list_modification};
+use hevc_write_slice_parts::{write_pred_weight_table, write_ref_pic_list_modification};
 
 /// Of five pictures: 1 | 100 000 | 1 | 011, and 1 0 .. 0.
 const BOTH_LISTS: &[u8] = &[0xc1, 0x70];

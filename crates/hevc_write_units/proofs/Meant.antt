@@ -35,13 +35,16 @@ read_payload t x bytes lines body has good e =
     let rest = trailing_bits (length (joined lines)) ++ bits_of body in
     ap (read t) (bits_are bytes (joined lines) body e) ∙ read_lines t x lines rest has good
 
+-- a set is not in a unit that ends a sequence or the stream
 pub no_end : {A : Type 0} (n : ℕ) (t : Table A) (set : A) (header : UnitHeader) (lines : List Line) → is_end n ≡ false → SetLines n t set header lines → is_end header.nal_unit_type ≡ false
 no_end n t set header lines other has = rw has.typed other
 
+-- lines of a video set mean it
 pub video_set_meant : (set : PlainVps) (header : UnitHeader) (bytes : List ℕ) → unit_header bytes ≡ Ok header → IsPayload (SetLines 32 video_parameter_set set header) [] (payload_after 0 (drop 2 bytes)) → MeansVideoSet set header bytes
 video_set_meant set header bytes parsed is options kept wanted =
     of_video_set options kept bytes header parsed wanted is.has.typed ∙ ap (content_read video_set) (read_payload video_parameter_set set bytes is.lines [] is.has.has is.has.good is.parts)
 
+-- lines of a sequence set mean it
 pub sequence_set_meant : (set : PlainSps) (header : UnitHeader) (bytes : List ℕ) → unit_header bytes ≡ Ok header → IsPayload (SetLines 33 sequence_parameter_set set header) [] (payload_after 0 (drop 2 bytes)) → MeansSequenceSet set header bytes
 sequence_set_meant set header bytes parsed is options kept wanted =
     of_sequence_set options kept bytes header parsed wanted is.has.typed ∙ ap (content_read sequence_set) (read_payload sequence_parameter_set set bytes is.lines [] is.has.has is.has.good is.parts)

@@ -21,6 +21,7 @@ use Rattle.hevc_write_units.specs.Added.{AddsUnit, AreHeaderBytes}
 use Rattle.hevc_write_units.specs.Payloads.{IsPayload, with_trailing_bits}
 use Rattle.hevc_write_units.proofs.Trimmed.{packed_trimmed, payload_trimmed}
 
+-- a checked header is the header
 pub header_same : (h g : UnitHeader) → checked_header h ≡ Ok g → h ≡ g
 header_same h g e = by_tests (nat_le 48 h.nal_unit_type) (h.nuh_temporal_id_plus1 == 0) e
   where
@@ -29,6 +30,7 @@ header_same h g e = by_tests (nat_le 48 h.nal_unit_type) (h.nuh_temporal_id_plus
     by_tests false true e = absurd (cc e)
     by_tests false false e = cc e
 
+-- what is not so is not so with more
 and_false : (t : Bool) → (t && false) ≡ false
 and_false true = refl
 and_false false = refl
@@ -41,6 +43,7 @@ pub record IsStream (header : UnitHeader) (payload bytes : List ℕ) : Type 0 wh
   pub payload_is : drop 2 bytes ≡ escaped payload
   pub zero_bit : slice_index bytes 0 < 128
 
+-- a header and an escaped payload are the one unit of a stream
 pub one_unit : (header : UnitHeader) (front payload : List ℕ) → AreHeaderBytes header front → is_end header.nal_unit_type ≡ false → without_trailing_zeros payload ≡ payload
     → IsStream header payload (front ++ escaped payload)
 one_unit header front payload are no_end trimmed =
@@ -85,15 +88,18 @@ module _ (header : UnitHeader) (HasLines : List Line → Type 0) (body : List �
 
 -- ---- bits that are tried
 
+-- trailing bits end a whole byte
 pub whole_length : (bits : List Bool) → length (with_trailing_bits bits) % 8 ≡ 0
 whole_length bits =
     let n = length bits in
     let long : length (with_trailing_bits bits) ≡ n + suc (7 - n % 8) = length-append bits (trailing_bits n) ∙ ap (λ (k : ℕ). n + suc k) (length-replicate (7 - n % 8) false) in
     omega (arith, long)
 
+-- whole bits are whole bytes
 pub bits_whole : (bits : List Bool) → IsWhole bits → length bits % 8 ≡ 0
 bits_whole bits whole = ap (λ (b : List Bool). length b % 8) whole.1 ∙ whole_length whole.0
 
+-- a stream that is tried has the one unit with these bits
 pub trial : (header : UnitHeader) (bits : List Bool) (front stream : List ℕ) → AreHeaderBytes header front → is_end header.nal_unit_type ≡ false → IsWhole bits
     → stream ≡ started (front ++ escaped (packed bits)) → length stream < STREAM_LIMIT → IsTrial header bits stream
 unfolding payload_bits

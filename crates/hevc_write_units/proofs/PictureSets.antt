@@ -18,6 +18,7 @@ use Rattle.hevc_write_units.specs.Payloads.{IsPayload}
 use Rattle.hevc_write_units.specs.Values.{PictureSetLines, only_sequence_set, MeansPictureSet}
 use Rattle.hevc_write_units.proofs.Meant.{no_end, read_payload}
 
+-- a picture set is read with all kept sequence sets as with its own alone
 pub read_with_kept : (tid : ℕ) (kept : ℕ → Option PlainSps) (sps : PlainSps) (bits : List Bool) (pps : PlainPps) (rest : List Bool) → kept sps.seq_parameter_set_id ≡ Some sps
     → read (picture_parameter_set tid (only_sequence_set sps)) bits ≡ gives pps rest → read (picture_parameter_set tid kept) bits ≡ gives pps rest
 unfolding picture_parameter_set named
@@ -38,6 +39,7 @@ read_with_kept tid kept sps bits pps rest is e = by_ids (read (ids (record defau
     by_ids (refuses fault r) e = absurd (cc e)
     by_ids (gives p r) e = by_test p r (eqb p.seq_parameter_set_id sps.seq_parameter_set_id) refl e
 
+-- lines of a picture set mean it
 pub picture_set_meant : (sps : PlainSps) (pps : PlainPps) (header : UnitHeader) (bytes : List ℕ) → unit_header bytes ≡ Ok header → IsPayload (PictureSetLines sps pps header) [] (payload_after 0 (drop 2 bytes)) → MeansPictureSet sps pps header bytes
 picture_set_meant sps pps header bytes parsed is options kept wanted found =
     let lines = is.has.set in
@@ -46,5 +48,6 @@ picture_set_meant sps pps header bytes parsed is options kept wanted found =
     of_picture_set options kept bytes header parsed wanted lines.typed
     ∙ ap picture_set_read (read_with_kept tid kept.sequence_sets sps (payload bytes) pps _ at (read_payload (picture_parameter_set tid (only_sequence_set sps)) pps bytes is.lines [] lines.has lines.good is.parts))
 
+-- a picture set is not in a unit that ends a sequence or the stream
 pub no_end_unit : (sps : PlainSps) (pps : PlainPps) (header : UnitHeader) (lines : List Line) → PictureSetLines sps pps header lines → is_end header.nal_unit_type ≡ false
 no_end_unit sps pps header lines has = no_end 34 (picture_parameter_set (temporal_id header) (only_sequence_set sps)) pps header lines refl has.set

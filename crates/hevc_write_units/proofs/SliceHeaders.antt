@@ -27,6 +27,7 @@ use Rattle.hevc_write_units.proofs.Meant.{bits_are}
 
 -- ---- the alignment
 
+-- bits that are not kept are read
 skipped : (r : Row) (n : ℕ) (bits rest : List Bool) → length bits ≡ n → read (skip_row r n) (bits ++ rest) ≡ gives 0 rest
 unfolding skip_row
 skipped r n bits rest long =
@@ -37,6 +38,7 @@ skipped r n bits rest long =
 end_long : (n : ℕ) → length (replicate (7 - n % 8) false) ≡ (8 - (n + 1) % 8) % 8
 end_long n = length-replicate (7 - n % 8) false ∙ omega arith
 
+-- a header with its alignment is read
 pub aligned_read : {A : Type 0} (t : Table A) (x : A) (front others : List Bool) → read t (front ++ (trailing_bits (length front) ++ others)) ≡ gives x (trailing_bits (length front) ++ others)
     → read (aligned t) (front ++ (trailing_bits (length front) ++ others)) ≡ gives x others
 unfolding aligned
@@ -71,6 +73,7 @@ same_sized payload_bytes own x n same = ap (λ (h : PlainSliceSegmentHeader). wi
 
 -- ---- the lines that were read
 
+-- a header that is read has elements that are read
 pub elements_found : (nal_unit_type : ℕ) (payload_bytes : List ℕ) (kept : ℕ → Option ActiveSets) (h : PlainSliceSegmentHeader) (bits rest : List Bool)
     → read (slice_segment_header nal_unit_type payload_bytes kept) bits ≡ gives h rest → HasElements (elements nal_unit_type kept) h
 unfolding slice_segment_header aligned with_sizes
@@ -93,10 +96,12 @@ elements_found nal_unit_type payload_bytes kept h bits rest e =
 -- ---- the sets
 
 module _ (nal_unit_type : ℕ) (kept : ℕ → Option ActiveSets) (id : ℕ) (active : ActiveSets) (is : kept id ≡ Some active) (h : PlainSliceSegmentHeader) (rest : List Bool) where
+  -- what is read after rows 1 to 3
   after : PlainSliceSegmentHeader → Option ActiveSets → List Bool → Reading PlainSliceSegmentHeader
   unfolding named
   after p o r = reading_then (read (named (row 14 3) p.pic_parameter_set_id o) r) (λ s others. read (header_of nal_unit_type s.sps s.pps p) others)
 
+  -- where the picture set is the one that is named
   by_test : (p : PlainSliceSegmentHeader) (r : List Bool) (b : Bool) → eqb p.pic_parameter_set_id id ≡ b → after p (cond b (Some active) None) r ≡ gives h rest → after p (kept p.pic_parameter_set_id) r ≡ gives h rest
   unfolding after named
   by_test p r true t e =
@@ -105,26 +110,32 @@ module _ (nal_unit_type : ℕ) (kept : ℕ → Option ActiveSets) (id : ℕ) (ac
       ap (λ (o : Option ActiveSets). after p o r) found ∙ e
   by_test p r false t e = absurd (cc e)
 
+  -- whatever rows 1 to 3 are
   by_beginning : (reading : Reading PlainSliceSegmentHeader) → reading_then reading (λ p r. after p (if p.pic_parameter_set_id == id then Some active else None) r) ≡ gives h rest → reading_then reading (λ p r. after p (kept p.pic_parameter_set_id) r) ≡ gives h rest
   by_beginning (refuses fault r) e = absurd (cc e)
   by_beginning (gives p r) e = by_test p r (eqb p.pic_parameter_set_id id) refl e
 
+  -- so a header is read with all kept sets as with its own alone
   pub with_kept : (bits : List Bool) → read (elements nal_unit_type (λ k. if k == id then Some active else None)) bits ≡ gives h rest → read (elements nal_unit_type kept) bits ≡ gives h rest
   unfolding elements after named
   with_kept bits e = by_beginning (read (beginning nal_unit_type default_slice_header) bits) e
 
+-- the same of its sequence set and picture set
 pub read_with_kept : (nal_unit_type : ℕ) (kept : ℕ → Option ActiveSets) (sps : PlainSps) (pps : PlainPps) (bits : List Bool) (h : PlainSliceSegmentHeader) (rest : List Bool) → kept pps.pic_parameter_set_id ≡ Some (record { sps = sps; pps = pps })
     → read (elements nal_unit_type (only_sets sps pps)) bits ≡ gives h rest → read (elements nal_unit_type kept) bits ≡ gives h rest
 read_with_kept nal_unit_type kept sps pps bits h rest is e = with_kept nal_unit_type kept pps.pic_parameter_set_id (record { sps = sps; pps = pps }) is h rest bits e
 
 -- ---- units
 
+-- a slice is not in a unit that ends a sequence or the stream
 slice_no_end : (n : ℕ) → is_slice n ≡ true → is_end n ≡ false
 slice_no_end n e = grind (arith, nat_tests, e)
 
+-- nor are its lines
 pub no_end_slice : (sps : PlainSps) (pps : PlainPps) (x : PlainSliceSegmentHeader) (header : UnitHeader) (lines : List Line) → SliceLines sps pps x header lines → is_end header.nal_unit_type ≡ false
 no_end_slice sps pps x header lines has = slice_no_end header.nal_unit_type has.typed
 
+-- lines of a slice mean it
 pub slice_meant : (sps : PlainSps) (pps : PlainPps) (x : PlainSliceSegmentHeader) (body : List ℕ) (header : UnitHeader) (bytes : List ℕ) → unit_header bytes ≡ Ok header → IsPayload (SliceLines sps pps x header) body (payload_after 0 (drop 2 bytes)) → MeansSlice sps pps x header bytes
 slice_meant sps pps x body header bytes parsed is options kept wanted some found =
     let n = header.nal_unit_type in

@@ -4,9 +4,9 @@ use Rattle.hevc_spec.specs.Lines.{Line, HasLines, AreGood, joined}
 use Rattle.hevc_spec.specs.Table.{Table, read}
 use Rattle.hevc_reading_laws.proofs.TableLaws.{spelled_from_read, read_lines}
 use Rattle.hevc_bit_writer.specs.Writing.{trailing_bits}
-use Rattle.hevc_writing.specs.Choices.{AreChosen, set_flags}
-use Rattle.hevc_writing.specs.Deciding.{WritesFormed, ReadsBack}
-use Rattle.hevc_writing.proofs.Deciding.{writes_formed, writes_fewest, reads_back}
+use Rattle.hevc_write_elements.specs.Choices.{AreChosen, set_flags}
+use Rattle.hevc_write_elements.specs.Deciding.{WritesFormed, ReadsBack}
+use Rattle.hevc_write_elements.proofs.Deciding.{writes_formed, writes_fewest, reads_back}
 use Rattle.hevc_write_units.specs.Payloads.{with_trailing_bits}
 use Rattle.hevc_write_units.specs.Trials.{IsReadAs, WritesWhole}
 
@@ -20,6 +20,7 @@ pub record IsTried {A : Type 0} (t : Table A) (x : A) (bits : List Bool) : Type 
   pub parts : bits ≡ with_trailing_bits (joined lines)
 
 module _ {A : Type 0} (t : Table A) (x : A) (bits : List Bool) (written : WritesWhole t x bits) where
+  -- bits that are read as a record were tried
   pub tried : IsReadAs t x bits → IsTried t x bits
   unfolding WritesFormed
   tried is =
@@ -29,6 +30,7 @@ module _ {A : Type 0} (t : Table A) (x : A) (bits : List Bool) (written : Writes
       let are = f.2 ∙ formed.parts in
       record { lines = formed.lines; has = formed.has; good = formed.good; chosen = formed.chosen; fewest = λ others has good. writes_fewest t x written.front formed.lines others written.written formed.has formed.good (sym are) has good; parts = written.whole ∙ ap with_trailing_bits are }
 
+  -- lines of a record are read as it
   pub read_again : (lines : List Line) → HasLines t x lines → AreGood lines → IsReadAs t x bits
   unfolding ReadsBack
   read_again lines has good =

@@ -13,6 +13,7 @@ record IsEnding (byte : ℕ) (bytes : List ℕ) : Type 0 where
   pub rest : without_trailing_zeros bytes ≡ bytes
   pub last : bytes ≡ [] → eqb byte 0 ≡ false
 
+-- how bytes end that do not end in zeros
 ending : (byte : ℕ) (bytes : List ℕ) → without_trailing_zeros (byte ∷ bytes) ≡ byte ∷ bytes → IsEnding byte bytes
 ending byte bytes e = by_test (eqb byte 0) (is_empty (without_trailing_zeros bytes)) refl refl e
   where
@@ -23,6 +24,7 @@ ending byte bytes e = by_test (eqb byte 0) (is_empty (without_trailing_zeros byt
         record { rest = same; last = λ none. absurd (cc (g, ap is_empty (same ∙ none))) }
     by_test false none f g h = record { rest = cc; last = λ empty. f }
 
+-- what is not so is not so with more
 and_false : (t : Bool) → (t && false) ≡ false
 and_false true = refl
 and_false false = refl
@@ -33,9 +35,11 @@ trimmed_cons byte [] rest last = rw (last refl) refl
 trimmed_cons byte (b ∷ bytes) rest last =
     rw (rest, and_false (eqb byte 0)) refl
 
+-- a list that begins with an item is not empty
 nonempty : (xs ys : List ℕ) (x : ℕ) → (x ∷ xs) ++ ys ≡ [] → ⊥
 nonempty xs ys x e = cc
 
+-- bytes that do not end in zeros, after others that do not
 pub trimmed_append : (xs ys : List ℕ) → without_trailing_zeros xs ≡ xs → without_trailing_zeros ys ≡ ys → without_trailing_zeros (xs ++ ys) ≡ xs ++ ys
 trimmed_append [] ys e f = f
 trimmed_append (x ∷ []) ys e f = trimmed_cons x ys f (λ none. (ending x [] e).last refl)
@@ -45,6 +49,7 @@ trimmed_append (x ∷ y ∷ xs) ys e f =
 
 -- ---- the bytes of bits that end in a one and zeros
 
+-- more bits make no smaller number
 number_least : (n : ℕ) (bits : List Bool) → n ≤ number_after n bits
 number_least n [] = omega arith
 number_least n (b ∷ bits) = let h = number_least (2 * n + cond b 1 0) bits in omega arith
@@ -54,9 +59,11 @@ some_after : (n : ℕ) (front back : List Bool) → 1 ≤ number_after n (front 
 some_after n [] back = let h = number_least (2 * n + 1) back in omega arith
 some_after n (b ∷ front) back = some_after (2 * n + cond b 1 0) front back
 
+-- a byte with a one in it is not 0
 is_some : (front back : List Bool) → eqb (number (front ++ true ∷ back)) 0 ≡ false
 is_some front back = let h = some_after 0 front back in grind arith
 
+-- so it is no zero at the end
 one_byte : (front back : List Bool) → without_trailing_zeros (number (front ++ true ∷ back) ∷ []) ≡ number (front ++ true ∷ back) ∷ []
 one_byte front back = trimmed_cons (number (front ++ true ∷ back)) [] refl (λ none. is_some front back)
 
@@ -72,11 +79,13 @@ is_whole (a ∷ b ∷ c ∷ d ∷ f ∷ g ∷ []) e = cc
 is_whole (a ∷ b ∷ c ∷ d ∷ f ∷ g ∷ h ∷ []) e = cc
 is_whole (a ∷ b ∷ c ∷ d ∷ f ∷ g ∷ h ∷ i ∷ bits) e = cc
 
+-- trailing bits go by the place in a byte
 trailing_again : (n m : ℕ) → n ≡ m + 8 → trailing_bits n ≡ trailing_bits m
 trailing_again n m e =
     let same : 7 - n % 8 ≡ 7 - m % 8 = omega arith in
     ap (λ (k : ℕ). true ∷ replicate k false) same
 
+-- bits with trailing bits do not end in a byte 0
 pub packed_trimmed : (bits : List Bool) → without_trailing_zeros (packed (with_trailing_bits bits)) ≡ packed (with_trailing_bits bits)
 packed_trimmed [] = one_byte [] (replicate 7 false)
 packed_trimmed (a ∷ []) = one_byte (a ∷ []) (replicate 6 false)
@@ -93,15 +102,18 @@ packed_trimmed (a ∷ b ∷ c ∷ d ∷ e ∷ f ∷ g ∷ h ∷ bits) =
     let parts : packed (with_trailing_bits (a ∷ b ∷ c ∷ d ∷ e ∷ f ∷ g ∷ h ∷ bits)) ≡ first ∷ packed (with_trailing_bits bits) = ap (λ (t : List Bool). first ∷ packed (bits ++ t)) again in
     ap without_trailing_zeros parts ∙ trimmed_cons first (packed (with_trailing_bits bits)) (packed_trimmed bits) (λ none. absurd (is_whole bits none)) ∙ sym parts
 
+-- nor do they with a body that does not
 pub payload_trimmed : (bits : List Bool) (body : List ℕ) → without_trailing_zeros body ≡ body → without_trailing_zeros (packed (with_trailing_bits bits) ++ body) ≡ packed (with_trailing_bits bits) ++ body
 payload_trimmed bits body trimmed = trimmed_append (packed (with_trailing_bits bits)) body (packed_trimmed bits) trimmed
 
 -- ---- the last byte
 
+-- the last byte of such bytes is not 0
 pub last_byte : (byte : ℕ) (bytes : List ℕ) → without_trailing_zeros (byte ∷ bytes) ≡ byte ∷ bytes → get_or (byte ∷ bytes) (length bytes) 0 ≢ 0
 last_byte byte [] e = let h = (ending byte [] e).last refl in grind (arith, h)
 last_byte byte (b ∷ bytes) e = last_byte b bytes (ending byte (b ∷ bytes) e).rest
 
+-- and the other way round
 pub by_last : (byte : ℕ) (bytes : List ℕ) → get_or (byte ∷ bytes) (length bytes) 0 ≢ 0 → without_trailing_zeros (byte ∷ bytes) ≡ byte ∷ bytes
 by_last byte [] some = trimmed_cons byte [] refl (λ none. grind (arith, some))
 by_last byte (b ∷ bytes) some = trimmed_cons byte (b ∷ bytes) (by_last b bytes some) (λ none. absurd (nonempty [] bytes b none))

@@ -3,7 +3,7 @@ use Rattle.std.specs.Prelude.{◌≡◌, ◌≤◌, ℕ, Bool, List, ◌++◌, l
 use Rattle.hevc_spec.specs.Lines.{Line, joined}
 use Rattle.hevc_spec.specs.Units.{without_trailing_zeros}
 use Rattle.hevc_bit_writer.specs.Writing.{packed, trailing_bits}
-use Rattle.hevc_writing.specs.Choices.{AreChosen, set_flags}
+use Rattle.hevc_write_elements.specs.Choices.{AreChosen, set_flags}
 
 -- bits, with a one and zeros up to a whole byte (7.3.2.11, 7.3.2.12)
 abbrev pub with_trailing_bits : List Bool → List Bool

@@ -12,7 +12,7 @@ use Rattle.hevc_stream.specs.Contents.{slice, content}
 use Rattle.hevc_stream.specs.Kept.{Kept, with_set}
 use Rattle.hevc_stream.specs.Options.{Options}
 use Rattle.hevc_stream.specs.Slices.{temporal_id}
-use Rattle.hevc_writing.specs.Choices.{IsFilled}
+use Rattle.hevc_write_elements.specs.Choices.{IsFilled}
 
 -- ---- sizes
 

@@ -6,7 +6,7 @@ use Rattle.hevc_spec.specs.UnitHeader.{UnitHeader, unit_header}
 use Rattle.hevc_spec.specs.Units.{units}
 use Rattle.hevc_bit_writer.specs.WrittenUnits.{started}
 use Rattle.hevc_bits.specs.declared.stream_limit.TheConstants.{STREAM_LIMIT}
-use Rattle.hevc_writing.specs.Filling.{WritesTable}
+use Rattle.hevc_write_elements.specs.Filling.{WritesTable}
 use Rattle.hevc_write_units.specs.Payloads.{with_trailing_bits}
 
 -- The stream has one unit, with this header and these payload bits.

@@ -9,82 +9,85 @@ use Rattle.hevc_spec.specs.Rows.{row, repeat, when}
 use Rattle.hevc_records.specs.HrdParams.{PlainHrdParams, default_hrd_params}
 use Rattle.hevc_records.specs.Vps.{PlainVps}
 use Rattle.hevc_tables.specs.VpsTable.{identity, own_ordering, own_orderings, common_ordering, orderings, layer_sets, structure, structures, timing, timing_info, extension, up_to_highest}
-use Rattle.hevc_writing.specs.Filling.{EachFilling, Keeps, Writes, WritesTurns}
-use Rattle.hevc_writing.proofs.Fillings.{weakened, beside}
-use Rattle.hevc_writing.proofs.Steps.{IsFillable, when_filled, then_filled, done_filled, filled, part_kept, when_kept, either_kept, flag_fillable, bits_fillable, ue_fillable, when_fillable, skip_fillable, some_zeros_written, check_if_then, counted_part_written, IsDecided, numbers, by}
-use Rattle.hevc_writing.proofs.Loops.{turns_keep, all_turns, all_same}
-use Rattle.hevc_writing.proofs.Growing.{last_item}
-use Rattle.hevc_write_parts.proofs.ProfileKeeps.{profile_tier_level_fillable}
-use Rattle.hevc_write_parts.proofs.HrdKeeps.{hrd_fillable}
+use Rattle.hevc_write_elements.specs.Filling.{EachFilling, Keeps, Writes, WritesTurns}
+use Rattle.hevc_write_elements.proofs.Fillings.{weakened, beside}
+use Rattle.hevc_write_elements.proofs.Steps.{IsFillable, when_filled, then_filled, done_filled, filled, part_kept, when_kept, either_kept, flag_fillable, bits_fillable, ue_fillable, when_fillable, skip_fillable, some_zeros_written, check_if_then, counted_part_written, IsDecided, numbers, by}
+use Rattle.hevc_write_elements.proofs.Loops.{turns_keep, all_turns, all_same}
+use Rattle.hevc_write_elements.proofs.Growing.{last_item}
+use Rattle.hevc_write_set_parts.proofs.ProfileKeeps.{profile_tier_level_fillable}
+use Rattle.hevc_write_set_parts.proofs.HrdKeeps.{hrd_fillable}
 use Rattle.hevc_write_vps.specs.VpsParts as own
 
-pub identity_keeps : Keeps identity own.identity
+-- sets no elements but those of rows 1 to 7
+pub identity_keeps : Keeps identity own.identity_of
 unfolding identity
 identity_keeps = record { same = λ y. refl; last = λ x y z. refl; kept = λ y w. then_filled (filled (bits_fillable _ refl _ _ _) (λ v1 b1. then_filled (filled (flag_fillable _ refl) (λ v2 b2. then_filled (filled (flag_fillable _ refl) (λ v3 b3. then_filled (filled (bits_fillable _ refl _ _ _) (λ v4 b4. then_filled (filled (bits_fillable _ refl _ _ _) (λ v5 b5. then_filled (filled (flag_fillable _ refl) (λ v6 b6. then_filled (filled (skip_fillable (row 1 6) 16 (omega arith)) (λ v7 b7. then_filled (filled (profile_tier_level_fillable _) (λ v8 b8. done_filled refl)))))))))))))))) }
 
-own_ordering_keeps : (i : ℕ) → Keeps (own_ordering i) own.own_orderings
+-- sets no elements but those of rows 9 to 13
+own_ordering_keeps : (i : ℕ) → Keeps (own_ordering i) own.own_orderings_of
 unfolding own_ordering
 own_ordering_keeps i = record { same = λ y. refl; last = λ x y z. refl; kept = λ y w. then_filled (filled (ue_fillable _ refl _ _) (λ v1 b1. then_filled (filled (ue_fillable _ refl _ _) (λ v2 b2. then_filled (filled (ue_fillable _ refl _ _) (λ v3 b3. check_if_then _ _ _ (check_if_then _ _ _ (done_filled refl)))))))) }
 
-pub counted_orderings_keep : (n : ℕ) → Keeps (repeat own_ordering 0 n) own.own_orderings
-counted_orderings_keep n = turns_keep own_ordering own.own_orderings own_ordering_keeps n
+-- sets no elements but those of rows 9 to 13
+pub counted_orderings_keep : (n : ℕ) → Keeps (repeat own_ordering 0 n) own.own_orderings_of
+counted_orderings_keep n = turns_keep own_ordering own.own_orderings_of own_ordering_keeps n
 
-pub own_orderings_keeps : Keeps own_orderings own.own_orderings
+-- sets no elements but those of rows 9 to 13
+pub own_orderings_keeps : Keeps own_orderings own.own_orderings_of
 unfolding own_orderings
 own_orderings_keeps = record { same = λ y. refl; last = λ x y z. refl; kept = λ y w. (counted_orderings_keep (y.max_sub_layers_minus1 + 1)).kept y w }
 
-pub orderings_written : (x : PlainVps) (n : ℕ) {old new : List Bool} → WritesTurns own_ordering (own.same_orderings x) n old new → n ≡ x.max_sub_layers_minus1 + 1 → Writes own_orderings own.seen_by_orderings x old new
+-- the whole of it is written once all its turns are
+pub orderings_written : (x : PlainVps) (n : ℕ) {old new : List Bool} → WritesTurns own_ordering (own.same_orderings x) n old new → n ≡ x.max_sub_layers_minus1 + 1 → Writes own_orderings own.own_orderings_with_inputs_of x old new
 unfolding own_orderings
 orderings_written x n {old = old} {new = new} turns e =
-    let all : Writes (repeat own_ordering 0 (x.max_sub_layers_minus1 + 1)) own.own_orderings x old new = subst (λ (k : ℕ). Writes (repeat own_ordering 0 k) own.own_orderings x old new) e
+    let all : Writes (repeat own_ordering 0 (x.max_sub_layers_minus1 + 1)) own.own_orderings_of x old new = subst (λ (k : ℕ). Writes (repeat own_ordering 0 k) own.own_orderings_of x old new) e
     (all_turns own_ordering (own.same_orderings x) (λ z is. (all_same _ _ _ (by is (λ r. r.max_dec_pic_buffering_minus1)), all_same _ _ _ (by is (λ r. r.max_num_reorder_pics)), all_same _ _ _ (by is (λ r. r.max_latency_increase_plus1)))) turns) in
-    record { written = λ y w. counted_part_written (repeat own_ordering 0) own.own_orderings counted_orderings_keep (y.max_sub_layers_minus1 + 1) y all refl (λ z b h e at. h (by e (λ r. r.max_sub_layers_minus1 + 1)) _ e refl at) }
+    record { written = λ y w. counted_part_written (repeat own_ordering 0) own.own_orderings_of counted_orderings_keep (y.max_sub_layers_minus1 + 1) y all refl (λ z b h e at. h (by e (λ r. r.max_sub_layers_minus1 + 1)) _ e refl at) }
 
-pub common_ordering_keeps : Keeps common_ordering own.own_orderings
+-- sets no elements but those of rows 9 to 13
+pub common_ordering_keeps : Keeps common_ordering own.own_orderings_of
 unfolding common_ordering
 common_ordering_keeps = record { same = λ y. refl; last = λ x y z. refl; kept = λ y w. then_filled (filled (ue_fillable _ refl _ _) (λ v1 b1. then_filled (filled (ue_fillable _ refl _ _) (λ v2 b2. then_filled (filled (ue_fillable _ refl _ _) (λ v3 b3. done_filled refl)))))) }
 
-pub orderings_keeps : Keeps orderings own.orderings
+-- sets no elements but those of rows 8 to 13
+pub orderings_keeps : Keeps orderings own.orderings_of
 unfolding orderings
-orderings_keeps = record { same = λ y. refl; last = λ x y z. refl; kept = λ y w. then_filled (filled (flag_fillable _ refl) (λ v1 b1. either_kept own_orderings common_ordering own.own_orderings own_orderings_keeps common_ordering_keeps _ _ (λ z2 b2. refl))) }
+orderings_keeps = record { same = λ y. refl; last = λ x y z. refl; kept = λ y w. then_filled (filled (flag_fillable _ refl) (λ v1 b1. either_kept own_orderings common_ordering own.own_orderings_of own_orderings_keeps common_ordering_keeps _ _ (λ z2 b2. refl))) }
 
-pub layer_sets_keeps : Keeps layer_sets own.layer_sets
+-- sets no elements but those of rows 14 to 16
+pub layer_sets_keeps : Keeps layer_sets own.layer_sets_of
 unfolding layer_sets
 layer_sets_keeps = record { same = λ y. refl; last = λ x y z. refl; kept = λ y w. then_filled (filled (bits_fillable _ refl _ _ _) (λ v1 b1. then_filled (filled (ue_fillable _ refl _ _) (λ v2 b2. then_filled (some_zeros_written (row 1 16) _ 0 (λ k. refl) {old = []} refl (λ b3 h3. done_filled refl)))))) }
 
-structure_keeps : (i : ℕ) → Keeps (structure i) own.structures
+-- sets no elements but those of rows 22 to 24
+structure_keeps : (i : ℕ) → Keeps (structure i) own.structures_of
 unfolding structure
 structure_keeps i = record { same = λ y. refl; last = λ x y z. refl; kept = λ y w. then_filled (filled (ue_fillable _ refl _ _) (λ v1 b1. then_filled (filled (when_fillable _ _ (flag_fillable _ refl)) (λ v2 b2. then_filled (filled (hrd_fillable _ _ _) (λ v3 b3. done_filled refl)))))) }
 
-counted_structures_keep : (n : ℕ) → Keeps (repeat structure 0 n) own.structures
-counted_structures_keep n = turns_keep structure own.structures structure_keeps n
+-- sets no elements but those of rows 22 to 24
+counted_structures_keep : (n : ℕ) → Keeps (repeat structure 0 n) own.structures_of
+counted_structures_keep n = turns_keep structure own.structures_of structure_keeps n
 
-pub structures_keeps : Keeps (λ y. structures (own.without_structures y)) own.structures
+-- sets no elements but those of rows 22 to 24
+pub structures_keeps : Keeps (λ y. structures (own.without_structures y)) own.structures_of
 unfolding structures
 structures_keeps = record { same = λ y. refl; last = λ x y z. refl; kept = λ y w. (counted_structures_keep y.num_hrd_parameters).kept (own.without_structures y) w }
 
-pub timing_keeps : Keeps own.timing_rows own.timing
+-- sets no elements but those of rows 18 to 24
+pub timing_keeps : Keeps own.timing_rows own.timing_of
 unfolding timing
-timing_keeps = record { same = λ y. refl; last = λ x y z. refl; kept = λ y w. then_filled (filled (bits_fillable _ refl _ _ _) (λ v1 b1. then_filled (filled (bits_fillable _ refl _ _ _) (λ v2 b2. then_filled (filled (flag_fillable _ refl) (λ v3 b3. then_filled (filled (when_fillable _ _ (ue_fillable _ refl _ _)) (λ v4 b4. then_filled (filled (ue_fillable _ refl _ _) (λ v5 b5. part_kept own.structures_rows own.structures structures_keeps (record (own.without_structures y) { num_units_in_tick = v1; time_scale = v2; poc_proportional_to_timing_flag = v3; num_ticks_poc_diff_one_minus1 = v4; num_hrd_parameters = v5 }) (λ z6 b6. refl))))))))))) }
+timing_keeps = record { same = λ y. refl; last = λ x y z. refl; kept = λ y w. then_filled (filled (bits_fillable _ refl _ _ _) (λ v1 b1. then_filled (filled (bits_fillable _ refl _ _ _) (λ v2 b2. then_filled (filled (flag_fillable _ refl) (λ v3 b3. then_filled (filled (when_fillable _ _ (ue_fillable _ refl _ _)) (λ v4 b4. then_filled (filled (ue_fillable _ refl _ _) (λ v5 b5. part_kept own.structures_rows own.structures_of structures_keeps (record (own.without_structures y) { num_units_in_tick = v1; time_scale = v2; poc_proportional_to_timing_flag = v3; num_ticks_poc_diff_one_minus1 = v4; num_hrd_parameters = v5 }) (λ z6 b6. refl))))))))))) }
 
-pub timing_info_keeps : Keeps own.timing_info_rows own.timing_info
+-- sets no elements but those of rows 17 to 24
+pub timing_info_keeps : Keeps own.timing_info_rows own.timing_info_of
 unfolding timing_info
-timing_info_keeps = record { same = λ y. refl; last = λ x y z. refl; kept = λ y w. then_filled (filled (flag_fillable _ refl) (λ v1 b1. when_kept own.timing_rows own.timing timing_keeps (record (own.without_structures y) { timing_info_present_flag = v1 }) _ (λ z2 b2. refl))) }
+timing_info_keeps = record { same = λ y. refl; last = λ x y z. refl; kept = λ y w. then_filled (filled (flag_fillable _ refl) (λ v1 b1. when_kept own.timing_rows own.timing_of timing_keeps (record (own.without_structures y) { timing_info_present_flag = v1 }) _ (λ z2 b2. refl))) }
 
-pub extension_keeps : Keeps extension own.extension
+-- sets no elements but those of row 25
+pub extension_keeps : Keeps extension own.extension_of
 unfolding extension
 extension_keeps = record { same = λ y. refl; last = λ x y z. refl; kept = λ y w. then_filled (filled (flag_fillable _ refl) (λ v1 b1. done_filled refl)) }
-
--- the number of the highest sub-layer
-pub at_highest : (m v : ℕ) → get_or (up_to_highest m v) m 0 ≡ v
-at_highest m v = rw (← replicate_more m v) (from m)
-  where
-    replicate_more : (m v : ℕ) → replicate (suc m) v ++ replicate (6 - m) 0 ≡ up_to_highest m v
-    replicate_more m v = let e : suc m ≡ m + 1 = omega arith in ap (λ (k : ℕ). replicate k v ++ replicate (6 - m) 0) e
-
-    from : (k : ℕ) → get_or (replicate (suc k) v ++ replicate (6 - m) 0) k 0 ≡ v
-    from zero = refl
-    from (suc k) = from k
 
 -- ---- structures
 
@@ -94,6 +97,7 @@ record AreMany (n : ℕ) (z : PlainVps) : Type 0 where
   flags : length z.cprms_present_flag ≡ own.num_flags n
   structures : length z.hrd_parameters ≡ n
 
+-- each turn adds a structure
 many_structures : (i more : ℕ) (y : PlainVps) (w : List Bool) → AreMany i y → EachFilling (repeat structure i more y) w (λ z _. AreMany (i + more) z)
 unfolding repeat structure
 many_structures i zero y w are = let here : i ≡ i + 0 = omega arith in done_filled (subst (λ (k : ℕ). AreMany k y) here are)
@@ -120,7 +124,8 @@ many_structures i (suc more) y w are =
         by_test false is e = length-append y.cprms_present_flag (v2 ∷ []) ∙ omega (arith, e, some)
 
 module _ (x : PlainVps) where
-  pub structures_written : (n : ℕ) {old new : List Bool} → WritesTurns structure (own.SameStructures x) n old new → n ≡ length x.hrd_parameters → Writes own.structures_rows own.seen_by_structures x old new
+  -- the whole of it is written once all its turns are
+  pub structures_written : (n : ℕ) {old new : List Bool} → WritesTurns structure (own.SameStructures x) n old new → n ≡ length x.hrd_parameters → Writes own.structures_rows own.structures_with_inputs_of x old new
   unfolding structures
   structures_written n {old = old} {new = new} turns e = record { written = λ y w. by_decision y w (numbers y.num_hrd_parameters n) }
     where
@@ -131,7 +136,7 @@ module _ (x : PlainVps) where
       many y w = let here : 0 + y.num_hrd_parameters ≡ y.num_hrd_parameters = omega arith in
           subst (λ (k : ℕ). EachFilling (repeat structure 0 y.num_hrd_parameters (own.without_structures y)) w (λ z _. AreMany k z)) here (many_structures 0 y.num_hrd_parameters (own.without_structures y) w (record { layer_sets = refl; flags = refl; structures = refl }))
 
-      by_decision : (y : PlainVps) (w : List Bool) → IsDecided y.num_hrd_parameters n → EachFilling (own.structures_rows y) w (λ z all. own.seen_by_structures z x ≡ x → w ≡ old → all ≡ new)
+      by_decision : (y : PlainVps) (w : List Bool) → IsDecided y.num_hrd_parameters n → EachFilling (own.structures_rows y) w (λ z all. own.structures_with_inputs_of z x ≡ x → w ≡ old → all ≡ new)
       by_decision y w (inl same) = weakened (beside (many y w) (subst (λ (k : ℕ). EachFilling (repeat structure 0 k (own.without_structures y)) w (λ z all. own.SameStructures x n z → w ≡ old → all ≡ new)) (sym same) (turns.written (own.without_structures y) w))) (λ z all h is at.
           let m = h.0 in
           let layer_sets = by is (λ r. r.hrd_layer_set_idx) in

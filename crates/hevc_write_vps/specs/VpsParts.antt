@@ -3,7 +3,7 @@ use Rattle.std.specs.Prelude.{◌≡◌, ℕ, ◌==◌, Bool, true, List, [], �
 use Rattle.hevc_spec.specs.Table.{Table}
 use Rattle.hevc_records.specs.Vps.{PlainVps}
 use Rattle.hevc_tables.specs.VpsTable as table
-use Rattle.hevc_writing.specs.Filling.{SameBelow}
+use Rattle.hevc_write_elements.specs.Filling.{SameBelow}
 
 -- a set without structures; the flag of the first one is there, and is set (7.4.3.1)
 abbrev pub without_structures : PlainVps → PlainVps
@@ -24,8 +24,8 @@ abbrev pub timing_info_rows : PlainVps → Table PlainVps
 timing_info_rows vps = table.timing_info (without_structures vps)
 
 -- rows 1 to 7
-abbrev pub identity : PlainVps → PlainVps → PlainVps
-identity from x = record x {
+abbrev pub identity_of : PlainVps → PlainVps → PlainVps
+identity_of from x = record x {
   video_parameter_set_id = from.video_parameter_set_id;
   base_layer_internal_flag = from.base_layer_internal_flag;
   base_layer_available_flag = from.base_layer_available_flag;
@@ -36,56 +36,56 @@ identity from x = record x {
 }
 
 -- rows 9 to 13
-abbrev pub own_orderings : PlainVps → PlainVps → PlainVps
-own_orderings from x = record x {
+abbrev pub own_orderings_of : PlainVps → PlainVps → PlainVps
+own_orderings_of from x = record x {
   max_dec_pic_buffering_minus1 = from.max_dec_pic_buffering_minus1;
   max_num_reorder_pics = from.max_num_reorder_pics;
   max_latency_increase_plus1 = from.max_latency_increase_plus1;
 }
 
--- rows 9 to 13, with what they go by
-abbrev pub seen_by_orderings : PlainVps → PlainVps → PlainVps
-seen_by_orderings from x = record (own_orderings from x) {
+-- rows 9 to 13, with row 4, how many sub-layers there are
+abbrev pub own_orderings_with_inputs_of : PlainVps → PlainVps → PlainVps
+own_orderings_with_inputs_of from x = record (own_orderings_of from x) {
   max_sub_layers_minus1 = from.max_sub_layers_minus1;
 }
 
 -- rows 8 to 13
-abbrev pub orderings : PlainVps → PlainVps → PlainVps
-orderings from x = record (own_orderings from x) {
+abbrev pub orderings_of : PlainVps → PlainVps → PlainVps
+orderings_of from x = record (own_orderings_of from x) {
   sub_layer_ordering_info_present_flag = from.sub_layer_ordering_info_present_flag;
 }
 
--- rows 8 to 13, with what they go by
-abbrev pub seen_orderings : PlainVps → PlainVps → PlainVps
-seen_orderings from x = record (orderings from x) {
+-- rows 8 to 13, with row 4
+abbrev pub orderings_with_inputs_of : PlainVps → PlainVps → PlainVps
+orderings_with_inputs_of from x = record (orderings_of from x) {
   max_sub_layers_minus1 = from.max_sub_layers_minus1;
 }
 
 -- rows 14 to 16
-abbrev pub layer_sets : PlainVps → PlainVps → PlainVps
-layer_sets from x = record x {
+abbrev pub layer_sets_of : PlainVps → PlainVps → PlainVps
+layer_sets_of from x = record x {
   max_layer_id = from.max_layer_id;
   num_layer_sets_minus1 = from.num_layer_sets_minus1;
 }
 
 -- rows 22 to 24
-abbrev pub structures : PlainVps → PlainVps → PlainVps
-structures from x = record x {
+abbrev pub structures_of : PlainVps → PlainVps → PlainVps
+structures_of from x = record x {
   hrd_layer_set_idx = from.hrd_layer_set_idx;
   cprms_present_flag = from.cprms_present_flag;
   hrd_parameters = from.hrd_parameters;
 }
 
--- rows 22 to 24, with what they go by
-abbrev pub seen_by_structures : PlainVps → PlainVps → PlainVps
-seen_by_structures from x = record (structures from x) {
+-- rows 22 to 24, with row 21, their number, and row 4
+abbrev pub structures_with_inputs_of : PlainVps → PlainVps → PlainVps
+structures_with_inputs_of from x = record (structures_of from x) {
   num_hrd_parameters = from.num_hrd_parameters;
   max_sub_layers_minus1 = from.max_sub_layers_minus1;
 }
 
 -- rows 18 to 24
-abbrev pub timing : PlainVps → PlainVps → PlainVps
-timing from x = record (structures from x) {
+abbrev pub timing_of : PlainVps → PlainVps → PlainVps
+timing_of from x = record (structures_of from x) {
   num_units_in_tick = from.num_units_in_tick;
   time_scale = from.time_scale;
   poc_proportional_to_timing_flag = from.poc_proportional_to_timing_flag;
@@ -93,27 +93,27 @@ timing from x = record (structures from x) {
   num_hrd_parameters = from.num_hrd_parameters;
 }
 
--- rows 18 to 24, with what they go by
-abbrev pub seen_by_timing : PlainVps → PlainVps → PlainVps
-seen_by_timing from x = record (timing from x) {
+-- rows 18 to 24, with row 4
+abbrev pub timing_with_inputs_of : PlainVps → PlainVps → PlainVps
+timing_with_inputs_of from x = record (timing_of from x) {
   max_sub_layers_minus1 = from.max_sub_layers_minus1;
 }
 
 -- rows 17 to 24
-abbrev pub timing_info : PlainVps → PlainVps → PlainVps
-timing_info from x = record (timing from x) {
+abbrev pub timing_info_of : PlainVps → PlainVps → PlainVps
+timing_info_of from x = record (timing_of from x) {
   timing_info_present_flag = from.timing_info_present_flag;
 }
 
--- rows 17 to 24, with what they go by
-abbrev pub seen_by_timing_info : PlainVps → PlainVps → PlainVps
-seen_by_timing_info from x = record (timing_info from x) {
+-- rows 17 to 24, with row 4
+abbrev pub timing_info_with_inputs_of : PlainVps → PlainVps → PlainVps
+timing_info_with_inputs_of from x = record (timing_info_of from x) {
   max_sub_layers_minus1 = from.max_sub_layers_minus1;
 }
 
 -- row 25
-abbrev pub extension : PlainVps → PlainVps → PlainVps
-extension from x = record x { extension_flag = from.extension_flag }
+abbrev pub extension_of : PlainVps → PlainVps → PlainVps
+extension_of from x = record x { extension_flag = from.extension_flag }
 
 -- rows 9 to 11 of the first sub-layers are those of x, of so many
 abbrev pub same_orderings : PlainVps → ℕ → PlainVps → Type 0

@@ -1,6 +1,6 @@
 use Rattle.std.proofs.Common.{[], ◌∷◌, refl, lit<, arith}
 use Rattle.hevc_spec.specs.Units.{units_from}
-use Rattle.hevc_writing.specs.Choices.{set_flags}
+use Rattle.hevc_write_elements.specs.Choices.{set_flags}
 use Rattle.hevc_tools_examples.proofs.added.right_units.Goals as goal
 
 pub returns-clause-bare : goal.returns-clause-bare

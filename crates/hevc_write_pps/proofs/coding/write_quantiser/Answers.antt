@@ -1,20 +1,17 @@
-use Rattle.std.proofs.Common.{arith, refl, ◌∙◌}
+use Rattle.std.proofs.Common.{arith, refl}
 use Rattle.std.proofs.lemmas.Int.{ints}
 use Rattle.hevc_tables.specs.PpsTable.{quantiser}
-use Rattle.hevc_writing.proofs.Steps.{by, done_filled, flag_then, se_then, ue_if_then}
+use Rattle.hevc_write_elements.proofs.Chains.{done_filled, flag_of, se_of, ue_if_of, writes, ◌>>=◌}
 use Rattle.hevc_write_pps.proofs.coding.write_quantiser.Goals as goal
 
 pub returns : goal.returns
 unfolding quantiser
-returns c = λ sps. record {
-  written = λ y w.
-      se_then _ refl _ _ c.in_ok-se_i8.ensures (λ v1 b1 h1.
-      flag_then _ refl c.in_ok-flag.ensures (λ v2 b2 h2.
-      flag_then _ refl c.in_ok-flag-2.ensures (λ v3 b3 h3.
-      flag_then _ refl c.in_ok-flag-3.ensures (λ v4 b4 h4.
-      ue_if_then _ refl _ _ _ _ c.in_ok-ue_u8_if.ensures (λ v5 b5 h5.
-      se_then _ refl _ _ c.in_ok-se_i8-2.ensures (λ v6 b6 h6.
-      se_then _ refl _ _ c.in_ok-se_i8-3.ensures (λ v7 b7 h7.
-      done_filled (λ e at.
-      h7 (by e (λ r. r.cr_qp_offset) ∙ omega (arith, ints)) (h6 (by e (λ r. r.cb_qp_offset) ∙ omega (arith, ints)) (h5 (by e (λ r. r.cu_qp_delta_enabled_flag)) (by e (λ r. r.diff_cu_qp_delta_depth)) (h4 (by e (λ r. r.cu_qp_delta_enabled_flag)) (h3 (by e (λ r. r.transform_skip_enabled_flag)) (h2 (by e (λ r. r.constrained_intra_pred_flag)) (h1 (by e (λ r. r.init_qp_minus26) ∙ omega (arith, ints)) at))))))))))))));
-}
+returns c = λ sps. writes λ y w none. do
+  rows ← se_of _ refl _ _ none (λ r. r.init_qp_minus26) (omega (arith, ints)) c.in_ok-se_i8.ensures
+  rows ← flag_of _ refl rows.known (λ r. r.constrained_intra_pred_flag) c.in_ok-flag.ensures
+  rows ← flag_of _ refl rows.known (λ r. r.transform_skip_enabled_flag) c.in_ok-flag-2.ensures
+  rows ← flag_of _ refl rows.known (λ r. r.cu_qp_delta_enabled_flag) c.in_ok-flag-3.ensures
+  rows ← ue_if_of _ refl _ _ _ _ rows.known (λ r. r.cu_qp_delta_enabled_flag) (λ r. r.diff_cu_qp_delta_depth) c.in_ok-ue_u8_if.ensures
+  rows ← se_of _ refl _ _ rows.known (λ r. r.cb_qp_offset) (omega (arith, ints)) c.in_ok-se_i8-2.ensures
+  rows ← se_of _ refl _ _ rows.known (λ r. r.cr_qp_offset) (omega (arith, ints)) c.in_ok-se_i8-3.ensures
+  done_filled (λ e at. rows.known.reach _ e refl at)

@@ -1,5 +1,5 @@
 use Rattle.std.proofs.Common.{arith}
-use Rattle.hevc_writing.proofs.Loops.{no_turns, one_more_turn}
+use Rattle.hevc_write_elements.proofs.Loops.{no_turns, one_more_turn}
 use Rattle.hevc_write_pps.proofs.PpsKeeps.{told_size_written, told_sizes_written}
 use Rattle.hevc_write_pps.proofs.tiles.write_told_sizes.Goals as goal
 

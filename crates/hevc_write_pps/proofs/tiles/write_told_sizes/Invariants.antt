@@ -2,8 +2,8 @@ use Rattle.std.proofs.Common.{◌≡◌}
 use Rattle.std.specs.Prelude.{None}
 use Rattle.hevc_spec.specs.declared.Row.{Row}
 use Rattle.hevc_tables.specs.PpsTable.{told_size}
-use Rattle.hevc_writing.specs.Choices.{chosen_value}
-use Rattle.hevc_writing.specs.Filling.{WritesTurns}
+use Rattle.hevc_write_elements.specs.Choices.{chosen_value}
+use Rattle.hevc_write_elements.specs.Filling.{WritesTurns}
 use Rattle.hevc_write_pps.proofs.PpsKeeps.{same_sizes}
 use Rattle.hevc_write_pps.proofs.tiles.write_told_sizes.Given as goal
 

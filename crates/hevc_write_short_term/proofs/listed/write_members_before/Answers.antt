@@ -3,8 +3,8 @@ use Rattle.std.specs.Prelude.{ℤ}
 use Rattle.std.proofs.lemmas.Int.{to_z-of_z}
 use Rattle.hevc_tables.specs.declared.short_term_member.ShortTermMember.{ShortTermMember}
 use Rattle.hevc_tables.specs.ShortTermTable.{member_before}
-use Rattle.hevc_writing.specs.Filling.{WritesTable}
-use Rattle.hevc_writing.proofs.Loops.{no_turns, one_more_turn}
+use Rattle.hevc_write_elements.specs.Filling.{WritesTable}
+use Rattle.hevc_write_elements.proofs.Loops.{no_turns, one_more_turn}
 use Rattle.hevc_write_short_term.proofs.Tables.{before_written, listed_before_written}
 use Rattle.hevc_write_short_term.proofs.listed.write_members_before.Goals as goal
 

@@ -1,5 +1,5 @@
 use Rattle.hevc_tables.specs.ShortTermTable.{next_member_before}
-use Rattle.hevc_writing.specs.Filling.{WritesTurns, are_first}
+use Rattle.hevc_write_elements.specs.Filling.{WritesTurns, are_first}
 use Rattle.hevc_write_short_term.proofs.listed.write_members_before.Given as goal
 
 abbrev pub invariant-loop-i : goal.invariant-loop-i

@@ -1,4 +1,4 @@
-use Rattle.hevc_writing.proofs.Steps.{second_of_two}
+use Rattle.hevc_write_elements.proofs.Steps.{second_of_two}
 use Rattle.hevc_write_short_term.proofs.short_term_set.write_members.Goals as goal
 
 pub returns-else-x-clause-rows : goal.returns-else-x-clause-rows

@@ -1,5 +1,5 @@
 use Rattle.std.proofs.Common.{arith}
-use Rattle.hevc_writing.proofs.Loops.{no_turns, one_more_turn}
+use Rattle.hevc_write_elements.proofs.Loops.{no_turns, one_more_turn}
 use Rattle.hevc_write_slice_header.proofs.HeaderKeeps.{entry_point_written, entry_points_written}
 use Rattle.hevc_write_slice_header.proofs.ending.write_entry_points.Goals as goal
 

@@ -1,6 +1,6 @@
 use Rattle.std.proofs.Common.{◌+◌}
 use Rattle.hevc_tables.specs.SliceHeaderTable.{entry_point}
-use Rattle.hevc_writing.specs.Filling.{WritesTurns, are_first}
+use Rattle.hevc_write_elements.specs.Filling.{WritesTurns, are_first}
 use Rattle.hevc_write_slice_header.proofs.ending.write_entry_points.Given as goal
 
 abbrev pub invariant-loop-i : goal.invariant-loop-i

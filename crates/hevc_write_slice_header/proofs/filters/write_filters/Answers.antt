@@ -2,15 +2,12 @@ use Rattle.std.proofs.Common.{refl}
 use Rattle.hevc_tables.specs.SliceHeaderTable.{across_slices, filters, own_deblocking}
 use Rattle.hevc_write_slice_header.specs.HeaderParts as own
 use Rattle.hevc_write_slice_header.proofs.HeaderKeeps.{across_slices_keeps, own_deblocking_keeps}
-use Rattle.hevc_writing.proofs.Steps.{by, flag_if_then, part_if_then, part_written}
+use Rattle.hevc_write_elements.proofs.Chains.{always, ending, flag_if_of, part_if_of, part_of, writes, ◌>>=◌}
 use Rattle.hevc_write_slice_header.proofs.filters.write_filters.Goals as goal
 
 pub returns : goal.returns
 unfolding filters
-returns c = record {
-  written = λ y w.
-      flag_if_then _ refl _ _ c.in_ok-flag_if.ensures (λ v1 b1 h1.
-      part_if_then own_deblocking own.own_deblocking own_deblocking_keeps _ c.in_ok-write_own_deblocking_if.ensures refl (λ v2 b2 h2.
-      part_written (across_slices _) own.across_slices (across_slices_keeps _) _ c.in_ok-write_across_slices.ensures refl (λ v3 b3 h3 e at.
-      h3 _ e refl (h2 (by e (λ r. r.deblocking_filter_override_flag)) _ e refl (h1 refl (by e (λ r. r.deblocking_filter_override_flag)) at)))));
-}
+returns c = writes λ y w none. do
+  rows ← flag_if_of _ refl _ _ none (always _) (λ r. r.deblocking_filter_override_flag) c.in_ok-flag_if.ensures
+  rows ← part_if_of own_deblocking own.own_deblocking_of own_deblocking_keeps _ rows.known (λ r. r.deblocking_filter_override_flag) c.in_ok-write_own_deblocking_if.ensures refl
+  ending (part_of (across_slices _) own.across_slices_of (across_slices_keeps _) _ rows.known c.in_ok-write_across_slices.ensures refl) (λ _ _ rows e at. rows.reach _ e refl at)

@@ -1,7 +1,7 @@
 use Rattle.std.proofs.Common.{arith}
 use Rattle.hevc_sequence_set.specs.Sps.{plain_sps}
 use Rattle.hevc_picture_slice.specs.SliceHeader.{plain_slice_header}
-use Rattle.hevc_writing.proofs.Loops.{no_turns, one_more_turn}
+use Rattle.hevc_write_elements.proofs.Loops.{no_turns, one_more_turn}
 use Rattle.hevc_write_slice_header.proofs.HeaderKeeps.{pictures_written}
 use Rattle.hevc_write_slice_header.proofs.long_term.write_long_term_pictures.Goals as goal
 

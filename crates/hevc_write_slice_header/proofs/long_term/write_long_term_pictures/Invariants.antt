@@ -1,7 +1,7 @@
 use Rattle.hevc_tables.specs.SliceHeaderTable.{long_term_picture}
 use Rattle.hevc_sequence_set.specs.Sps.{plain_sps}
 use Rattle.hevc_picture_slice.specs.SliceHeader.{plain_slice_header}
-use Rattle.hevc_writing.specs.Filling.{WritesTurns}
+use Rattle.hevc_write_elements.specs.Filling.{WritesTurns}
 use Rattle.hevc_write_slice_header.specs.HeaderParts.{SameLongTerm}
 use Rattle.hevc_write_slice_header.proofs.long_term.write_long_term_pictures.Given as goal
 

@@ -1,17 +1,14 @@
 use Rattle.std.proofs.Common.{refl}
 use Rattle.hevc_tables.specs.SpsTable.{extension_flags}
-use Rattle.hevc_writing.proofs.Steps.{by, done_filled, flag_then, zero_then, zeros_then}
+use Rattle.hevc_write_elements.proofs.Chains.{done_filled, flag_of, writes, zero_of, zeros_of, ◌>>=◌}
 use Rattle.hevc_write_sps.proofs.extensions.write_extension_flags.Goals as goal
 
 pub returns : goal.returns
 unfolding extension_flags
-returns c = record {
-  written = λ y w.
-      flag_then _ refl c.in_ok-flag.ensures (λ v1 b1 h1.
-      zero_then _ refl c.in_ok-flag-2.ensures (λ b2 h2.
-      zero_then _ refl c.in_ok-flag-3.ensures (λ b3 h3.
-      flag_then _ refl c.in_ok-flag-4.ensures (λ v4 b4 h4.
-      zeros_then _ 4 refl c.in_ok-zeros.ensures (λ b5 h5.
-      done_filled (λ e at.
-      h5 (h4 (by e (λ r. r.scc_extension_flag)) (h3 (h2 (h1 (by e (λ r. r.range_extension_flag)) at))))))))));
-}
+returns c = writes λ y w none. do
+  rows ← flag_of _ refl none (λ r. r.range_extension_flag) c.in_ok-flag.ensures
+  rows ← zero_of _ refl rows.known c.in_ok-flag-2.ensures
+  rows ← zero_of _ refl rows.known c.in_ok-flag-3.ensures
+  rows ← flag_of _ refl rows.known (λ r. r.scc_extension_flag) c.in_ok-flag-4.ensures
+  rows ← zeros_of _ 4 refl rows.known c.in_ok-zeros.ensures
+  done_filled (λ e at. rows.known.reach _ e refl at)

@@ -1,8 +1,8 @@
 use Rattle.std.proofs.Common.{refl}
 use Rattle.hevc_tables.specs.SpsTable.{own_ordering}
 use Rattle.hevc_sequence_set.specs.Sps.{plain_sps}
-use Rattle.hevc_writing.proofs.Steps.{done_filled, ue_then}
-use Rattle.hevc_writing.proofs.Loops.{one_less}
+use Rattle.hevc_write_elements.proofs.Steps.{done_filled, ue_then}
+use Rattle.hevc_write_elements.proofs.Loops.{one_less}
 use Rattle.hevc_write_sps.proofs.orderings.write_own_ordering.Goals as goal
 
 pub returns : goal.returns
@@ -15,12 +15,12 @@ returns c =
     let third = c.in_ok-write_number-3.ensures in
     record {
       written = λ y w.
-          ue_then _ refl _ _ first.1 (λ v1 _ b1 h1.
-          ue_then _ refl _ _ second.1 (λ v2 _ b2 h2.
-          ue_then _ refl _ _ third.1 (λ v3 _ b3 h3.
+          ue_then _ refl _ _ first.1 (λ v1 _ b1 buffering_row.
+          ue_then _ refl _ _ second.1 (λ v2 _ b2 reordering_row.
+          ue_then _ refl _ _ third.1 (λ v3 _ b3 latency_row.
           done_filled (λ a.
           let buffering = one_less i y.max_dec_pic_buffering_minus1 x.max_dec_pic_buffering_minus1 v1 0 first.0 a.0 in
           let reordering = one_less i y.max_num_reorder_pics x.max_num_reorder_pics v2 0 second.0 a.1 in
           let latency = one_less i y.max_latency_increase_plus1 x.max_latency_increase_plus1 v3 0 third.0 a.2 in
-          ((buffering.0, reordering.0, latency.0), λ at. h3 latency.1 (h2 reordering.1 (h1 buffering.1 at)))))));
+          ((buffering.0, reordering.0, latency.0), λ at. latency_row latency.1 (reordering_row reordering.1 (buffering_row buffering.1 at)))))));
     }

@@ -1,6 +1,6 @@
 use Rattle.hevc_tables.specs.SpsTable.{own_ordering}
 use Rattle.hevc_sequence_set.specs.Sps.{plain_sps}
-use Rattle.hevc_writing.specs.Filling.{WritesTurns}
+use Rattle.hevc_write_elements.specs.Filling.{WritesTurns}
 use Rattle.hevc_write_sps.specs.SpsParts.{same_orderings}
 use Rattle.hevc_write_sps.proofs.orderings.write_own_orderings.Given as goal
 

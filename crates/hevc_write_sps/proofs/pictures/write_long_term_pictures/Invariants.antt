@@ -1,6 +1,6 @@
 use Rattle.hevc_tables.specs.SpsTable.{long_term_picture}
 use Rattle.hevc_sequence_set.specs.Sps.{plain_sps}
-use Rattle.hevc_writing.specs.Filling.{WritesTurns}
+use Rattle.hevc_write_elements.specs.Filling.{WritesTurns}
 use Rattle.hevc_write_sps.specs.SpsParts.{same_pictures}
 use Rattle.hevc_write_sps.proofs.pictures.write_long_term_pictures.Given as goal
 

@@ -3,8 +3,8 @@ use Rattle.std.proofs.lemmas.List.{length-map, get_or-map, take-map}
 use Rattle.hevc_records.specs.ShortTermRefPicSet.{PlainShortTermRefPicSet, default_short_term_ref_pic_set}
 use Rattle.hevc_tables.specs.ShortTermTable.{short_term_ref_pic_set}
 use Rattle.hevc_set_parts.specs.ShortTermRefPicSet.{plain_short_term_ref_pic_set}
-use Rattle.hevc_writing.specs.Filling.{WritesTable}
-use Rattle.hevc_writing.proofs.Loops.{no_turns, one_more_turn}
+use Rattle.hevc_write_elements.specs.Filling.{WritesTable}
+use Rattle.hevc_write_elements.proofs.Loops.{no_turns, one_more_turn}
 use Rattle.hevc_write_sps.proofs.SpsKeeps.{set_written, sets_written}
 use Rattle.hevc_write_sps.proofs.pictures.write_short_term_sets.Goals as goal
 

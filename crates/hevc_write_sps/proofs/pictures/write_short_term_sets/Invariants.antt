@@ -1,7 +1,7 @@
 use Rattle.std.proofs.Common.{ℕ, map}
 use Rattle.hevc_tables.specs.SpsTable.{short_term_set}
 use Rattle.hevc_set_parts.specs.ShortTermRefPicSet.{plain_short_term_ref_pic_set}
-use Rattle.hevc_writing.specs.Filling.{WritesTurns, are_first}
+use Rattle.hevc_write_elements.specs.Filling.{WritesTurns, are_first}
 use Rattle.hevc_write_sps.proofs.pictures.write_short_term_sets.Given as goal
 
 abbrev pub invariant-loop-i : goal.invariant-loop-i

@@ -1,6 +1,6 @@
 use Rattle.hevc_tables.specs.VpsTable.{own_ordering}
 use Rattle.hevc_video_set.specs.Vps.{plain_vps}
-use Rattle.hevc_writing.specs.Filling.{WritesTurns}
+use Rattle.hevc_write_elements.specs.Filling.{WritesTurns}
 use Rattle.hevc_write_vps.specs.VpsParts.{same_orderings}
 use Rattle.hevc_write_vps.proofs.orderings.write_own_orderings.Given as goal
 

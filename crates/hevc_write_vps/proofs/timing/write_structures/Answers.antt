@@ -3,7 +3,7 @@ use Rattle.std.proofs.lemmas.List.{length-map}
 use Rattle.hevc_video_set.specs.Vps.{plain_vps}
 use Rattle.hevc_video_set.specs.HrdParams.{plain_hrd_params}
 use Rattle.hevc_write_vps.proofs.VpsKeeps.{structures_written}
-use Rattle.hevc_writing.proofs.Loops.{no_turns, one_more_turn}
+use Rattle.hevc_write_elements.proofs.Loops.{no_turns, one_more_turn}
 use Rattle.hevc_write_vps.proofs.timing.write_structures.Goals as goal
 
 pub loop-i-init : goal.loop-i-init

@@ -1,6 +1,6 @@
 use Rattle.hevc_tables.specs.VpsTable.{structure}
 use Rattle.hevc_video_set.specs.Vps.{plain_vps}
-use Rattle.hevc_writing.specs.Filling.{WritesTurns}
+use Rattle.hevc_write_elements.specs.Filling.{WritesTurns}
 use Rattle.hevc_write_vps.specs.VpsParts.{SameStructures}
 use Rattle.hevc_write_vps.proofs.timing.write_structures.Given as goal
 

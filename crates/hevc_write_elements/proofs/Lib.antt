@@ -1,0 +1,11 @@
+pub mod Counting
+pub mod Fillings
+pub mod RowRules
+pub mod Parts
+pub mod Steps
+pub mod Chains
+pub mod Loops
+pub mod Growing
+pub mod Forming
+pub mod Given
+pub mod Deciding

@@ -1,4 +1,0 @@
-pub mod HrdKeeps
-pub mod LayerKeeps
-pub mod ProfileKeeps
-pub mod VuiKeeps

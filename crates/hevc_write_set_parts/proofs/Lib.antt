@@ -1,0 +1,5 @@
+pub mod HrdKeeps
+pub mod LayerKeeps
+pub mod Orderings
+pub mod ProfileKeeps
+pub mod VuiKeeps

@@ -1,5 +1,0 @@
-use Rattle.std.proofs.Common.{rules}
-use Rattle.hevc_writing.proofs.rows.se.Goals as goal
-
-pub returns : goal.returns
-returns c = search rules
