@@ -8,7 +8,12 @@ import json
 import re
 import sys
 from dataclasses import dataclass, field
+from functools import cache
 from html import escape
+from pathlib import Path
+
+sys.path.append(str(Path(__file__).resolve().parent.parent / "docs"))
+import pages
 
 
 class ReportError(Exception):
@@ -27,10 +32,19 @@ def listed(text):
     return None if text == "-" else [words.get(word) or int(word) for word in text.split(",")]
 
 
+@cache
+def rows():
+    """The elements and the clause of each row, by table and row (docs/TABLES.md)."""
+    return {(table, row): (elements, clause) for table, clause, named in pages.named_rows() for row, elements in named.items()}
+
+
 def refusal(text):
-    """The cause of a refusal, and its numbers."""
-    name, *numbers = text.split(" ")
-    return {"cause": name, "numbers": [int(number) for number in numbers]}
+    """The cause of a refusal and its numbers, and of an element that is out of range its name and clause."""
+    name, *words = text.split(" ")
+    numbers = [int(word) for word in words]
+    row = rows().get(tuple(numbers)) if name == "OutOfRange" else None
+    named = {"element": row[0], "clause": row[1]} if row else {}
+    return {"cause": name, "numbers": numbers, **named}
 
 
 # Each kind of line: its form, the names of its values, and how a value that is no number is read.

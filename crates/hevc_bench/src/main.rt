@@ -9,10 +9,10 @@ mod program;
 mod tests;
 mod work;
 
-use hevc_io::{StdSink, StdSource, StdWords, command_line};
-use hevc_usage::explain;
+use hevc_io::{Sink, Source, Word};
+use hevc_usage::{Runnable, start};
 use program::run;
-use std::io;
+use std::alloc::Global;
 use std::process::ExitCode;
 
 /// How the program is called.
@@ -25,15 +25,21 @@ keeps nothing, and prints how many pictures it has.\n\
 \x20 cut    cut the stream into units alone, and print how many there are\n\
 \x20 read   read the stream alone, and print how many bytes it has\n";
 
+/// The program.
+struct Bench;
+
+impl Runnable for Bench {
+    const NAME: &'static str = "hevc_bench";
+
+    const USAGE: &'static str = USAGE;
+
+    const WRITES_STREAM: bool = false;
+
+    fn run<S: Source, K: Sink>(alloc: Global, words: &[Word], source: &mut S, sink: &mut K) -> u8 {
+        run(alloc, words, source, sink)
+    }
+}
+
 fn main(rt: HostRuntime) -> ExitCode {
-    let status = match command_line(&StdWords { system: &rt }, rt.alloc()) {
-        Ok(words) => {
-            let mut source = StdSource::new(rt.reader());
-            let mut sink = StdSink::new(io::writer(&rt));
-            run(rt.alloc(), &words, &mut source, &mut sink)
-        }
-        Err(error) => error.status(),
-    };
-    explain(&rt, "hevc_bench", USAGE, status);
-    ExitCode::from(status)
+    ExitCode::from(start::<Bench, HostRuntime>(&rt))
 }

@@ -3,9 +3,9 @@
 #![tactic(auto)]
 
 use hevc_check::run_check;
-use hevc_io::{StdSink, StdSource, StdWords, command_line};
-use hevc_usage::explain;
-use std::io;
+use hevc_io::{Sink, Source, Word};
+use hevc_usage::{Runnable, start};
+use std::alloc::Global;
 use std::process::ExitCode;
 
 /// How the program is called.
@@ -23,15 +23,21 @@ doesn't hold, and status 7.\n\
 Without a word the bounds are plainer: no latency is declared, and the buffer is\n\
 never full.\n";
 
+/// The program.
+struct Checker;
+
+impl Runnable for Checker {
+    const NAME: &'static str = "hevc_checker";
+
+    const USAGE: &'static str = USAGE;
+
+    const WRITES_STREAM: bool = false;
+
+    fn run<S: Source, K: Sink>(alloc: Global, words: &[Word], source: &mut S, sink: &mut K) -> u8 {
+        run_check(alloc, words, source, sink)
+    }
+}
+
 fn main(rt: HostRuntime) -> ExitCode {
-    let status = match command_line(&StdWords { system: &rt }, rt.alloc()) {
-        Ok(words) => {
-            let mut source = StdSource::new(rt.reader());
-            let mut sink = StdSink::new(io::writer(&rt));
-            run_check(rt.alloc(), &words, &mut source, &mut sink)
-        }
-        Err(error) => error.status(),
-    };
-    explain(&rt, "hevc_checker", USAGE, status);
-    ExitCode::from(status)
+    ExitCode::from(start::<Checker, HostRuntime>(&rt))
 }

@@ -3,9 +3,9 @@
 #![tactic(auto)]
 
 use hevc_extract::run_extract;
-use hevc_io::{StdSink, StdSource, StdWords, command_line};
-use hevc_usage::explain;
-use std::io;
+use hevc_io::{Sink, Source, Word};
+use hevc_usage::{Runnable, start};
+use std::alloc::Global;
 use std::process::ExitCode;
 
 /// How the program is called.
@@ -15,15 +15,21 @@ usage: hevc_extractor T [L] < STREAM\n\
 Writes the units of an H.265 byte stream (Annex B) from standard input whose\n\
 temporal id is at most T, 0 to 6, and whose layer id is at most L, 0 to 62.\n";
 
+/// The program.
+struct Extractor;
+
+impl Runnable for Extractor {
+    const NAME: &'static str = "hevc_extractor";
+
+    const USAGE: &'static str = USAGE;
+
+    const WRITES_STREAM: bool = true;
+
+    fn run<S: Source, K: Sink>(alloc: Global, words: &[Word], source: &mut S, sink: &mut K) -> u8 {
+        run_extract(alloc, words, source, sink)
+    }
+}
+
 fn main(rt: HostRuntime) -> ExitCode {
-    let status = match command_line(&StdWords { system: &rt }, rt.alloc()) {
-        Ok(words) => {
-            let mut source = StdSource::new(rt.reader());
-            let mut sink = StdSink::new(io::writer(&rt));
-            run_extract(rt.alloc(), &words, &mut source, &mut sink)
-        }
-        Err(error) => error.status(),
-    };
-    explain(&rt, "hevc_extractor", USAGE, status);
-    ExitCode::from(status)
+    ExitCode::from(start::<Extractor, HostRuntime>(&rt))
 }

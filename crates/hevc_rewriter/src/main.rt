@@ -2,10 +2,10 @@
 //! sets written anew.
 #![tactic(auto)]
 
-use hevc_io::{StdSink, StdSource, StdWords, command_line};
-use hevc_usage::explain;
+use hevc_io::{Sink, Source, Word};
+use hevc_usage::{Runnable, start};
 use hevc_write::run_write;
-use std::io;
+use std::alloc::Global;
 use std::process::ExitCode;
 
 /// How the program is called.
@@ -15,15 +15,21 @@ usage: hevc_rewriter < STREAM\n\
 Writes an H.265 byte stream (Annex B) from standard input with its parameter\n\
 sets written anew, each unit after 00 00 01.\n";
 
+/// The program.
+struct Rewriter;
+
+impl Runnable for Rewriter {
+    const NAME: &'static str = "hevc_rewriter";
+
+    const USAGE: &'static str = USAGE;
+
+    const WRITES_STREAM: bool = true;
+
+    fn run<S: Source, K: Sink>(alloc: Global, words: &[Word], source: &mut S, sink: &mut K) -> u8 {
+        run_write(alloc, words, source, sink)
+    }
+}
+
 fn main(rt: HostRuntime) -> ExitCode {
-    let status = match command_line(&StdWords { system: &rt }, rt.alloc()) {
-        Ok(words) => {
-            let mut source = StdSource::new(rt.reader());
-            let mut sink = StdSink::new(io::writer(&rt));
-            run_write(rt.alloc(), &words, &mut source, &mut sink)
-        }
-        Err(error) => error.status(),
-    };
-    explain(&rt, "hevc_rewriter", USAGE, status);
-    ExitCode::from(status)
+    ExitCode::from(start::<Rewriter, HostRuntime>(&rt))
 }

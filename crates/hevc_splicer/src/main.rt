@@ -3,9 +3,9 @@
 #![tactic(auto)]
 
 use hevc_index::run_index;
-use hevc_io::{StdSink, StdSource, StdWords, command_line};
-use hevc_usage::explain;
-use std::io;
+use hevc_io::{Sink, Source, Word};
+use hevc_usage::{Runnable, start};
+use std::alloc::Global;
 use std::process::ExitCode;
 
 /// How the program is called.
@@ -18,15 +18,21 @@ decoding can start.\n\
 \n\
 \x20 splice N   write the stream that begins at the point of picture N\n";
 
+/// The program.
+struct Splicer;
+
+impl Runnable for Splicer {
+    const NAME: &'static str = "hevc_splicer";
+
+    const USAGE: &'static str = USAGE;
+
+    const WRITES_STREAM: bool = true;
+
+    fn run<S: Source, K: Sink>(alloc: Global, words: &[Word], source: &mut S, sink: &mut K) -> u8 {
+        run_index(alloc, words, source, sink)
+    }
+}
+
 fn main(rt: HostRuntime) -> ExitCode {
-    let status = match command_line(&StdWords { system: &rt }, rt.alloc()) {
-        Ok(words) => {
-            let mut source = StdSource::new(rt.reader());
-            let mut sink = StdSink::new(io::writer(&rt));
-            run_index(rt.alloc(), &words, &mut source, &mut sink)
-        }
-        Err(error) => error.status(),
-    };
-    explain(&rt, "hevc_splicer", USAGE, status);
-    ExitCode::from(status)
+    ExitCode::from(start::<Splicer, HostRuntime>(&rt))
 }

@@ -2,10 +2,10 @@
 //! the pictures that are output.
 #![tactic(auto)]
 
-use hevc_io::{StdSink, StdSource, StdWords, command_line};
+use hevc_io::{Sink, Source, Word};
 use hevc_report::run;
-use hevc_usage::explain;
-use std::io;
+use hevc_usage::{Runnable, start};
+use std::alloc::Global;
 use std::process::ExitCode;
 
 /// How the program is called.
@@ -20,15 +20,21 @@ that a backend is asked for and the pictures that are output.\n\
 \x20 cra       handle CRA pictures as BLA pictures\n\
 \x20 make N    decode a made stream of N pictures, 1 to 100000, and print one line\n";
 
+/// The program.
+struct Trace;
+
+impl Runnable for Trace {
+    const NAME: &'static str = "hevc_trace";
+
+    const USAGE: &'static str = USAGE;
+
+    const WRITES_STREAM: bool = false;
+
+    fn run<S: Source, K: Sink>(alloc: Global, words: &[Word], source: &mut S, sink: &mut K) -> u8 {
+        run(alloc, words, source, sink)
+    }
+}
+
 fn main(rt: HostRuntime) -> ExitCode {
-    let status = match command_line(&StdWords { system: &rt }, rt.alloc()) {
-        Ok(words) => {
-            let mut source = StdSource::new(rt.reader());
-            let mut sink = StdSink::new(io::writer(&rt));
-            run(rt.alloc(), &words, &mut source, &mut sink)
-        }
-        Err(error) => error.status(),
-    };
-    explain(&rt, "hevc_trace", USAGE, status);
-    ExitCode::from(status)
+    ExitCode::from(start::<Trace, HostRuntime>(&rt))
 }

@@ -1,0 +1,94 @@
+//! The cause of a refusal in words.
+use hevc_row_names::row_name;
+use std::fmt;
+
+/// A cause, as the line of a refusal has it: a name, and its numbers after blanks.
+#[derive(Clone, Copy)]
+pub(crate) struct Cause<'a> {
+    pub(crate) text: &'a str,
+}
+
+impl fmt::Display for Cause<'_> {
+    fn fmt<W: fmt::Write>(&self, f: &mut fmt::Formatter<W>) -> fmt::Result {
+        let text = self.text;
+        match text.split_once(" ") {
+            Some(("OutOfRange", row)) => write!(f, "{}", Row { text: row }),
+            Some(("InvalidNaluType", number)) => {
+                write!(
+                    f,
+                    "its nal_unit_type is {number}, which is unspecified (Table 7-1)"
+                )
+            }
+            Some(("MissingPps", id)) => write!(
+                f,
+                "it names picture parameter set {id}, which no unit before it has (7.4.7.1)"
+            ),
+            _ => write!(f, "{}", plain_cause(text)),
+        }
+    }
+}
+
+/// A cause without numbers.
+fn plain_cause(name: &str) -> &str {
+    match name {
+        "" => "hevc_trace tells the cause",
+        "TruncatedNalu" => "it ends within its header: is the stream cut there?",
+        "OutOfBits" => "it ends before its syntax does: is the stream cut there?",
+        "TemporalIdZero" => "nuh_temporal_id_plus1 is out of its range (7.3.1.2; table 0, row 1)",
+        "NoIndependentSlice" => "its dependent slice segment follows no independent one (7.4.7.1)",
+        "ChangedMidPicture" => {
+            "its slice names a sequence parameter set of another format than its picture's (7.4.2.4.2)"
+        }
+        "PocOutOfRange" => "its picture order count has more than 32 bits (8.3.1)",
+        "DpbFull" =>
+            "the decoded picture buffer is full, so the stream breaks its own bounds (C.5.2.3)",
+        other => other,
+    }
+}
+
+/// The table and the row of an element that is out of its range.
+#[derive(Clone, Copy)]
+struct Row<'a> {
+    text: &'a str,
+}
+
+impl fmt::Display for Row<'_> {
+    fn fmt<W: fmt::Write>(&self, f: &mut fmt::Formatter<W>) -> fmt::Result {
+        let (table, row) = numbers_of(self.text);
+        let Some(name) = row_name(table, row) else {
+            return write!(
+                f,
+                "an element is out of its range (table {table}, row {row})"
+            );
+        };
+        let element = name.element;
+        let clause = name.clause;
+        if element.split_once(", ").is_some() {
+            write!(f, "one of ")?;
+        }
+        write!(
+            f,
+            "{element} is out of its range ({clause}; table {table}, row {row})"
+        )?;
+        write!(f, "{}", remedy(table, row))
+    }
+}
+
+/// A table and a row, as two numbers with a blank between them.
+fn numbers_of(text: &str) -> (u8, u8) {
+    let (table, row) = text.split_once(" ").unwrap_or((text, ""));
+    (
+        table.parse::<u8>().unwrap_or(u8::MAX),
+        row.parse::<u8>().unwrap_or(u8::MAX),
+    )
+}
+
+/// What to do about a row.
+fn remedy(table: u8, row: u8) -> &'static str {
+    match (table, row) {
+        (2, 27) => {
+            ": lossless x265 writes 0; `ffmpeg -i x.h265 -c copy -bsf:v hevc_metadata=level=6.2 y.h265` writes another level"
+        }
+        _ => "",
+    }
+}
