@@ -1,5 +1,5 @@
 -- What a program promises that reads its input to the end and answers it with one text.
-use Rattle.std.specs.Prelude.{◌≡◌, ◌≤◌, ◌<◌, ◌↔◌, ℕ, List, length, IfSome}
+use Rattle.std.specs.Prelude.{◌≡◌, ◌≤◌, ◌<◌, ◌↔◌, ◌⊎◌, ℕ, List, length, IfSome}
 use Rattle.std.specs.declared.option.Option.{Option}
 use Rattle.std.specs.declared.option.Option.TheVariants.{None, Some}
 use Rattle.std.specs.Io.KnownBytes.{Appends, IsAtEnd}
@@ -14,10 +14,22 @@ pub record Ends (S K : Type 0) : Type 0 where
   pub written : K → Option (List ℕ)
   pub failed_writes : K → ℕ
 
+abbrev pub ends_of : {S K : Type 0} → (S → Option (List ℕ)) → (S → ℕ) → (K → Option (List ℕ))
+    → (K → ℕ) → Ends S K
+ends_of left failed_reads written failed_writes = record {
+  left = left;
+  failed_reads = failed_reads;
+  written = written;
+  failed_writes = failed_writes;
+}
+
 -- a source and a sink at one moment
 pub record Moment (S K : Type 0) : Type 0 where
   pub source : S
   pub sink : K
+
+abbrev pub moment : {S K : Type 0} → S → K → Moment S K
+moment source sink = record { source = source; sink = sink }
 
 -- What a program answers, by what its words ask for and by its input.
 pub record Program (A : Type 0) : Type 1 where
@@ -26,6 +38,19 @@ pub record Program (A : Type 0) : Type 1 where
   -- the statuses by which the text was written, and those with that of a failed allocation
   pub IsAnswer : ℕ → Type 0
   pub IsDone : ℕ → Type 0
+
+-- the statuses that come with a text: 0, 1 and 7, of these the ones up to a highest
+abbrev pub IsAnswerUpTo : ℕ → ℕ → Type 0
+IsAnswerUpTo highest status = (status ≤ highest) × ((status ≤ 1) ⊎ (status ≡ 7))
+
+-- the program of this text and this status
+abbrev pub answering : {A : Type 0} → (A → List ℕ → List ℕ) → (A → List ℕ → ℕ) → ℕ → Program A
+answering text status highest = record {
+  text = text;
+  status = status;
+  IsAnswer = IsAnswerUpTo highest;
+  IsDone = λ s. IsAnswerUpTo highest s ⊎ (s ≡ 5);
+}
 
 -- The program read the source and wrote to the sink, and this is its exit status.
 pub record Answers {A S K : Type 0} (ends : Ends S K) (program : Program A) (limit : ℕ)
