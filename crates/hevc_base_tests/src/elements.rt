@@ -99,8 +99,8 @@ fn elements_are_told_as_they_are_read(rt: HostRuntime) {
     let alloc = rt.alloc();
     let rt = &rt;
     let list = ok(rt, Vec::with_capacity(alloc, 9));
-    // 1 | 10110 | 00101 | 00101 | 0 | 101 | 010 ..
-    let mut r = ElementReader::telling(&[0xd9, 0x4a, 0x54], list);
+    // 1 | 10110 | 00101 | 00101 | 0 | 101
+    let mut r = ElementReader::telling(&[0xd8, 0xa5, 0x50], list);
     expect_eq(rt, flag(&mut r, ROW), Ok(true));
     expect_eq(rt, bits_u32(&mut r, ROW, 5, 0, 31), Ok(22));
     expect_eq(rt, flag_if(&mut r, false, ROW), Ok(false));
