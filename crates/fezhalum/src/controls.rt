@@ -17,7 +17,8 @@ fn want_controls_in(decoder: &mut PullDecoder) -> u32
     want_controls(decoder)
 }
 
-/// From here on, the structs of Linux's stateless decoders are filled with each picture that begins. Answers the status.
+/// From here on, the structs of Linux's stateless decoders are filled with each picture that
+/// begins. Answers the status.
 #[unsafe(no_mangle)]
 pub unsafe extern "C" fn fezhalum_want_controls(d: *mut Fezhalum) -> u32
     ghost x: { the_row.Denot }

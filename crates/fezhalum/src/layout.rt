@@ -1,4 +1,5 @@
-//! Structs with another number in each field, by which a program in C sees that its header has them where they are.
+//! Structs with another number in each field, by which a program in C sees that its header has them
+//! where they are.
 ghost use Rattle.std.specs.Prelude.{◌≡◌};
 ghost use prog.Memory.{capped, size};
 ghost use denote.Param.{layout};
@@ -7,13 +8,14 @@ ghost use Rattle.hevc_pull.specs.contracts.calls.DecodeCall as call_type;
 ghost use Rattle.hevc_pull.specs.contracts.units.UnitCall as unit_type;
 ghost use Rattle.hevc_pull.specs.contracts.reads.UnitRead as read_type;
 ghost use Rattle.hevc_events.specs.Plain.{no_places};
-ghost use Rattle.fezhalum.specs.Numbered.{numbered_call, numbered_event, numbered_places, numbered_read, numbered_unit};
+ghost use Rattle.fezhalum.specs.Numbered.{numbered_call, numbered_event, numbered_places};
+ghost use Rattle.fezhalum.specs.Numbered.{numbered_read, numbered_unit};
 
 use hevc_events::{Event, Places};
 use hevc_pull::{DecodeCall, UnitCall, UnitRead};
 
-/// Fills an event: its fields with 1, 2, 3 and so on, and of its first and its last list the last places. Answers the size of the
-/// struct.
+/// Fills an event: its fields with 1, 2, 3 and so on, and of its first and its last list the last
+/// places. Answers the size of the struct.
 #[unsafe(no_mangle)]
 pub extern "C" fn fezhalum_layout_event(event: &mut Event) -> usize
     ensures fields { event.new ≡ numbered_event }
@@ -74,7 +76,8 @@ fn no_places() -> Places
     }
 }
 
-/// Fills what a call of decoding is given and answers, as an event is filled. Answers the size of the struct.
+/// Fills what a call of decoding is given and answers, as an event is filled. Answers the size of
+/// the struct.
 #[unsafe(no_mangle)]
 pub extern "C" fn fezhalum_layout_decode_call(call: &mut DecodeCall) -> usize
     ensures fields { call.new ≡ numbered_call }
@@ -114,8 +117,8 @@ fn numbered_unit() -> UnitCall
     }
 }
 
-/// Fills the unit of what was read as `fezhalum_layout_unit` does, and then the last field of each set and of the header with 8 to 11.
-/// Answers the size of the struct.
+/// Fills the unit of what was read as `fezhalum_layout_unit` does, and then the last field of each
+/// set and of the header with 8 to 11. Answers the size of the struct.
 #[unsafe(no_mangle)]
 pub extern "C" fn fezhalum_layout_read(told: &mut UnitRead) -> usize
     ensures fields { told.new ≡ numbered_read told.old }

@@ -82,8 +82,9 @@ fn fresh_with(handle_cra_as_bla: u32, highest_tid: u32, alloc: Global) -> PullDe
     }
 }
 
-/// Makes a decoder at the beginning of a stream, with options: whether CRA pictures are handled as BLA pictures (8.1.3), 0 for no, and
-/// the temporal id of the highest sub-layer that is wanted (8.1.2), of which 6 and above are all.
+/// Makes a decoder at the beginning of a stream, with options: whether CRA pictures are handled as
+/// BLA pictures (8.1.3), 0 for no, and the temporal id of the highest sub-layer that is wanted
+/// (8.1.2), of which 6 and above are all.
 #[unsafe(no_mangle)]
 pub unsafe extern "C" fn fezhalum_init_with(
     d: *mut Fezhalum,
@@ -107,7 +108,8 @@ fn end_in(decoder: PullDecoder) -> usize
     decoder.end()
 }
 
-/// Ends a decoder, with all that waits in it. Answers how many calls weren't taken. The room is left.
+/// Ends a decoder, with all that waits in it. Answers how many calls weren't taken. The room is
+/// left.
 #[unsafe(no_mangle)]
 pub unsafe extern "C" fn fezhalum_end(d: *mut Fezhalum) -> usize
     ghost x: { the_row.Denot }
@@ -185,7 +187,8 @@ pub unsafe extern "C" fn fezhalum_accept_format(d: *mut Fezhalum) -> u32
     accept_in(&mut *(d as *mut PullDecoder))
 }
 
-/// The first unit whose start code is at a place of the bytes or after it. Answers the status, 0 where there is one.
+/// The first unit whose start code is at a place of the bytes or after it. Answers the status, 0
+/// where there is one.
 #[unsafe(no_mangle)]
 pub extern "C" fn fezhalum_next_unit(bytes: &[u8], from: usize, unit: &mut UnitCall) -> u32
     ensures { FindsUnit bytes.now from unit.old unit.new result }

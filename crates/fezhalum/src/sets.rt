@@ -61,7 +61,8 @@ fn read_in(sets: &mut Parser, bytes: &[u8], told: &mut UnitRead) -> u32
     read_unit(sets, bytes, told)
 }
 
-/// Reads the first unit of the bytes: a parameter set, which is kept, or a slice segment header. Answers the status.
+/// Reads the first unit of the bytes: a parameter set, which is kept, or a slice segment header.
+/// Answers the status.
 #[unsafe(no_mangle)]
 pub unsafe extern "C" fn fezhalum_read_unit(
     sets: *mut FezhalumSets,

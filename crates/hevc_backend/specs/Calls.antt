@@ -11,7 +11,8 @@ use Rattle.hevc_refs.specs.declared.ref_pic_list.RefPicList.{RefPicList}
 use Rattle.hevc_refs.specs.Sets.{plain_set}
 use Rattle.hevc_refs.specs.Lists.{places_of}
 use Rattle.hevc_backend.specs.declared.call.Call.{Call}
-use Rattle.hevc_backend.specs.declared.call.Call.TheVariants.{NewSequence, NewPicture, BeginPicture, DecodeSlice}
+use Rattle.hevc_backend.specs.declared.call.Call.TheVariants.{NewSequence, NewPicture, BeginPicture}
+use Rattle.hevc_backend.specs.declared.call.Call.TheVariants.{DecodeSlice}
 use Rattle.hevc_backend.specs.Negotiation.{info_of}
 
 abbrev pub new_sequence_call : {H : Type 0} → Sps → Call H

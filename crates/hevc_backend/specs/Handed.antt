@@ -1,5 +1,6 @@
 -- What a backend is handed with its calls: parameter sets, slice segment headers and pictures.
-use Rattle.std.specs.Prelude.{◌≡◌, ℕ, ℤ, pos, ◌-ℤ◌, Bool, false, List, [], ◌∷◌, ◌++◌, map, Option, IfSome, Contains}
+use Rattle.std.specs.Prelude.{◌≡◌, ℕ, ℤ, pos, ◌-ℤ◌, Bool, false, List, [], ◌∷◌, ◌++◌, map, Option}
+use Rattle.std.specs.Prelude.{IfSome, Contains}
 use Rattle.std.specs.List.{flat_map}
 use Rattle.hevc_spec.specs.UnitTypes.{is_irap}
 use Rattle.hevc_records.specs.Sps.{PlainSps}

@@ -1,5 +1,7 @@
 -- A backend that records its calls, and what a call changes of it.
-use Rattle.std.specs.Prelude.{◌≡◌, ℕ, ◌+◌, ◌-◌, ◌^◌, Bool, true, false, ◌&&◌, not, ◌==◌, nat_lt, List, [], ◌∷◌, ◌++◌, drop, Option, Some, None, Result, Ok, Err, if◌then◌else◌}
+use Rattle.std.specs.Prelude.{◌≡◌, ℕ, ◌+◌, ◌-◌, ◌^◌, Bool, true, false, ◌&&◌, not, ◌==◌, nat_lt}
+use Rattle.std.specs.Prelude.{List, [], ◌∷◌, ◌++◌, drop, Option, Some, None, Result, Ok, Err}
+use Rattle.std.specs.Prelude.{if◌then◌else◌}
 use Rattle.std.specs.List.{list_any}
 use Rattle.hevc_sequence_set.specs.declared.sps.Sps.{Sps}
 use Rattle.hevc_sequence_set.specs.Sps.{plain_sps}
@@ -8,7 +10,8 @@ use Rattle.hevc_backend.specs.declared.error.BackendError.TheVariants.{Failed, N
 use Rattle.hevc_backend.specs.declared.stream_info.StreamInfo.{StreamInfo}
 use Rattle.hevc_backend.specs.declared.call.Call.{Call}
 use Rattle.hevc_backend.specs.Negotiation.{stream_info_of_set}
-use Rattle.hevc_backend.specs.Trait.{Counts, counts_of, one_more, Frames, with_question, with_frame_taken}
+use Rattle.hevc_backend.specs.Trait.{Counts, counts_of, one_more, Frames, with_question}
+use Rattle.hevc_backend.specs.Trait.{with_frame_taken}
 
 pub record Recording : Type 0 where
   pub log : List (Call ℕ)

@@ -7,7 +7,8 @@ use Rattle.hevc_pictures.specs.declared.picture_data.PictureData.{PictureData}
 use Rattle.hevc_dpb.specs.declared.entry.DpbEntry.{DpbEntry}
 use Rattle.hevc_dpb.specs.Entries.{IsPartOf, tickets}
 use Rattle.hevc_backend.specs.declared.call.Call.{Call}
-use Rattle.hevc_backend.specs.declared.call.Call.TheVariants.{NewSequence, NewPicture, BeginPicture, DecodeSlice, SubmitPicture}
+use Rattle.hevc_backend.specs.declared.call.Call.TheVariants.{NewSequence, NewPicture, BeginPicture}
+use Rattle.hevc_backend.specs.declared.call.Call.TheVariants.{DecodeSlice, SubmitPicture}
 use Rattle.hevc_backend.specs.Negotiation.{format_of}
 
 -- A picture, as a backend is told of it.

@@ -1,5 +1,7 @@
 -- What a call of a backend leaves in its log and in its counts.
-use Rattle.std.specs.Prelude.{ℕ, zero, suc, ◌≤◌, ◌≡◌, ◌≢◌, ◌==◌, ◌+◌, ◌-◌, ◌^◌, nat_lt, Bool, false, not, if◌then◌else◌, List, [], ◌∷◌, ◌++◌, Option, Some, None, option_map, Result, Ok, Err}
+use Rattle.std.specs.Prelude.{ℕ, zero, suc, ◌≤◌, ◌≡◌, ◌≢◌, ◌==◌, ◌+◌, ◌-◌, ◌^◌, nat_lt, Bool, false}
+use Rattle.std.specs.Prelude.{not, if◌then◌else◌, List, [], ◌∷◌, ◌++◌, Option, Some, None}
+use Rattle.std.specs.Prelude.{option_map, Result, Ok, Err}
 use Rattle.hevc_fault_counts.specs.Faults.{Rose}
 use Rattle.hevc_backend.specs.declared.error.BackendError.{BackendError}
 use Rattle.hevc_backend.specs.declared.error.BackendError.TheVariants.{Failed, NoMemory}

@@ -10,9 +10,14 @@ ghost use Rattle.hevc_backend.specs.declared.call.Call.{Call};
 ghost use Rattle.hevc_backend.specs.declared.call.Call.TheVariants.{SubmitPicture};
 ghost use Rattle.hevc_backend.specs.declared.stream_info.StreamInfo.{StreamInfo};
 ghost use Rattle.hevc_backend.specs.Named.{SetNamesAmong, ListNamesAmong};
-ghost use Rattle.hevc_backend.specs.Trait.{Counts, Frames, Logs, CountsFaults, CountsEmptyAnswers, StaysFaultless, StaysWithFrames, with_frame_taken, with_question};
-ghost use Rattle.hevc_backend.specs.Calls.{new_sequence_call, new_picture_call, begin_picture_call, decode_slice_call};
-ghost use Rattle.hevc_backend.specs.Handed.{Handed, Sequence, Announced, Begun, Decoded, AreAnnounced, IsAnnounced, plain_dpb, plain_picture, segment_of};
+ghost use Rattle.hevc_backend.specs.Trait.{Counts, Frames, Logs, CountsFaults, CountsEmptyAnswers};
+ghost use Rattle.hevc_backend.specs.Trait.{StaysFaultless, StaysWithFrames, with_frame_taken};
+ghost use Rattle.hevc_backend.specs.Trait.{with_question};
+ghost use Rattle.hevc_backend.specs.Calls.{new_sequence_call, new_picture_call, begin_picture_call};
+ghost use Rattle.hevc_backend.specs.Calls.{decode_slice_call};
+ghost use Rattle.hevc_backend.specs.Handed.{Handed, Sequence, Announced, Begun, Decoded};
+ghost use Rattle.hevc_backend.specs.Handed.{AreAnnounced, IsAnnounced, plain_dpb, plain_picture};
+ghost use Rattle.hevc_backend.specs.Handed.{segment_of};
 ghost use Rattle.hevc_backend.specs.Told.{WhereTold, IsTold, IsBegun, begun_picture};
 
 use crate::error::BackendError;
@@ -24,9 +29,10 @@ use hevc_sequence_set::Sps;
 
 /// What decodes the samples of pictures.
 ///
-/// Each of the first five calls that succeeds is in the log, and no other call does. `Failed` has a cause: a fault was
-/// counted, or no more can be; the log stays. `NoMemory` leaves the log and the counts. A backend that is faultless never
-/// answers `Failed` and always has a free frame, now and later.
+/// Each of the first five calls that succeeds is in the log, and no other call does. `Failed` has a
+/// cause: a fault was counted, or no more can be; the log stays. `NoMemory` leaves the log and the
+/// counts. A backend that is faultless never answers `Failed` and always has a free frame, now and
+/// later.
 pub trait StatelessH265DecoderBackend {
     /// The handle of a decoded picture.
     type Handle: Copy;
@@ -37,17 +43,17 @@ pub trait StatelessH265DecoderBackend {
     /// The calls that succeeded, in order, where the backend exposes them.
     ghost log: { Self → Option (List (Call Self.Handle)) };
 
-    /// What came with these calls, in order, where the backend exposes it: each picture, parameter set, header and decoded picture
-    /// buffer, whole.
+    /// What came with these calls, in order, where the backend exposes it: each picture, parameter
+    /// set, header and decoded picture buffer, whole.
     ghost handed: { Self → Option (List Handed) };
 
-    /// How many calls failed, and how many questions for free frames were answered by 0, so far. Neither count falls, and
-    /// both stay at 2^64 - 1. And after how many calls its owner set something of it, and of how many it was told, which no call
-    /// changes.
+    /// How many calls failed, and how many questions for free frames were answered by 0, so far.
+    /// Neither count falls, and both stay at 2^64 - 1. And after how many calls its owner set
+    /// something of it, and of how many it was told, which no call changes.
     ghost counts: { Self → Counts };
 
-    /// How often it was asked for free frames, where it exposes that; and whether the last question found one and no picture has
-    /// begun since.
+    /// How often it was asked for free frames, where it exposes that; and whether the last question
+    /// found one and no picture has begun since.
     ghost frames: { Self → Frames };
 
     /// What it tells of the sequence.
@@ -56,8 +62,8 @@ pub trait StatelessH265DecoderBackend {
     /// No call fails from here on, and there is always a free frame.
     ghost is_faultless: { Self → Type 0 };
 
-    /// A sequence begins: this is the sequence parameter set whose format is negotiated, the first one, or that of the slice that
-    /// names another format than the accepted one.
+    /// A sequence begins: this is the sequence parameter set whose format is negotiated, the first
+    /// one, or that of the slice that names another format than the accepted one.
     fn new_sequence(&mut self, sps: &Sps) -> Result<(), BackendError>
         ensures log { Logs (log self.old) (log self.new) result (λ _. new_sequence_call sps.now) }
         ensures handed { Logs (handed self.old) (handed self.new) result
@@ -66,8 +72,8 @@ pub trait StatelessH265DecoderBackend {
         ensures faultless { StaysFaultless (is_faultless self.old) (is_faultless self.new) result }
         ensures frames { frames self.new ≡ frames self.old };
 
-    /// A picture begins, and takes a free frame. `picture` has the type of its first slice (Table 7-1), its order count
-    /// PicOrderCntVal (8.3.1) and its PicOutputFlag (8.1.3).
+    /// A picture begins, and takes a free frame. `picture` has the type of its first slice (Table
+    /// 7-1), its order count PicOrderCntVal (8.3.1) and its PicOutputFlag (8.1.3).
     fn new_picture(
         &mut self,
         number: u64,
@@ -85,8 +91,9 @@ pub trait StatelessH265DecoderBackend {
         ensures not_taken { OnErr result (frames self.new ≡ frames self.old) }
         ensures info { info self.new ≡ info self.old };
 
-    /// The slices of a picture come; `slice` is the first of them. `dpb` has what is stored while the picture is decoded
-    /// (C.5.2.2), with its marks, and `rps` is its reference picture set over that (8.3.2).
+    /// The slices of a picture come; `slice` is the first of them. `dpb` has what is stored while
+    /// the picture is decoded (C.5.2.2), with its marks, and `rps` is its reference picture set
+    /// over that (8.3.2).
     fn begin_picture(
         &mut self,
         number: u64,
@@ -102,12 +109,14 @@ pub trait StatelessH265DecoderBackend {
         requires references { SetNamesAmong (numbers (stored_entries dpb.now)) rps.now }
         requires pps { pps.now.pic_parameter_set_id ≡ slice.now.header.pic_parameter_set_id }
         requires sps { sps.now.seq_parameter_set_id ≡ pps.now.seq_parameter_set_id }
-        // They are of the sequence and the picture that the backend was told of, with the handles that it gave.
+        // They are of the sequence and the picture that the backend was told of, with the handles
+        // that it gave.
         requires told { WhereTold (log self.old)
             (IsTold number (format_of_set (plain_sps sps.now)) (stored_entries dpb.now)) }
         requires begun { WhereTold (log self.old) (IsBegun (begun_picture number picture_data.now)) }
         requires announced { IsAnnounced (handed self.old) number (plain_picture picture_data.now) }
-        // What is stored is as it was announced, but for mark, latency count and whether it is needed for output.
+        // What is stored is as it was announced, but for mark, latency count and whether it is
+        // needed for output.
         requires stored { AreAnnounced (handed self.old) (stored_entries dpb.now) }
         ensures log { Logs (log self.old) (log self.new) result
             (λ _. begin_picture_call number rps.now) }

@@ -13,8 +13,9 @@ pub enum Call<H> {
     NewSequence {
         info: NegotiationInfo,
     },
-    /// A picture begins and takes a frame: with the type of its first slice (Table 7-1), its order count PicOrderCntVal
-    /// (8.3.1), its PicOutputFlag (8.1.3), and the timestamp that came with its first slice.
+    /// A picture begins and takes a frame: with the type of its first slice (Table 7-1), its order
+    /// count PicOrderCntVal (8.3.1), its PicOutputFlag (8.1.3), and the timestamp that came with
+    /// its first slice.
     NewPicture {
         number: u64,
         nalu_type: NaluType,
@@ -22,8 +23,8 @@ pub enum Call<H> {
         pic_output_flag: bool,
         timestamp: u64,
     },
-    /// The picture's slices come. Its reference picture set is five lists of picture numbers, None where there is no such
-    /// picture (8.3.2).
+    /// The picture's slices come. Its reference picture set is five lists of picture numbers, None
+    /// where there is no such picture (8.3.2).
     BeginPicture {
         number: u64,
         st_curr_before: Items<Option<u64>>,
@@ -32,8 +33,8 @@ pub enum Call<H> {
         lt_curr: Items<Option<u64>>,
         lt_foll: Items<Option<u64>>,
     },
-    /// A slice of the picture, at its SliceAddrRs (7.4.7.1) in coding tree blocks in raster scan, with the unit's bytes from
-    /// its header on and its two reference picture lists (8.3.4).
+    /// A slice of the picture, at its SliceAddrRs (7.4.7.1) in coding tree blocks in raster scan,
+    /// with the unit's bytes from its header on and its two reference picture lists (8.3.4).
     DecodeSlice {
         number: u64,
         address: u32,

@@ -1,6 +1,7 @@
 //! What the derived comparisons answer, `==` equality of all fields, and what `default()` is.
 //!
-//! Each function is the operator at one type, with its meaning as a contract, for proofs that rest on it.
+//! Each function is the operator at one type, with its meaning as a contract, for proofs that rest
+//! on it.
 ghost use Rattle.std.specs.Prelude.{◌≡◌, ◌↔◌, IsTrue};
 ghost use Rattle.hevc_backend.specs.Negotiation.{format_of, no_format};
 

@@ -13,8 +13,8 @@ ghost use Rattle.hevc_refs.specs.Sets.{plain_set};
 ghost use Rattle.hevc_refs.specs.Lists.{places_of, plain_places};
 ghost use Rattle.hevc_backend.specs.Named.{SetNamesAmong, ListNamesAmong};
 
-/// A reference picture set whose members are used for reference names references alone, these are stored, and the lists that
-/// are built from it name no others (8.3.2, 8.3.4).
+/// A reference picture set whose members are used for reference names references alone, these are
+/// stored, and the lists that are built from it name no others (8.3.2, 8.3.4).
 pub fn references_are_stored<T: Copy>()
     ensures set { (set : RefPicSet) (es : List (DpbEntry T))
         → ((n : ℕ) → names n (all_members (plain_set set)) ≡ true

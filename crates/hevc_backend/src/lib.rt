@@ -1,5 +1,5 @@
-//! What decodes the pictures: the calls that a hardware decoder is driven by, a backend that records them, and one that keeps
-//! nothing.
+//! What decodes the pictures: the calls that a hardware decoder is driven by, a backend that
+//! records them, and one that keeps nothing.
 #![tactic(auto)]
 
 mod backend;

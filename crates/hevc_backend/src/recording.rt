@@ -1,11 +1,15 @@
 //! A backend that decodes nothing, and records its calls.
-ghost use Rattle.std.specs.Prelude.{◌≡◌, ◌∷◌, ◌++◌, [], None, Some, OnOk, OnErr, IfOk, IfErr, length};
+ghost use Rattle.std.specs.Prelude.{◌≡◌, ◌∷◌, ◌++◌, [], None, Some, OnOk, OnErr, IfOk, IfErr};
+ghost use Rattle.std.specs.Prelude.{length};
 ghost use Rattle.std.specs.Option.{option_copied};
 ghost use Rattle.hevc_backend.specs.declared.error.BackendError.TheVariants.{Failed, NoMemory};
 ghost use Rattle.hevc_backend.specs.declared.call.Call.TheVariants.{SubmitPicture};
 ghost use Rattle.hevc_backend.specs.Handles.{handle_of, handles, AreCounted};
-ghost use Rattle.hevc_backend.specs.Calls.{new_sequence_call, new_picture_call, begin_picture_call, decode_slice_call};
-ghost use Rattle.hevc_backend.specs.Recording.{Recording, planned, fails_next, with_call_made, with_fault, behind, with_info, with_room_taken, is_failed, next_free, asked, IsFaultless};
+ghost use Rattle.hevc_backend.specs.Calls.{new_sequence_call, new_picture_call, begin_picture_call};
+ghost use Rattle.hevc_backend.specs.Calls.{decode_slice_call};
+ghost use Rattle.hevc_backend.specs.Recording.{Recording, planned, fails_next, with_call_made};
+ghost use Rattle.hevc_backend.specs.Recording.{with_fault, behind, with_info, with_room_taken};
+ghost use Rattle.hevc_backend.specs.Recording.{is_failed, next_free, asked, IsFaultless};
 ghost use Rattle.hevc_backend.specs.Trait.{HasNoFault};
 
 use crate::backend::StatelessH265DecoderBackend;
@@ -21,9 +25,11 @@ use hevc_set_parts::Items;
 use std::alloc::Global;
 use std::marker::Model;
 
-/// A backend that decodes nothing, and records its calls. It fails by a plan, and where an allocation fails.
+/// A backend that decodes nothing, and records its calls. It fails by a plan, and where an
+/// allocation fails.
 ///
-/// Its pictures are their numbers, and its handles are 0, 1, 2 and so on, in the order of submission.
+/// Its pictures are their numbers, and its handles are 0, 1, 2 and so on, in the order of
+/// submission.
 #[derive(Drop)]
 pub struct Backend {
     alloc: Global,
@@ -74,9 +80,10 @@ impl Backend {
         Backend::with_plan(alloc, Vec::new(alloc), Vec::new(alloc))
     }
 
-    /// A backend with an empty log that fails by a plan. Of the calls that a log tells of, whether they fail or not, the first
-    /// is number 1, and those whose number is in `failing` fail. Questions for free frames are answered by the numbers of
-    /// `free`, in order, and by 16 after them.
+    /// A backend with an empty log that fails by a plan. Of the calls that a log tells of, whether
+    /// they fail or not, the first is number 1, and those whose number is in `failing` fail.
+    /// Questions for free frames are answered by the numbers of `free`, in order, and by 16 after
+    /// them.
     pub fn with_plan(alloc: Global, failing: Vec<u64>, free: Vec<usize>) -> Backend
         ensures { result ≡ planned failing.items free.items }
     {

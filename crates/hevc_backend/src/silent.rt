@@ -11,7 +11,8 @@ use hevc_picture_slice::{Pps, Slice};
 use hevc_refs::{RefPicList, RefPicSet};
 use hevc_sequence_set::Sps;
 
-/// A backend that decodes nothing, keeps nothing and exposes no log. No call fails, and there is always a free frame.
+/// A backend that decodes nothing, keeps nothing and exposes no log. No call fails, and there is
+/// always a free frame.
 #[derive(Drop)]
 pub struct SilentBackend {
     room: bool,

@@ -54,8 +54,8 @@ fn a_word_has_its_bytes(rt: HostRuntime) {
     expect_eq(&rt, word.as_bytes(), [0x78].as_slice());
 }
 
-/// A source of so many bytes, the first 0 and each one more than the byte before it, whose call of this number
-/// fails.
+/// A source of so many bytes, the first 0 and each one more than the byte before it, whose call of
+/// this number fails.
 fn counting(rt: &impl Abort, alloc: Global, size: usize, failing: u64) -> MemorySource {
     let mut bytes = Vec::new(alloc);
     for number in 0..size {
@@ -124,7 +124,8 @@ fn a_text_is_written_whole(rt: HostRuntime) {
     expect_eq(rt, sink.written(), [4, 5].as_slice());
 }
 
-/// A system whose program has two words, of 2 and of 100 bytes, or whose second one has more than may be.
+/// A system whose program has two words, of 2 and of 100 bytes, or whose second one has more than
+/// may be.
 struct TwoWords {
     is_short: bool,
 }

@@ -1,5 +1,5 @@
-//! Tests of units and their bits, of the streams that are made of them, of input and output, of records, of elements, and of the names
-//! of rows.
+//! Tests of units and their bits, of the streams that are made of them, of input and output, of
+//! records, of elements, and of the names of rows.
 #![tactic(auto)]
 
 #[cfg(test)]

@@ -1,5 +1,7 @@
 -- The bits that an element is written in spell its value.
-use Rattle.std.proofs.Common.{◌≡◌, ℕ, zero, suc, ◌+◌, ◌-◌, ◌*◌, ◌/◌, ◌%◌, ◌^◌, ◌<◌, ◌≤◌, Bool, true, false, cond, eqb, List, ◌∷◌, ◌++◌, length, refl, sym, ap, ◌∙◌, arith, pow_pos}
+use Rattle.std.proofs.Common.{◌≡◌, ℕ, zero, suc, ◌+◌, ◌-◌, ◌*◌, ◌/◌, ◌%◌, ◌^◌, ◌<◌, ◌≤◌, Bool, true}
+use Rattle.std.proofs.Common.{false, cond, eqb, List, ◌∷◌, ◌++◌, length, refl, sym, ap, ◌∙◌, arith}
+use Rattle.std.proofs.Common.{pow_pos}
 use Rattle.std.specs.Prelude.{nat_le, replicate, ℤ, pos, negsuc}
 use Rattle.std.specs.Int.{bit_at}
 use Rattle.std.proofs.lemmas.Nat.{mod_low, mod-pow-add, shr_split, le-div, div_below}
@@ -7,7 +9,8 @@ use Rattle.std.proofs.Math.Nat.{mul_assoc}
 use Rattle.std.proofs.lemmas.Nat.Bits.{bit_at-lt, bit_at_above}
 use Rattle.std.proofs.lemmas.Grind.{pow_more}
 use Rattle.std.proofs.Math.Pow.{pow_mono}
-use Rattle.hevc_spec.specs.Bits.{Form, u, ue, se, skip, check, number, number_after, found, form_at, signed, IsExpGolomb, IsSpelled}
+use Rattle.hevc_spec.specs.Bits.{Form, u, ue, se, skip, check, number, number_after, found, form_at}
+use Rattle.hevc_spec.specs.Bits.{signed, IsExpGolomb, IsSpelled}
 use Rattle.hevc_spec.specs.Payload.{low_bits}
 use Rattle.hevc_spec.proofs.PlaceLaws.{low_bits_length}
 use Rattle.hevc_reading_laws.proofs.FormLaws.{form_spelled}
@@ -33,8 +36,10 @@ number_after-low_bits v zero c = omega arith
 number_after-low_bits v (suc n) c =
     let k : suc n ≡ 1 + n = omega arith in
     let split : c % 2 ^ suc n ≡ bit_at c n * 2 ^ n + c % 2 ^ n = rw k (mod-pow-add c 1 n) in
-    let same : 2 * v + cond (eqb (bit_at c n) 1) 1 0 ≡ 2 * v + bit_at c n = ap (λ (x : ℕ). 2 * v + x) (digit (bit_at c n) (bit_at-lt c n)) in
-    ap (λ (x : ℕ). number_after x (low_bits n c)) same ∙ number_after-low_bits (2 * v + bit_at c n) n c ∙ twice v n (bit_at c n) (c % 2 ^ n) ∙ ap (λ (x : ℕ). v * 2 ^ suc n + x) (sym split)
+    let same : 2 * v + cond (eqb (bit_at c n) 1) 1 0 ≡ 2 * v + bit_at c n =
+    ap (λ (x : ℕ). 2 * v + x) (digit (bit_at c n) (bit_at-lt c n)) in
+    ap (λ (x : ℕ). number_after x (low_bits n c)) same ∙ number_after-low_bits (2 * v + bit_at c n) n c
+    ∙ twice v n (bit_at c n) (c % 2 ^ n) ∙ ap (λ (x : ℕ). v * 2 ^ suc n + x) (sym split)
 
 -- a number of so many bits
 pub number-low_bits : (n c : ℕ) → c < 2 ^ n → number (low_bits n c) ≡ c
@@ -55,7 +60,8 @@ pub exponent : (most n : ℕ) → 0 < n → n < 2 ^ suc most → IsExponent n (e
 exponent zero n some small = record { low = omega arith; high = small }
 exponent (suc most) n some small = by_test (λ h. exponent most n some h) (nat_le (2 ^ suc most) n) refl
   where
-    by_test : (n < 2 ^ suc most → IsExponent n (exponent_within most n)) → (t : Bool) → nat_le (2 ^ suc most) n ≡ t → IsExponent n (cond t (suc most) (exponent_within most n))
+    by_test : (n < 2 ^ suc most → IsExponent n (exponent_within most n)) → (t : Bool)
+        → nat_le (2 ^ suc most) n ≡ t → IsExponent n (cond t (suc most) (exponent_within most n))
     by_test again true e = record { low = grind (arith, e); high = small }
     by_test again false e = again (grind (arith, e))
 
@@ -114,12 +120,16 @@ exp_golomb value z e few =
       value_is = sym whole ∙ ap (λ (x : ℕ). x * 2 ^ z + w % 2 ^ z) half ∙ sym (number_after-low_bits 1 z w);
     }
 
-is_exp_golomb : (value : ℕ) → value + 1 < 2 ^ 32 → IsExpGolomb value (low_bits (2 * leading_zero_bits value + 1) (value + 1))
+is_exp_golomb : (value : ℕ) → value + 1 < 2 ^ 32
+    → IsExpGolomb value (low_bits (2 * leading_zero_bits value + 1) (value + 1))
 unfolding leading_zero_bits
-is_exp_golomb value small = exp_golomb value (leading_zero_bits value) (exponent 31 (value + 1) (omega arith) small) (exponent_most 31 (value + 1))
+is_exp_golomb value small =
+    exp_golomb value (leading_zero_bits value) (exponent 31 (value + 1) (omega arith) small)
+    (exponent_most 31 (value + 1))
 
 -- the zeros of a value whose shifted number has this exponent
-pub leading_zero_bits-is : (value z : ℕ) → value + 1 < 2 ^ 32 → 2 ^ z ≤ value + 1 → value + 1 < 2 * 2 ^ z → leading_zero_bits value ≡ z
+pub leading_zero_bits-is : (value z : ℕ) → value + 1 < 2 ^ 32 → 2 ^ z ≤ value + 1 → value + 1 < 2 * 2 ^ z
+    → leading_zero_bits value ≡ z
 unfolding leading_zero_bits
 leading_zero_bits-is value z small low high =
     let k : suc z ≡ z + 1 = omega arith in
@@ -136,7 +146,8 @@ is_spelled se value h = is_exp_golomb value h
 is_spelled (skip n) value h = (low_bits_length n value, number-low_bits n value h)
 is_spelled check value h = (refl, h)
 
-pub is_read : (form : Form) (value : ℕ) (rest : List Bool) → CanSpell form value → form_at form (spelled form value ++ rest) ≡ found value rest
+pub is_read : (form : Form) (value : ℕ) (rest : List Bool) → CanSpell form value
+    → form_at form (spelled form value ++ rest) ≡ found value rest
 is_read form value rest h = form_spelled form value (spelled form value) rest (is_spelled form value h)
 
 -- ---- signed numbers

@@ -1,5 +1,6 @@
 -- Units as they are written in a byte stream (7.3.1.1, 7.4.2, Annex B).
-use Rattle.std.specs.Prelude.{◌≡◌, ℕ, ◌+◌, Bool, true, not, ◌&&◌, ◌==◌, nat_le, List, [], ◌∷◌, ◌++◌, length, if◌then◌else◌}
+use Rattle.std.specs.Prelude.{◌≡◌, ℕ, ◌+◌, Bool, true, not, ◌&&◌, ◌==◌, nat_le, List, [], ◌∷◌, ◌++◌}
+use Rattle.std.specs.Prelude.{length, if◌then◌else◌}
 use Rattle.hevc_spec.specs.Payload.{run_behind}
 use Rattle.hevc_spec.specs.Units.{NalUnit, kept_bytes}
 

@@ -1,14 +1,16 @@
 //! A writer of bits.
-ghost use Rattle.std.specs.Prelude.{◌≡◌, ◌≢◌, ◌↔◌, ◌+◌, ◌%◌, ◌^◌, ◌<◌, ◌≤◌, [], ◌∷◌, ◌++◌, length, negsuc, IsTrue, OnOk, OnErr};
+ghost use Rattle.std.specs.Prelude.{◌≡◌, ◌≢◌, ◌↔◌, ◌+◌, ◌%◌, ◌^◌, ◌<◌, ◌≤◌, [], ◌∷◌, ◌++◌, length};
+ghost use Rattle.std.specs.Prelude.{negsuc, IsTrue, OnOk, OnErr};
 ghost use Rattle.hevc_spec.specs.Bits.{u, ue, se};
 ghost use Rattle.hevc_spec.specs.Payload.{low_bits};
-ghost use Rattle.hevc_bit_writer.specs.Writing.{GrewByFirst, code_number, packed, spelled, trailing_bits};
+ghost use Rattle.hevc_bit_writer.specs.Writing.{GrewByFirst, code_number, packed, spelled};
+ghost use Rattle.hevc_bit_writer.specs.Writing.{trailing_bits};
 
 use std::alloc::{AllocError, Global};
 use std::marker::Model;
 
-/// Bits that are written one element after another (7.2), packed into bytes, the most significant bit of
-/// each byte first. After a refusal some first bits of the element may be at the end.
+/// Bits that are written one element after another (7.2), packed into bytes, the most significant
+/// bit of each byte first. After a refusal some first bits of the element may be at the end.
 #[derive(Drop)]
 pub struct BitWriter {
     bytes: Vec<u8>,
@@ -103,7 +105,8 @@ impl BitWriter {
         self.write_ue(if value > 0 { twice - 1 } else { twice })
     }
 
-    /// Writes rbsp_trailing_bits (7.3.2.11), or byte_alignment (7.3.2.12): a one, and zeros up to the end of its byte.
+    /// Writes rbsp_trailing_bits (7.3.2.11), or byte_alignment (7.3.2.12): a one, and zeros up to
+    /// the end of its byte.
     pub fn write_trailing_bits(&mut self) -> Result<(), AllocError>
         ensures ok { OnOk result (self.new ≡ self.old ++ trailing_bits (length self.old)) }
         ensures err { OnErr result

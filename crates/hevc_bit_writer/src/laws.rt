@@ -1,10 +1,12 @@
 //! Reading gives back what was written.
-ghost use Rattle.std.specs.Prelude.{◌≡◌, ◌≢◌, ℕ, ℤ, ◌%◌, Bool, List, [], ◌∷◌, ◌++◌, length, All, true};
+ghost use Rattle.std.specs.Prelude.{◌≡◌, ◌≢◌, ℕ, ℤ, ◌%◌, Bool, List, [], ◌∷◌, ◌++◌, length, All};
+ghost use Rattle.std.specs.Prelude.{true};
 ghost use Rattle.hevc_spec.specs.Bits.{Form, IsSpelled, found, form_at, signed};
 ghost use Rattle.hevc_spec.specs.Payload.{bits_of, payload, payload_after};
 ghost use Rattle.hevc_spec.specs.Units.{units, without_trailing_zeros};
 ghost use Rattle.hevc_bit_writer.specs.Writing.{CanSpell, code_number, packed, spelled};
-ghost use Rattle.hevc_bit_writer.specs.WrittenUnits.{IsUnit, escaped, placed, stays_whole, stream_of};
+ghost use Rattle.hevc_bit_writer.specs.WrittenUnits.{IsUnit, escaped, placed, stays_whole};
+ghost use Rattle.hevc_bit_writer.specs.WrittenUnits.{stream_of};
 
 /// The bits of an element spell its value, and before any bits they are read as it.
 #[tactic(auto, using(crate::proofs::Spellings::is_spelled, crate::proofs::Spellings::is_read))]
@@ -41,8 +43,8 @@ pub fn units_are_found()
     ensures { (us : List (List ℕ)) → All IsUnit us → units (stream_of us) ≡ placed 0 us }
 {}
 
-/// A header whose second byte isn't 0, as no temporal id plus 1 is, and a payload that doesn't end in 00 make up bytes in which no
-/// start code is and which don't end in 00.
+/// A header whose second byte isn't 0, as no temporal id plus 1 is, and a payload that doesn't end
+/// in 00 make up bytes in which no start code is and which don't end in 00.
 #[tactic(auto, using(crate::proofs::Escapes::stays_whole_escaped))]
 pub fn written_units_stay_whole()
     ensures { (first second : ℕ) (bytes : List ℕ) → second ≢ 0

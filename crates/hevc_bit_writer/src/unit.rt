@@ -4,8 +4,8 @@ ghost use Rattle.hevc_bit_writer.specs.WrittenUnits.{escaped, started};
 
 use std::alloc::{AllocError, Global};
 
-/// Adds a unit to a stream (7.3.1.1, B.2.1): a start code, the two bytes of its header, and its payload,
-/// with 03 bytes that keep start codes out of it. After a refusal the stream is as before.
+/// Adds a unit to a stream (7.3.1.1, B.2.1): a start code, the two bytes of its header, and its
+/// payload, with 03 bytes that keep start codes out of it. After a refusal the stream is as before.
 pub fn append_unit(
     alloc: Global,
     stream: &mut Vec<u8>,

@@ -1,5 +1,7 @@
 -- Start codes in a block of 64 bytes, by the bits of its bytes.
-use Rattle.std.proofs.Common.{◌≡◌, ◌≢◌, ◌↔◌, ℕ, ◌+◌, ◌/◌, ◌%◌, ◌^◌, ◌<◌, ◌≤◌, Bool, true, false, cond, eqb, List, Some, length, get_or, map, refl, sym, ap, ◌∙◌, arith, shr-shr, bit_and, w64, ⊎_elim}
+use Rattle.std.proofs.Common.{◌≡◌, ◌≢◌, ◌↔◌, ℕ, ◌+◌, ◌/◌, ◌%◌, ◌^◌, ◌<◌, ◌≤◌, Bool, true, false}
+use Rattle.std.proofs.Common.{cond, eqb, List, Some, length, get_or, map, refl, sym, ap, ◌∙◌, arith}
+use Rattle.std.proofs.Common.{shr-shr, bit_and, w64, ⊎_elim}
 use Rattle.std.specs.Int.{bit_at, trailing_zeros}
 use Rattle.std.proofs.lemmas.Bool.{eqb-true, cases_lt}
 use Rattle.std.proofs.lemmas.List.{get_or-map, get_or_past, length-map}
@@ -17,21 +19,31 @@ bit_is_set : (b : Bool) → cond {A = ℕ} b 1 0 ≡ 1 → b ≡ true
 bit_is_set true h = refl
 bit_is_set false h = absurd (omega (arith, h))
 
-places_tell : (byte : ℕ) (block : List ℕ) (k : ℕ) → length block ≡ 64 → get_or (map (λ x. eqb x byte) block) k false ≡ true → (k < 64) × (get_or block k 0 ≡ byte)
+places_tell : (byte : ℕ) (block : List ℕ) (k : ℕ) → length block ≡ 64
+    → get_or (map (λ x. eqb x byte) block) k false ≡ true → (k < 64) × (get_or block k 0 ≡ byte)
 places_tell byte block k long h =
     ⊎_elim
     (λ low. (low, eqb-true _ byte (sym (get_or-map (λ x. eqb x byte) block k 0 false (omega (arith, long))) ∙ h)))
-    (λ high. absurd (cc (h, get_or_past (map (λ x. eqb x byte) block) k false (omega (arith, length-map block (λ x. eqb x byte), long)))))
+    (λ high. absurd
+    (cc (
+      h,
+      get_or_past (map (λ x. eqb x byte) block) k false
+          (omega (arith, length-map block (λ x. eqb x byte), long)),
+    )))
     (cases_lt k 64)
 
 eqb_same : (a b : ℕ) → a ≡ b → eqb a b ≡ true
 eqb_same a b e = rw e (grind arith)
 
-pub bit_of_places : (byte : ℕ) (block : List ℕ) (bits : ℕ) → length block ≡ 64 → bits ≡ mask_l (map (λ x. eqb x byte) block) → ArePlaces byte block bits
+pub bit_of_places : (byte : ℕ) (block : List ℕ) (bits : ℕ) → length block ≡ 64
+    → bits ≡ mask_l (map (λ x. eqb x byte) block) → ArePlaces byte block bits
 bit_of_places byte block bits long made k =
-    let bit : bit_at bits k ≡ cond {A = ℕ} (get_or (map (λ x. eqb x byte) block) k false) 1 0 = ap (λ n. bit_at n k) made ∙ bit_mask_l (map (λ x. eqb x byte) block) k in (
+    let bit : bit_at bits k ≡ cond {A = ℕ} (get_or (map (λ x. eqb x byte) block) k false) 1 0 =
+    ap (λ n. bit_at n k) made ∙ bit_mask_l (map (λ x. eqb x byte) block) k in (
       λ set. places_tell byte block k long (bit_is_set _ (sym bit ∙ set)),
-      λ here. bit ∙ ap (λ b. cond {A = ℕ} b 1 0) (get_or-map (λ x. eqb x byte) block k 0 false (omega (arith, long, here.0)) ∙ eqb_same _ byte here.1),
+      λ here. bit ∙ ap
+          (λ b. cond {A = ℕ} b 1 0)
+          (get_or-map (λ x. eqb x byte) block k 0 false (omega (arith, long, here.0)) ∙ eqb_same _ byte here.1),
     )
 
 both_bits : (a b k : ℕ) → (bit_at (bit_and a b) k ≡ 1) ↔ ((bit_at a k ≡ 1) × (bit_at b k ≡ 1))
@@ -52,7 +64,8 @@ pairs_of zeros = bit_and zeros (zeros / 2)
 abbrev starts_of : (pairs ones : ℕ) → ℕ
 starts_of pairs ones = bit_and pairs (ones / 4)
 
-pub pairs_tell : (block : List ℕ) (zeros : ℕ) → length block ≡ 64 → ArePlaces 0 block zeros → ArePairs block (pairs_of zeros)
+pub pairs_tell : (block : List ℕ) (zeros : ℕ) → length block ≡ 64 → ArePlaces 0 block zeros
+    → ArePairs block (pairs_of zeros)
 pairs_tell block zeros long places k =
     let next : 1 + k ≡ k + 1 = omega arith in (
       λ set.
@@ -65,7 +78,8 @@ pairs_tell block zeros long places k =
       ),
     )
 
-start_stands : (block : List ℕ) (pairs ones k : ℕ) → length block ≡ 64 → ArePairs block pairs → ArePlaces 1 block ones → StandsAt block k → bit_at (starts_of pairs ones) k ≡ 1
+start_stands : (block : List ℕ) (pairs ones k : ℕ) → length block ≡ 64 → ArePairs block pairs
+    → ArePlaces 1 block ones → StandsAt block k → bit_at (starts_of pairs ones) k ≡ 1
 start_stands block pairs ones k long are_pairs places_1 h =
     let third : 2 + k ≡ k + 2 = omega arith in
     (both_bits pairs (ones / 4) k).1 (
@@ -73,7 +87,8 @@ start_stands block pairs ones k long are_pairs places_1 h =
       shifted ones 2 k ∙ ap (bit_at ones) third ∙ (places_1 (k + 2)).1 (omega (arith, long, h.0), h.3),
     )
 
-stands_start : (block : List ℕ) (pairs ones k : ℕ) → length block ≡ 64 → ArePairs block pairs → ArePlaces 1 block ones → bit_at (starts_of pairs ones) k ≡ 1 → StandsAt block k
+stands_start : (block : List ℕ) (pairs ones k : ℕ) → length block ≡ 64 → ArePairs block pairs
+    → ArePlaces 1 block ones → bit_at (starts_of pairs ones) k ≡ 1 → StandsAt block k
 stands_start block pairs ones k long are_pairs places_1 set =
     let third : k + 2 ≡ 2 + k = omega arith in
     let parts = (both_bits pairs (ones / 4) k).0 set in
@@ -85,18 +100,25 @@ bit_of_none : (bits k : ℕ) → bits ≡ 0 → bit_at bits k ≢ 1
 bit_of_none bits k none set = omega (arith, sym set ∙ ap (λ n. bit_at n k) none ∙ bit_at-zero k)
 
 -- a block without two zeros in a row
-pub not_two : (block : List ℕ) (pairs : ℕ) → length block ≡ 64 → ArePairs block pairs → pairs ≡ 0 → (k : ℕ) → k < 63 → get_or block k 0 ≡ 0 → get_or block (k + 1) 0 ≢ 0
-not_two block pairs long are_pairs none k low first second = bit_of_none pairs k none ((are_pairs k).1 (omega (arith, long, low), first, second))
+pub not_two : (block : List ℕ) (pairs : ℕ) → length block ≡ 64 → ArePairs block pairs → pairs ≡ 0 → (k : ℕ)
+    → k < 63 → get_or block k 0 ≡ 0 → get_or block (k + 1) 0 ≢ 0
+not_two block pairs long are_pairs none k low first second =
+    bit_of_none pairs k none ((are_pairs k).1 (omega (arith, long, low), first, second))
 
-pub none_in_starts : (block : List ℕ) (pairs ones : ℕ) → length block ≡ 64 → ArePairs block pairs → ArePlaces 1 block ones → starts_of pairs ones ≡ 0 → NoneStands block 0 (length block)
-none_in_starts block pairs ones long are_pairs places_1 none k low high stands = bit_of_none (starts_of pairs ones) k none (start_stands block pairs ones k long are_pairs places_1 stands)
+pub none_in_starts : (block : List ℕ) (pairs ones : ℕ) → length block ≡ 64 → ArePairs block pairs
+    → ArePlaces 1 block ones → starts_of pairs ones ≡ 0 → NoneStands block 0 (length block)
+none_in_starts block pairs ones long are_pairs places_1 none k low high stands =
+    bit_of_none (starts_of pairs ones) k none (start_stands block pairs ones k long are_pairs places_1 stands)
 
-pub first_of_starts : (block : List ℕ) (pairs ones : ℕ) → length block ≡ 64 → ArePairs block pairs → ArePlaces 1 block ones → 0 < starts_of pairs ones → starts_of pairs ones < 2 ^ 64 → IsFirstStart block 0 (Some (trailing_zeros w64 (starts_of pairs ones)))
+pub first_of_starts : (block : List ℕ) (pairs ones : ℕ) → length block ≡ 64 → ArePairs block pairs
+    → ArePlaces 1 block ones → 0 < starts_of pairs ones → starts_of pairs ones < 2 ^ 64
+    → IsFirstStart block 0 (Some (trailing_zeros w64 (starts_of pairs ones)))
 first_of_starts block pairs ones long are_pairs places_1 some fits =
     let h = bit_at-trailing_zeros w64 (starts_of pairs ones) some fits in (
       omega arith,
       stands_start block pairs ones _ long are_pairs places_1 h.1,
-      λ k low high stands. absurd (omega (arith, h.2 k high, start_stands block pairs ones k long are_pairs places_1 stands)),
+      λ k low high stands. absurd
+          (omega (arith, h.2 k high, start_stands block pairs ones k long are_pairs places_1 stands)),
     )
 
 pub small : (pairs ones : ℕ) → starts_of pairs ones ≤ pairs

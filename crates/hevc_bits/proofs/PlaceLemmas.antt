@@ -1,5 +1,6 @@
 -- The bits at a place, as the reader keeps it.
-use Rattle.std.proofs.Common.{◌≡◌, ℕ, zero, suc, ◌+◌, ◌*◌, ◌/◌, ◌^◌, ◌<◌, false, eqb, length, List, refl, arith, pow_pos}
+use Rattle.std.proofs.Common.{◌≡◌, ℕ, zero, suc, ◌+◌, ◌*◌, ◌/◌, ◌^◌, ◌<◌, false, eqb, length, List}
+use Rattle.std.proofs.Common.{refl, arith, pow_pos}
 use Rattle.std.specs.List.{list_any}
 use Rattle.std.specs.Prelude.{not, ◌||◌, ◌%◌}
 use Rattle.std.proofs.lemmas.Nat.{mod-pow-add}
@@ -8,13 +9,19 @@ use Rattle.hevc_spec.specs.Payload.{Place, bits, payload_bits, first_place, low_
 use Rattle.hevc_spec.proofs.PlaceLaws.{low_bits_length}
 
 abbrev pub place : ℕ → ℕ → ℕ → List ℕ → ℕ → Place
-place unread byte run behind dropped = record { loaded = low_bits unread byte; zero_run = run; behind = behind; dropped = dropped }
+place unread byte run behind dropped = record {
+  loaded = low_bits unread byte;
+  zero_run = run;
+  behind = behind;
+  dropped = dropped;
+}
 
 pub bits-first_place : (bytes : List ℕ) → bits (first_place bytes) ≡ payload_bits 0 bytes
 unfolding bits
 bits-first_place bytes = refl
 
-pub bits_left-place : (unread byte run : ℕ) (behind : List ℕ) (d : ℕ) → bits_left (place unread byte run behind d) ≡ unread + 8 * length behind
+pub bits_left-place : (unread byte run : ℕ) (behind : List ℕ) (d : ℕ)
+    → bits_left (place unread byte run behind d) ≡ unread + 8 * length behind
 unfolding bits_left
 bits_left-place unread byte run behind d = rw (low_bits_length unread byte) refl
 

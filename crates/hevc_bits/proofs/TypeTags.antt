@@ -6,7 +6,22 @@ use denote.Enum.Declared.{tag_of}
 use Rattle.hevc_bits.specs.contracts.nalu_type.NaluType.{the_type}
 use Rattle.hevc_bits.specs.contracts.nalu_type.NaluTypeOrd.TheImpl.{ghosts}
 use Rattle.hevc_bits.specs.declared.nalu_type.NaluType.{NaluType}
-use Rattle.hevc_bits.specs.declared.nalu_type.NaluType.TheVariants.{TrailN, TrailR, TsaN, TsaR, StsaN, StsaR, RadlN, RadlR, RaslN, RaslR, RsvVclN10, RsvVclR11, RsvVclN12, RsvVclR13, RsvVclN14, RsvVclR15, BlaWLp, BlaWRadl, BlaNLp, IdrWRadl, IdrNLp, CraNut, RsvIrapVcl22, RsvIrapVcl23, RsvVcl24, RsvVcl25, RsvVcl26, RsvVcl27, RsvVcl28, RsvVcl29, RsvVcl30, RsvVcl31, VpsNut, SpsNut, PpsNut, AudNut, EosNut, EobNut, FdNut, PrefixSeiNut, SuffixSeiNut, RsvNvcl41, RsvNvcl42, RsvNvcl43, RsvNvcl44, RsvNvcl45, RsvNvcl46, RsvNvcl47}
+use Rattle.hevc_bits.specs.declared.nalu_type.NaluType.TheVariants.{TrailN, TrailR, TsaN, TsaR}
+use Rattle.hevc_bits.specs.declared.nalu_type.NaluType.TheVariants.{StsaN, StsaR, RadlN, RadlR}
+use Rattle.hevc_bits.specs.declared.nalu_type.NaluType.TheVariants.{RaslN, RaslR, RsvVclN10}
+use Rattle.hevc_bits.specs.declared.nalu_type.NaluType.TheVariants.{RsvVclR11, RsvVclN12, RsvVclR13}
+use Rattle.hevc_bits.specs.declared.nalu_type.NaluType.TheVariants.{RsvVclN14, RsvVclR15, BlaWLp}
+use Rattle.hevc_bits.specs.declared.nalu_type.NaluType.TheVariants.{BlaWRadl, BlaNLp, IdrWRadl}
+use Rattle.hevc_bits.specs.declared.nalu_type.NaluType.TheVariants.{IdrNLp, CraNut, RsvIrapVcl22}
+use Rattle.hevc_bits.specs.declared.nalu_type.NaluType.TheVariants.{RsvIrapVcl23, RsvVcl24}
+use Rattle.hevc_bits.specs.declared.nalu_type.NaluType.TheVariants.{RsvVcl25, RsvVcl26, RsvVcl27}
+use Rattle.hevc_bits.specs.declared.nalu_type.NaluType.TheVariants.{RsvVcl28, RsvVcl29, RsvVcl30}
+use Rattle.hevc_bits.specs.declared.nalu_type.NaluType.TheVariants.{RsvVcl31, VpsNut, SpsNut}
+use Rattle.hevc_bits.specs.declared.nalu_type.NaluType.TheVariants.{PpsNut, AudNut, EosNut, EobNut}
+use Rattle.hevc_bits.specs.declared.nalu_type.NaluType.TheVariants.{FdNut, PrefixSeiNut}
+use Rattle.hevc_bits.specs.declared.nalu_type.NaluType.TheVariants.{SuffixSeiNut, RsvNvcl41}
+use Rattle.hevc_bits.specs.declared.nalu_type.NaluType.TheVariants.{RsvNvcl42, RsvNvcl43, RsvNvcl44}
+use Rattle.hevc_bits.specs.declared.nalu_type.NaluType.TheVariants.{RsvNvcl45, RsvNvcl46, RsvNvcl47}
 use Rattle.hevc_bits.specs.NaluType.{nalu_type_number}
 
 pub tag_of-nalu_type : (t : NaluType) → tag_of the_type t ≡ nalu_type_number t
@@ -64,7 +79,11 @@ same_number t u = rw (tag_of-nalu_type t, tag_of-nalu_type u) refl
 
 -- the numbers that the variants are declared with, in order
 abbrev pub declared_numbers : List ℤ
-declared_numbers = pos 0 ∷ pos 1 ∷ pos 2 ∷ pos 3 ∷ pos 4 ∷ pos 5 ∷ pos 6 ∷ pos 7 ∷ pos 8 ∷ pos 9 ∷ pos 10 ∷ pos 11 ∷ pos 12 ∷ pos 13 ∷ pos 14 ∷ pos 15 ∷ pos 16 ∷ pos 17 ∷ pos 18 ∷ pos 19 ∷ pos 20 ∷ pos 21 ∷ pos 22 ∷ pos 23 ∷ pos 24 ∷ pos 25 ∷ pos 26 ∷ pos 27 ∷ pos 28 ∷ pos 29 ∷ pos 30 ∷ pos 31 ∷ pos 32 ∷ pos 33 ∷ pos 34 ∷ pos 35 ∷ pos 36 ∷ pos 37 ∷ pos 38 ∷ pos 39 ∷ pos 40 ∷ pos 41 ∷ pos 42 ∷ pos 43 ∷ pos 44 ∷ pos 45 ∷ pos 46 ∷ pos 47 ∷ []
+declared_numbers = pos 0 ∷ pos 1 ∷ pos 2 ∷ pos 3 ∷ pos 4 ∷ pos 5 ∷ pos 6 ∷ pos 7 ∷ pos 8 ∷ pos 9 ∷ pos 10
+    ∷ pos 11 ∷ pos 12 ∷ pos 13 ∷ pos 14 ∷ pos 15 ∷ pos 16 ∷ pos 17 ∷ pos 18 ∷ pos 19 ∷ pos 20 ∷ pos 21
+    ∷ pos 22 ∷ pos 23 ∷ pos 24 ∷ pos 25 ∷ pos 26 ∷ pos 27 ∷ pos 28 ∷ pos 29 ∷ pos 30 ∷ pos 31 ∷ pos 32
+    ∷ pos 33 ∷ pos 34 ∷ pos 35 ∷ pos 36 ∷ pos 37 ∷ pos 38 ∷ pos 39 ∷ pos 40 ∷ pos 41 ∷ pos 42 ∷ pos 43
+    ∷ pos 44 ∷ pos 45 ∷ pos 46 ∷ pos 47 ∷ []
 
 pub declared_number : (t : NaluType) → get_or declared_numbers (tag_of the_type t) (pos 0) ≡ pos (nalu_type_number t)
 declared_number TrailN = refl
@@ -120,4 +139,5 @@ of_positive : (m n : ℕ) → int_cmp (pos m) (pos n) ≡ nat_cmp m n
 of_positive m n = grind (arith, common_steps)
 
 pub cmp-number : (t u : NaluType) → ghosts.cmp t u ≡ nat_cmp (nalu_type_number t) (nalu_type_number u)
-cmp-number t u = ap₂ int_cmp (declared_number t) (declared_number u) ∙ of_positive (nalu_type_number t) (nalu_type_number u)
+cmp-number t u = ap₂ int_cmp (declared_number t) (declared_number u)
+    ∙ of_positive (nalu_type_number t) (nalu_type_number u)

@@ -1,5 +1,7 @@
 -- What a word counts of the bytes in it that aren't reached.
-use Rattle.std.proofs.Common.{◌≡◌, ℕ, zero, suc, ◌+◌, ◌-◌, ◌*◌, ◌%◌, ◌^◌, ◌<◌, ◌≤◌, ◌⊎◌, inl, inr, Bool, true, false, cond, eqb, List, [], ◌∷◌, length, drop, Option, Some, None, refl, ap, sym, ◌∙◌, arith, pow_pos}
+use Rattle.std.proofs.Common.{◌≡◌, ℕ, zero, suc, ◌+◌, ◌-◌, ◌*◌, ◌%◌, ◌^◌, ◌<◌, ◌≤◌, ◌⊎◌, inl, inr}
+use Rattle.std.proofs.Common.{Bool, true, false, cond, eqb, List, [], ◌∷◌, length, drop, Option}
+use Rattle.std.proofs.Common.{Some, None, refl, ap, sym, ◌∙◌, arith, pow_pos}
 use Rattle.std.specs.Prelude.{◌&&◌, count_ones}
 use Rattle.std.specs.Int.{bit_at}
 use Rattle.std.specs.Int.Count.{ones}
@@ -24,7 +26,8 @@ ones-suc : (n marks : ℕ) → count_ones (marks % 2 ^ suc n) ≡ bit_at marks n
 ones-suc n marks =
     let k : suc n ≡ 1 + n = omega arith in
     let split : marks % 2 ^ suc n ≡ bit_at marks n * 2 ^ n + marks % 2 ^ n = rw k (mod-pow-add marks 1 n) in
-    ap count_ones split ∙ ones_cat n (bit_at marks n) (marks % 2 ^ n) (mod_below marks (2 ^ n) (pow_pos n)) ∙ ap (λ (x : ℕ). x + count_ones (marks % 2 ^ n)) (ones-digit (bit_at marks n) (bit_at-lt marks n))
+    ap count_ones split ∙ ones_cat n (bit_at marks n) (marks % 2 ^ n) (mod_below marks (2 ^ n) (pow_pos n))
+    ∙ ap (λ (x : ℕ). x + count_ones (marks % 2 ^ n)) (ones-digit (bit_at marks n) (bit_at-lt marks n))
 
 record Counts (n marked : ℕ) (p end : Place) : Type 0 where
   pub long : length p.behind ≡ length end.behind + n + marked
@@ -39,22 +42,40 @@ counts zero c marks p end h =
 counts (suc n) c marks p end h =
     let first = holds_first n c marks p end h in
     let others = counts n c marks (byte_on p) end (holds_others n c marks p end h) in
-    rw (ones-suc n marks) (record { long = omega (arith, first.shorter, others.long); dropped = omega (arith, first.dropped, others.dropped) })
+    rw (ones-suc n marks) (record {
+      long = omega (arith, first.shorter, others.long);
+      dropped = omega (arith, first.dropped, others.dropped);
+    })
 
-pub counted : (w : Word) → IsFilled w → (length (place_of w).behind ≡ length w.rest.now + ahead w + marked w) × (w.dropped ≡ (place_of w).dropped + marked w)
-counted w f = let k = counts (ahead w) w.cache w.marks (bytes_on (w.filled - ahead w) (base_of w)) (end_of w) f.holds in (k.long, k.dropped)
+pub counted : (w : Word) → IsFilled w
+    → (length (place_of w).behind ≡ length w.rest.now + ahead w + marked w)
+    × (w.dropped ≡ (place_of w).dropped + marked w)
+counted w f = let k = counts (ahead w) w.cache w.marks (bytes_on (w.filled - ahead w) (base_of w))
+    (end_of w) f.holds in (k.long, k.dropped)
 
 -- ---- the bytes after a place are the last ones of all
 
-loading-part : (run d : ℕ) (bytes : List ℕ) (q : Place) → loading run d bytes ≡ Some q → (m : ℕ) × (q.behind ≡ drop m bytes)
+loading-part : (run d : ℕ) (bytes : List ℕ) (q : Place) → loading run d bytes ≡ Some q
+    → (m : ℕ) × (q.behind ≡ drop m bytes)
 loading-part run d [] q e = absurd cc
 loading-part run d (byte ∷ bytes) q e = by_test (λ h. loading-part 0 (d + 1) bytes q h) (eqb run 2 && eqb byte 3) e
   where
     by_test : (loading 0 (d + 1) bytes ≡ Some q → (m : ℕ) × (q.behind ≡ drop m bytes)) → (t : Bool)
-        → cond t (loading 0 (d + 1) bytes) (Some (record { loaded = low_bits 8 byte; zero_run = run_behind run byte; behind = bytes; dropped = d })) ≡ Some q → (m : ℕ) × (q.behind ≡ drop m (byte ∷ bytes))
+        → cond t (loading 0 (d + 1) bytes)
+        (Some (record {
+          loaded = low_bits 8 byte;
+          zero_run = run_behind run byte;
+          behind = bytes;
+          dropped = d;
+        })) ≡ Some q → (m : ℕ) × (q.behind ≡ drop m (byte ∷ bytes))
     by_test again true h = let k = again h in (suc k.0, k.1)
     by_test again false h =
-        let here : Place = record { loaded = low_bits 8 byte; zero_run = run_behind run byte; behind = bytes; dropped = d } in
+        let here : Place = record {
+          loaded = low_bits 8 byte;
+          zero_run = run_behind run byte;
+          behind = bytes;
+          dropped = d;
+        } in
         let same : here ≡ q = cc in
         (1, sym (ap (λ (p : Place). p.behind) same))
 
@@ -62,7 +83,8 @@ byte_on-part : (p : Place) → (m : ℕ) × ((byte_on p).behind ≡ drop m p.beh
 unfolding byte_on
 byte_on-part p = by_loading (loading p.zero_run p.dropped p.behind) refl
   where
-    by_loading : (o : Option Place) → loading p.zero_run p.dropped p.behind ≡ o → (m : ℕ) × ((byte_on p).behind ≡ drop m p.behind)
+    by_loading : (o : Option Place) → loading p.zero_run p.dropped p.behind ≡ o
+        → (m : ℕ) × ((byte_on p).behind ≡ drop m p.behind)
     by_loading None is = (0, rw is refl)
     by_loading (Some q) is = let k = loading-part p.zero_run p.dropped p.behind q is in (k.0, rw is k.1)
 
@@ -70,8 +92,11 @@ bytes_on-part : (n : ℕ) (p : Place) → (m : ℕ) × ((bytes_on n p).behind �
 bytes_on-part zero p = (0, rw bytes_on-zero refl)
 bytes_on-part (suc n) p =
     let others = bytes_on-part n p in
-    let last = byte_on-part (bytes_on n p) in
-    (others.0 + last.0, ap (λ (q : Place). q.behind) (bytes_on-suc n p) ∙ last.1 ∙ ap (drop last.0) others.1 ∙ drop-drop others.0 last.0 p.behind)
+    let last = byte_on-part (bytes_on n p) in (
+      others.0 + last.0,
+      ap (λ (q : Place). q.behind) (bytes_on-suc n p) ∙ last.1 ∙ ap (drop last.0) others.1
+          ∙ drop-drop others.0 last.0 p.behind,
+    )
 
 last_ones : (m : ℕ) (some all : List ℕ) → some ≡ drop m all → some ≡ drop (length all - length some) all
 last_ones m some all e = by_order (cases_lt m (length all))
@@ -86,7 +111,8 @@ last_ones m some all e = by_order (cases_lt m (length all))
         let k : length all - length some ≡ length all = omega (arith, ap length none) in
         rw k (none ∙ sym (drop-length all))
 
-pub behind_word : (w : Word) → IsFilled w → (place_of w).behind ≡ drop (length w.bytes.now - (length w.rest.now + ahead w + marked w)) w.bytes.now
+pub behind_word : (w : Word) → IsFilled w
+    → (place_of w).behind ≡ drop (length w.bytes.now - (length w.rest.now + ahead w + marked w)) w.bytes.now
 behind_word w f =
     let k = bytes_on-part (w.filled - ahead w) (base_of w) in
     let long = (counted w f).0 in

@@ -1,5 +1,6 @@
 -- A word that moves over its bits.
-use Rattle.std.proofs.Common.{◌≡◌, ℕ, zero, suc, ◌+◌, ◌-◌, ◌*◌, ◌/◌, ◌^◌, ◌<◌, ◌≤◌, ◌⊎◌, inl, inr, Bool, List, length, Some, refl, ap, subst, ◌∙◌, arith}
+use Rattle.std.proofs.Common.{◌≡◌, ℕ, zero, suc, ◌+◌, ◌-◌, ◌*◌, ◌/◌, ◌^◌, ◌<◌, ◌≤◌, ◌⊎◌, inl, inr}
+use Rattle.std.proofs.Common.{Bool, List, length, Some, refl, ap, subst, ◌∙◌, arith}
 use Rattle.std.specs.Prelude.{min, option_and_then}
 use Rattle.std.specs.Int.{bit_at}
 use Rattle.std.proofs.lemmas.Bool.{cases_lt}
@@ -27,7 +28,8 @@ pub holds_ends : (c marks : ℕ) (p end : Place) → Holds 0 c marks p end → I
 unfolding Holds
 holds_ends c marks p end h = h
 
-pub holds_first : (n c marks : ℕ) (p end : Place) → Holds (suc n) c marks p end → IsNext (low_bits 8 (c / 2 ^ (8 * n))) (bit_at marks n) p (byte_on p)
+pub holds_first : (n c marks : ℕ) (p end : Place) → Holds (suc n) c marks p end
+    → IsNext (low_bits 8 (c / 2 ^ (8 * n))) (bit_at marks n) p (byte_on p)
 unfolding Holds
 holds_first n c marks p end h = h.0
 
@@ -35,7 +37,9 @@ pub holds_others : (n c marks : ℕ) (p end : Place) → Holds (suc n) c marks p
 unfolding Holds
 holds_others n c marks p end h = h.1
 
-pub holds_more : (n c marks : ℕ) (p end : Place) → IsNext (low_bits 8 (c / 2 ^ (8 * n))) (bit_at marks n) p (byte_on p) → Holds n c marks (byte_on p) end → Holds (suc n) c marks p end
+pub holds_more : (n c marks : ℕ) (p end : Place)
+    → IsNext (low_bits 8 (c / 2 ^ (8 * n))) (bit_at marks n) p (byte_on p) → Holds n c marks (byte_on p) end
+    → Holds (suc n) c marks p end
 unfolding Holds
 holds_more n c marks p end first others = (first, others)
 
@@ -51,17 +55,20 @@ stay : (unread n : ℕ) (p : Place) → next_place (loaded_with (suc unread) n p
 stay unread n p = refl
 
 -- the first bit of the next byte
-cross : (m n mark : ℕ) (p q : Place) → IsNext (low_bits 8 n) mark p q → next_place (loaded_with 0 m p) ≡ Some (loaded_with 7 n q)
+cross : (m n mark : ℕ) (p q : Place) → IsNext (low_bits 8 n) mark p q
+    → next_place (loaded_with 0 m p) ≡ Some (loaded_with 7 n q)
 cross m n mark p q next = rw (next.loads, next.loaded) refl
 
 record Steps (from to left ahead filled c marks : ℕ) (base end : Place) : Type 0 where
   pub moves : next_place (place_in from ahead filled c base) ≡ Some (place_in left to filled c base)
   pub stands : Stands left to filled c marks base end
 
-step : (left ahead filled c marks : ℕ) (base end : Place) → Stands (suc left) ahead filled c marks base end → Steps (suc left) (min ahead (left / 8)) left ahead filled c marks base end
+step : (left ahead filled c marks : ℕ) (base end : Place) → Stands (suc left) ahead filled c marks base end
+    → Steps (suc left) (min ahead (left / 8)) left ahead filled c marks base end
 step left ahead filled c marks base end s = by_order (cases_lt (8 * ahead) (suc left))
   where
-    by_ahead : (a : ℕ) → ahead ≡ a → suc left ≤ 8 * ahead → Steps (suc left) (min ahead (left / 8)) left ahead filled c marks base end
+    by_ahead : (a : ℕ) → ahead ≡ a → suc left ≤ 8 * ahead
+        → Steps (suc left) (min ahead (left / 8)) left ahead filled c marks base end
     by_ahead zero is le = absurd (omega arith)
     by_ahead (suc a) is le =
         let here = bytes_on (filled - ahead) base in
@@ -73,11 +80,18 @@ step left ahead filled c marks base end s = by_order (cases_lt (8 * ahead) (suc 
         let one_on : filled - a ≡ suc (filled - ahead) = omega (arith, s.among) in
         let there : bytes_on (filled - a) base ≡ byte_on here = rw one_on (bytes_on-suc (filled - ahead) base) in
         rw crossed (record {
-          moves = rw (none, seven, there) (cross (c / 2 ^ (8 * ahead)) (c / 2 ^ (8 * a)) (bit_at marks a) here (byte_on here) first);
-          stands = record { unread = omega (arith, s.unread); whole = omega (arith, s.unread); among = omega (arith, s.among); holds = rw there (holds_others a c marks here end holds) };
+          moves = rw (none, seven, there)
+              (cross (c / 2 ^ (8 * ahead)) (c / 2 ^ (8 * a)) (bit_at marks a) here (byte_on here) first);
+          stands = record {
+            unread = omega (arith, s.unread);
+            whole = omega (arith, s.unread);
+            among = omega (arith, s.among);
+            holds = rw there (holds_others a c marks here end holds);
+          };
         })
 
-    by_order : (8 * ahead < suc left) ⊎ (suc left ≤ 8 * ahead) → Steps (suc left) (min ahead (left / 8)) left ahead filled c marks base end
+    by_order : (8 * ahead < suc left) ⊎ (suc left ≤ 8 * ahead)
+        → Steps (suc left) (min ahead (left / 8)) left ahead filled c marks base end
     by_order (inl lt) =
         let stays : min ahead (left / 8) ≡ ahead = omega arith in
         let more : suc left - 8 * ahead ≡ suc (left - 8 * ahead) = omega arith in
@@ -89,10 +103,12 @@ step left ahead filled c marks base end s = by_order (cases_lt (8 * ahead) (suc 
 
 -- a word passes bits
 pub record Passes (num left ahead filled c marks : ℕ) (base end : Place) : Type 0 where
-  pub moves : place_behind num (place_in left ahead filled c base) ≡ Some (place_in (left - num) (min ahead ((left - num) / 8)) filled c base)
+  pub moves : place_behind num (place_in left ahead filled c base) ≡ Some
+      (place_in (left - num) (min ahead ((left - num) / 8)) filled c base)
   pub stands : Stands (left - num) (min ahead ((left - num) / 8)) filled c marks base end
 
-pub passes : (num left ahead filled c marks : ℕ) (base end : Place) → num ≤ left → Stands left ahead filled c marks base end → Passes num left ahead filled c marks base end
+pub passes : (num left ahead filled c marks : ℕ) (base end : Place) → num ≤ left
+    → Stands left ahead filled c marks base end → Passes num left ahead filled c marks base end
 passes zero left ahead filled c marks base end le s =
     let k : left - 0 ≡ left = omega arith in
     let stays : min ahead (left / 8) ≡ ahead = omega (arith, s.unread) in
@@ -112,8 +128,10 @@ passes (suc num) (suc left) ahead filled c marks base end le s =
 -- ---- the next byte
 
 -- a word whose bits of the byte that is reached are read up reaches the next one
-pub loads : (left ahead filled c marks : ℕ) (base end : Place) → left ≡ 8 * suc ahead → Stands left (suc ahead) filled c marks base end
-    → (with_bits (place_in left (suc ahead) filled c base) ≡ Some (place_in left ahead filled c base)) × Stands left ahead filled c marks base end
+pub loads : (left ahead filled c marks : ℕ) (base end : Place) → left ≡ 8 * suc ahead
+    → Stands left (suc ahead) filled c marks base end
+    → (with_bits (place_in left (suc ahead) filled c base) ≡ Some (place_in left ahead filled c base))
+    × Stands left ahead filled c marks base end
 loads left ahead filled c marks base end read_up s =
     let here = bytes_on (filled - suc ahead) base in
     let first = holds_first ahead c marks here end s.holds in
@@ -121,11 +139,18 @@ loads left ahead filled c marks base end read_up s =
     let eight : left - 8 * ahead ≡ 8 = omega arith in
     let one_on : filled - ahead ≡ suc (filled - suc ahead) = omega (arith, s.among) in
     let there : bytes_on (filled - ahead) base ≡ byte_on here = rw one_on (bytes_on-suc (filled - suc ahead) base) in
-    let same : byte_on here ≡ loaded_with 8 (c / 2 ^ (8 * ahead)) (byte_on here) = ap (λ (l : List Bool). record (byte_on here) { loaded = l }) first.loaded in (
+    let same : byte_on here ≡ loaded_with 8 (c / 2 ^ (8 * ahead)) (byte_on here) =
+    ap (λ (l : List Bool). record (byte_on here) { loaded = l }) first.loaded in (
       rw (none, eight, there) (first.loads ∙ ap Some same),
-      record { unread = omega arith; whole = omega arith; among = omega (arith, s.among); holds = rw there (holds_others ahead c marks here end s.holds) },
+      record {
+        unread = omega arith;
+        whole = omega arith;
+        among = omega (arith, s.among);
+        holds = rw there (holds_others ahead c marks here end s.holds);
+      },
     )
 
-pub some_loaded : (unread n : ℕ) (p : Place) → 0 < unread → (with_bits (loaded_with unread n p) ≡ Some (loaded_with unread n p)) × (0 < length (low_bits unread n))
+pub some_loaded : (unread n : ℕ) (p : Place) → 0 < unread
+    → (with_bits (loaded_with unread n p) ≡ Some (loaded_with unread n p)) × (0 < length (low_bits unread n))
 some_loaded zero n p some = absurd (omega arith)
 some_loaded (suc unread) n p some = (refl, omega (arith, low_bits_length (suc unread) n))

@@ -1,7 +1,9 @@
 -- Payload bits that are ahead of a place in a word.
-use Rattle.std.specs.Prelude.{◌≡◌, ℕ, zero, suc, ◌+◌, ◌-◌, ◌*◌, ◌/◌, ◌^◌, ◌<◌, ◌≤◌, Bool, true, false, List, [], length, Some, unwrap_or, ◌%◌, count_ones, min}
+use Rattle.std.specs.Prelude.{◌≡◌, ℕ, zero, suc, ◌+◌, ◌-◌, ◌*◌, ◌/◌, ◌^◌, ◌<◌, ◌≤◌, Bool, true}
+use Rattle.std.specs.Prelude.{false, List, [], length, Some, unwrap_or, ◌%◌, count_ones, min}
 use Rattle.std.specs.Int.{bit_at}
-use Rattle.hevc_spec.specs.Payload.{Place, bits, low_bits, loading, place_behind, IsAhead, IsReached}
+use Rattle.hevc_spec.specs.Payload.{Place, bits, low_bits, loading, place_behind, IsAhead}
+use Rattle.hevc_spec.specs.Payload.{IsReached}
 use Rattle.hevc_spec.specs.Bits.{found, bits_after, ue_at}
 use Rattle.hevc_bits.specs.declared.load.Loaded.{Loaded}
 use Rattle.hevc_bits.specs.declared.word.Word.{Word}

@@ -1,5 +1,6 @@
 -- A unit that was found in a stream.
-use Rattle.std.specs.Prelude.{◌≡◌, ℕ, ◌-◌, List, ◌∷◌, take, drop, slice_index, ◌==◌, ◌&&◌, nat_le, if◌then◌else◌}
+use Rattle.std.specs.Prelude.{◌≡◌, ℕ, ◌-◌, List, ◌∷◌, take, drop, slice_index, ◌==◌, ◌&&◌, nat_le}
+use Rattle.std.specs.Prelude.{if◌then◌else◌}
 use Rattle.hevc_spec.specs.Units.{NalUnit, units_from}
 
 -- its header, the stream in which it is, the place of its first byte, and how many bytes it has

@@ -1,7 +1,22 @@
 -- The numbers of the unit types (table 7-1).
 use Rattle.std.specs.Prelude.{ℕ, List, [], ◌∷◌, unwrap_or, slice_get}
 use Rattle.hevc_bits.specs.declared.nalu_type.NaluType.{NaluType}
-use Rattle.hevc_bits.specs.declared.nalu_type.NaluType.TheVariants.{TrailN, TrailR, TsaN, TsaR, StsaN, StsaR, RadlN, RadlR, RaslN, RaslR, RsvVclN10, RsvVclR11, RsvVclN12, RsvVclR13, RsvVclN14, RsvVclR15, BlaWLp, BlaWRadl, BlaNLp, IdrWRadl, IdrNLp, CraNut, RsvIrapVcl22, RsvIrapVcl23, RsvVcl24, RsvVcl25, RsvVcl26, RsvVcl27, RsvVcl28, RsvVcl29, RsvVcl30, RsvVcl31, VpsNut, SpsNut, PpsNut, AudNut, EosNut, EobNut, FdNut, PrefixSeiNut, SuffixSeiNut, RsvNvcl41, RsvNvcl42, RsvNvcl43, RsvNvcl44, RsvNvcl45, RsvNvcl46, RsvNvcl47}
+use Rattle.hevc_bits.specs.declared.nalu_type.NaluType.TheVariants.{TrailN, TrailR, TsaN, TsaR}
+use Rattle.hevc_bits.specs.declared.nalu_type.NaluType.TheVariants.{StsaN, StsaR, RadlN, RadlR}
+use Rattle.hevc_bits.specs.declared.nalu_type.NaluType.TheVariants.{RaslN, RaslR, RsvVclN10}
+use Rattle.hevc_bits.specs.declared.nalu_type.NaluType.TheVariants.{RsvVclR11, RsvVclN12, RsvVclR13}
+use Rattle.hevc_bits.specs.declared.nalu_type.NaluType.TheVariants.{RsvVclN14, RsvVclR15, BlaWLp}
+use Rattle.hevc_bits.specs.declared.nalu_type.NaluType.TheVariants.{BlaWRadl, BlaNLp, IdrWRadl}
+use Rattle.hevc_bits.specs.declared.nalu_type.NaluType.TheVariants.{IdrNLp, CraNut, RsvIrapVcl22}
+use Rattle.hevc_bits.specs.declared.nalu_type.NaluType.TheVariants.{RsvIrapVcl23, RsvVcl24}
+use Rattle.hevc_bits.specs.declared.nalu_type.NaluType.TheVariants.{RsvVcl25, RsvVcl26, RsvVcl27}
+use Rattle.hevc_bits.specs.declared.nalu_type.NaluType.TheVariants.{RsvVcl28, RsvVcl29, RsvVcl30}
+use Rattle.hevc_bits.specs.declared.nalu_type.NaluType.TheVariants.{RsvVcl31, VpsNut, SpsNut}
+use Rattle.hevc_bits.specs.declared.nalu_type.NaluType.TheVariants.{PpsNut, AudNut, EosNut, EobNut}
+use Rattle.hevc_bits.specs.declared.nalu_type.NaluType.TheVariants.{FdNut, PrefixSeiNut}
+use Rattle.hevc_bits.specs.declared.nalu_type.NaluType.TheVariants.{SuffixSeiNut, RsvNvcl41}
+use Rattle.hevc_bits.specs.declared.nalu_type.NaluType.TheVariants.{RsvNvcl42, RsvNvcl43, RsvNvcl44}
+use Rattle.hevc_bits.specs.declared.nalu_type.NaluType.TheVariants.{RsvNvcl45, RsvNvcl46, RsvNvcl47}
 
 -- the number by which a unit names its type
 abbrev pub nalu_type_number : NaluType → ℕ

@@ -1,8 +1,10 @@
 -- What the bytes of a unit parse to (7.3.1.2).
 use Rattle.std.specs.Prelude.{ℕ, List, Result, Ok, Err}
-use Rattle.hevc_spec.specs.UnitHeader.{UnitHeader, HeaderFault, truncated, unspecified_type, temporal_id_zero, unit_header}
+use Rattle.hevc_spec.specs.UnitHeader.{UnitHeader, HeaderFault, truncated, unspecified_type}
+use Rattle.hevc_spec.specs.UnitHeader.{temporal_id_zero, unit_header}
 use Rattle.hevc_bits.specs.declared.header.UnitError.{UnitError}
-use Rattle.hevc_bits.specs.declared.header.UnitError.TheVariants.{TruncatedNalu, InvalidNaluType, TemporalIdZero}
+use Rattle.hevc_bits.specs.declared.header.UnitError.TheVariants.{TruncatedNalu, InvalidNaluType}
+use Rattle.hevc_bits.specs.declared.header.UnitError.TheVariants.{TemporalIdZero}
 
 -- the error that tells of a fault
 abbrev pub header_error : HeaderFault → UnitError

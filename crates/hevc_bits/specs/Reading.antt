@@ -1,6 +1,8 @@
 -- What a read answered, and where it left the reader.
-use Rattle.std.specs.Prelude.{◌≡◌, ℕ, ◌<◌, ◌≤◌, [], ◌∷◌, length, Bool, true, false, Result, Ok, Err, Option, Some, None, ℤ}
-use Rattle.hevc_spec.specs.Payload.{Place, bits, with_bits, has_more, PassesBytes, IsAhead, IsReached}
+use Rattle.std.specs.Prelude.{◌≡◌, ℕ, ◌<◌, ◌≤◌, [], ◌∷◌, length, Bool, true, false, Result, Ok, Err}
+use Rattle.std.specs.Prelude.{Option, Some, None, ℤ}
+use Rattle.hevc_spec.specs.Payload.{Place, bits, with_bits, has_more, PassesBytes, IsAhead}
+use Rattle.hevc_spec.specs.Payload.{IsReached}
 use Rattle.hevc_spec.specs.Bits.{Found, found, out_of_bounds, ended, bits_after, less_one, signed}
 use Rattle.hevc_bits.specs.declared.bit_error.BitError.{BitError}
 use Rattle.hevc_bits.specs.declared.bit_error.BitError.TheVariants.{OutOfBits, OutOfRange}

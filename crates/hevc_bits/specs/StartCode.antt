@@ -1,5 +1,6 @@
 -- Where start codes are in a stream, place by place.
-use Rattle.std.specs.Prelude.{◌≡◌, ◌↔◌, ℕ, ◌+◌, ◌<◌, ◌≤◌, List, ◌∷◌, Option, length, slice_index, MatchOption}
+use Rattle.std.specs.Prelude.{◌≡◌, ◌↔◌, ℕ, ◌+◌, ◌<◌, ◌≤◌, List, ◌∷◌, Option, length, slice_index}
+use Rattle.std.specs.Prelude.{MatchOption}
 use Rattle.std.specs.Int.{bit_at}
 use Rattle.hevc_spec.specs.Units.{units_from}
 

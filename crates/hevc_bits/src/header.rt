@@ -5,9 +5,9 @@ ghost use Rattle.hevc_bits.specs.FrontHeader.{IsReadFromFront, own_bytes};
 
 use thiserror::Error;
 
-/// Why there is no unit. `NoNal`: no start code is left. `TruncatedNalu`: the unit has fewer bytes than a header.
-/// `InvalidNaluType`: its type is 48 to 63, which H.265 leaves unspecified (table 7-1). `TemporalIdZero`: its
-/// `nuh_temporal_id_plus1` is 0, which 7.4.2.2 forbids.
+/// Why there is no unit. `NoNal`: no start code is left. `TruncatedNalu`: the unit has fewer bytes
+/// than a header. `InvalidNaluType`: its type is 48 to 63, which H.265 leaves unspecified (table
+/// 7-1). `TemporalIdZero`: its `nuh_temporal_id_plus1` is 0, which 7.4.2.2 forbids.
 #[derive(Clone, Copy, Debug, PartialEq, Eq, Drop, Error)]
 pub enum UnitError {
     #[error("no start code is left")]
@@ -37,7 +37,8 @@ pub trait Header: Sized {
     // how many bytes the header has
     ghost header_len: { Self → ℕ };
 
-    /// Reads the header that `bytes` begin with. The bytes alone decide the answer, which is never `NoNal`.
+    /// Reads the header that `bytes` begin with. The bytes alone decide the answer, which is never
+    /// `NoNal`.
     fn parse(bytes: &[u8]) -> Result<Self, UnitError>
         ensures answer { result ≡ parsed bytes.now }
         ensures no_search { ¬ (result ≡ Err NoNal) }

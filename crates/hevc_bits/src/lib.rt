@@ -1,4 +1,5 @@
-//! Units of an H.265 byte stream (Annex B), their headers (7.3.1.2), and the bits of their payload (7.3.1.1, 9.2).
+//! Units of an H.265 byte stream (Annex B), their headers (7.3.1.2), and the bits of their payload
+//! (7.3.1.1, 9.2).
 #![tactic(auto)]
 
 mod bit_error;

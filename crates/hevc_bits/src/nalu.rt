@@ -1,8 +1,11 @@
 //! Units cut out of a stream (Annex B).
 
-ghost use Rattle.std.specs.Prelude.{◌≡◌, ◌≢◌, ◌≤◌, ◌<◌, ◌+◌, ◌-◌, ◌↔◌, ◌∷◌, [], ℕ, List, length, Ok, Err, IfOk, OnOk, IfErr, OnErr, IsErrOf, IfNone, IfSome, take, drop};
+ghost use Rattle.std.specs.Prelude.{◌≡◌, ◌≢◌, ◌≤◌, ◌<◌, ◌+◌, ◌-◌, ◌↔◌, ◌∷◌, [], ℕ, List, length};
+ghost use Rattle.std.specs.Prelude.{Ok, Err, IfOk, OnOk, IfErr, OnErr, IsErrOf, IfNone, IfSome};
+ghost use Rattle.std.specs.Prelude.{take, drop};
 ghost use Rattle.hevc_spec.specs.Units.{units_from, NalUnit};
-ghost use Rattle.hevc_bits.specs.FoundUnit.{FoundUnit, IsCutOut, bytes_of, unit_of, start_code_offset};
+ghost use Rattle.hevc_bits.specs.FoundUnit.{FoundUnit, IsCutOut, bytes_of, unit_of};
+ghost use Rattle.hevc_bits.specs.FoundUnit.{start_code_offset};
 ghost use Rattle.hevc_bits.specs.StartCode.{IsFirstCut};
 
 use crate::header::{Header, UnitError};
@@ -10,7 +13,8 @@ use crate::start_code::{end_of_unit, next_start_code, trim_trailing_zeros};
 use std::convert::AsSlice;
 use std::marker::Model;
 
-/// The bytes of a unit before its header is read: those up to the next start code, without the zeros at their end.
+/// The bytes of a unit before its header is read: those up to the next start code, without the
+/// zeros at their end.
 #[derive(Drop)]
 struct Cut<'a> {
     offset: usize,
@@ -55,11 +59,13 @@ impl<'a, U: Header> Model for Nalu<'a, U> {
 }
 
 impl<'a, U: Header> Nalu<'a, U> {
-    /// The first unit of `stream` whose start code is at `position` or after it. A unit begins after 00 00 01 and
-    /// ends before the next one or at the end of the stream, without the zeros there (B.2); an end unit is its header alone.
+    /// The first unit of `stream` whose start code is at `position` or after it. A unit begins
+    /// after 00 00 01 and ends before the next one or at the end of the stream, without the zeros
+    /// there (B.2); an end unit is its header alone.
     ///
-    /// On `Ok`, `position` is at the unit's first byte. `NoNal` tells that there is no start code from `position` on;
-    /// the other refusals are those of the header. After a refusal `position` is unchanged.
+    /// On `Ok`, `position` is at the unit's first byte. `NoNal` tells that there is no start code
+    /// from `position` on; the other refusals are those of the header. After a refusal `position`
+    /// is unchanged.
     pub fn next(stream: &'a [u8], position: &mut usize) -> Result<Nalu<'a, U>, UnitError>
         requires { position.old ≤ length stream.now }
         // The unit is the first one, and the others are those after it.
@@ -134,7 +140,8 @@ impl<'a, U: Header> Nalu<'a, U> {
         self.offset
     }
 
-    /// The place of its start code in the stream: that of 00 00 01, or of the zero byte directly before it, where there is one (B.2.1).
+    /// The place of its start code in the stream: that of 00 00 01, or of the zero byte directly
+    /// before it, where there is one (B.2.1).
     pub fn sc_offset(&self) -> usize
         ensures { result ≡ start_code_offset self.now }
     {

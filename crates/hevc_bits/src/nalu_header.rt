@@ -34,8 +34,9 @@ impl Model for NaluHeader {
 }
 
 impl NaluHeader {
-    /// The header of this type, layer id and temporal id plus 1. `None` exactly where the layer id (`nuh_layer_id`) is above 63 or
-    /// the temporal id plus 1 (`nuh_temporal_id_plus1`) isn't 1 to 7.
+    /// The header of this type, layer id and temporal id plus 1. `None` exactly where the layer id
+    /// (`nuh_layer_id`) is above 63 or the temporal id plus 1 (`nuh_temporal_id_plus1`) isn't 1 to
+    /// 7.
     pub fn new(nalu_type: NaluType, layer_id: u8, temporal_id_plus1: u8) -> Option<NaluHeader>
         ensures none { (result ≡ None)
             ↔ ((63 < layer_id) ⊎ ((temporal_id_plus1 ≡ 0) ⊎ (7 < temporal_id_plus1))) }

@@ -106,7 +106,8 @@ pub enum NaluType {
 
 impl NaluType {
     ghost use Rattle.hevc_bits.specs.NaluType.{nalu_type_number};
-    ghost use Rattle.hevc_spec.specs.UnitTypes.{is_idr, is_irap, is_bla, is_cra, is_radl, is_rasl, is_slnr, is_slice};
+    ghost use Rattle.hevc_spec.specs.UnitTypes.{is_idr, is_irap, is_bla, is_cra, is_radl, is_rasl};
+    ghost use Rattle.hevc_spec.specs.UnitTypes.{is_slnr, is_slice};
 
     /// The type of this number, and `None` exactly above 47.
     pub fn n(value: u32) -> Option<NaluType>

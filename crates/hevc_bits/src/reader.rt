@@ -1,18 +1,23 @@
 //! A reader of payload bits.
 
-ghost use Rattle.std.specs.Prelude.{◌≡◌, ℕ, ◌+◌, ◌*◌, ◌≤◌, ◌≤ℤ◌, ◌<◌, ◌^◌, List, Bool, false, not, ◌==◌, ◌++◌, [], length, take, IfOk, IfSome, Ok, Err};
-ghost use Rattle.hevc_spec.specs.Payload.{Place, bits, payload_bits, first_place, bits_left, with_bits, has_more, low_bits, IsAhead, IsReached};
+ghost use Rattle.std.specs.Prelude.{◌≡◌, ℕ, ◌+◌, ◌*◌, ◌≤◌, ◌≤ℤ◌, ◌<◌, ◌^◌, List, Bool, false, not};
+ghost use Rattle.std.specs.Prelude.{◌==◌, ◌++◌, [], length, take, IfOk, IfSome, Ok, Err};
+ghost use Rattle.hevc_spec.specs.Payload.{Place, bits, payload_bits, first_place, bits_left};
+ghost use Rattle.hevc_spec.specs.Payload.{with_bits, has_more, low_bits, IsAhead, IsReached};
 ghost use Rattle.std.specs.List.{list_any};
-ghost use Rattle.hevc_spec.specs.Bits.{u, skip, ue, number, IsSpelled, IsAtFront, bits_at, bits_after, golomb_at, ue_at, within, in_range, in_signed_range, signed as signed_of};
-ghost use Rattle.hevc_bits.specs.Reading.{TakesBit, Finds, FindsSigned, LooksForMore, MayFind, IsHeld, PassesZeros};
+ghost use Rattle.hevc_spec.specs.Bits.{u, skip, ue, number, IsSpelled, IsAtFront, bits_at};
+ghost use Rattle.hevc_spec.specs.Bits.{bits_after, golomb_at, ue_at, within, in_range};
+ghost use Rattle.hevc_spec.specs.Bits.{in_signed_range, signed as signed_of};
+ghost use Rattle.hevc_bits.specs.Reading.{TakesBit, Finds, FindsSigned, LooksForMore, MayFind};
+ghost use Rattle.hevc_bits.specs.Reading.{IsHeld, PassesZeros};
 ghost use Rattle.hevc_bits.specs.declared.stream_limit.TheConstants.{STREAM_LIMIT};
 
 use crate::bit_error::BitError;
 use crate::word::Word;
 use std::marker::Model;
 
-/// A reader of the payload bits of a byte slice: its bits, most significant first, without each 03 that is directly
-/// after two zero bytes (7.3.1.1). A read that is refused doesn't move the reader.
+/// A reader of the payload bits of a byte slice: its bits, most significant first, without each 03
+/// that is directly after two zero bytes (7.3.1.1). A read that is refused doesn't move the reader.
 #[derive(Drop)]
 pub struct NaluReader<'a> {
     word: Word<'a>,
@@ -48,7 +53,8 @@ impl<'a> NaluReader<'a> {
         NaluReader { word: self.word }
     }
 
-    /// How many bits are left: eight for each byte after the one being read, a 03 that isn't passed yet among them, and the unread bits of that one.
+    /// How many bits are left: eight for each byte after the one being read, a 03 that isn't passed
+    /// yet among them, and the unread bits of that one.
     #[tactic(auto, unfolding(hevc_spec::specs::Payload::bits_left))]
     pub fn num_bits_left(&self) -> usize
         ensures value { result ≡ bits_left self.now }
@@ -77,8 +83,8 @@ impl<'a> NaluReader<'a> {
         Ok(self.word.take(1) == 1)
     }
 
-    /// The next `num_bits` bits as a number, the most significant first; no bits give 0. `OutOfRange` for more than 31
-    /// bits, else `OutOfBits` where fewer are left.
+    /// The next `num_bits` bits as a number, the most significant first; no bits give 0.
+    /// `OutOfRange` for more than 31 bits, else `OutOfBits` where fewer are left.
     #[tactic(auto, using(crate::proofs::Steps::front_found, crate::proofs::Steps::front_bound), unfolding(hevc_spec::specs::Bits::bits_at))]
     pub fn read_bits(&mut self, num_bits: usize) -> Result<u32, BitError>
         ensures too_many { 31 < num_bits
@@ -147,8 +153,9 @@ impl<'a> NaluReader<'a> {
         Ok(())
     }
 
-    /// The next Exp-Golomb number, ue(v) (9.2), 0 to 2147483647. `OutOfRange` for a greater one and at 32 zero bits,
-    /// whatever follows; else `OutOfBits` where the payload ends before the number does.
+    /// The next Exp-Golomb number, ue(v) (9.2), 0 to 2147483647. `OutOfRange` for a greater one and
+    /// at 32 zero bits, whatever follows; else `OutOfBits` where the payload ends before the number
+    /// does.
     pub fn read_ue(&mut self) -> Result<u32, BitError>
         ensures read { Finds (λ n. n) result self.old self.new (ue_at (bits self.old)) }
         ensures moves { IsAhead self.old self.new }
@@ -195,7 +202,8 @@ impl<'a> NaluReader<'a> {
         Ok(value)
     }
 
-    /// The next signed Exp-Golomb number, se(v) (9.2.2): that of the Exp-Golomb number at which it is, refused as that is.
+    /// The next signed Exp-Golomb number, se(v) (9.2.2): that of the Exp-Golomb number at which it
+    /// is, refused as that is.
     pub fn read_se(&mut self) -> Result<i32, BitError>
         ensures read { FindsSigned result self.old self.new (ue_at (bits self.old)) }
         ensures moves { IsAhead self.old self.new }
@@ -320,9 +328,10 @@ impl<'a> NaluReader<'a> {
         Ok(value)
     }
 
-    /// Whether more payload comes after the next bit (7.2, `more_rbsp_data`): a one after it in its byte, or any byte after that
-    /// which isn't 0, a 03 too. Where no bit of a loaded byte is left, the next byte is loaded first; with none to load
-    /// the answer is false and nothing changes. Where no more is there, the reader passes the zero bytes.
+    /// Whether more payload comes after the next bit (7.2, `more_rbsp_data`): a one after it in its
+    /// byte, or any byte after that which isn't 0, a 03 too. Where no bit of a loaded byte is left,
+    /// the next byte is loaded first; with none to load the answer is false and nothing changes.
+    /// Where no more is there, the reader passes the zero bytes.
     pub fn has_more_rsbp_data(&mut self) -> bool
         ensures { LooksForMore result self.old self.new (with_bits self.old) }
     {

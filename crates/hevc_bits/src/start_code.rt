@@ -3,7 +3,8 @@
 ghost use Rattle.std.specs.Prelude.{◌≡◌, ◌↔◌, ◌≤◌, ◌<◌, ◌+◌, ℕ, length, slice_index, take};
 ghost use Rattle.std.specs.Int.{bit_at};
 ghost use Rattle.hevc_spec.specs.Units.{without_trailing_zeros};
-ghost use Rattle.hevc_bits.specs.StartCode.{ArePairs, EndsFirst, IsFirstStart, NoneStands, StandsAt};
+ghost use Rattle.hevc_bits.specs.StartCode.{ArePairs, EndsFirst, IsFirstStart, NoneStands};
+ghost use Rattle.hevc_bits.specs.StartCode.{StandsAt};
 
 use memchr::memchr;
 use std::simd::prelude::*;
@@ -19,7 +20,8 @@ fn places_of(byte: u8, block: u8x64) -> u64
     block.simd_eq(u8x64::splat(byte)).to_bitmask()
 }
 
-/// Where a block has two zeros in a row, as few blocks of a coded slice have: a bit for each such place, from the lowest on.
+/// Where a block has two zeros in a row, as few blocks of a coded slice have: a bit for each such
+/// place, from the lowest on.
 #[inline(always)]
 fn pairs_of_zeros(block: u8x64) -> u64
     ensures { ArePairs block result }
@@ -52,8 +54,9 @@ fn find_end(stream: &[u8], from: usize) -> Option<usize>
     }
 }
 
-/// The place of the first start code at `from` or after it. After a block with two zeros in a row but without a start code, the next 1 is
-/// looked for: there is none among zeros, or where each third byte is 03.
+/// The place of the first start code at `from` or after it. After a block with two zeros in a row
+/// but without a start code, the next 1 is looked for: there is none among zeros, or where each
+/// third byte is 03.
 pub fn find_start_code(stream: &[u8], from: usize) -> Option<usize>
     requires { from ≤ length stream.now }
     ensures { IsFirstStart stream.now from result }
@@ -89,7 +92,8 @@ fn find_in_last(stream: &[u8], from: usize) -> Option<usize>
     None
 }
 
-/// The place of the first start code at `from` or after it. After a unit it is mostly right there, with or without a zero byte before it.
+/// The place of the first start code at `from` or after it. After a unit it is mostly right there,
+/// with or without a zero byte before it.
 pub(crate) fn next_start_code(stream: &[u8], from: usize) -> Option<usize>
     requires { from ≤ length stream.now }
     ensures { IsFirstStart stream.now from result }

@@ -1,9 +1,11 @@
 //! The payload bits of a byte slice, as many as a word holds at once.
 
-ghost use Rattle.std.specs.Prelude.{◌≡◌, ◌≢◌, ◌∷◌, ℕ, ◌+◌, ◌-◌, ◌*◌, ◌/◌, ◌≤◌, ◌<◌, ◌^◌, ◌%◌, length, true, false, Some, None, MatchOption, IfSome};
+ghost use Rattle.std.specs.Prelude.{◌≡◌, ◌≢◌, ◌∷◌, ℕ, ◌+◌, ◌-◌, ◌*◌, ◌/◌, ◌≤◌, ◌<◌, ◌^◌, ◌%◌};
+ghost use Rattle.std.specs.Prelude.{length, true, false, Some, None, MatchOption, IfSome};
 ghost use Rattle.hevc_spec.specs.Payload.{first_place, loading, bits, PassesBytes};
 ghost use Rattle.hevc_spec.specs.Bits.{found, ue_at};
-ghost use Rattle.hevc_bits.specs.Cached.{loaded_place, place_of, ahead, marked, IsFilled, Fills, Takes, TakesGolomb};
+ghost use Rattle.hevc_bits.specs.Cached.{loaded_place, place_of, ahead, marked, IsFilled, Fills};
+ghost use Rattle.hevc_bits.specs.Cached.{Takes, TakesGolomb};
 ghost use Rattle.hevc_bits.specs.Reading.{LoadsByte};
 ghost use Rattle.hevc_bits.specs.declared.stream_limit.TheConstants.{STREAM_LIMIT};
 
@@ -12,19 +14,21 @@ use crate::load::{Loaded, next_byte};
 /// A place among the payload bits of a byte slice, with up to 63 of the next ones in a word.
 #[derive(Clone, Copy)]
 pub struct Word<'a> {
-    /// The bytes, the 03 dropped before them, and how many of their payload bytes were put into the word.
+    /// The bytes, the 03 dropped before them, and how many of their payload bytes were put into the
+    /// word.
     pub bytes: &'a [u8],
     pub before: usize,
     pub filled: usize,
-    /// The bytes after those, the zero bytes directly before them, counted up to 2, and the 03 dropped so far.
+    /// The bytes after those, the zero bytes directly before them, counted up to 2, and the 03
+    /// dropped so far.
     pub rest: &'a [u8],
     pub zeros: u8,
     pub dropped: usize,
     /// How many low bits are unread of the payload bytes as one number, the last one lowest.
     pub left: usize,
     pub cache: u64,
-    /// How many bytes of it aren't reached yet, unless fewer whole ones are unread, and for each whether a 03 was
-    /// dropped before it, the last one lowest.
+    /// How many bytes of it aren't reached yet, unless fewer whole ones are unread, and for each
+    /// whether a 03 was dropped before it, the last one lowest.
     pub most_ahead: usize,
     pub marks: u8,
 }
@@ -63,7 +67,8 @@ impl<'a> Word<'a> {
         num_bits <= self.left
     }
 
-    /// Puts payload bytes in until 32 bits are unread or the bytes end. It is a function of its own, so that the reads stay short.
+    /// Puts payload bytes in until 32 bits are unread or the bytes end. It is a function of its
+    /// own, so that the reads stay short.
     #[cold]
     #[inline(never)]
     fn fill(&mut self)
@@ -79,7 +84,8 @@ impl<'a> Word<'a> {
         }
     }
 
-    /// Puts the next four bytes in at once, where none of them is 3, so none is dropped, and the last one isn't 0.
+    /// Puts the next four bytes in at once, where none of them is 3, so none is dropped, and the
+    /// last one isn't 0.
     #[inline(always)]
     fn fill_four(&mut self) -> bool
         requires filled { IsFilled self.old }
@@ -187,7 +193,8 @@ impl<'a> Word<'a> {
         self.left + unread.leading_zeros() as usize - 64
     }
 
-    /// Reaches the next byte, unless a bit of the one that is reached is unread. False where there is none.
+    /// Reaches the next byte, unless a bit of the one that is reached is unread. False where there
+    /// is none.
     pub fn load(&mut self) -> bool
         requires { IsFilled self.old }
         ensures filled { IsFilled self.new }

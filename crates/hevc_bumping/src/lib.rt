@@ -1,4 +1,5 @@
-//! Output of pictures: bumping goes on as long as a rule asks for it, and what is output goes into a queue (C.5.2.2, C.5.2.3).
+//! Output of pictures: bumping goes on as long as a rule asks for it, and what is output goes into
+//! a queue (C.5.2.2, C.5.2.3).
 #![tactic(auto)]
 
 mod frame;
@@ -6,7 +7,8 @@ mod rule;
 
 ghost use Rattle.std.specs.Prelude.{◌≤◌, ◌+◌, ◌<◌, Bool};
 ghost use Rattle.std.specs.VecDeque.{deque_len, deque_capacity};
-ghost use Rattle.hevc_walk.specs.Buffer.{bumping, draining, needs_additional_bumping, needs_bumping};
+ghost use Rattle.hevc_walk.specs.Buffer.{bumping, draining, needs_additional_bumping};
+ghost use Rattle.hevc_walk.specs.Buffer.{needs_bumping};
 ghost use Rattle.hevc_pictures.specs.Limits.{limits_of};
 ghost use Rattle.hevc_dpb.specs.Plain.{HaveLatency};
 ghost use Rattle.hevc_dpb.specs.Views.{stored_entries, buffer_of};
@@ -41,7 +43,8 @@ pub fn bump_for_room<H: Copy>(dpb: &mut Dpb<H>, limits: &Limits, queue: &mut Vec
     bump_while(Rule::ForRoom(*limits), dpb, queue);
 }
 
-/// All pictures that are needed for output are appended to the queue, in output order, and the buffer is emptied (C.5.2.2).
+/// All pictures that are needed for output are appended to the queue, in output order, and the
+/// buffer is emptied (C.5.2.2).
 pub fn output_all<H: Copy>(dpb: &mut Dpb<H>, queue: &mut VecDeque<Frame<H>>)
     requires latency { HaveLatency (stored_entries dpb.old) }
     requires room { deque_len queue.old + num_waiting (buffer_of dpb.old)

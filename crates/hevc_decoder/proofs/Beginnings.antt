@@ -1,9 +1,14 @@
 -- A unit that begins a picture is the first of one.
-use Rattle.std.proofs.Common.{◌≡◌, ◌⊎◌, inl, inr, ℕ, ◌+◌, List, [], ◌∷◌, ◌++◌, length, refl, sym, ◌∙◌, ap, subst, arith, zero-add, Option, Some, None, Bool, true, false, if◌then◌else◌}
+use Rattle.std.proofs.Common.{◌≡◌, ◌⊎◌, inl, inr, ℕ, ◌+◌, List, [], ◌∷◌, ◌++◌, length, refl, sym}
+use Rattle.std.proofs.Common.{◌∙◌, ap, subst, arith, zero-add, Option, Some, None, Bool, true}
+use Rattle.std.proofs.Common.{false, if◌then◌else◌}
 use Rattle.std.specs.Prelude.{Contains}
-use Rattle.hevc_walk.specs.Meanings.{Format, Slice, Meaning, SequenceSet, CodedSlice, EndOfSequence, EndOfBitstream, Other, Refused}
+use Rattle.hevc_walk.specs.Meanings.{Format, Slice, Meaning, SequenceSet, CodedSlice, EndOfSequence}
+use Rattle.hevc_walk.specs.Meanings.{EndOfBitstream, Other, Refused}
 use Rattle.hevc_walk.specs.DependentSlices.{whole_slice}
-use Rattle.hevc_walk.specs.Pictures.{Picture, Stream, new_picture, with_slice, with_whole, with_sequence_end, with_bitstream_end, with_unit, nothing_yet, stream_from, stream, pictures}
+use Rattle.hevc_walk.specs.Pictures.{Picture, Stream, new_picture, with_slice, with_whole}
+use Rattle.hevc_walk.specs.Pictures.{with_sequence_end, with_bitstream_end, with_unit, nothing_yet}
+use Rattle.hevc_walk.specs.Pictures.{stream_from, stream, pictures}
 use Rattle.hevc_walk.specs.ReferenceSets.{RefPicSet}
 use Rattle.hevc_walk.specs.Walk.{reference_set_of}
 use Rattle.hevc_walk_units.specs.Units.{SkippedPicture, OpenPicture, begins_picture}
@@ -28,7 +33,8 @@ slice_keeps : (k j : ℕ) (w : Slice) (ps : List Picture) → Begun k ps → Beg
 slice_keeps k j w [] b = absurd b
 slice_keeps k j w (p ∷ ps) b = by w.first_slice_segment_in_pic_flag b
   where
-    by : (f : Bool) → Begun k (p ∷ ps) → Begun k (if f then new_picture j w (p ∷ ps) ∷ p ∷ ps else record p { slices = p.slices ++ (j, w) ∷ [] } ∷ ps)
+    by : (f : Bool) → Begun k (p ∷ ps)
+        → Begun k (if f then new_picture j w (p ∷ ps) ∷ p ∷ ps else record p { slices = p.slices ++ (j, w) ∷ [] } ∷ ps)
     by true b = inr b
     by false b = b
 
@@ -59,19 +65,23 @@ units_keep k j (y ∷ ys) v b = units_keep k (j + 1) ys (with_unit j y v) (unit_
 -- ---- it comes about
 
 -- where a picture is current, its flag tells
-begins_flag : (p : Picture) (w : Slice) (set : RefPicSet) (b : Bool) → begins_picture (if b then SkippedPicture else OpenPicture p.head set) w ≡ w.first_slice_segment_in_pic_flag
+begins_flag : (p : Picture) (w : Slice) (set : RefPicSet) (b : Bool)
+    → begins_picture (if b then SkippedPicture else OpenPicture p.head set) w ≡ w.first_slice_segment_in_pic_flag
 begins_flag p w set true = refl
 begins_flag p w set false = refl
 
-slice_begins : (k : ℕ) (w : Slice) (set : Option (ℕ × Format)) (ps : List Picture) → begins_picture (current_by set ps) w ≡ true → Begun k (with_slice k w ps)
+slice_begins : (k : ℕ) (w : Slice) (set : Option (ℕ × Format)) (ps : List Picture)
+    → begins_picture (current_by set ps) w ≡ true → Begun k (with_slice k w ps)
 slice_begins k w set [] e = inl refl
 slice_begins k w set (p ∷ ps) e = by w.first_slice_segment_in_pic_flag refl
   where
-    by : (f : Bool) → w.first_slice_segment_in_pic_flag ≡ f → Begun k (if f then new_picture k w (p ∷ ps) ∷ p ∷ ps else record p { slices = p.slices ++ (k, w) ∷ [] } ∷ ps)
+    by : (f : Bool) → w.first_slice_segment_in_pic_flag ≡ f
+        → Begun k (if f then new_picture k w (p ∷ ps) ∷ p ∷ ps else record p { slices = p.slices ++ (k, w) ∷ [] } ∷ ps)
     by true is = inl refl
     by false is = absurd (cc (sym is ∙ sym (begins_flag p w (reference_set_of set p ps) p.head.skipped) ∙ e))
 
-whole_begins : (k : ℕ) (o : Option Slice) (v : Stream) → begins_by o (standing v) ≡ true → Begun k (with_whole k o v.pictures)
+whole_begins : (k : ℕ) (o : Option Slice) (v : Stream) → begins_by o (standing v) ≡ true
+    → Begun k (with_whole k o v.pictures)
 whole_begins k None v e = absurd (cc e)
 whole_begins k (Some w) v e = slice_begins k w v.first_set v.pictures e
 
@@ -83,14 +93,20 @@ unit_begins k EndOfBitstream v e = absurd (cc e)
 unit_begins k Other v e = absurd (cc e)
 unit_begins k (Refused c) v e = absurd (cc e)
 
-stream_behind : (j : ℕ) (v : Stream) (xs ys : List Meaning) → stream_from j v (xs ++ ys) ≡ stream_from (j + length xs) (stream_from j v xs) ys
+stream_behind : (j : ℕ) (v : Stream) (xs ys : List Meaning)
+    → stream_from j v (xs ++ ys) ≡ stream_from (j + length xs) (stream_from j v xs) ys
 stream_behind j v [] ys = ap (λ (n : ℕ). stream_from n v ys) (omega arith)
-stream_behind j v (x ∷ xs) ys = stream_behind (j + 1) (with_unit j x v) xs ys ∙ ap (λ (n : ℕ). stream_from n (stream_from (j + 1) (with_unit j x v) xs) ys) (omega arith)
+stream_behind j v (x ∷ xs) ys = stream_behind (j + 1) (with_unit j x v) xs ys
+    ∙ ap (λ (n : ℕ). stream_from n (stream_from (j + 1) (with_unit j x v) xs) ys) (omega arith)
 
-pub begins_picture_at : (ms : List Meaning) (y : Meaning) (ys : List Meaning) → begins_at y (standing (stream ms)) ≡ true → BeginsPicture (length ms) (ms ++ y ∷ ys)
+pub begins_picture_at : (ms : List Meaning) (y : Meaning) (ys : List Meaning)
+    → begins_at y (standing (stream ms)) ≡ true → BeginsPicture (length ms) (ms ++ y ∷ ys)
 begins_picture_at ms y ys e =
     let k = length ms in
-    let here : Begun k (stream_from k (stream ms) (y ∷ ys)).pictures = units_keep k (k + 1) ys (with_unit k y (stream ms)) (unit_begins k y (stream ms) e) in
-    let is : stream_from k (stream ms) (y ∷ ys) ≡ stream (ms ++ y ∷ ys) = ap (λ (n : ℕ). stream_from n (stream ms) (y ∷ ys)) (sym (zero-add k)) ∙ sym (stream_behind 0 nothing_yet ms (y ∷ ys)) in
+    let here : Begun k (stream_from k (stream ms) (y ∷ ys)).pictures =
+    units_keep k (k + 1) ys (with_unit k y (stream ms)) (unit_begins k y (stream ms) e) in
+    let is : stream_from k (stream ms) (y ∷ ys) ≡ stream (ms ++ y ∷ ys) =
+    ap (λ (n : ℕ). stream_from n (stream ms) (y ∷ ys)) (sym (zero-add k))
+    ∙ sym (stream_behind 0 nothing_yet ms (y ∷ ys)) in
     let b = begun_in k (pictures (ms ++ y ∷ ys)) (subst (λ (v : Stream). Begun k v.pictures) is here) in
     record { picture = b.0; coded = b.1; first = b.2 }

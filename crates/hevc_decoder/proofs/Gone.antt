@@ -1,5 +1,6 @@
 -- What was output before a unit, or before the end, is no matter to it.
-use Rattle.std.proofs.Common.{◌≡◌, inl, inr, ℕ, List, [], ◌++◌, map, refl, sym, ap, subst, ◌∙◌, append_assoc, append-nil, Result, Err}
+use Rattle.std.proofs.Common.{◌≡◌, inl, inr, ℕ, List, [], ◌++◌, map, refl, sym, ap, subst, ◌∙◌}
+use Rattle.std.proofs.Common.{append_assoc, append-nil, Result, Err}
 use Rattle.hevc_spec.specs.UnitHeader.{UnitHeader}
 use Rattle.hevc_stream.specs.Options.{Options}
 use Rattle.hevc_driver.specs.declared.decode_error.DecodeError.{DecodeError}
@@ -14,10 +15,12 @@ use Rattle.hevc_decoder.specs.Gives.{Delivered, Unmade, DecodesUnit, Gives, Give
 pub record Adds {B H : Type 0} (R : Scene B H → Scene B H → Type 0) (old new : Scene B H) : Type 0 where
   pub out : List (Shown H)
   pub shown : new.shown ≡ old.shown ++ out
-  pub holds : (gone : List (Shown H)) → R (record { seen = old.seen; shown = gone }) (record { seen = new.seen; shown = gone ++ out })
+  pub holds : (gone : List (Shown H))
+      → R (record { seen = old.seen; shown = gone }) (record { seen = new.seen; shown = gone ++ out })
 
 module _ {B H T : Type 0} where
-  adds_delivered : (C : Result T DecodeError → Seen B H → Seen B H → Type 0) (r : Result T DecodeError) (k : ℕ) (old new : Scene B H) → Delivered C r k old new → Adds (Delivered C r k) old new
+  adds_delivered : (C : Result T DecodeError → Seen B H → Seen B H → Type 0) (r : Result T DecodeError)
+      (k : ℕ) (old new : Scene B H) → Delivered C r k old new → Adds (Delivered C r k) old new
   adds_delivered C r k old new d = record {
     out = map (shown_at k) d.out;
     shown = d.shown;
@@ -30,14 +33,23 @@ module _ {B H T : Type 0} where
     shown = ap (λ (s : Scene B H). s.shown) u.same ∙ sym (append-nil old.shown);
     holds = λ gone. record {
       told = u.told;
-      same = ap (λ (s : Scene B H). record { seen = s.seen; shown = gone ++ [] }) u.same ∙ ap (λ (l : List (Shown H)). record { seen = old.seen; shown = l }) (append-nil gone);
+      same = ap (λ (s : Scene B H). record { seen = s.seen; shown = gone ++ [] }) u.same
+          ∙ ap (λ (l : List (Shown H)). record { seen = old.seen; shown = l }) (append-nil gone);
     };
   }
 
   module _ (r : Result T DecodeError) (k : ℕ) (o : Options) (h : UnitHeader) (bytes : List ℕ) where
     adds_gives : (old new : Scene B H) → Gives r k o h bytes old new → Adds (Gives r k o h bytes) old new
-    adds_gives old new (inl d) = let a = adds_delivered (DecodesUnit o h bytes) r k old new d in record { out = a.out; shown = a.shown; holds = λ gone. inl (a.holds gone) }
-    adds_gives old new (inr u) = let a = adds_unmade r old new u in record { out = a.out; shown = a.shown; holds = λ gone. inr (a.holds gone) }
+    adds_gives old new (inl d) = let a = adds_delivered (DecodesUnit o h bytes) r k old new d in record {
+      out = a.out;
+      shown = a.shown;
+      holds = λ gone. inl (a.holds gone);
+    }
+    adds_gives old new (inr u) = let a = adds_unmade r old new u in record {
+      out = a.out;
+      shown = a.shown;
+      holds = λ gone. inr (a.holds gone);
+    }
 
     adds_again : (old new : Scene B H) → GivesAgain r k o h bytes old new → Adds (GivesAgain r k o h bytes) old new
     adds_again old new x =
@@ -50,14 +62,36 @@ module _ {B H T : Type 0} where
             mid = record { seen = x.mid.seen; shown = gone ++ a.out };
             emptied = x.emptied;
             opens = a.holds gone;
-            again = subst (λ (l : List (Shown H)). Gives r k o h bytes (accepting (record { seen = x.mid.seen; shown = gone ++ a.out })) (record { seen = new.seen; shown = l })) (append_assoc gone a.out c.out) (c.holds (gone ++ a.out));
+            again = subst
+                (λ (l : List (Shown H)). Gives r k o h bytes
+                (accepting (record { seen = x.mid.seen; shown = gone ++ a.out })) (record {
+                  seen = new.seen;
+                  shown = l;
+                })) (append_assoc gone a.out c.out) (c.holds (gone ++ a.out));
           };
         }
 
     pub adds_whole : (old new : Scene B H) → GivesWhole r k o h bytes old new → Adds (GivesWhole r k o h bytes) old new
-    adds_whole old new (inl g) = let a = adds_gives old new g.1 in record { out = a.out; shown = a.shown; holds = λ gone. inl (g.0, a.holds gone) }
-    adds_whole old new (inr g) = let a = adds_again old new g in record { out = a.out; shown = a.shown; holds = λ gone. inr (a.holds gone) }
+    adds_whole old new (inl g) = let a = adds_gives old new g.1 in record {
+      out = a.out;
+      shown = a.shown;
+      holds = λ gone. inl (g.0, a.holds gone);
+    }
+    adds_whole old new (inr g) = let a = adds_again old new g in record {
+      out = a.out;
+      shown = a.shown;
+      holds = λ gone. inr (a.holds gone);
+    }
 
-  pub adds_closed : (r : Result T DecodeError) (k : ℕ) (old new : Scene B H) → Closes r k old new → Adds (Closes r k) old new
-  adds_closed r k old new (inl d) = let a = adds_delivered Flushed r k old new d in record { out = a.out; shown = a.shown; holds = λ gone. inl (a.holds gone) }
-  adds_closed r k old new (inr u) = let a = adds_unmade r old new u in record { out = a.out; shown = a.shown; holds = λ gone. inr (a.holds gone) }
+  pub adds_closed : (r : Result T DecodeError) (k : ℕ) (old new : Scene B H) → Closes r k old new
+      → Adds (Closes r k) old new
+  adds_closed r k old new (inl d) = let a = adds_delivered Flushed r k old new d in record {
+    out = a.out;
+    shown = a.shown;
+    holds = λ gone. inl (a.holds gone);
+  }
+  adds_closed r k old new (inr u) = let a = adds_unmade r old new u in record {
+    out = a.out;
+    shown = a.shown;
+    holds = λ gone. inr (a.holds gone);
+  }

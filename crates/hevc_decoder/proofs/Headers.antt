@@ -42,8 +42,10 @@ blames_none TruncatedNalu b = b
 blames_none (InvalidNaluType n) b = b
 blames_none TemporalIdZero b = b
 
-module _ {H : Type 0} (at : ℕ → Given) (o : Options) (kept : Kept) (bytes : List ℕ) (k : ℕ) (t : Trail H) (s : Standing) where
-  refuses : (fault : HeaderFault) → unit_header bytes ≡ Err fault → RefusesUnit at (cause_error (header_cause fault)) k t t (meaning o kept bytes) s
+module _ {H : Type 0} (at : ℕ → Given) (o : Options) (kept : Kept) (bytes : List ℕ) (k : ℕ) (t : Trail H)
+    (s : Standing) where
+  refuses : (fault : HeaderFault) → unit_header bytes ≡ Err fault
+      → RefusesUnit at (cause_error (header_cause fault)) k t t (meaning o kept bytes) s
   unfolding meaning content
   refuses fault parsed =
       let means : meaning o kept bytes ≡ Refused (header_cause fault) = rw parsed refl in
@@ -52,22 +54,31 @@ module _ {H : Type 0} (at : ℕ → Given) (o : Options) (kept : Kept) (bytes : 
         cause = UnitRefused (header_cause fault);
         refused = ap (λ (m : Meaning). refusal_at m s) means;
         named = refl;
-        does = subst (λ (m : Meaning). DoesAll at t t (at_unit k (unit_part m s).events)) (sym means) (does_all_nothing at t t refl);
+        does = subst (λ (m : Meaning). DoesAll at t t (at_unit k (unit_part m s).events)) (sym means)
+            (does_all_nothing at t t refl);
       }
 
-  taken_by : (fault : HeaderFault) → unit_header bytes ≡ Err fault → TakesUnit {T = Unit {0}} at (Err (unit_error (header_error fault))) k t t (meaning o kept bytes) s
+  taken_by : (fault : HeaderFault) → unit_header bytes ≡ Err fault
+      → TakesUnit {T = Unit {0}} at (Err (unit_error (header_error fault))) k t t (meaning o kept bytes) s
   taken_by headers.truncated parsed = refuses headers.truncated parsed
   taken_by (headers.unspecified_type n) parsed = refuses (headers.unspecified_type n) parsed
   taken_by headers.temporal_id_zero parsed = refuses headers.temporal_id_zero parsed
 
-  header_taken : (e : UnitError) (r : Result UnitHeader HeaderFault) → unit_header bytes ≡ r → answer_of r ≡ Err e → TakesUnit {T = Unit {0}} at (Err (unit_error e)) k t t (meaning o kept bytes) s
+  header_taken : (e : UnitError) (r : Result UnitHeader HeaderFault) → unit_header bytes ≡ r
+      → answer_of r ≡ Err e → TakesUnit {T = Unit {0}} at (Err (unit_error e)) k t t (meaning o kept bytes) s
   header_taken e (Ok h) parsed is = absurd (cc is)
   header_taken e (Err fault) parsed is =
       let told : header_error fault ≡ e = cc is in
-      subst (λ (x : UnitError). TakesUnit {T = Unit {0}} at (Err (unit_error x)) k t t (meaning o kept bytes) s) told (taken_by fault parsed)
+      subst (λ (x : UnitError). TakesUnit {T = Unit {0}} at (Err (unit_error x)) k t t
+      (meaning o kept bytes) s) told (taken_by fault parsed)
 
-pub header_ended : {B H : Type 0} (o : Options) (all later others : List NalUnit) (u : NalUnit) (k : ℕ) (old mid : Scene B H) (e : UnitError) → Reached o all k old mid later → later ≡ u ∷ others → parsed_header u.bytes ≡ Err e
-    → Ended (Err (record { unit = k; error = unit_error e })) (meant o all) (read_units_of o all) (trail_of old) (trail_of mid)
+pub header_ended : {B H : Type 0} (o : Options) (all later others : List NalUnit) (u : NalUnit) (k : ℕ)
+    (old mid : Scene B H) (e : UnitError) → Reached o all k old mid later → later ≡ u ∷ others
+    → parsed_header u.bytes ≡ Err e
+    → Ended (Err (record { unit = k; error = unit_error e })) (meant o all) (read_units_of o all)
+    (trail_of old) (trail_of mid)
 header_ended o all later others u k old mid e x is refused =
     let at : Reached o all k old mid (u ∷ others) = subst (λ (us : List NalUnit). Reached o all k old mid us) is x in
-    ended_refused o all k old mid u others at (Unit {0}) (unit_error e) (trail_of mid) (header_taken (given_of (meant o all) (read_units_of o all)) o (kept_after o at.front) u.bytes k (trail_of mid) (standing_after (meant o at.front)) e (unit_header u.bytes) refl refused)
+    ended_refused o all k old mid u others at (Unit {0}) (unit_error e) (trail_of mid)
+    (header_taken (given_of (meant o all) (read_units_of o all)) o (kept_after o at.front) u.bytes k
+    (trail_of mid) (standing_after (meant o at.front)) e (unit_header u.bytes) refl refused)

@@ -1,17 +1,22 @@
 -- Numbers grow by one at a unit, at most.
 use Rattle.std.proofs.Common.{◌≡◌, ◌+◌, ◌≤◌, refl, ap, arith, Option, Some, None, Bool, true, false, if◌then◌else◌}
-use Rattle.hevc_walk.specs.Meanings.{Format, Slice, Meaning, SequenceSet, CodedSlice, EndOfSequence, EndOfBitstream, Other, Refused}
+use Rattle.hevc_walk.specs.Meanings.{Format, Slice, Meaning, SequenceSet, CodedSlice, EndOfSequence}
+use Rattle.hevc_walk.specs.Meanings.{EndOfBitstream, Other, Refused}
 use Rattle.hevc_walk.specs.DependentSlices.{whole_slice}
 use Rattle.hevc_walk.specs.Pictures.{head}
 use Rattle.hevc_walk.specs.Walk.{change_format}
-use Rattle.hevc_walk_units.specs.Units.{Standing, on_store, finish_current, open_picture, begin_slice, first_slice, later_slice, slice_part, whole_part, begins_picture, sequence_part, unit_part}
+use Rattle.hevc_walk_units.specs.Units.{Standing, on_store, finish_current, open_picture}
+use Rattle.hevc_walk_units.specs.Units.{begin_slice, first_slice, later_slice, slice_part}
+use Rattle.hevc_walk_units.specs.Units.{whole_part, begins_picture, sequence_part, unit_part}
 use Rattle.hevc_driver.specs.Moments.{with_kept, opening, opening_by}
 use Rattle.hevc_driver.proofs.PictureBegins.{head_number}
 use Rattle.hevc_driver.proofs.Taking.{later_next, decode_next}
 
 begun_number : (w : Slice) (s : Standing) → (begin_slice w s).next.next.number ≤ s.next.number + 1
 begun_number w s =
-    let same = ap (λ (v : Standing). v.next.number) (decode_next w (open_picture (head s.next w) w (on_store (change_format (head s.next w).format) s).next).next) in
+    let same = ap
+    (λ (v : Standing). v.next.number)
+    (decode_next w (open_picture (head s.next w) w (on_store (change_format (head s.next w).format) s).next).next) in
     let one = head_number s.next w (head s.next w) refl in
     omega (arith, same, one)
 

@@ -1,5 +1,7 @@
 -- From a whole run to what is promised of it.
-use Rattle.std.proofs.Common.{◌≡◌, ℕ, ◌+◌, ◌-◌, ◌^◌, ◌≤◌, ◌<◌, List, [], ◌∷◌, ◌++◌, map, length, refl, sym, ◌∙◌, ap, subst, append_assoc, arith, Option, Some, None, Result, Ok, Err}
+use Rattle.std.proofs.Common.{◌≡◌, ℕ, ◌+◌, ◌-◌, ◌^◌, ◌≤◌, ◌<◌, List, [], ◌∷◌, ◌++◌, map, length}
+use Rattle.std.proofs.Common.{refl, sym, ◌∙◌, ap, subst, append_assoc, arith, Option, Some, None}
+use Rattle.std.proofs.Common.{Result, Ok, Err}
 use Rattle.std.specs.Prelude.{OnOk, IfErr, Contains}
 use Rattle.std.specs.List.{AllByRecursion}
 use Rattle.std.proofs.lemmas.List.{map-append, append-nil}
@@ -8,7 +10,8 @@ use Rattle.hevc_walk.specs.Pictures.{pictures}
 use Rattle.hevc_walk.specs.Walk as walk
 use Rattle.hevc_walk.specs.Walk.{Event, Called, Output}
 use Rattle.hevc_walk.specs.Refusals.{Refusal, stop}
-use Rattle.hevc_walk.specs.Results.{OutputPicture, calls_below, calls_in, outputs_in, calls, outputs, verdict, full, full_or, stop_or}
+use Rattle.hevc_walk.specs.Results.{OutputPicture, calls_below, calls_in, outputs_in, calls}
+use Rattle.hevc_walk.specs.Results.{outputs, verdict, full, full_or, stop_or}
 use Rattle.hevc_walk.specs.Fates.{times, output_numbers}
 use Rattle.hevc_walk.specs.Clean.{IsClean}
 use Rattle.hevc_walk_agree.proofs.Cuts.{calls_in-append, outputs_in-append}
@@ -34,7 +37,8 @@ use Rattle.hevc_stream.specs.Options.{Options}
 use Rattle.hevc_stream.specs.Stream.{meanings}
 use Rattle.hevc_decoder.specs.declared.decoded.Shown.{Shown}
 use Rattle.hevc_decoder.specs.declared.decoded.Refused.{Refused}
-use Rattle.hevc_decoder.specs.Answers.{without_unit, IsAnswer, AnswersOnly, IsNoMemory, IsOkOrNoMemory, IsNoFullStore, FindsRoom}
+use Rattle.hevc_decoder.specs.Answers.{without_unit, IsAnswer, AnswersOnly, IsNoMemory}
+use Rattle.hevc_decoder.specs.Answers.{IsOkOrNoMemory, IsNoFullStore, FindsRoom}
 use Rattle.hevc_decoder.specs.Names.{output_picture, shown_ticket, answer_of}
 use Rattle.std.specs.List.{flat_map}
 use Rattle.std.specs.Prelude.{take}
@@ -48,7 +52,9 @@ use Rattle.hevc_decoder.proofs.Pairing.{one_to_one}
 use Rattle.hevc_decoder.specs.Scenes.{Trail}
 use Rattle.hevc_decoder.specs.Cut.{EndsAt, Ends, IsCut}
 use Rattle.hevc_decoder.specs.Runs.{Ended}
-use Rattle.hevc_decoder.specs.Headline.{Grew, Appended, IsFront, all_asked, AnswersError, AnswersVerdict, WantsFrame, AllSubmitted, SubmittedOnce, shown_numbers, ComeOutOnce, AreForOutput}
+use Rattle.hevc_decoder.specs.Headline.{Grew, Appended, IsFront, all_asked, AnswersError}
+use Rattle.hevc_decoder.specs.Headline.{AnswersVerdict, WantsFrame, AllSubmitted, SubmittedOnce}
+use Rattle.hevc_decoder.specs.Headline.{shown_numbers, ComeOutOnce, AreForOutput}
 
 times_both : (n : ℕ) (xs ys : List ℕ) → times n (xs ++ ys) ≡ times n xs + times n ys
 times_both n [] ys = omega arith
@@ -76,7 +82,8 @@ numbers_of_made [] = refl
 numbers_of_made (code.SubmitPicture number handle ∷ cs) = ap (λ ns. number ∷ ns) (numbers_of_made cs)
 numbers_of_made (code.NewSequence info ∷ cs) = numbers_of_made cs
 numbers_of_made (code.NewPicture number t c o s ∷ cs) = numbers_of_made cs
-numbers_of_made (code.BeginPicture number st_curr_before st_curr_after st_foll lt_curr lt_foll ∷ cs) = numbers_of_made cs
+numbers_of_made (code.BeginPicture number st_curr_before st_curr_after st_foll lt_curr lt_foll ∷ cs) =
+    numbers_of_made cs
 numbers_of_made (code.DecodeSlice number address bytes list0 list1 ∷ cs) = numbers_of_made cs
 
 numbers_both : (cs ds : List walk.Call) → numbers_asked (cs ++ ds) ≡ numbers_asked cs ++ numbers_asked ds
@@ -92,13 +99,15 @@ numbers_shown [] = refl
 numbers_shown (o ∷ os) = ap (λ ns. o.number ∷ ns) (numbers_shown os)
 
 -- a verdict without a refusal
-full_refused : (f : Option ℕ) (s : Option Refusal) (n m : ℕ) → answer_of (full_or f (stop_or s (Ok n))) ≡ Ok m → s ≡ None
+full_refused : (f : Option ℕ) (s : Option Refusal) (n m : ℕ)
+    → answer_of (full_or f (stop_or s (Ok n))) ≡ Ok m → s ≡ None
 full_refused (Some k) s n m e = absurd (cc e)
 full_refused None (Some r) n m e = absurd (cc e)
 full_refused None None n m e = refl
 
 -- the clauses of a run
-module _ {H : Type 0} (us : List Meaning) (ss : List ReadUnit) (r : Result ℕ Refused) (old new : Trail H) (x : Ended r us ss old new) where
+module _ {H : Type 0} (us : List Meaning) (ss : List ReadUnit) (r : Result ℕ Refused) (old new : Trail H)
+    (x : Ended r us ss old new) where
   calls_are : calls us ≡ calls_in x.done ++ calls_in x.rest
   calls_are = ap calls_in x.whole ∙ calls_in-append x.done x.rest
 
@@ -106,7 +115,8 @@ module _ {H : Type 0} (us : List Meaning) (ss : List ReadUnit) (r : Result ℕ R
   outputs_are = ap outputs_in x.whole ∙ outputs_in-append x.done x.rest
 
   asked_are : all_asked (calls us) ≡ map call_of x.does.calls ++ all_asked (calls_in x.rest)
-  asked_are = ap all_asked calls_are ∙ map-append asked (calls_in x.done) (calls_in x.rest) ∙ ap (λ l. l ++ all_asked (calls_in x.rest)) (sym x.does.made)
+  asked_are = ap all_asked calls_are ∙ map-append asked (calls_in x.done) (calls_in x.rest)
+      ∙ ap (λ l. l ++ all_asked (calls_in x.rest)) (sym x.does.made)
 
   given_are : outputs us ≡ map output_picture x.does.out ++ outputs_in x.rest
   given_are = outputs_are ∙ ap (λ l. l ++ outputs_in x.rest) (sym x.does.given)
@@ -118,7 +128,9 @@ module _ {H : Type 0} (us : List Meaning) (ss : List ReadUnit) (r : Result ℕ R
   outputs_of = (x.does.out, x.does.shown, (outputs_in x.rest, given_are))
 
   all_given : x.rest ≡ [] → map output_picture x.does.out ≡ outputs us
-  all_given none = sym (given_are ∙ ap (λ es. map output_picture x.does.out ++ outputs_in es) none ∙ append-nil (map output_picture x.does.out))
+  all_given none =
+      sym (given_are ∙ ap (λ es. map output_picture x.does.out ++ outputs_in es) none
+      ∙ append-nil (map output_picture x.does.out))
 
   answers_at : (e : DecodeError) (s : Refused) → EndsAt e s us x.done x.rest → AnswersError e s (verdict us)
   answers_at errors.Backend s y = tt
@@ -181,17 +193,24 @@ module _ {H : Type 0} (us : List Meaning) (ss : List ReadUnit) (r : Result ℕ R
   many = sym (length-map x.does.calls call_of) ∙ ap (λ l. length l) x.does.made ∙ length-map (calls_in x.done) asked
 
   made_first : take (length x.does.calls) (calls us) ≡ calls_in x.done
-  made_first = ap (λ (n : ℕ). take n (calls us)) many ∙ ap (take (length (calls_in x.done))) calls_are ∙ take-append_seam (calls_in x.done) (calls_in x.rest)
+  made_first = ap (λ (n : ℕ). take n (calls us)) many ∙ ap (take (length (calls_in x.done))) calls_are
+      ∙ take-append_seam (calls_in x.done) (calls_in x.rest)
 
-  pub handed_of : Grew old.handed new.handed (λ hs. Grew old.log new.log (λ l. hs ≡ handed_over us ss (take (length l) (calls us))))
-  handed_of = (flat_map (handed_at (given_of us ss)) x.done, x.does.handed, (x.does.calls, x.does.log, handed_done x.done ∙ ap (handed_over us ss) (sym made_first)))
+  pub handed_of : Grew old.handed new.handed
+      (λ hs. Grew old.log new.log (λ l. hs ≡ handed_over us ss (take (length l) (calls us))))
+  handed_of = (
+    flat_map (handed_at (given_of us ss)) x.done,
+    x.does.handed,
+    (x.does.calls, x.does.log, handed_done x.done ∙ ap (handed_over us ss) (sym made_first)),
+  )
 
   -- and one to one with them, where what comes with the first calls of all does
   asked_calls : (cs : List (ℕ × walk.Call)) → flat_map handing_call (map asked cs) ≡ flat_map (λ c. handing_call c.1) cs
   asked_calls [] = refl
   asked_calls (c ∷ cs) = ap (λ l. handing_call c.1 ++ l) (asked_calls cs)
 
-  pub one_to_one_of : ((n : ℕ) → map call_with (handed_over us ss (take n (calls us))) ≡ flat_map (λ c. handing_call c.1) (take n (calls us)))
+  pub one_to_one_of : ((n : ℕ) → map call_with (handed_over us ss (take n (calls us))) ≡ flat_map
+      (λ c. handing_call c.1) (take n (calls us)))
       → Grew old.handed new.handed (λ hs. Grew old.log new.log (λ l. AreOneToOne hs (map call_of l)))
   one_to_one_of paired = (
     flat_map (handed_at (given_of us ss)) x.done,
@@ -213,7 +232,8 @@ module _ {H : Type 0} (us : List Meaning) (ss : List ReadUnit) (r : Result ℕ R
     (
       x.does.out,
       x.does.shown,
-      λ t h. subst (λ (ts : List (ℕ × H)). Contains (ts ++ submissions x.does.calls) t) empty (x.does.tied t (part_left t (map shown_ticket x.does.out) new.tickets h)),
+      λ t h. subst (λ (ts : List (ℕ × H)). Contains (ts ++ submissions x.does.calls) t) empty
+          (x.does.tied t (part_left t (map shown_ticket x.does.out) new.tickets h)),
     ),
   )
 
@@ -223,15 +243,21 @@ module _ {H : Type 0} (us : List Meaning) (ss : List ReadUnit) (r : Result ℕ R
     x.does.log,
     λ n.
         let once : times n (submitted_numbers us) ≤ 1 = submitted_once us n in
-        let are : submitted_numbers us ≡ map (λ t. t.0) (submissions x.does.calls) ++ numbers_asked (all_asked (calls_in x.rest))
-        = numbers_of_all (calls us) ∙ ap numbers_asked asked_are ∙ numbers_both (map call_of x.does.calls) (all_asked (calls_in x.rest)) ∙ ap (λ ns. ns ++ numbers_asked (all_asked (calls_in x.rest))) (sym (numbers_of_made x.does.calls)) in
-        let both : times n (submitted_numbers us) ≡ times n (map (λ t. t.0) (submissions x.does.calls)) + times n (numbers_asked (all_asked (calls_in x.rest)))
-        = ap (times n) are ∙ times_both n (map (λ t. t.0) (submissions x.does.calls)) (numbers_asked (all_asked (calls_in x.rest))) in
+        let are : submitted_numbers us ≡ map (λ t. t.0) (submissions x.does.calls)
+        ++ numbers_asked (all_asked (calls_in x.rest))
+        = numbers_of_all (calls us) ∙ ap numbers_asked asked_are
+        ∙ numbers_both (map call_of x.does.calls) (all_asked (calls_in x.rest))
+        ∙ ap (λ ns. ns ++ numbers_asked (all_asked (calls_in x.rest))) (sym (numbers_of_made x.does.calls)) in
+        let both : times n (submitted_numbers us) ≡ times n
+        (map (λ t. t.0) (submissions x.does.calls)) + times n (numbers_asked (all_asked (calls_in x.rest)))
+        = ap (times n) are ∙ times_both n (map (λ t. t.0) (submissions x.does.calls))
+        (numbers_asked (all_asked (calls_in x.rest))) in
         omega arith,
   )
 
   numbers_are : output_numbers us ≡ shown_numbers x.does.out ++ map (λ o. o.number) (outputs_in x.rest)
-  numbers_are = ap (map (λ o. o.number)) given_are ∙ map-append (λ (o : OutputPicture). o.number) (map output_picture x.does.out) (outputs_in x.rest)
+  numbers_are = ap (map (λ o. o.number)) given_are ∙ map-append
+      (λ (o : OutputPicture). o.number) (map output_picture x.does.out) (outputs_in x.rest)
       ∙ ap (λ ns. ns ++ map (λ o. o.number) (outputs_in x.rest)) (sym (numbers_shown x.does.out))
 
   pub once_of : Appended old.shown new.shown (λ o. ComeOutOnce o)
@@ -240,20 +266,25 @@ module _ {H : Type 0} (us : List Meaning) (ss : List ReadUnit) (r : Result ℕ R
     x.does.shown,
     λ n.
         let once : times n (output_numbers us) ≤ 1 = output_once us n in
-        let both : times n (output_numbers us) ≡ times n (shown_numbers x.does.out) + times n (map (λ o. o.number) (outputs_in x.rest))
-        = ap (times n) numbers_are ∙ times_both n (shown_numbers x.does.out) (map (λ o. o.number) (outputs_in x.rest)) in
+        let both : times n (output_numbers us) ≡ times n (shown_numbers x.does.out) + times n
+        (map (λ o. o.number) (outputs_in x.rest))
+        = ap (times n) numbers_are
+        ∙ times_both n (shown_numbers x.does.out) (map (λ o. o.number) (outputs_in x.rest)) in
         omega arith,
   )
 
   stops_none : (m : ℕ) → answer_of (verdict us) ≡ Ok m → stop us ≡ None
   stops_none m e = full_refused (full us) (stop us) (length (pictures us)) m e
 
-  fates_by : (q : Result ℕ Refused) → Ends q us x.done x.rest → OnOk q (Appended old.shown new.shown (λ o. AreForOutput us o))
+  fates_by : (q : Result ℕ Refused) → Ends q us x.done x.rest
+      → OnOk q (Appended old.shown new.shown (λ o. AreForOutput us o))
   fates_by (Ok m) y = (
     x.does.out,
     x.does.shown,
     λ n.
-        ap (times n) (sym (numbers_are ∙ ap (λ es. shown_numbers x.does.out ++ map (λ o. o.number) (outputs_in es)) y.1 ∙ append-nil (shown_numbers x.does.out)))
+        ap (times n)
+        (sym (numbers_are ∙ ap (λ es. shown_numbers x.does.out ++ map (λ o. o.number) (outputs_in es)) y.1
+        ∙ append-nil (shown_numbers x.does.out)))
         ∙ output_by_fate us (stops_none m y.0) n,
   )
   fates_by (Err s) y = tt
@@ -261,7 +292,8 @@ module _ {H : Type 0} (us : List Meaning) (ss : List ReadUnit) (r : Result ℕ R
   pub fates_of : OnOk r (Appended old.shown new.shown (λ o. AreForOutput us o))
   fates_of = fates_by r x.ends
 
-  order_by : (P : List OutputPicture → Type 0) → (stop us ≡ None → P (outputs us)) → (q : Result ℕ Refused) → Ends q us x.done x.rest → OnOk q (Appended old.shown new.shown (λ o. P (map output_picture o)))
+  order_by : (P : List OutputPicture → Type 0) → (stop us ≡ None → P (outputs us)) → (q : Result ℕ Refused)
+      → Ends q us x.done x.rest → OnOk q (Appended old.shown new.shown (λ o. P (map output_picture o)))
   order_by P holds (Ok m) y = (x.does.out, x.does.shown, subst P (sym (all_given y.1)) (holds (stops_none m y.0)))
   order_by P holds (Err s) y = tt
 
@@ -274,7 +306,8 @@ module _ {H : Type 0} (us : List Meaning) (ss : List ReadUnit) (r : Result ℕ R
   not_ok : (n : ℕ) (s : Refused) → verdict us ≡ Ok n → answer_of (verdict us) ≡ Err s → ⊥
   not_ok n s is refused = cc (sym (ap answer_of is) ∙ refused)
 
-  completes_at : (n : ℕ) (e : DecodeError) (s : Refused) → verdict us ≡ Ok n → IsNotOfBackend {T = ℕ} (Err e) → EndsAt e s us x.done x.rest → IsNoMemory e
+  completes_at : (n : ℕ) (e : DecodeError) (s : Refused) → verdict us ≡ Ok n
+      → IsNotOfBackend {T = ℕ} (Err e) → EndsAt e s us x.done x.rest → IsNoMemory e
   completes_at n errors.Backend s is fine y = absurd (fine tt)
   completes_at n (errors.NotEnoughOutputBuffers frames) s is fine y = absurd (fine tt)
   completes_at n errors.NoMemory s is fine y = tt
@@ -283,7 +316,8 @@ module _ {H : Type 0} (us : List Meaning) (ss : List ReadUnit) (r : Result ℕ R
   completes_at n errors.PictureNumbersSpent s is fine y = absurd y
   completes_at n e s is fine y = absurd (not_ok n s is y.0)
 
-  completes_by : (n : ℕ) (q : Result ℕ Refused) → verdict us ≡ Ok n → IsNotOfBackend (without_unit q) → Ends q us x.done x.rest → IsOkOrNoMemory q
+  completes_by : (n : ℕ) (q : Result ℕ Refused) → verdict us ≡ Ok n → IsNotOfBackend (without_unit q)
+      → Ends q us x.done x.rest → IsOkOrNoMemory q
   completes_by n (Ok m) is fine y = tt
   completes_by n (Err s) is fine y = completes_at n s.error s is fine y
 
@@ -293,7 +327,8 @@ module _ {H : Type 0} (us : List Meaning) (ss : List ReadUnit) (r : Result ℕ R
   pub completes_clean : IsClean us → IsNotOfBackend (without_unit r) → IsOkOrNoMemory r
   completes_clean clean fine = completes (length (pictures us)) (clean_ok us clean) fine
 
-  room_at : (e : DecodeError) (s : Refused) → verdict us ≡ Ok (length (pictures us)) → EndsAt e s us x.done x.rest → IsNoFullStore e
+  room_at : (e : DecodeError) (s : Refused) → verdict us ≡ Ok (length (pictures us))
+      → EndsAt e s us x.done x.rest → IsNoFullStore e
   room_at errors.DpbFull s is y = not_ok (length (pictures us)) s is y.0
   room_at e s is y = tt
 
@@ -312,22 +347,28 @@ not_risen : (n m : ℕ) → m ≡ n → n < 2 ^ 64 - 1 → Counted n m → ⊥
 not_risen n m same less risen = let r = risen.1 in omega (arith, same, less, r)
 
 -- a backend that counted nothing isn't blamed
-pub blames_none : (before now : Counts) (q : Result ℕ DecodeError) → CountsErrors before now q → CountsNone before now → IsNotOfBackend q
+pub blames_none : (before now : Counts) (q : Result ℕ DecodeError) → CountsErrors before now q
+    → CountsNone before now → IsNotOfBackend q
 blames_none before now (Ok n) cause none = tt
-blames_none before now (Err errors.Backend) cause none = λ _. not_risen before.faults now.faults (ap (λ (c : Counts). c.faults) none.same) none.faults cause.0
-blames_none before now (Err (errors.NotEnoughOutputBuffers frames)) cause none = λ _. not_risen before.empty_answers now.empty_answers (ap (λ (c : Counts). c.empty_answers) none.same) none.empty_answers cause.0
+blames_none before now (Err errors.Backend) cause none =
+    λ _. not_risen before.faults now.faults (ap (λ (c : Counts). c.faults) none.same) none.faults cause.0
+blames_none before now (Err (errors.NotEnoughOutputBuffers frames)) cause none =
+    λ _. not_risen before.empty_answers now.empty_answers
+    (ap (λ (c : Counts). c.empty_answers) none.same) none.empty_answers cause.0
 blames_none before now (Err e) cause none = λ h. h
 
 -- what a whole run promises
 module _ {H : Type 0} (before now : Told H) (r : Result ℕ Refused)
-    (cause : CountsErrors before.counts now.counts (without_unit r)) (faultless : KeepsFaultless before.is_faultless now.is_faultless (without_unit r)) where
+    (cause : CountsErrors before.counts now.counts (without_unit r))
+    (faultless : KeepsFaultless before.is_faultless now.is_faultless (without_unit r)) where
   abbrev first_trail : Trail H
   first_trail = record { log = before.log; handed = before.handed; shown = before.shown; tickets = [] }
 
   abbrev last_trail : List (ℕ × H) → Trail H
   last_trail tickets = record { log = now.log; handed = now.handed; shown = now.shown; tickets = tickets }
 
-  pub honest_of : (us : List Meaning) (ss : List ReadUnit) (tickets : List (ℕ × H)) → Ended r us ss first_trail (last_trail tickets) → IsHonest before now r
+  pub honest_of : (us : List Meaning) (ss : List ReadUnit) (tickets : List (ℕ × H))
+      → Ended r us ss first_trail (last_trail tickets) → IsHonest before now r
   honest_of us ss tickets x = record {
     answers_only = answers_only_of us ss r first_trail (last_trail tickets) x;
     handles = handles_of us ss r first_trail (last_trail tickets) x refl;
@@ -338,7 +379,9 @@ module _ {H : Type 0} (before now : Told H) (r : Result ℕ Refused)
     faultless = faultless;
   }
 
-  pub decodes_of : (o : Options) (s : List ℕ) (tickets : List (ℕ × H)) → Ended r (meanings o s) (read_units o s) first_trail (last_trail tickets) → IfErr r (λ refused. refused.unit ≤ length (units s)) → Decodes o s before now r
+  pub decodes_of : (o : Options) (s : List ℕ) (tickets : List (ℕ × H))
+      → Ended r (meanings o s) (read_units o s) first_trail (last_trail tickets)
+      → IfErr r (λ refused. refused.unit ≤ length (units s)) → Decodes o s before now r
   decodes_of o s tickets x within =
       let us = meanings o s in
       let ss = read_units o s in
@@ -356,8 +399,10 @@ module _ {H : Type 0} (before now : Told H) (r : Result ℕ Refused)
         fates = fates_of us ss r begin end x;
         in_turn = in_turn_of us ss r begin end x;
         display_order = display_order_of us ss r begin end x;
-        complete = λ n is none. completes us ss r begin end x n is (blames_none before.counts now.counts (without_unit r) cause none);
-        clean = λ is none. completes_clean us ss r begin end x is (blames_none before.counts now.counts (without_unit r) cause none);
+        complete = λ n is none. completes us ss r begin end x n is
+            (blames_none before.counts now.counts (without_unit r) cause none);
+        clean = λ is none. completes_clean us ss r begin end x is
+            (blames_none before.counts now.counts (without_unit r) cause none);
         complete_over_faultless = λ n is never. completes us ss r begin end x n is (faultless never).1;
         clean_over_faultless = λ is never. completes_clean us ss r begin end x is (faultless never).1;
         stores_few = stores_few us;

@@ -4,7 +4,8 @@ use Rattle.std.specs.List.{AllByRecursion}
 use Rattle.hevc_walk.specs.Meanings.{Meaning}
 use Rattle.hevc_walk.specs.Walk as walk
 use Rattle.hevc_walk.specs.Walk.{Event, Called, Output}
-use Rattle.hevc_walk.specs.Results.{events, calls, outputs, verdict, calls_in, outputs_in, calls_below, outputs_below}
+use Rattle.hevc_walk.specs.Results.{events, calls, outputs, verdict, calls_in, outputs_in}
+use Rattle.hevc_walk.specs.Results.{calls_below, outputs_below}
 use Rattle.hevc_backend.specs.declared.call.Call.{Call}
 use Rattle.hevc_driver.specs.Calls.{call_of}
 use Rattle.hevc_driver.specs.declared.decode_error.DecodeError.{DecodeError}

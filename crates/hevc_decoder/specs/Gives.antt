@@ -1,5 +1,6 @@
 -- What a unit of a stream, and the end of it, do as a decoder is called and its outputs are moved.
-use Rattle.std.specs.Prelude.{◌≡◌, ◌⊎◌, ℕ, Bool, true, false, List, [], ◌∷◌, ◌++◌, map, Result, Ok, Err}
+use Rattle.std.specs.Prelude.{◌≡◌, ◌⊎◌, ℕ, Bool, true, false, List, [], ◌∷◌, ◌++◌, map, Result, Ok}
+use Rattle.std.specs.Prelude.{Err}
 use Rattle.hevc_spec.specs.Units.{NalUnit}
 use Rattle.hevc_spec.specs.UnitHeader.{UnitHeader, HeaderFault, unit_header}
 use Rattle.hevc_stream.specs.Options.{Options}

@@ -1,5 +1,6 @@
 -- What decoding a byte stream promises, over any backend and under any options.
-use Rattle.std.specs.Prelude.{◌≡◌, ℕ, ◌≤◌, ◌<◌, ◌-◌, ◌^◌, List, map, length, take, Option, Result, Ok, IfErr, OnOk}
+use Rattle.std.specs.Prelude.{◌≡◌, ℕ, ◌≤◌, ◌<◌, ◌-◌, ◌^◌, List, map, length, take, Option, Result}
+use Rattle.std.specs.Prelude.{Ok, IfErr, OnOk}
 use Rattle.std.specs.List.{AllByRecursion}
 use Rattle.hevc_spec.specs.Units.{units}
 use Rattle.hevc_walk.specs.Clean.{IsClean}
@@ -18,7 +19,9 @@ use Rattle.hevc_decoder.specs.declared.decoded.Refused.{Refused}
 use Rattle.hevc_decoder.specs.declared.decoded.Shown.{Shown}
 use Rattle.hevc_decoder.specs.Answers.{AnswersOnly, FindsRoom, IsOkOrNoMemory, without_unit}
 use Rattle.hevc_decoder.specs.Cut.{IsCut}
-use Rattle.hevc_decoder.specs.Headline.{Grew, Appended, IsFront, all_asked, AnswersVerdict, WantsFrame, AllSubmitted, SubmittedOnce, ComeOutOnce, AreForOutput, NeverStoreMore}
+use Rattle.hevc_decoder.specs.Headline.{Grew, Appended, IsFront, all_asked, AnswersVerdict}
+use Rattle.hevc_decoder.specs.Headline.{WantsFrame, AllSubmitted, SubmittedOnce, ComeOutOnce}
+use Rattle.hevc_decoder.specs.Headline.{AreForOutput, NeverStoreMore}
 use Rattle.hevc_decoder.specs.Names.{output_picture}
 
 -- What is told at a moment: of a backend its log and what it was handed, if it exposes them, its

@@ -1,12 +1,14 @@
 -- What was done of the events that a unit asks for, by its answer.
-use Rattle.std.specs.Prelude.{◌≡◌, ℕ, true, false, List, [], ◌∷◌, ◌++◌, map, Some, None, Result, Ok, Err}
+use Rattle.std.specs.Prelude.{◌≡◌, ℕ, true, false, List, [], ◌∷◌, ◌++◌, map, Some, None, Result, Ok}
+use Rattle.std.specs.Prelude.{Err}
 use Rattle.std.specs.List.{AllByRecursion, flat_map}
 use Rattle.hevc_walk.specs.Meanings.{Meaning}
 use Rattle.hevc_walk.specs.Walk as walk
 use Rattle.hevc_walk.specs.Walk.{Event, Called, at_unit}
 use Rattle.hevc_walk.specs.Refusals.{Cause}
 use Rattle.hevc_walk.specs.Results.{calls_in, outputs_in}
-use Rattle.hevc_walk_units.specs.Units.{Standing, unit_part, refusal_at, is_full_at, is_full_now, closing_part}
+use Rattle.hevc_walk_units.specs.Units.{Standing, unit_part, refusal_at, is_full_at, is_full_now}
+use Rattle.hevc_walk_units.specs.Units.{closing_part}
 use Rattle.hevc_dpb.specs.Entries.{IsPartOf}
 use Rattle.hevc_backend.specs.declared.call.Call.{Call}
 use Rattle.hevc_backend.specs.Trait.{logged}

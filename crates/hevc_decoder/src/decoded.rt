@@ -14,7 +14,8 @@ pub struct Shown<H> {
     pub handle: H,
     /// Its order count, PicOrderCntVal (8.3.1).
     pub order_count: i32,
-    /// The number, from 0, of the unit at which the picture is output; after the last unit the number of units.
+    /// The number, from 0, of the unit at which the picture is output; after the last unit the
+    /// number of units.
     pub unit: u64,
 }
 
@@ -47,6 +48,7 @@ pub struct Refused {
 pub struct Decoded<B> {
     /// The backend, after the last call that it took.
     pub backend: B,
-    /// How the stream ended: with the number of its pictures, those included that are skipped, or refused.
+    /// How the stream ended: with the number of its pictures, those included that are skipped, or
+    /// refused.
     pub result: Result<u64, Refused>,
 }

@@ -1,5 +1,6 @@
 //! The units of a stream, taken as a source hands it over.
-ghost use Rattle.std.specs.Prelude.{◌≡◌, ◌+◌, ◌-◌, ◌≤◌, ◌<◌, [], ℕ, List, length, IfOk, OnErr, OnOk, IsErrOf};
+ghost use Rattle.std.specs.Prelude.{◌≡◌, ◌+◌, ◌-◌, ◌≤◌, ◌<◌, [], ℕ, List, length, IfOk, OnErr};
+ghost use Rattle.std.specs.Prelude.{OnOk, IsErrOf};
 ghost use Rattle.std.specs.Io.KnownBytes.{Consumes, IsAtEnd};
 ghost use Rattle.hevc_bits.specs.StartCode.{NoneStands};
 ghost use Rattle.hevc_fault_counts.specs.Faults.{Rose};
@@ -19,8 +20,9 @@ use hevc_io::{InputError, Source};
 use hevc_stateless::{StatelessDecoder, StatelessH265DecoderBackend};
 use std::alloc::Global;
 
-/// Takes the units of the window that are whole, and gives the number of the next one. Of the window `seen` bytes were looked through
-/// before; no more than one unit is left in it, and of bytes that belong to none two at most.
+/// Takes the units of the window that are whole, and gives the number of the next one. Of the
+/// window `seen` bytes were looked through before; no more than one unit is left in it, and of
+/// bytes that belong to none two at most.
 fn take_whole<B: StatelessH265DecoderBackend>(
     decoder: &mut StatelessDecoder<B>,
     window: &mut Window,
@@ -49,8 +51,9 @@ fn take_whole<B: StatelessH265DecoderBackend>(
     Ok(next)
 }
 
-/// Takes units as the source hands them over, until it is at its end or a unit is refused, and gives their number. What is left in the
-/// window then is the last unit's. Of `left` bytes that may still come, those that come are taken off.
+/// Takes units as the source hands them over, until it is at its end or a unit is refused, and
+/// gives their number. What is left in the window then is the last unit's. Of `left` bytes that may
+/// still come, those that come are taken off.
 fn feed<B: StatelessH265DecoderBackend, S: Source>(
     decoder: &mut StatelessDecoder<B>,
     source: &mut S,
@@ -105,8 +108,8 @@ fn feed<B: StatelessH265DecoderBackend, S: Source>(
     }
 }
 
-/// Takes all units of the stream that a source has left, of at most `limit` bytes, and gives the number of its pictures. After a
-/// refusal the source is read to its end.
+/// Takes all units of the stream that a source has left, of at most `limit` bytes, and gives the
+/// number of its pictures. After a refusal the source is read to its end.
 pub(crate) fn take_source<B: StatelessH265DecoderBackend, S: Source>(
     alloc: Global,
     decoder: &mut StatelessDecoder<B>,

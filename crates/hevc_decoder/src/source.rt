@@ -13,12 +13,13 @@ use hevc_io::{InputError, Source};
 use hevc_stateless::{Options, StatelessDecoder, StatelessH265DecoderBackend};
 use std::alloc::Global;
 
-/// Decodes the byte stream (Annex B) that a source has left, of at most `limit` bytes, as it comes: no more of it is kept at a time than
-/// what lies between two start codes and what one read gives. After a refusal the source is read to its end.
+/// Decodes the byte stream (Annex B) that a source has left, of at most `limit` bytes, as it comes:
+/// no more of it is kept at a time than what lies between two start codes and what one read gives.
+/// After a refusal the source is read to its end.
 ///
-/// On `Ok` all is as `decode_stream_with` has it for these bytes. After an `InputError` the backend is dropped; the pictures that came
-/// out until then were added to `shown`. `Failed` has a cause: a fault was counted, or no more can be. By `TooLong` more than `limit`
-/// bytes left the source.
+/// On `Ok` all is as `decode_stream_with` has it for these bytes. After an `InputError` the backend
+/// is dropped; the pictures that came out until then were added to `shown`. `Failed` has a cause: a
+/// fault was counted, or no more can be. By `TooLong` more than `limit` bytes left the source.
 pub fn decode_source_with<B: StatelessH265DecoderBackend + Drop, S: Source>(
     alloc: Global,
     backend: B,

@@ -3,7 +3,8 @@ ghost use Rattle.std.specs.Prelude.{◌≡◌, ◌≤◌, ◌<◌, [], ℕ, List
 ghost use Rattle.hevc_spec.specs.Units.{kept_bytes, units, units_from};
 ghost use Rattle.hevc_options.specs.Options.{options_of};
 ghost use Rattle.hevc_stateless.specs.Decoders.{set_for, view_of};
-ghost use Rattle.hevc_decoder.specs.Stepping.{DecodesEnd, DecodesNext, IsNextUnit, StandsIn, StaysUnlessTaken};
+ghost use Rattle.hevc_decoder.specs.Stepping.{DecodesEnd, DecodesNext, IsNextUnit, StandsIn};
+ghost use Rattle.hevc_decoder.specs.Stepping.{StaysUnlessTaken};
 ghost use Rattle.hevc_decoder.specs.Answers.{outcome};
 ghost use Rattle.hevc_decoder.specs.Gives.{Closes, LeavesNext};
 ghost use Rattle.hevc_decoder.specs.Scenes.{scene};
@@ -15,7 +16,8 @@ use hevc_bits::{Nalu, NaluHeader};
 use hevc_stateless::{Options, StatelessDecoder, StatelessH265DecoderBackend};
 use std::alloc::Global;
 
-/// A decoder to which the units of a stream are given one by one, by `decode_next_unit` and `end_stream`.
+/// A decoder to which the units of a stream are given one by one, by `decode_next_unit` and
+/// `end_stream`.
 pub fn begin_stream<B: StatelessH265DecoderBackend>(
     alloc: Global,
     backend: B,
@@ -28,9 +30,10 @@ pub fn begin_stream<B: StatelessH265DecoderBackend>(
     StatelessDecoder::new_with(alloc, backend, options)
 }
 
-/// Takes the next unit of a byte stream (Annex B) of less than 2^60 bytes, from a position on, as unit `unit`; a format is accepted as it
-/// is negotiated. Pictures that are output are added to `shown`, and the position moves to the place after the unit. `None` where no unit
-/// is left. A refusal is that of the whole stream. The position stays then, and where no unit is left.
+/// Takes the next unit of a byte stream (Annex B) of less than 2^60 bytes, from a position on, as
+/// unit `unit`; a format is accepted as it is negotiated. Pictures that are output are added to
+/// `shown`, and the position moves to the place after the unit. `None` where no unit is left. A
+/// refusal is that of the whole stream. The position stays then, and where no unit is left.
 pub fn decode_next_unit<'a, B: StatelessH265DecoderBackend>(
     decoder: &mut StatelessDecoder<B>,
     stream: &'a [u8],
@@ -62,8 +65,8 @@ pub fn decode_next_unit<'a, B: StatelessH265DecoderBackend>(
     take_next(decoder, stream, position, unit, shown)
 }
 
-/// Ends a stream all units of which were taken, so many of them, and gives the number of its pictures. Those that are output now are added
-/// to `shown`.
+/// Ends a stream all units of which were taken, so many of them, and gives the number of its
+/// pictures. Those that are output now are added to `shown`.
 pub fn end_stream<B: StatelessH265DecoderBackend>(
     decoder: &mut StatelessDecoder<B>,
     unit: u64,

@@ -14,12 +14,14 @@ use crate::units::take_units;
 use hevc_stateless::{Options, StatelessDecoder, StatelessH265DecoderBackend};
 use std::alloc::Global;
 
-/// Decodes a byte stream (Annex B) of less than 2^60 bytes, and adds the pictures that are output to `shown`, in output order (C.5.2).
+/// Decodes a byte stream (Annex B) of less than 2^60 bytes, and adds the pictures that are output
+/// to `shown`, in output order (C.5.2).
 ///
-/// What the units ask for is defined without this code: `meanings` gives what each unit means (7.3, 7.4), `calls` the calls of a backend,
-/// `outputs` the pictures that are output and the unit at which each is, `verdict` how the stream ends. `Decodes` says that no more is
-/// done and, but for a backend that fails or has no frame, or an allocation that fails, no less; docs/PROMISES.md tells each of its
-/// fields in words.
+/// What the units ask for is defined without this code: `meanings` gives what each unit means (7.3,
+/// 7.4), `calls` the calls of a backend, `outputs` the pictures that are output and the unit at
+/// which each is, `verdict` how the stream ends. `Decodes` says that no more is done and, but for a
+/// backend that fails or has no frame, or an allocation that fails, no less; docs/PROMISES.md tells
+/// each of its fields in words.
 pub fn decode_stream_with<B: StatelessH265DecoderBackend>(
     alloc: Global,
     backend: B,
@@ -41,8 +43,8 @@ pub fn decode_stream_with<B: StatelessH265DecoderBackend>(
     }
 }
 
-/// Decodes a byte stream (Annex B) of less than 2^60 bytes with all sub-layers and CRA pictures as such: `decode_stream_with` under
-/// `Options::new()`.
+/// Decodes a byte stream (Annex B) of less than 2^60 bytes with all sub-layers and CRA pictures as
+/// such: `decode_stream_with` under `Options::new()`.
 pub fn decode_stream<B: StatelessH265DecoderBackend>(
     alloc: Global,
     backend: B,
@@ -58,8 +60,9 @@ pub fn decode_stream<B: StatelessH265DecoderBackend>(
     decode_stream_with(alloc, backend, Options::new(), stream, shown)
 }
 
-/// Decodes a byte stream (Annex B) of less than 2^60 bytes for its verdict and its calls alone: `decode_stream_with`, but that the
-/// pictures that are output are let go, so that no more memory is taken by a longer stream.
+/// Decodes a byte stream (Annex B) of less than 2^60 bytes for its verdict and its calls alone:
+/// `decode_stream_with`, but that the pictures that are output are let go, so that no more memory
+/// is taken by a longer stream.
 pub fn judge_stream<B: StatelessH265DecoderBackend>(
     alloc: Global,
     backend: B,

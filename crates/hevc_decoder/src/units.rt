@@ -1,5 +1,6 @@
 //! The units of a stream, one by one.
-ghost use Rattle.std.specs.Prelude.{◌≡◌, ◌+◌, ◌≤◌, ◌<◌, ◌++◌, [], length, map, vec_len, vec_capacity, IfOk, IfErr, OnOk, OnSome};
+ghost use Rattle.std.specs.Prelude.{◌≡◌, ◌+◌, ◌≤◌, ◌<◌, ◌++◌, [], length, map, vec_len};
+ghost use Rattle.std.specs.Prelude.{vec_capacity, IfOk, IfErr, OnOk, OnSome};
 ghost use Rattle.hevc_spec.specs.Units.{kept_bytes, units, units_from};
 ghost use Rattle.hevc_bits.specs.FoundUnit.{bytes_of};
 ghost use Rattle.hevc_stream.specs.Kept.{none_kept};
@@ -118,8 +119,9 @@ fn close<B: StatelessH265DecoderBackend>(
     flushed
 }
 
-/// Takes the next unit of a piece of a stream from a position on, as unit `unit`, and moves the position to the place after it. `None`
-/// where no unit is left; the position stays then, and after a refusal.
+/// Takes the next unit of a piece of a stream from a position on, as unit `unit`, and moves the
+/// position to the place after it. `None` where no unit is left; the position stays then, and after
+/// a refusal.
 pub(crate) fn take_next<'a, B: StatelessH265DecoderBackend>(
     decoder: &mut StatelessDecoder<B>,
     piece: &'a [u8],
@@ -170,7 +172,8 @@ pub(crate) fn take_next<'a, B: StatelessH265DecoderBackend>(
     Ok(Some(nalu))
 }
 
-/// Takes the units of a piece of a stream, the first of which is unit `first`, and gives the number of the next one.
+/// Takes the units of a piece of a stream, the first of which is unit `first`, and gives the number
+/// of the next one.
 pub(crate) fn take_piece<B: StatelessH265DecoderBackend>(
     decoder: &mut StatelessDecoder<B>,
     piece: &[u8],
@@ -221,7 +224,8 @@ pub(crate) fn finish<B: StatelessH265DecoderBackend>(
     }
 }
 
-/// Takes the last units of a stream, the first of which is unit `first`, and gives the number of the stream's pictures.
+/// Takes the last units of a stream, the first of which is unit `first`, and gives the number of
+/// the stream's pictures.
 pub(crate) fn take_last<B: StatelessH265DecoderBackend>(
     decoder: &mut StatelessDecoder<B>,
     piece: &[u8],

@@ -1,5 +1,6 @@
 //! What was read of a source and isn't decoded yet.
-ghost use Rattle.std.specs.Prelude.{◌≡◌, ◌≤◌, ◌<◌, ◌+◌, ◌⊎◌, ◌++◌, [], ℕ, List, length, drop, true, IfOk, OnOk, OnErr, IsErrOf};
+ghost use Rattle.std.specs.Prelude.{◌≡◌, ◌≤◌, ◌<◌, ◌+◌, ◌⊎◌, ◌++◌, [], ℕ, List, length, drop, true};
+ghost use Rattle.std.specs.Prelude.{IfOk, OnOk, OnErr, IsErrOf};
 ghost use Rattle.std.specs.Io.KnownBytes.{Consumes, IsAtEnd};
 ghost use Rattle.hevc_fault_counts.specs.Faults.{Rose};
 ghost use Rattle.hevc_decoder.specs.Windows.{IsLastStart, lead_length};
@@ -12,8 +13,8 @@ use std::marker::Model;
 /// For how many bytes at least a read has room.
 const BLOCK: usize = 262_144;
 
-/// The bytes of a source that were read and not yet decoded. Their memory is used again, so it grows with the most bytes between two
-/// start codes alone.
+/// The bytes of a source that were read and not yet decoded. Their memory is used again, so it
+/// grows with the most bytes between two start codes alone.
 #[derive(Drop)]
 pub(crate) struct Window {
     bytes: Vec<u8>,
@@ -120,8 +121,8 @@ impl Window {
     }
 }
 
-/// Up to where the units of these bytes are whole, whatever comes after: the place of the last start code that ends after `seen`
-/// bytes, or 0 where there is none.
+/// Up to where the units of these bytes are whole, whatever comes after: the place of the last
+/// start code that ends after `seen` bytes, or 0 where there is none.
 pub(crate) fn whole_units(bytes: &[u8], seen: usize) -> usize
     ensures within { result ≤ length bytes.now }
     ensures last { IsLastStart bytes.now seen result }
@@ -140,8 +141,8 @@ pub(crate) fn whole_units(bytes: &[u8], seen: usize) -> usize
     0
 }
 
-/// How many bytes at the front of a window belong to no unit, whatever comes after: where it doesn't begin with a start code, its only
-/// one, all but the last two.
+/// How many bytes at the front of a window belong to no unit, whatever comes after: where it
+/// doesn't begin with a start code, its only one, all but the last two.
 pub(crate) fn lead_length(bytes: &[u8]) -> usize
     ensures { result ≡ lead_length bytes.now }
 {

@@ -7,13 +7,15 @@ mod parts;
 ghost use Rattle.std.specs.Prelude.{[], ◌∷◌};
 ghost use Rattle.hevc_walk_examples.specs.Streams.{plain};
 ghost use Rattle.hevc_walk_examples.specs.Corners.{without_prior};
-ghost use Rattle.hevc_decoder.specs.Headline.{AllSubmitted, SubmittedOnce, ComeOutOnce, AreForOutput, NeverStoreMore};
+ghost use Rattle.hevc_decoder.specs.Headline.{AllSubmitted, SubmittedOnce, ComeOutOnce};
+ghost use Rattle.hevc_decoder.specs.Headline.{AreForOutput, NeverStoreMore};
 ghost use Rattle.hevc_decoder_examples.specs.Broken.{submitted, shown, overstored};
 
 pub use for_c::{decoded, filled, pulled, read};
 pub use parts::{answers, counts, cuts, frames, positions, what_comes};
 
-/// A picture that is discarded and output, and one that is to be output and isn't; one that is output twice.
+/// A picture that is discarded and output, and one that is to be output and isn't; one that is
+/// output twice.
 pub fn wrong_outputs()
     ensures discarded { AreForOutput without_prior (shown 0 7 ∷ shown 1 8 ∷ shown 2 9 ∷ []) → ⊥ }
     ensures missing { AreForOutput plain (shown 0 7 ∷ shown 1 8 ∷ []) → ⊥ }

@@ -4,7 +4,9 @@ ghost use Rattle.std.specs.List.{AllByRecursion};
 ghost use Rattle.hevc_walk.specs.Results.{calls};
 ghost use Rattle.hevc_walk_examples.specs.Streams.{plain};
 ghost use Rattle.hevc_backend.specs.Trait.{counts_of};
-ghost use Rattle.hevc_driver.specs.declared.decode_error.DecodeError.TheVariants.{Backend, DpbFull, NoMemory, NotEnoughOutputBuffers};
+ghost use Rattle.hevc_driver.specs.declared.decode_error.DecodeError.TheVariants.{Backend, DpbFull};
+ghost use Rattle.hevc_driver.specs.declared.decode_error.DecodeError.TheVariants.{NoMemory};
+ghost use Rattle.hevc_driver.specs.declared.decode_error.DecodeError.TheVariants.{NotEnoughOutputBuffers};
 ghost use Rattle.hevc_driver.specs.Answers.{CountsErrors};
 ghost use Rattle.hevc_driver.specs.Calls.{IsTimed};
 ghost use Rattle.hevc_driver.specs.Given.{AreOneToOne};
@@ -15,7 +17,8 @@ ghost use Rattle.hevc_decoder.specs.Headline.{NeverStoreMore, WantsFrame};
 ghost use Rattle.hevc_decoder.specs.Promise.{CountsNone};
 ghost use Rattle.hevc_decoder.specs.Stepping.{StaysUnlessTaken};
 ghost use Rattle.hevc_decoder_examples.specs.Broken.{submitted};
-ghost use Rattle.hevc_decoder_examples.specs.Parts.{announced, begun_at, next_refused_by, no_calls, no_outputs, one_picture, refused_by};
+ghost use Rattle.hevc_decoder_examples.specs.Parts.{announced, begun_at, next_refused_by, no_calls};
+ghost use Rattle.hevc_decoder_examples.specs.Parts.{no_outputs, one_picture, refused_by};
 
 /// One cut of all events: nothing of an empty stream; and not nothing of one that is decoded whole.
 pub fn cuts()

@@ -18,7 +18,8 @@ module _ {X : Type 0} where
 
   pub sublist_part : {xs ys : List X} → IsSublist xs ys → IsPartOf xs ys
   sublist_part nothing = λ z h. h
-  sublist_part (kept x xs ys s) = λ z h. ⊎_elim (λ is. subst (Contains (x ∷ ys)) is (contains_first x ys)) (λ k. contains_later x z ys (sublist_part s z k)) (contains_cases x z xs h)
+  sublist_part (kept x xs ys s) = λ z h. ⊎_elim (λ is. subst (Contains (x ∷ ys)) is (contains_first x ys))
+      (λ k. contains_later x z ys (sublist_part s z k)) (contains_cases x z xs h)
   sublist_part (left_out y xs ys s) = λ z h. contains_later y z ys (sublist_part s z h)
 
   sublist_absent : (f : X → ℕ) (n : ℕ) {xs ys : List X} → IsSublist xs ys → Absent n (map f ys) → Absent n (map f xs)
@@ -31,10 +32,12 @@ module _ {X : Type 0} where
   sublist_distinct f (kept x xs ys s) h = (sublist_absent f (f x) s h.0, sublist_distinct f s h.1)
   sublist_distinct f (left_out y xs ys s) h = sublist_distinct f s h.1
 
-  filter_by_test : {Y : Type 0} (f : X → Y) (x : X) (xs : List X) (ys : List Y) (b : Bool) → IsSublist (map f xs) ys → IsSublist (map f (cond b (x ∷ xs) xs)) (f x ∷ ys)
+  filter_by_test : {Y : Type 0} (f : X → Y) (x : X) (xs : List X) (ys : List Y) (b : Bool)
+      → IsSublist (map f xs) ys → IsSublist (map f (cond b (x ∷ xs) xs)) (f x ∷ ys)
   filter_by_test f x xs ys true s = kept (f x) (map f xs) ys s
   filter_by_test f x xs ys false s = left_out (f x) (map f xs) ys s
 
-  pub filter_sublist : {Y : Type 0} (f : X → Y) (p : X → Bool) (xs : List X) → IsSublist (map f (filter p xs)) (map f xs)
+  pub filter_sublist : {Y : Type 0} (f : X → Y) (p : X → Bool) (xs : List X)
+      → IsSublist (map f (filter p xs)) (map f xs)
   filter_sublist f p [] = nothing
   filter_sublist f p (x ∷ xs) = filter_by_test f x (filter p xs) (map f xs) (p x) (filter_sublist f p xs)

@@ -1,5 +1,6 @@
 -- When bumping goes on, by latency counts of any sign.
-use Rattle.std.specs.Prelude.{◌+◌, pos, ◌-ℤ◌, Bool, ◌&&◌, ◌||◌, List, length, nat_lt, nat_le, count_by, int_le}
+use Rattle.std.specs.Prelude.{◌+◌, pos, ◌-ℤ◌, Bool, ◌&&◌, ◌||◌, List, length, nat_lt, nat_le}
+use Rattle.std.specs.Prelude.{count_by, int_le}
 use Rattle.std.specs.List.{list_any}
 use Rattle.hevc_pictures.specs.declared.limits.Limits.{Limits}
 use Rattle.hevc_dpb.specs.declared.entry.DpbEntry.{DpbEntry}

@@ -4,7 +4,8 @@ use Rattle.std.specs.Int.{int_min}
 use Rattle.hevc_walk.specs.Pictures.{Head}
 use Rattle.hevc_pictures.specs.declared.picture_data.PictureData.{PictureData}
 use Rattle.hevc_pictures.specs.declared.reference.Reference.{Reference}
-use Rattle.hevc_pictures.specs.declared.reference.Reference.TheVariants.{ShortTerm, None as Unmarked}
+use Rattle.hevc_pictures.specs.declared.reference.Reference.TheVariants.{ShortTerm}
+use Rattle.hevc_pictures.specs.declared.reference.Reference.TheVariants.{None as Unmarked}
 use Rattle.hevc_pictures.specs.Marks.{is_reference, reference_of, with_reference}
 use Rattle.hevc_dpb.specs.declared.entry.DpbEntry.{DpbEntry}
 

@@ -1,5 +1,6 @@
 -- What the buffer is once a borrowed picture is given back.
-use Rattle.std.specs.Prelude.{◌≡◌, ◌≤◌, ℕ, List, [], ◌∷◌, zero, suc, Option, Some, None, refl, true, false}
+use Rattle.std.specs.Prelude.{◌≡◌, ◌≤◌, ℕ, List, [], ◌∷◌, zero, suc, Option, Some, None, refl, true}
+use Rattle.std.specs.Prelude.{false}
 use Rattle.std.specs.List.{slice_get, slice_set}
 use Rattle.std.specs.Vec.{with_item}
 use Rattle.std.specs.Borrow.{Lends, Fml, RattleType, MutBor}

@@ -8,7 +8,8 @@ use crate::entry::DpbEntry;
 use hevc_pictures::Limits;
 
 impl<T: Copy> DpbEntry<T> {
-    /// Whether it is needed for output, and its latency count is at least SpsMaxLatencyPictures (7-9).
+    /// Whether it is needed for output, and its latency count is at least SpsMaxLatencyPictures
+    /// (7-9).
     pub(crate) fn is_late(&self, limits: &Limits) -> bool
         ensures { result ≡ is_late limits.now self.now }
     {

@@ -18,10 +18,11 @@ use thiserror::Error;
 #[error("the decoded picture buffer is full")]
 pub struct DpbFull;
 
-/// Stored pictures, in the order in which they were stored: at most 16, each with a number of its own.
+/// Stored pictures, in the order in which they were stored: at most 16, each with a number of its
+/// own.
 ///
-/// It also keeps in which order those that are needed for output are output. `picture_mut` lets order counts change, so
-/// the order is stale after it until a later call makes it anew.
+/// It also keeps in which order those that are needed for output are output. `picture_mut` lets
+/// order counts change, so the order is stale after it until a later call makes it anew.
 #[derive(Drop)]
 pub struct Dpb<T: Copy> {
     entries: Vec<DpbEntry<T>>,
@@ -36,7 +37,9 @@ pub struct Dpb<T: Copy> {
 }
 
 impl<T: Copy> Dpb<T> {
-    ghost use Rattle.std.specs.Prelude.{◌∷◌, ◌++◌, [], ◌↔◌, ◌<◌, ◌+◌, vec_len, map, filter, take, slice_index_or, slice_set, OnOk, OnErr, IsErr, IsSome, IfSome, Contains, option_map};
+    ghost use Rattle.std.specs.Prelude.{◌∷◌, ◌++◌, [], ◌↔◌, ◌<◌, ◌+◌, vec_len, map, filter, take};
+    ghost use Rattle.std.specs.Prelude.{slice_index_or, slice_set, OnOk, OnErr, IsErr, IsSome};
+    ghost use Rattle.std.specs.Prelude.{IfSome, Contains, option_map};
     ghost use Rattle.std.specs.Borrow.{sem};
     ghost use Rattle.std.specs.Vec.{vec_capacity};
     ghost use Rattle.hevc_walk.specs.Pictures.{Head};
@@ -46,17 +49,21 @@ impl<T: Copy> Dpb<T> {
     ghost use Rattle.hevc_pictures.specs.Limits.{limits_of};
     ghost use Rattle.hevc_pictures.specs.Marks.{mark_of};
     ghost use Rattle.hevc_dpb.specs.Numbers.{Absent};
-    ghost use Rattle.hevc_dpb.specs.Entries.{ticket, tickets, reference_numbers, is_needed, waits_not, with_mark, unmarked, with_latency, stored_entry, IsStoredAs};
+    ghost use Rattle.hevc_dpb.specs.Entries.{ticket, tickets, reference_numbers, is_needed};
+    ghost use Rattle.hevc_dpb.specs.Entries.{waits_not, with_mark, unmarked, with_latency};
+    ghost use Rattle.hevc_dpb.specs.Entries.{stored_entry, IsStoredAs};
     ghost use Rattle.hevc_dpb.specs.Output.{as_output, in_output_order, first_in, behind_output};
     ghost use Rattle.hevc_dpb.specs.Bumping.{is_additional_due, is_bumping_due};
     ghost use Rattle.hevc_dpb.specs.Sublists.{IsSublist};
     ghost use Rattle.hevc_dpb.specs.Plain.{plain_entry, plain_output, HaveLatency};
-    ghost use Rattle.hevc_dpb.specs.Views.{stored_entries, max_num_pics_of, room_of, is_stale, buffer_of};
+    ghost use Rattle.hevc_dpb.specs.Views.{stored_entries, max_num_pics_of, room_of, is_stale};
+    ghost use Rattle.hevc_dpb.specs.Views.{buffer_of};
     ghost use Rattle.hevc_dpb.specs.Sizes.{KeepsSizes};
     ghost use Rattle.hevc_dpb.specs.Lending.{LendsPicture};
     ghost use Rattle.hevc_dpb.specs.declared.entry.DpbEntry.{DpbEntry};
 
-    /// An empty buffer that may hold no picture. It takes memory from `alloc` once it is to have room.
+    /// An empty buffer that may hold no picture. It takes memory from `alloc` once it is to have
+    /// room.
     pub fn new(alloc: Global) -> Dpb<T>
         ensures entries { stored_entries result ≡ [] }
         ensures size { max_num_pics_of result ≡ 0 }
@@ -138,8 +145,8 @@ impl<T: Copy> Dpb<T> {
         self.order_waiting();
     }
 
-    /// The positions of the pictures that are needed for output, in the order in which they are output; None where that order is
-    /// stale.
+    /// The positions of the pictures that are needed for output, in the order in which they are
+    /// output; None where that order is stale.
     pub fn waiting_positions(&self) -> Option<&[u8]>
         ensures stale { IsSome result ↔ (is_stale self.now ≡ false) }
         ensures positions { IfSome result
@@ -250,8 +257,8 @@ impl<T: Copy> Dpb<T> {
         is_bumping_due(&self.entries, limits)
     }
 
-    /// Of the pictures that are needed for output, the first one in order is output (C.5.2.4). It leaves unless it is used for
-    /// reference; where the buffer is flushed, it leaves in any case.
+    /// Of the pictures that are needed for output, the first one in order is output (C.5.2.4). It
+    /// leaves unless it is used for reference; where the buffer is flushed, it leaves in any case.
     pub fn bump(&mut self, flush: bool) -> Option<DpbEntry<T>>
         ensures output { result
             ≡ option_map as_output (first_in (in_output_order (stored_entries self.old))) }
@@ -307,7 +314,8 @@ impl<T: Copy> Dpb<T> {
         Ok(())
     }
 
-    /// Stores a picture after the others, as a short-term reference picture, needed for output if it is to be output (C.5.2.3).
+    /// Stores a picture after the others, as a short-term reference picture, needed for output if
+    /// it is to be output (C.5.2.3).
     ///
     /// Errors: the buffer holds as many pictures as it may; it is then as it was.
     pub fn store_picture(

@@ -9,8 +9,8 @@ use crate::entry::DpbEntry;
 use arrayvec::ArrayVec;
 use hevc_pictures::Reference;
 
-/// What is looked for among the stored pictures. An order count may be any number, and one that isn't a 32-bit number is
-/// that of no stored picture.
+/// What is looked for among the stored pictures. An order count may be any number, and one that
+/// isn't a 32-bit number is that of no stored picture.
 #[derive(Clone, Copy)]
 pub enum Sought {
     /// A reference picture of this order count.
@@ -79,7 +79,8 @@ impl<T: Copy> Dpb<T> {
         self.find(Sought::Count(poc as i128))
     }
 
-    /// The number of the first stored reference picture whose order count is this one modulo `mask + 1`.
+    /// The number of the first stored reference picture whose order count is this one modulo `mask
+    /// + 1`.
     pub fn find_ref_by_poc_masked(&self, poc: i32, mask: i32) -> Option<u64>
         requires { IsMaxPicOrderCntLsb (mask +ℤ pos 1) }
         ensures { (modulus : ℕ) → mask +ℤ pos 1 ≡ pos modulus

@@ -1,4 +1,5 @@
-//! The decoded picture buffer: pictures that are needed for output or are used for reference (C.5.2).
+//! The decoded picture buffer: pictures that are needed for output or are used for reference
+//! (C.5.2).
 #![tactic(auto)]
 
 mod bumping;

@@ -1,11 +1,13 @@
 //! An entry is output.
-ghost use Rattle.std.specs.Prelude.{◌≡◌, ◌<◌, slice_index_or, slice_set, vec_len, length, ◌≤◌, IfSome, Contains, None, MatchOption, if◌then◌else◌, remove};
+ghost use Rattle.std.specs.Prelude.{◌≡◌, ◌<◌, slice_index_or, slice_set, vec_len, length, ◌≤◌};
+ghost use Rattle.std.specs.Prelude.{IfSome, Contains, None, MatchOption, if◌then◌else◌, remove};
 ghost use Rattle.std.specs.Vec.{vec_capacity};
 ghost use Rattle.hevc_dpb.specs.declared.entry.DpbEntry.{DpbEntry};
 ghost use Rattle.std.specs.Option.{option_map};
 ghost use Rattle.hevc_dpb.specs.Numbers.{Distinct};
 ghost use Rattle.hevc_dpb.specs.Entries.{numbers, ticket, tickets};
-ghost use Rattle.hevc_dpb.specs.Output.{stays, as_output, first_in, in_output_order, output_positions, AreAt, behind_output};
+ghost use Rattle.hevc_dpb.specs.Output.{stays, as_output, first_in, in_output_order};
+ghost use Rattle.hevc_dpb.specs.Output.{output_positions, AreAt, behind_output};
 ghost use Rattle.std.specs.List.{slice_get};
 ghost use Rattle.arrayvec.specs.ArrayVec.{array_vec_len};
 ghost use Rattle.std.specs.Prelude.{◌+◌, ◌++◌, All, List};
@@ -63,7 +65,8 @@ fn first_position<T: Copy>(entries: &Vec<DpbEntry<T>>, waiting: &ArrayVec<u8, 16
     Some(waiting[0] as usize)
 }
 
-/// The entry at a place is output, and leaves unless it is referred to; where the buffer is flushed, it leaves in any case.
+/// The entry at a place is output, and leaves unless it is referred to; where the buffer is
+/// flushed, it leaves in any case.
 fn take_output<T: Copy>(entries: &mut Vec<DpbEntry<T>>, place: usize, flush: bool) -> DpbEntry<T>
     requires { place < vec_len entries.old }
     ensures output { (d : DpbEntry T)

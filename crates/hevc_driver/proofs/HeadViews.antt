@@ -1,5 +1,6 @@
 -- What the code's records of pictures stand for.
-use Rattle.std.proofs.Common.{◌≡◌, ℕ, ℤ, pos, ◌≤ℤ◌, Bool, true, false, ◌&&◌, not, refl, sym, ap, ◌∙◌, subst, if◌then◌else◌, arith}
+use Rattle.std.proofs.Common.{◌≡◌, ℕ, ℤ, pos, ◌≤ℤ◌, Bool, true, false, ◌&&◌, not, refl, sym, ap}
+use Rattle.std.proofs.Common.{◌∙◌, subst, if◌then◌else◌, arith}
 use Rattle.std.specs.Prelude.{IsErr, OnErr, Result, Ok, Err}
 use Rattle.std.proofs.lemmas.Int.{ints}
 use Rattle.hevc_spec.specs.UnitTypes.{is_irap, is_rasl}
@@ -43,15 +44,36 @@ head_by number picture skipped latest format limits = record {
 }
 
 -- what is known of a picture that begins is what its head says
-pub same_head : (c : Context) (w : Slice) (bits number : ℕ) (picture : PictureData) (skipped latest : Bool) (format : NegotiationInfo) (limits : Limits) → IsNewPicture c w bits picture → number ≡ c.number → skipped ≡ (is_rasl w.nal_unit_type && c.latest_irap_no_rasl)
-    → latest ≡ (if picture.is_irap then picture.no_rasl_output_flag else c.latest_irap_no_rasl) → format_of format ≡ w.format → limits_of limits ≡ w.limits → head_by number picture skipped latest format limits ≡ head c w
+pub same_head : (c : Context) (w : Slice) (bits number : ℕ) (picture : PictureData) (skipped latest : Bool)
+    (format : NegotiationInfo) (limits : Limits) → IsNewPicture c w bits picture → number ≡ c.number
+    → skipped ≡ (is_rasl w.nal_unit_type && c.latest_irap_no_rasl)
+    → latest ≡ (if picture.is_irap then picture.no_rasl_output_flag else c.latest_irap_no_rasl)
+    → format_of format ≡ w.format → limits_of limits ≡ w.limits
+    → head_by number picture skipped latest format limits ≡ head c w
 unfolding head
 same_head c w bits number picture skipped latest format limits is number_is skipped_is latest_is format_is limits_is =
     let lsb = ap from_zero is.told.pic_order_cnt_lsb in
-    let irap = latest_is ∙ ap (λ (b : Bool). if b then picture.no_rasl_output_flag else c.latest_irap_no_rasl) is.is_irap_picture ∙ ap (λ (b : Bool). if is_irap w.nal_unit_type then b else c.latest_irap_no_rasl) is.no_rasl_output_flag in
-    rw (number_is, is.told.nal_unit_type, lsb, is.told.order_count, is.told.valid_for_prev_tid0, is.told.starts_sequence, skipped_is, is.told.pic_output_flag, is.told.no_output_of_prior_pics, irap, format_is, limits_is) refl
+    let irap = latest_is
+    ∙ ap (λ (b : Bool). if b then picture.no_rasl_output_flag else c.latest_irap_no_rasl) is.is_irap_picture
+    ∙ ap (λ (b : Bool). if is_irap w.nal_unit_type then b else c.latest_irap_no_rasl) is.no_rasl_output_flag in
+    rw (
+      number_is,
+      is.told.nal_unit_type,
+      lsb,
+      is.told.order_count,
+      is.told.valid_for_prev_tid0,
+      is.told.starts_sequence,
+      skipped_is,
+      is.told.pic_output_flag,
+      is.told.no_output_of_prior_pics,
+      irap,
+      format_is,
+      limits_is,
+    ) refl
 
-pub prior_starts : (c : Context) (w : Slice) (discards starts : Bool) → discards ≡ (head c w).no_output_of_prior_pics → starts ≡ (head c w).starts_sequence → discards ≡ true → starts ≡ true
+pub prior_starts : (c : Context) (w : Slice) (discards starts : Bool)
+    → discards ≡ (head c w).no_output_of_prior_pics → starts ≡ (head c w).starts_sequence → discards ≡ true
+    → starts ≡ true
 unfolding head
 prior_starts c w discards starts d s e = s ∙ both_left _ _ _ (sym d ∙ e)
 
@@ -60,7 +82,8 @@ pub not_refused : {T E : Type 0} (r : Result T E) (v : T) (b : Bool) → r ≡ O
 not_refused r v true is h = refl
 not_refused r v false is h = absurd (cc (subst IsErr is (h refl)))
 
-pub refused_as : {T S E : Type 0} (r : Result T E) (e : E) (s : Result S E) (P : Type 0) → r ≡ Err e → (IsErr r → P) → OnErr s P
+pub refused_as : {T S E : Type 0} (r : Result T E) (e : E) (s : Result S E) (P : Type 0) → r ≡ Err e
+    → (IsErr r → P) → OnErr s P
 refused_as r e (Ok v) P is h = tt
 refused_as r e (Err f) P is h = h (subst IsErr (sym is) refl)
 
@@ -68,4 +91,5 @@ pub from_lsb : (n : ℤ) (m : ℕ) → n ≡ pos m → pos 0 ≤ℤ n
 from_lsb n m is = omega (arith, ints, is)
 
 pub decoded_is : (p q : walk.Head) → p ≡ q → order_count_in_range q ≡ true → p.skipped ≡ false → is_decoded p ≡ true
-decoded_is p q same within shown = ap (λ (b : Bool). b && not p.skipped) (ap order_count_in_range same ∙ within) ∙ ap not shown
+decoded_is p q same within shown =
+    ap (λ (b : Bool). b && not p.skipped) (ap order_count_in_range same ∙ within) ∙ ap not shown

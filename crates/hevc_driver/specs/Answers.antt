@@ -2,7 +2,9 @@
 use Rattle.std.specs.Prelude.{◌≡◌, Result, Ok, Err}
 use Rattle.hevc_backend.specs.Trait.{Counts, Counted}
 use Rattle.hevc_driver.specs.declared.decode_error.DecodeError.{DecodeError}
-use Rattle.hevc_driver.specs.declared.decode_error.DecodeError.TheVariants.{Backend, NoMemory, CheckEvents, NotEnoughOutputBuffers}
+use Rattle.hevc_driver.specs.declared.decode_error.DecodeError.TheVariants.{Backend, NoMemory}
+use Rattle.hevc_driver.specs.declared.decode_error.DecodeError.TheVariants.{CheckEvents}
+use Rattle.hevc_driver.specs.declared.decode_error.DecodeError.TheVariants.{NotEnoughOutputBuffers}
 
 -- the counts are as they were, unless the backend failed or had no frame:
 -- then that of faults or of empty answers rose

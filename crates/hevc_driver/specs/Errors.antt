@@ -2,10 +2,12 @@
 use Rattle.hevc_backend.specs.declared.error.BackendError as backend
 use Rattle.hevc_backend.specs.declared.error.BackendError.TheVariants.{Failed, NoMemory}
 use Rattle.hevc_bits.specs.declared.header.UnitError.{UnitError}
-use Rattle.hevc_bits.specs.declared.header.UnitError.TheVariants.{NoNal, TruncatedNalu, InvalidNaluType, TemporalIdZero}
+use Rattle.hevc_bits.specs.declared.header.UnitError.TheVariants.{NoNal, TruncatedNalu}
+use Rattle.hevc_bits.specs.declared.header.UnitError.TheVariants.{InvalidNaluType, TemporalIdZero}
 use Rattle.hevc_walk.specs.Meanings as meaning
 use Rattle.hevc_walk.specs.Meanings.{UnitCause}
-use Rattle.hevc_walk.specs.Refusals.{Cause, UnitRefused, NoIndependentSlice, ChangedMidPicture, PocOutOfRange, DpbFull}
+use Rattle.hevc_walk.specs.Refusals.{Cause, UnitRefused, NoIndependentSlice, ChangedMidPicture}
+use Rattle.hevc_walk.specs.Refusals.{PocOutOfRange, DpbFull}
 use Rattle.hevc_backend.specs.Negotiation.{info_of}
 use Rattle.hevc_driver.specs.declared.decode_error.DecodeError.{DecodeError}
 use Rattle.hevc_driver.specs.declared.decode_error.DecodeError.TheVariants as errors

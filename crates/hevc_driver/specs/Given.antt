@@ -7,7 +7,8 @@ use Rattle.hevc_walk.specs.Walk as walk
 use Rattle.hevc_walk.specs.Walk.{Event, Called, Output}
 use Rattle.hevc_walk_units.specs.Units.{Standing, finish_current, begin_slice, unit_part}
 use Rattle.hevc_records.specs.Sps.{PlainSps}
-use Rattle.hevc_backend.specs.Handed.{Segment, PlainPicture, PlainDpb, Handed, Sequence, Announced, Begun, Decoded, dpb_of, first_picture, no_picture}
+use Rattle.hevc_backend.specs.Handed.{Segment, PlainPicture, PlainDpb, Handed, Sequence, Announced}
+use Rattle.hevc_backend.specs.Handed.{Begun, Decoded, dpb_of, first_picture, no_picture}
 
 -- What comes with a unit.
 pub record Given : Type 0 where

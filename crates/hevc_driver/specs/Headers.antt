@@ -1,6 +1,7 @@
 -- The headers of slice segments, whole (7.4.7.1).
 use Rattle.std.specs.Prelude.{Bool, true, false, Option, Some, option_map, if◌then◌else◌}
-use Rattle.hevc_records.specs.SliceHeader.{PlainSliceSegmentHeader, completed_header, default_slice_header}
+use Rattle.hevc_records.specs.SliceHeader.{PlainSliceSegmentHeader, completed_header}
+use Rattle.hevc_records.specs.SliceHeader.{default_slice_header}
 use Rattle.hevc_sequence_set.specs.declared.sps.Sps.{Sps}
 use Rattle.hevc_sequence_set.specs.Sps.{plain_sps}
 use Rattle.hevc_picture_slice.specs.declared.pps.Pps.{Pps}

@@ -1,14 +1,18 @@
 -- The parts of the walk that a call may stop between, and the standing there.
-use Rattle.std.specs.Prelude.{Bool, true, false, not, ◌&&◌, ◌==◌, ◌-◌, ◌^◌, [], ◌∷◌, Option, Some, None}
+use Rattle.std.specs.Prelude.{Bool, true, false, not, ◌&&◌, ◌==◌, ◌-◌, ◌^◌, [], ◌∷◌, Option, Some}
+use Rattle.std.specs.Prelude.{None}
 use Rattle.hevc_walk.specs.Meanings.{Format, Slice, Meaning, SequenceSet, CodedSlice}
 use Rattle.hevc_walk.specs.Pictures.{Head}
 use Rattle.hevc_walk.specs.DependentSlices.{whole_slice, kept_header}
 use Rattle.hevc_walk.specs.Walk as walk
-use Rattle.hevc_walk.specs.Walk.{Part, ◌>>=◌, nothing, is_accepted, change_format, open_sequence, output_by, make_room, slice_call, Called}
+use Rattle.hevc_walk.specs.Walk.{Part, ◌>>=◌, nothing, is_accepted, change_format, open_sequence}
+use Rattle.hevc_walk.specs.Walk.{output_by, make_room, slice_call, Called}
 use Rattle.hevc_walk.specs.Buffer.{draining}
 use Rattle.hevc_walk.specs.ReferenceSets.{RefPicSet, with_marks}
 use Rattle.hevc_walk.specs.Refusals.{Cause, PocOutOfRange, ChangedMidPicture}
-use Rattle.hevc_walk_units.specs.Units.{Standing, NoPicture, OpenPicture, context_behind, on_store, finish_current, open_picture, decode_slice, begins_picture, unit_part}
+use Rattle.hevc_walk_units.specs.Units.{Standing, NoPicture, OpenPicture, context_behind, on_store}
+use Rattle.hevc_walk_units.specs.Units.{finish_current, open_picture, decode_slice, begins_picture}
+use Rattle.hevc_walk_units.specs.Units.{unit_part}
 
 -- a slice's header is kept for the dependent ones after it
 abbrev pub with_kept : Slice → Standing → Standing

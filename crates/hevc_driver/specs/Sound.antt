@@ -1,6 +1,7 @@
 -- What holds between two calls, so that a backend is handed no reference that isn't stored, and no
 -- handle that it didn't give.
-use Rattle.std.specs.Prelude.{◌≡◌, ℕ, ◌+◌, ◌-◌, ◌^◌, ◌<◌, ◌≤◌, Bool, true, IsTrue, List, option_map, Option, Some, None, Contains}
+use Rattle.std.specs.Prelude.{◌≡◌, ℕ, ◌+◌, ◌-◌, ◌^◌, ◌<◌, ◌≤◌, Bool, true, IsTrue, List, option_map}
+use Rattle.std.specs.Prelude.{Option, Some, None, Contains}
 use Rattle.std.specs.VecDeque.{deque_len, deque_capacity}
 use Rattle.hevc_walk.specs.Walk.{accepted_size, is_accepted, is_decoded}
 use Rattle.hevc_walk_inputs.specs.Sequences.{format_of_set}
@@ -22,7 +23,8 @@ use Rattle.hevc_backend.specs.Named.{SetNamesAmong}
 use Rattle.hevc_backend.specs.Told.{Told, WhereTold, AreSubmitted, BegunPicture, begun_picture}
 use Rattle.hevc_walk.specs.Meanings.{Format}
 use Rattle.hevc_driver.specs.declared.current.Current.{Current}
-use Rattle.hevc_driver.specs.declared.current.Current.TheVariants.{NoPicture, SkippedPicture, OpenPicture}
+use Rattle.hevc_driver.specs.declared.current.Current.TheVariants.{NoPicture, SkippedPicture}
+use Rattle.hevc_driver.specs.declared.current.Current.TheVariants.{OpenPicture}
 use Rattle.hevc_driver.specs.declared.head.Head.{Head}
 use Rattle.hevc_driver.specs.declared.standing.Standing as driver
 use Rattle.hevc_driver.specs.declared.driver.Driver.{Driver}

@@ -1,19 +1,25 @@
 -- What the driver does with a unit, by its answer.
-use Rattle.std.specs.Prelude.{◌≡◌, ◌≢◌, ◌⊎◌, ℕ, ◌-◌, ◌^◌, Bool, true, false, List, [], ◌∷◌, Option, Some, None, Result, Ok, Err}
+use Rattle.std.specs.Prelude.{◌≡◌, ◌≢◌, ◌⊎◌, ℕ, ◌-◌, ◌^◌, Bool, true, false, List, [], ◌∷◌, Option}
+use Rattle.std.specs.Prelude.{Some, None, Result, Ok, Err}
 use Rattle.hevc_walk.specs.Meanings.{Format, Slice, Meaning}
 use Rattle.hevc_walk.specs.Pictures.{head}
 use Rattle.hevc_walk.specs.Walk as walk
 use Rattle.hevc_walk.specs.Walk.{Event, Called, is_accepted, change_format}
 use Rattle.hevc_walk.specs.Refusals.{Cause, PocOutOfRange, ChangedMidPicture, refusal_of_picture}
-use Rattle.hevc_walk_units.specs.Units.{Standing, on_store, finish_current, begin_slice, later_slice, refusal_of_later, is_full_now, is_full_at, refusal_at}
+use Rattle.hevc_walk_units.specs.Units.{Standing, on_store, finish_current, begin_slice}
+use Rattle.hevc_walk_units.specs.Units.{later_slice, refusal_of_later, is_full_now, is_full_at}
+use Rattle.hevc_walk_units.specs.Units.{refusal_at}
 use Rattle.hevc_backend.specs.declared.negotiation.NegotiationInfo.{NegotiationInfo}
 use Rattle.hevc_backend.specs.Negotiation.{format_of}
 use Rattle.hevc_driver.specs.declared.decode_error.DecodeError.{DecodeError}
 use Rattle.hevc_driver.specs.declared.decode_error.DecodeError.TheVariants as errors
 use Rattle.hevc_driver.specs.Errors.{error_of}
 use Rattle.hevc_driver.specs.Given.{Given}
-use Rattle.hevc_driver.specs.Does.{Traces, Does, Stops, StopsBy, Completes, Runs, questioned, questioned_if}
-use Rattle.hevc_driver.specs.Moments.{begins_at, negotiates, spends, opening, step_part, kept_behind, not_stored, left_at, left_by, given_up, drained, renegotiates, starts, closes}
+use Rattle.hevc_driver.specs.Does.{Traces, Does, Stops, StopsBy, Completes, Runs, questioned}
+use Rattle.hevc_driver.specs.Does.{questioned_if}
+use Rattle.hevc_driver.specs.Moments.{begins_at, negotiates, spends, opening, step_part}
+use Rattle.hevc_driver.specs.Moments.{kept_behind, not_stored, left_at, left_by, given_up, drained}
+use Rattle.hevc_driver.specs.Moments.{renegotiates, starts, closes}
 
 -- A unit that begins a picture asks once for free frames, before all that it asks for the picture.
 abbrev pub asking : {H : Type 0} → Meaning → Standing → Traces H → Traces H

@@ -1,5 +1,6 @@
 //! What a first slice tells of its picture (8.1.3, 8.3.1).
-ghost use Rattle.std.specs.Prelude.{◌≡◌, ◌&&◌, ◌<◌, ◌+◌, ◌-◌, ◌^◌, pos, true, false, Some, IfOk, OnOk, OnErr, if◌then◌else◌};
+ghost use Rattle.std.specs.Prelude.{◌≡◌, ◌&&◌, ◌<◌, ◌+◌, ◌-◌, ◌^◌, pos, true, false, Some, IfOk};
+ghost use Rattle.std.specs.Prelude.{OnOk, OnErr, if◌then◌else◌};
 ghost use Rattle.hevc_spec.specs.UnitTypes.{is_rasl};
 ghost use Rattle.hevc_bits.specs.NaluType.{nalu_type_number};
 ghost use Rattle.hevc_sequence_set.specs.Sps.{plain_sps};
@@ -69,7 +70,8 @@ pub fn head_of_first(
     })
 }
 
-/// Whether a picture isn't decoded: RASL, where the latest IRAP picture has NoRaslOutputFlag (8.1.3).
+/// Whether a picture isn't decoded: RASL, where the latest IRAP picture has NoRaslOutputFlag
+/// (8.1.3).
 fn is_skipped(nalu_type: NaluType, latest_irap_no_rasl: bool) -> bool
     ensures { result ≡ (is_rasl (nalu_type_number nalu_type) && latest_irap_no_rasl) }
 {

@@ -1,7 +1,9 @@
 //! Why a call of the decoder is refused.
 ghost use Rattle.std.specs.Prelude.{◌≡◌};
 ghost use Rattle.hevc_driver.specs.Errors.{backend_error, unit_error};
-ghost use Rattle.hevc_driver.specs.declared.decode_error.DecodeError.TheVariants.{NoMemory, DpbFull, PocOutOfRange};
+ghost use Rattle.hevc_driver.specs.declared.decode_error.DecodeError.TheVariants.{NoMemory};
+ghost use Rattle.hevc_driver.specs.declared.decode_error.DecodeError.TheVariants.{DpbFull};
+ghost use Rattle.hevc_driver.specs.declared.decode_error.DecodeError.TheVariants.{PocOutOfRange};
 
 use hevc_backend::{BackendError, NegotiationInfo};
 use hevc_bits::UnitError;
@@ -10,19 +12,23 @@ use thiserror::Error;
 
 /// Why a stream is refused, or a call of the decoder.
 ///
-/// Of a unit: `NoNal`, there is none left; `TruncatedNalu`, it has fewer than two bytes; `InvalidNaluType`, its type is one of 48 to 63
-/// (Table 7-1); `OutOfBits`, its payload ends before an element does; `OutOfRange`, an element's value isn't allowed, with its table and
-/// row in docs/TABLES.md.
+/// Of a unit: `NoNal`, there is none left; `TruncatedNalu`, it has fewer than two bytes;
+/// `InvalidNaluType`, its type is one of 48 to 63 (Table 7-1); `OutOfBits`, its payload ends before
+/// an element does; `OutOfRange`, an element's value isn't allowed, with its table and row in
+/// docs/TABLES.md.
 ///
-/// Of a slice: `MissingPps`, it names a picture parameter set that isn't kept (7.4.7.1); `NoIndependentSlice`, it is dependent, and
-/// follows no independent slice whose header it could take (7.4.7.1); `ChangedMidPicture`, it is a later slice of a picture, and names a
-/// sequence parameter set of another format than the accepted one (7.4.2.4.2).
+/// Of a slice: `MissingPps`, it names a picture parameter set that isn't kept (7.4.7.1);
+/// `NoIndependentSlice`, it is dependent, and follows no independent slice whose header it could
+/// take (7.4.7.1); `ChangedMidPicture`, it is a later slice of a picture, and names a sequence
+/// parameter set of another format than the accepted one (7.4.2.4.2).
 ///
-/// Of a picture: `PocOutOfRange`, its order count leaves the range of 32 bits (8.3.1); `DpbFull`, it is to be stored while the decoded
-/// picture buffer is full (C.5.2.3); `PictureNumbersSpent`, there is no number left for it.
+/// Of a picture: `PocOutOfRange`, its order count leaves the range of 32 bits (8.3.1); `DpbFull`,
+/// it is to be stored while the decoded picture buffer is full (C.5.2.3); `PictureNumbersSpent`,
+/// there is no number left for it.
 ///
-/// Of the backend: `NotEnoughOutputBuffers`, it has no free frame, and so many are needed; `CheckEvents`, a format was negotiated and is
-/// to be accepted first; `Backend`, it failed. `NoMemory`: there is no memory.
+/// Of the backend: `NotEnoughOutputBuffers`, it has no free frame, and so many are needed;
+/// `CheckEvents`, a format was negotiated and is to be accepted first; `Backend`, it failed.
+/// `NoMemory`: there is no memory.
 #[derive(Clone, Copy, Debug, PartialEq, Eq, Drop, Error)]
 pub enum DecodeError {
     #[error("no unit is left")]

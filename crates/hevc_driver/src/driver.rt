@@ -18,7 +18,8 @@ use hevc_refs::{RefPicSet, ReferencePicLists};
 use std::alloc::{AllocError, Global};
 use std::collections::VecDeque;
 
-/// The most pictures that one unit outputs: the 16 that may be stored (A.4.2), and the one that is over.
+/// The most pictures that one unit outputs: the 16 that may be stored (A.4.2), and the one that is
+/// over.
 pub const MAX_OUTPUTS_OF_UNIT: usize = 17;
 
 /// A backend, and the standing between two calls of it.
@@ -75,7 +76,8 @@ impl<B: StatelessH265DecoderBackend> Driver<B> {
         }
     }
 
-    /// Makes room in the queue for the pictures of one unit, and in the buffer for those that may be stored.
+    /// Makes room in the queue for the pictures of one unit, and in the buffer for those that may
+    /// be stored.
     ///
     /// Errors: no memory; nothing has changed then but how much room there is.
     pub fn reserve(&mut self) -> Result<(), AllocError>
@@ -94,9 +96,11 @@ impl<B: StatelessH265DecoderBackend> Driver<B> {
         Ok(())
     }
 
-    /// The picture whose slices came is over, and all that is needed for output is output (C.5.2.2).
+    /// The picture whose slices came is over, and all that is needed for output is output
+    /// (C.5.2.2).
     ///
-    /// Errors: `Backend`, `DpbFull`, `NoMemory`; the picture is given up then, and nothing is output.
+    /// Errors: `Backend`, `DpbFull`, `NoMemory`; the picture is given up then, and nothing is
+    /// output.
     pub fn close(&mut self) -> Result<(), DecodeError>
         requires sound { IsSoundIn B.log B.handed self.old }
         requires room { HasRoom 1 self.old.standing }

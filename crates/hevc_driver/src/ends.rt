@@ -24,7 +24,8 @@ impl<B: StatelessH265DecoderBackend> Driver<B> {
         self.standing.next.first_picture_after_eos = true;
     }
 
-    /// The next picture is the first one in the bitstream, after an end of the one before (7.4.2.4.4).
+    /// The next picture is the first one in the bitstream, after an end of the one before
+    /// (7.4.2.4.4).
     pub fn end_bitstream(&mut self)
         requires sound { IsSoundIn B.log B.handed self.old }
         ensures sound { IsSoundIn B.log B.handed self.new }

@@ -1,19 +1,21 @@
 //! The headers of dependent slice segments (7.4.7.1).
-ghost use Rattle.std.specs.Prelude.{◌≡◌, true, false, ◌==◌, ◌&&◌, nat_le, Option, Some, None, option_map, if◌then◌else◌};
+ghost use Rattle.std.specs.Prelude.{◌≡◌, true, false, ◌==◌, ◌&&◌, nat_le, Option, Some, None};
+ghost use Rattle.std.specs.Prelude.{option_map, if◌then◌else◌};
 ghost use Rattle.hevc_sequence_set.specs.declared.sps.Sps.{Sps};
 ghost use Rattle.hevc_picture_slice.specs.declared.pps.Pps.{Pps};
 ghost use Rattle.hevc_walk.specs.DependentSlices.{KeptHeader, whole_slice, kept_header};
 ghost use Rattle.hevc_options.specs.declared.Options.{Options};
 ghost use Rattle.hevc_picture_slice.specs.SliceHeader.{plain_slice_header};
-ghost use Rattle.hevc_driver.specs.Headers.{OnTrue, latest_behind, latest_of, shared_header, whole_header};
+ghost use Rattle.hevc_driver.specs.Headers.{OnTrue, latest_behind, latest_of, shared_header};
+ghost use Rattle.hevc_driver.specs.Headers.{whole_header};
 ghost use Rattle.hevc_driver.specs.Slices.{slice_of, kept_of, StaysUnlessWhole};
 
 use hevc_picture_slice::{Slice, SliceHeader};
 use hevc_sequence_set::Sps;
 use std::alloc::Global;
 
-/// Whether a dependent slice segment belongs to an independent one of this header: they name one picture set, and CurrRpsIdx is at most
-/// the number of the sequence set's short-term sets.
+/// Whether a dependent slice segment belongs to an independent one of this header: they name one
+/// picture set, and CurrRpsIdx is at most the number of the sequence set's short-term sets.
 fn completes(kept: &SliceHeader, header: &SliceHeader, sps: &Sps) -> bool
     ensures { result
         ≡ (kept.now.pic_parameter_set_id == header.now.pic_parameter_set_id
@@ -23,8 +25,8 @@ fn completes(kept: &SliceHeader, header: &SliceHeader, sps: &Sps) -> bool
         && kept.curr_rps_idx <= sps.num_short_term_ref_pic_sets
 }
 
-/// Completes the header of a dependent slice segment by that of the latest independent one. Whether the segment has its whole header
-/// then; one that has it already stays.
+/// Completes the header of a dependent slice segment by that of the latest independent one. Whether
+/// the segment has its whole header then; one that has it already stays.
 #[tactic(auto, unfolding(crate::specs::Slices::slice_of, crate::specs::Slices::kept_of))]
 pub fn complete_header(kept: &Option<SliceHeader>, slice: &mut Slice<'_>, sps: &Sps) -> bool
     ensures whole { (o : Options) (pps : Pps) →

@@ -1,5 +1,6 @@
-//! What drives a backend through the pictures of a stream: slices with the sets that they make active come in, pictures are begun, decoded
-//! and stored, and those that are output are in a queue (8.1.3, 8.3, C.5.2).
+//! What drives a backend through the pictures of a stream: slices with the sets that they make
+//! active come in, pictures are begun, decoded and stored, and those that are output are in a queue
+//! (8.1.3, 8.3, C.5.2).
 #![tactic(auto)]
 
 mod beginning;

@@ -82,7 +82,8 @@ impl<B: StatelessH265DecoderBackend> Driver<B> {
         self.open_sequence(sps)
     }
 
-    /// The backend is told of a format, which is awaited from here on (7.4.3.2.1). No picture is open.
+    /// The backend is told of a format, which is awaited from here on (7.4.3.2.1). No picture is
+    /// open.
     ///
     /// Errors: `Backend`, `NoMemory`; nothing has changed then.
     pub fn open_sequence(&mut self, sps: &Sps) -> Result<(), DecodeError>

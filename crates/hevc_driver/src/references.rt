@@ -24,7 +24,8 @@ use hevc_refs::{RefPicSet, ReferencePicLists, derive_into};
 use hevc_sequence_set::Sps;
 use hevc_set_parts::ShortTermRefPicSet;
 
-/// The short-term set of a slice: that of the sequence set, or after those the header's own (7.4.7.1).
+/// The short-term set of a slice: that of the sequence set, or after those the header's own
+/// (7.4.7.1).
 fn short_term_set<'a>(header: &'a SliceHeader, sps: &'a Sps) -> &'a ShortTermRefPicSet
     ensures { plain_short_term_ref_pic_set result.now
         ≡ get_or (plain_sps sps.now).short_term_ref_pic_set header.now.curr_rps_idx
@@ -37,7 +38,8 @@ fn short_term_set<'a>(header: &'a SliceHeader, sps: &'a Sps) -> &'a ShortTermRef
     }
 }
 
-/// Makes `out` the reference picture set of a picture over what is stored, which is marked by it (8.3.2).
+/// Makes `out` the reference picture set of a picture over what is stored, which is marked by it
+/// (8.3.2).
 pub fn reference_set<H: Copy>(
     dpb: &mut Dpb<H>,
     head: &Head,

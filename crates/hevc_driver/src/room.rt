@@ -70,7 +70,8 @@ impl<H: Copy, P> Standing<H, P> {
         }
     }
 
-    /// Entries are marked for a picture (8.3.2), and leave; its reference picture set names some of those that are left.
+    /// Entries are marked for a picture (8.3.2), and leave; its reference picture set names some of
+    /// those that are left.
     pub(crate) fn enter(&mut self, head: &Head, slice: &Slice<'_>, sps: &Sps)
         requires none { current_of self.old.set self.old.current ≡ NoPicture }
         requires number { head.now.number < 2 ^ 64 - 1 }

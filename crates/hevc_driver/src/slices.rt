@@ -1,9 +1,11 @@
-//! A slice segment is taken: it begins a picture, or is a later one of the current picture (7.4.2.4.5).
+//! A slice segment is taken: it begins a picture, or is a later one of the current picture
+//! (7.4.2.4.5).
 ghost use Rattle.hevc_refs.specs.declared.ref_pic_set.RefPicSet.{RefPicSet};
 ghost use Rattle.std.specs.Prelude.{◌≡◌, Some, option_map};
 ghost use Rattle.hevc_walk.specs.Meanings.{CodedSlice, same_format};
 ghost use Rattle.hevc_walk.specs.DependentSlices.{whole_slice};
-ghost use Rattle.hevc_walk_units.specs.Units.{NoPicture, begins_picture, changed_by, finish_current};
+ghost use Rattle.hevc_walk_units.specs.Units.{NoPicture, begins_picture, changed_by};
+ghost use Rattle.hevc_walk_units.specs.Units.{finish_current};
 ghost use Rattle.hevc_backend.specs.Negotiation.{format_of};
 ghost use Rattle.hevc_driver.specs.Slices.{slice_of, kept_of, LeavesSlice};
 ghost use Rattle.hevc_backend.specs.Handed.{plain_dpb, segment_of};
@@ -12,7 +14,8 @@ ghost use Rattle.hevc_driver.specs.Headers.{latest_of, latest_behind, whole_segm
 ghost use Rattle.hevc_driver.specs.Answers.{IsFair};
 ghost use Rattle.hevc_driver.specs.Standings.{standing, traces_in, current_of};
 ghost use Rattle.hevc_driver.specs.declared.current.Current.TheVariants.{OpenPicture};
-ghost use Rattle.hevc_driver.specs.Sound.{HasRoom, AreNamed, StaysSound, with_header, IsSoundIn, StaysSoundIn};
+ghost use Rattle.hevc_driver.specs.Sound.{HasRoom, AreNamed, StaysSound, with_header, IsSoundIn};
+ghost use Rattle.hevc_driver.specs.Sound.{StaysSoundIn};
 ghost use Rattle.hevc_driver.specs.Takes.{Takes, Changes, Follows, given_up_by, ChecksFormat};
 ghost use Rattle.hevc_sequence_set.specs.declared.sps.Sps as code_sps;
 ghost use Rattle.hevc_picture_slice.specs.declared.pps.Pps as code_pps;
@@ -62,14 +65,17 @@ fn check_format(accepted: &NegotiationInfo, named: &NegotiationInfo) -> Result<(
 }
 
 impl<B: StatelessH265DecoderBackend> Driver<B> {
-    /// Takes a slice segment with the sets that it makes active; it is completed where it is a dependent one (7.4.7.1). Where it opens a
-    /// negotiation the answer is `CheckEvents`, and the unit is to be given once more when its format is accepted. `timestamp` is in the
-    /// caller's unit, and is handed to the backend with a picture that begins. The segment is left completed.
+    /// Takes a slice segment with the sets that it makes active; it is completed where it is a
+    /// dependent one (7.4.7.1). Where it opens a negotiation the answer is `CheckEvents`, and the
+    /// unit is to be given once more when its format is accepted. `timestamp` is in the caller's
+    /// unit, and is handed to the backend with a picture that begins. The segment is left
+    /// completed.
     ///
-    /// Errors: `NoIndependentSlice`, nothing was done, and the segment is as it was; `ChangedMidPicture`, the picture is given up;
-    /// `DpbFull`, the picture before isn't stored (C.5.2.3); `NotEnoughOutputBuffers`, of 1 frame, `PictureNumbersSpent` and
-    /// `PocOutOfRange`, the picture before is over and none begins; `Backend` and `NoMemory`, the picture of the call that the backend
-    /// refused is given up.
+    /// Errors: `NoIndependentSlice`, nothing was done, and the segment is as it was;
+    /// `ChangedMidPicture`, the picture is given up; `DpbFull`, the picture before isn't stored
+    /// (C.5.2.3); `NotEnoughOutputBuffers`, of 1 frame, `PictureNumbersSpent` and `PocOutOfRange`,
+    /// the picture before is over and none begins; `Backend` and `NoMemory`, the picture of the
+    /// call that the backend refused is given up.
     pub fn take_slice(
         &mut self,
         timestamp: u64,
@@ -164,7 +170,8 @@ impl<B: StatelessH265DecoderBackend> Driver<B> {
         result
     }
 
-    /// A later slice is handed over, where a picture is open. Where that is refused the picture is to be given up.
+    /// A later slice is handed over, where a picture is open. Where that is refused the picture is
+    /// to be given up.
     fn hand_slice(&mut self, slice: &Slice<'_>, sps: &Sps, pps: &Pps) -> Result<(), DecodeError>
         requires named { AreNamed slice.now sps.now pps.now }
         requires sound { IsSoundIn B.log B.handed self.old }

@@ -1,7 +1,10 @@
 -- What is scanned is what is read, with what is told.
 use Rattle.std.specs.Prelude.{IsErrOf}
-use Rattle.std.proofs.Common.{◌≡◌, ℕ, zero, suc, ◌+◌, ◌-◌, ◌<◌, ◌≤◌, pos, arith, take, Bool, if◌then◌else◌, List, [], ◌∷◌, ◌++◌, length, refl, sym, ◌∙◌, ap, append-nil, Result, Ok, Err}
-use Rattle.hevc_spec.specs.Table.{Table, done, missing, element, sized, part, Fault, Reading, gives, refuses, read, reading_then, out_of_bits, out_of_range, not_kept}
+use Rattle.std.proofs.Common.{◌≡◌, ℕ, zero, suc, ◌+◌, ◌-◌, ◌<◌, ◌≤◌, pos, arith, take, Bool}
+use Rattle.std.proofs.Common.{if◌then◌else◌, List, [], ◌∷◌, ◌++◌, length, refl, sym, ◌∙◌, ap}
+use Rattle.std.proofs.Common.{append-nil, Result, Ok, Err}
+use Rattle.hevc_spec.specs.Table.{Table, done, missing, element, sized, part, Fault, Reading, gives}
+use Rattle.hevc_spec.specs.Table.{refuses, read, reading_then, out_of_bits, out_of_range, not_kept}
 use Rattle.hevc_spec.specs.declared.Row.{Row}
 use Rattle.hevc_spec.specs.Rows.{row}
 use Rattle.hevc_spec.specs.Payload.{Place, bits}
@@ -10,7 +13,10 @@ use Rattle.hevc_bits.specs.declared.bit_error.BitError.TheVariants as bit_errors
 use Rattle.hevc_bits.specs.Reading.{TakesBit}
 use Rattle.hevc_elements.specs.declared.told.Told.{Told}
 use Rattle.hevc_elements.specs.declared.parse_error.ParseError.{ParseError}
-use Rattle.hevc_elements.specs.declared.parse_error.ParseError.TheVariants.{WrongNaluType, OutOfBits, OutOfRange, MissingSps, MissingPps, NoMemory}
+use Rattle.hevc_elements.specs.declared.parse_error.ParseError.TheVariants.{WrongNaluType}
+use Rattle.hevc_elements.specs.declared.parse_error.ParseError.TheVariants.{OutOfBits, OutOfRange}
+use Rattle.hevc_elements.specs.declared.parse_error.ParseError.TheVariants.{MissingSps, MissingPps}
+use Rattle.hevc_elements.specs.declared.parse_error.ParseError.TheVariants.{NoMemory}
 use Rattle.hevc_elements.specs.declared.told.Descriptor.TheVariants.{U}
 use Rattle.hevc_elements.specs.Telling.{Telling, told_of, bits_told, and_one, and_told, told, told_then}
 use Rattle.hevc_elements.specs.Scan.{Position, left, Scan, gave, refused, telling_by, scan_then, scan, scanned}
@@ -38,14 +44,18 @@ and_told-full (x ∷ more) t full =
     let same : and_one x t ≡ t = rw full refl in
     ap (and_told more) same ∙ and_told-full more t full
 
-module _ (r : Row) (n i : ℕ) (t all : Telling) (bits : List Bool) (so_far : and_told (bits_told r (take (n - i) bits)) t ≡ all) where
+module _ (r : Row) (n i : ℕ) (t all : Telling) (bits : List Bool)
+    (so_far : and_told (bits_told r (take (n - i) bits)) t ≡ all) where
   -- a bit more is told
   pub bits_more : (b : Bool) (rest : List Bool) → i < n → bits ≡ b ∷ rest
-      → and_told (bits_told r (take (n - (i + 1)) rest)) (and_told (told_of r (U 1) (pos (if b then 1 else 0)) ∷ []) t) ≡ all
+      → and_told (bits_told r (take (n - (i + 1)) rest))
+      (and_told (told_of r (U 1) (pos (if b then 1 else 0)) ∷ []) t) ≡ all
   unfolding and_told
   bits_more b rest lt parts =
       let k : n - i ≡ suc (n - (i + 1)) = omega arith in
-      let one : and_told (bits_told r (take (n - i) bits)) t ≡ and_told (bits_told r (take (n - (i + 1)) rest)) (and_one (told_of r (U 1) (pos (if b then 1 else 0))) t) = rw (k, parts) refl in
+      let one : and_told (bits_told r (take (n - i) bits)) t ≡ and_told
+      (bits_told r (take (n - (i + 1)) rest)) (and_one (told_of r (U 1) (pos (if b then 1 else 0))) t) =
+      rw (k, parts) refl in
       sym one ∙ so_far
 
   -- no bit is left
@@ -55,7 +65,8 @@ module _ (r : Row) (n i : ℕ) (t all : Telling) (bits : List Bool) (so_far : an
     where
       by_count : (k : ℕ) → n - i ≡ k → t ≡ all
       by_count zero e = let one : and_told (bits_told r (take (n - i) bits)) t ≡ t = rw e refl in sym one ∙ so_far
-      by_count (suc k) e = let one : and_told (bits_told r (take (n - i) bits)) t ≡ t = rw (e, none) refl in sym one ∙ so_far
+      by_count (suc k) e = let one : and_told (bits_told r (take (n - i) bits)) t ≡ t =
+          rw (e, none) refl in sym one ∙ so_far
 
   -- as many as were wanted are told
   pub bits_done : n ≤ i → t ≡ all
@@ -185,7 +196,8 @@ module _ {A : Type 0} (table : Table A) (t new : Telling) (bits rest : List Bool
   gave_tells x e = told_given x (and_told (told table bits) t) (read table bits) (sym (scan_is table t bits) ∙ e)
 
   pub refused_tells : (fault : Fault) → scan table t bits ≡ refused fault new rest → new ≡ and_told (told table bits) t
-  refused_tells fault e = told_refused fault (and_told (told table bits) t) (read table bits) (sym (scan_is table t bits) ∙ e)
+  refused_tells fault e =
+      told_refused fault (and_told (told table bits) t) (read table bits) (sym (scan_is table t bits) ∙ e)
 
 -- What a reader told is what reading the table tells, unless memory was wanted.
 module _ {X A : Type 0} (view : X → A) (new : Position) (table : Table A) (t : Telling) (bits : List Bool) where

@@ -2,7 +2,8 @@
 use Rattle.std.specs.Prelude.{◌-◌, Bool, List, length}
 use Rattle.hevc_spec.specs.Payload.{Place, bits}
 use Rattle.hevc_spec.specs.Bits.{form_at, within}
-use Rattle.hevc_spec.specs.Table.{Table, done, missing, element, sized, part, Fault, not_kept, Reading, gives, refuses, line_found}
+use Rattle.hevc_spec.specs.Table.{Table, done, missing, element, sized, part, Fault, not_kept}
+use Rattle.hevc_spec.specs.Table.{Reading, gives, refuses, line_found}
 use Rattle.hevc_elements.specs.Telling.{Telling, and_told, element_told}
 
 -- where a reader is, and what it has told

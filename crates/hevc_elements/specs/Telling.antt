@@ -1,8 +1,11 @@
 -- What reading tells: each element as it was read, the refused one too where it has a value.
-use Rattle.std.specs.Prelude.{ℕ, ◌-◌, ◌==◌, Bool, List, [], ◌∷◌, ◌++◌, take, map, ◌≤◌, if◌then◌else◌, ℤ, pos, Option, Some, None}
+use Rattle.std.specs.Prelude.{ℕ, ◌-◌, ◌==◌, Bool, List, [], ◌∷◌, ◌++◌, take, map, ◌≤◌}
+use Rattle.std.specs.Prelude.{if◌then◌else◌, ℤ, pos, Option, Some, None}
 use Rattle.hevc_spec.specs.declared.Row.{Row}
-use Rattle.hevc_spec.specs.Bits.{Form, u, ue, se, skip, check, Found, found, out_of_bounds, ended, bits_at, ue_at, signed}
-use Rattle.hevc_spec.specs.Table.{Table, done, missing, element, sized, part, Reading, gives, refuses, read}
+use Rattle.hevc_spec.specs.Bits.{Form, u, ue, se, skip, check, Found, found, out_of_bounds, ended}
+use Rattle.hevc_spec.specs.Bits.{bits_at, ue_at, signed}
+use Rattle.hevc_spec.specs.Table.{Table, done, missing, element, sized, part, Reading, gives}
+use Rattle.hevc_spec.specs.Table.{refuses, read}
 use Rattle.hevc_elements.specs.declared.told.Descriptor.{Descriptor}
 use Rattle.hevc_elements.specs.declared.told.Descriptor.TheVariants.{U, Ue, Se}
 use Rattle.hevc_elements.specs.declared.told.Told.{Told}

@@ -1,11 +1,13 @@
 //! A reader of elements, which tells what it reads where it is asked to.
-ghost use Rattle.std.specs.Prelude.{◌≡◌, ◌<◌, ◌≤◌, ◌^◌, ◌+◌, length, take, pos, nat_le, if◌then◌else◌, [], ◌∷◌, IsTrue, ◌↔◌, IfSome, None, vec_len};
+ghost use Rattle.std.specs.Prelude.{◌≡◌, ◌<◌, ◌≤◌, ◌^◌, ◌+◌, length, take, pos, nat_le};
+ghost use Rattle.std.specs.Prelude.{if◌then◌else◌, [], ◌∷◌, IsTrue, ◌↔◌, IfSome, None, vec_len};
 ghost use Rattle.std.specs.Vec.{vec_capacity};
 ghost use Rattle.hevc_spec.specs.Payload.{first_place, bits_left, payload_bits, bits};
 ghost use Rattle.hevc_spec.specs.Bits.{skip};
 ghost use Rattle.hevc_bits.specs.declared.stream_limit.TheConstants.{STREAM_LIMIT};
 ghost use Rattle.hevc_elements.specs.declared.told.Descriptor.TheVariants.{U};
-ghost use Rattle.hevc_elements.specs.Telling.{and_told, told_of, element_told, bits_told, form_of, IsShort, no_telling};
+ghost use Rattle.hevc_elements.specs.Telling.{and_told, told_of, element_told, bits_told, form_of};
+ghost use Rattle.hevc_elements.specs.Telling.{IsShort, no_telling};
 ghost use Rattle.hevc_elements.specs.Kept.{telling_in};
 ghost use Rattle.hevc_elements.specs.Scan.{left};
 
@@ -15,8 +17,9 @@ use hevc_spec::Row;
 use std::alloc::Global;
 use std::marker::Model;
 
-/// A reader of the elements of a payload. With a list it tells each element that is read, in order, and one that is refused too
-/// where it has a value, as long as the list has room; it never makes room itself, so reading wants no memory for it.
+/// A reader of the elements of a payload. With a list it tells each element that is read, in order,
+/// and one that is refused too where it has a value, as long as the list has room; it never makes
+/// room itself, so reading wants no memory for it.
 #[derive(Drop)]
 pub struct ElementReader<'a> {
     pub(crate) reader: NaluReader<'a>,
@@ -46,7 +49,8 @@ impl<'a> ElementReader<'a> {
         }
     }
 
-    /// The same, which tells what it reads into a list, after what is there, up to the list's capacity.
+    /// The same, which tells what it reads into a list, after what is there, up to the list's
+    /// capacity.
     pub fn telling(bytes: &'a [u8], list: Vec<Told>) -> ElementReader<'a>
         requires { length bytes.now < STREAM_LIMIT }
         ensures place { result.place ≡ first_place bytes.now }
@@ -59,7 +63,8 @@ impl<'a> ElementReader<'a> {
         }
     }
 
-    /// Takes the list of what was told, which is empty where none was given; after it nothing more is told.
+    /// Takes the list of what was told, which is empty where none was given; after it nothing more
+    /// is told.
     pub fn take_told(&mut self, alloc: Global) -> Vec<Told>
         ensures told { telling_in result ≡ self.old.telling }
         ensures rest { self.new ≡ record self.old { telling = no_telling } }
@@ -70,7 +75,8 @@ impl<'a> ElementReader<'a> {
         }
     }
 
-    /// How many bits are left: eight for each byte after the one being read, a 03 that isn't passed yet among them, and the unread bits of that one.
+    /// How many bits are left: eight for each byte after the one being read, a 03 that isn't passed
+    /// yet among them, and the unread bits of that one.
     pub fn num_bits_left(&self) -> usize
         ensures value { result ≡ bits_left self.now.place }
         ensures small { result < 2 ^ 63 + 9 }

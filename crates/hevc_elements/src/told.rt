@@ -16,7 +16,8 @@ pub enum Descriptor {
     Se,
 }
 
-/// An element as it was read: the table and row that it belongs to (docs/TABLES.md), how it is written, and its value.
+/// An element as it was read: the table and row that it belongs to (docs/TABLES.md), how it is
+/// written, and its value.
 #[derive(Clone, Copy, PartialEq, Eq)]
 pub struct Told {
     pub row: Row,

@@ -1,5 +1,6 @@
 -- The up-right diagonal scan (6.5.3).
-use Rattle.std.specs.Prelude.{ℕ, ◌+◌, ◌-◌, ◌*◌, List, [], ◌∷◌, map, filter, nat_lt, ◌&&◌, slice_index}
+use Rattle.std.specs.Prelude.{ℕ, ◌+◌, ◌-◌, ◌*◌, List, [], ◌∷◌, map, filter, nat_lt, ◌&&◌}
+use Rattle.std.specs.Prelude.{slice_index}
 use Rattle.std.specs.List.{range_with_len, flat_map}
 
 -- the places of a diagonal, on which column and row have this sum: those within the block, counted

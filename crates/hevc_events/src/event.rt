@@ -8,7 +8,8 @@ ghost use Rattle.hevc_events.specs.Plain.{bare_event, event_of_picture, no_place
 pub struct Places {
     /// For each place the number of its picture, 0 where it has none of the buffer.
     pub numbers: [u64; 16],
-    /// For each place 0 where its picture is in the buffer, 1 where there is no such picture, 2 where it is the current picture itself.
+    /// For each place 0 where its picture is in the buffer, 1 where there is no such picture, 2
+    /// where it is the current picture itself.
     pub kinds: [u8; 16],
     /// How many places the list has.
     pub count: u32,
@@ -20,7 +21,8 @@ pub struct Places {
 pub struct Event {
     /// Which call it is, counted from 0.
     pub place: u64,
-    /// 1: a sequence begins. 2: a picture begins. 3: its slices come, with its reference picture set. 4: a slice. 5: the picture is whole.
+    /// 1: a sequence begins. 2: a picture begins. 3: its slices come, with its reference picture
+    /// set. 4: a slice. 5: the picture is whole.
     pub kind: u32,
     /// Of kind 2, `nal_unit_type` of the picture's first slice (Table 7-1).
     pub nal_unit_type: u32,
@@ -50,7 +52,8 @@ pub struct Event {
     pub address: u32,
     /// Of kind 4, how many bytes the unit has, its header's among them.
     pub size: u64,
-    /// Of kind 3, RefPicSetStCurrBefore, StCurrAfter, StFoll, LtCurr and LtFoll; of kind 4, RefPicList0 and RefPicList1.
+    /// Of kind 3, RefPicSetStCurrBefore, StCurrAfter, StFoll, LtCurr and LtFoll; of kind 4,
+    /// RefPicList0 and RefPicList1.
     pub lists: [Places; 5],
 }
 
@@ -90,7 +93,8 @@ fn bare_event(place: u64, kind: u32) -> Event
     }
 }
 
-/// An event of a kind that is about this picture, number 0 where it is about none, and nothing else.
+/// An event of a kind that is about this picture, number 0 where it is about none, and nothing
+/// else.
 pub fn event_of_picture(place: u64, kind: u32, number: u64) -> Event
     ensures { result ≡ event_of_picture place kind number }
 {

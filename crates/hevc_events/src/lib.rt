@@ -1,5 +1,5 @@
-//! What the plain structs for C are made of: what a backend was asked for as events, and the queue in which they wait; flags in one number,
-//! and scaling lists in raster order.
+//! What the plain structs for C are made of: what a backend was asked for as events, and the queue
+//! in which they wait; flags in one number, and scaling lists in raster order.
 #![tactic(auto)]
 
 mod event;

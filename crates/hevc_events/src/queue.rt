@@ -1,6 +1,8 @@
 //! The queue of events that wait.
-ghost use Rattle.std.specs.Prelude.{◌≡◌, ◌+◌, ◌<◌, ◌^◌, ◌↔◌, [], ◌∷◌, length, IsNone, IfNone, IfSome, OnErr, OnOk};
-ghost use Rattle.hevc_events.specs.Waiting.{all_taken, sequence_is_next, next_place, no_event, with_event};
+ghost use Rattle.std.specs.Prelude.{◌≡◌, ◌+◌, ◌<◌, ◌^◌, ◌↔◌, [], ◌∷◌, length, IsNone, IfNone};
+ghost use Rattle.std.specs.Prelude.{IfSome, OnErr, OnOk};
+ghost use Rattle.hevc_events.specs.Waiting.{all_taken, sequence_is_next, next_place, no_event};
+ghost use Rattle.hevc_events.specs.Waiting.{with_event};
 
 use crate::event::Event;
 use std::alloc::{AllocError, Global};
@@ -71,7 +73,8 @@ impl EventQueue {
         }
     }
 
-    /// The place of the event that is put next: how many were put, taken or not. None once these are 2^64 - 1.
+    /// The place of the event that is put next: how many were put, taken or not. None once these
+    /// are 2^64 - 1.
     pub fn next_place(&self) -> Option<u64>
         ensures none { IsNone result ↔ (next_place self.now + 1 ≡ 2 ^ 64) }
         ensures place { IfSome result (λ place. place ≡ next_place self.now) }

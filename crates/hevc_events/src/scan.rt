@@ -1,4 +1,5 @@
-//! The up-right diagonal scan, by which scaling lists are coded (6.5.3), and raster order, in which controls have them.
+//! The up-right diagonal scan, by which scaling lists are coded (6.5.3), and raster order, in which
+//! controls have them.
 ghost use Rattle.std.specs.Prelude.{◌≡◌, map, slice_index, IsPermutation};
 ghost use Rattle.std.specs.List.{range_with_len};
 ghost use Rattle.hevc_events.specs.Scan.{up_right_diagonal, scan_places_4x4, scan_places_8x8};
@@ -13,7 +14,8 @@ pub const SCAN_PLACES_8X8: [u8; 64] = [
     37, 44, 50, 55, 59, 62, 28, 36, 43, 49, 54, 58, 61, 63,
 ];
 
-/// The two tables are permutations, and at the places that they tell the scan comes by the block's entries row by row.
+/// The two tables are permutations, and at the places that they tell the scan comes by the block's
+/// entries row by row.
 pub fn scans_are_permutations()
     ensures permutation_4x4 { IsPermutation (range_with_len 0 16) scan_places_4x4 }
     ensures permutation_8x8 { IsPermutation (range_with_len 0 64) scan_places_8x8 }

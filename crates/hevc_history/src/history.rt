@@ -4,8 +4,8 @@ ghost use Rattle.std.specs.Borrow.{ftrue};
 
 use std::marker::{Model, PhantomData};
 
-/// The values that proofs named, in order. A clause reads them as `items`. Nothing ties them to memory: they tell
-/// what the invariant of the struct around them says of them.
+/// The values that proofs named, in order. A clause reads them as `items`. Nothing ties them to
+/// memory: they tell what the invariant of the struct around them says of them.
 #[derive(Drop)]
 pub struct History<T> {
     of: PhantomData<T>,

@@ -10,14 +10,16 @@ use crate::sub_layers::read_sub_layers;
 use hevc_elements::{ElementReader, ParseError};
 use hevc_video_set::HrdParams;
 
-/// Reads parameters of the hypothetical reference decoder, for sub-layers from 0 to `max_sub_layers_minus1`, by table 3 (E.2.2), into
-/// `hrd`.
+/// Reads parameters of the hypothetical reference decoder, for sub-layers from 0 to
+/// `max_sub_layers_minus1`, by table 3 (E.2.2), into `hrd`.
 ///
-/// `common` is commonInfPresentFlag: without it what all sub-layers have in common isn't read, but is that of the structure
-/// before (E.3.2), which `hrd` is at first. Sub-layers above the highest have the values of `HrdParams::new`.
+/// `common` is commonInfPresentFlag: without it what all sub-layers have in common isn't read, but
+/// is that of the structure before (E.3.2), which `hrd` is at first. Sub-layers above the highest
+/// have the values of `HrdParams::new`.
 ///
-/// Errors: `OutOfBits` where the payload ends within an element, and `OutOfRange` with table and row of the first element that
-/// isn't allowed. The reader then is where that element begins, and `hrd` is that of `HrdParams::new`.
+/// Errors: `OutOfBits` where the payload ends within an element, and `OutOfRange` with table and
+/// row of the first element that isn't allowed. The reader then is where that element begins, and
+/// `hrd` is that of `HrdParams::new`.
 #[tactic(auto, using(hevc_elements::proofs::Meaning::meanings))]
 pub fn read_hrd_parameters(
     r: &mut ElementReader<'_>,

@@ -5,7 +5,10 @@ ghost use Rattle.std.specs.Prelude.{◌≡◌, List, [], ◌∷◌, ◌++◌, ma
 ghost use Rattle.hevc_bit_writer.specs.WrittenUnits.{stream_of};
 ghost use Rattle.hevc_stream.specs.Options.{default_options};
 ghost use Rattle.hevc_walk_examples.specs.Streams.{idr_bytes, p4_bytes, b2_bytes};
-ghost use Rattle.hevc_stream_examples.specs.Worked.{sps_bytes, wide_sps_bytes, pps_bytes, vps_bytes, resized_stream, encoded_stream, waiting_stream, cra_within_stream, before_sets_stream};
+ghost use Rattle.hevc_stream_examples.specs.Worked.{sps_bytes, wide_sps_bytes, pps_bytes};
+ghost use Rattle.hevc_stream_examples.specs.Worked.{vps_bytes, resized_stream, encoded_stream};
+ghost use Rattle.hevc_stream_examples.specs.Worked.{waiting_stream, cra_within_stream};
+ghost use Rattle.hevc_stream_examples.specs.Worked.{before_sets_stream};
 ghost use Rattle.hevc_walk_splice.specs.Points.{two_points, its_sets, high_idr};
 ghost use Rattle.hevc_index_laws.specs.Points.{points_of};
 ghost use Rattle.hevc_index_laws.specs.SplicedUnits.{spliced_bytes};

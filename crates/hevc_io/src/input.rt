@@ -13,8 +13,8 @@ pub const INPUT_LIMIT: usize = 268_435_456;
 /// For how many bytes at least one read has room.
 const BLOCK: usize = 65_536;
 
-/// Why the input can't be had: a read failed, there are more bytes than may be, or there was no memory for
-/// them.
+/// Why the input can't be had: a read failed, there are more bytes than may be, or there was no
+/// memory for them.
 #[derive(Clone, Copy, Debug, PartialEq, Eq, Drop, Error)]
 pub enum InputError {
     #[error("a read failed")]
@@ -45,11 +45,11 @@ impl From<AllocError> for InputError {
     }
 }
 
-/// Reads a source to its end, which gives at most `limit` bytes. Each piece is read into its place in the
-/// input, after which room is kept for the next one.
+/// Reads a source to its end, which gives at most `limit` bytes. Each piece is read into its place
+/// in the input, after which room is kept for the next one.
 ///
-/// `Failed` has a cause: a fault was counted, or no more can be. By `TooLong` more than `limit` bytes left
-/// the source, at most 65,536 more. After a refusal what was read is lost.
+/// `Failed` has a cause: a fault was counted, or no more can be. By `TooLong` more than `limit`
+/// bytes left the source, at most 65,536 more. After a refusal what was read is lost.
 pub fn read_all<S: Source>(
     alloc: Global,
     source: &mut S,

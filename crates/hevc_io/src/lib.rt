@@ -1,6 +1,6 @@
-//! Where a program has its words, its input and its output: the words of the command line, a source of
-//! bytes, which is read to its end, and a sink of bytes, which takes a whole text; over memory and over the
-//! system's readers and writers.
+//! Where a program has its words, its input and its output: the words of the command line, a source
+//! of bytes, which is read to its end, and a sink of bytes, which takes a whole text; over memory
+//! and over the system's readers and writers.
 #![tactic(auto)]
 
 mod fault_plan;

@@ -1,5 +1,6 @@
 //! A source and a sink over memory, whose calls fail as planned.
-ghost use Rattle.std.specs.Prelude.{◌≡◌, ◌≤◌, ◌+◌, ◌↔◌, IsErr, OnOk, Contains, IsErrOf, vec_len, drop, []};
+ghost use Rattle.std.specs.Prelude.{◌≡◌, ◌≤◌, ◌+◌, ◌↔◌, IsErr, OnOk, Contains, IsErrOf, vec_len};
+ghost use Rattle.std.specs.Prelude.{drop, []};
 ghost use Rattle.std.specs.declared.option.Option.TheVariants.{Some};
 ghost use Rattle.std.specs.Io.{ReadsAtMost, WritesAtMost};
 ghost use Rattle.std.specs.Io.KnownBytes.{ReadConsumes, WriteAppends};

@@ -20,8 +20,8 @@ pub trait Source {
     /// How many reads failed so far. It never falls, and stays at 2^64 - 1.
     ghost faults: { Self → ℕ };
 
-    /// Puts the next bytes at the front of `buf`, and answers their number, which is at most the length
-    /// of `buf`; 0 says that none are left, unless `buf` is empty. A refusal takes no byte.
+    /// Puts the next bytes at the front of `buf`, and answers their number, which is at most the
+    /// length of `buf`; 0 says that none are left, unless `buf` is empty. A refusal takes no byte.
     ///
     /// `Failed` has a cause: a fault was counted, or no more can be.
     fn read(&mut self, buf: &mut [u8]) -> Result<usize, Failed>

@@ -11,8 +11,8 @@ use crate::source::{Failed, Source};
 use std::io::{Read, Write};
 use std::marker::Model;
 
-/// The standard input, or any other reader. It exposes of its bytes what the reader exposes; of those of standard input that is
-/// nothing.
+/// The standard input, or any other reader. It exposes of its bytes what the reader exposes; of
+/// those of standard input that is nothing.
 #[derive(Drop)]
 pub struct StdSource<R: Read> {
     reader: R,
@@ -51,8 +51,8 @@ impl<R: Read> Source for StdSource<R> {
     }
 }
 
-/// The standard output, or any other writer. It exposes of what was written what the writer exposes; of standard output that is
-/// nothing.
+/// The standard output, or any other writer. It exposes of what was written what the writer
+/// exposes; of standard output that is nothing.
 #[derive(Drop)]
 pub struct StdSink<W: Write> {
     writer: W,

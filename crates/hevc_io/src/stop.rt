@@ -6,8 +6,8 @@ use crate::input::InputError;
 use crate::sink::SinkError;
 use std::alloc::AllocError;
 
-/// Why a program's answer on its input isn't written whole: the source failed, the sink failed, there was no memory, or
-/// the input is longer than may be.
+/// Why a program's answer on its input isn't written whole: the source failed, the sink failed,
+/// there was no memory, or the input is longer than may be.
 #[derive(Clone, Copy, Debug, PartialEq, Eq)]
 pub enum Stop {
     Read,
@@ -17,8 +17,8 @@ pub enum Stop {
 }
 
 impl Stop {
-    /// The status of a program that gives up: 3 where the source failed, 4 where the sink failed, 5 where there was no
-    /// memory, 6 where the input is too long.
+    /// The status of a program that gives up: 3 where the source failed, 4 where the sink failed, 5
+    /// where there was no memory, 6 where the input is too long.
     pub fn status(self) -> u8
         ensures { result ≡ status_of self }
     {

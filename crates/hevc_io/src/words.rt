@@ -1,5 +1,6 @@
 //! The words of the command line.
-ghost use Rattle.std.specs.Prelude.{◌≡◌, ◌≤◌, ◌<◌, ◌-◌, ◌^◌, ℕ, List, All, IfOk, IfSome, IsErrOf, length, slice_get};
+ghost use Rattle.std.specs.Prelude.{◌≡◌, ◌≤◌, ◌<◌, ◌-◌, ◌^◌, ℕ, List, All, IfOk, IfSome, IsErrOf};
+ghost use Rattle.std.specs.Prelude.{length, slice_get};
 ghost use Rattle.std.specs.declared.option.Option.{Option};
 ghost use Rattle.std.specs.declared.option.Option.TheVariants.{None, Some};
 ghost use Rattle.std.specs.Io.{WritesAtMost};
@@ -25,7 +26,8 @@ pub enum WordsError {
 }
 
 impl WordsError {
-    /// The status of a program that has no words: 5 where there was no memory, 8 where the system doesn't hand them over.
+    /// The status of a program that has no words: 5 where there was no memory, 8 where the system
+    /// doesn't hand them over.
     pub fn status(self) -> u8
         ensures { result ≡ words_status_of self }
     {
@@ -51,7 +53,8 @@ pub trait Words {
     /// The words, where they are exposed.
     ghost told: { Self → Option (List (List ℕ)) };
 
-    /// Puts the word with this number, from 0, at the front of `room`, and answers its length in bytes.
+    /// Puts the word with this number, from 0, at the front of `room`, and answers its length in
+    /// bytes.
     ///
     /// `NotPresent` where there is no such word, `TooLong` where it has more bytes than `room`.
     fn word(&self, number: usize, room: &mut [u8]) -> Result<usize, FillError>
@@ -114,7 +117,8 @@ impl Words for MemoryWords {
 
 /// The words of a command line, each of at most 2 MiB.
 ///
-/// `NoMemory` where there is no memory for them; `Refused` where one is longer, or they are more than can be numbered.
+/// `NoMemory` where there is no memory for them; `Refused` where one is longer, or they are more
+/// than can be numbered.
 pub fn command_line<W: Words>(line: &W, alloc: Global) -> Result<Vec<Word>, WordsError>
     ensures short { IfOk result (λ words. All (λ word. length word ≤ LONGEST_WORD) words.items) }
     ensures words { IfOk result (λ words. IfSome (W.told line.now) (λ told. words.items ≡ told)) }

@@ -1,5 +1,6 @@
 -- The bytes that give a unit again.
-use Rattle.std.specs.Prelude.{◌≡◌, ℕ, ◌<◌, Bool, false, List, [], ◌∷◌, length, drop, nat_le, Result, Ok, Err}
+use Rattle.std.specs.Prelude.{◌≡◌, ℕ, ◌<◌, Bool, false, List, [], ◌∷◌, length, drop, nat_le, Result}
+use Rattle.std.specs.Prelude.{Ok, Err}
 use Rattle.hevc_spec.specs.UnitHeader.{UnitHeader, HeaderFault, unit_header}
 use Rattle.hevc_spec.specs.Units.{units}
 use Rattle.hevc_stream.specs.Slices.{temporal_id}

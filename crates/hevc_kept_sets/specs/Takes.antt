@@ -1,5 +1,6 @@
 -- What taking the unit of a parameter set answers and leaves (7.4.2.4.2).
-use Rattle.std.specs.Prelude.{◌≡◌, ℕ, ◌-◌, Bool, true, false, List, [], ◌∷◌, ◌++◌, fold, Option, Some, None, Result, Ok, Err}
+use Rattle.std.specs.Prelude.{◌≡◌, ℕ, ◌-◌, Bool, true, false, List, [], ◌∷◌, ◌++◌, fold, Option}
+use Rattle.std.specs.Prelude.{Some, None, Result, Ok, Err}
 use Rattle.hevc_spec.specs.UnitHeader.{UnitHeader}
 use Rattle.hevc_spec.specs.Payload.{payload}
 use Rattle.hevc_spec.specs.Table.{read}
@@ -13,7 +14,8 @@ use Rattle.hevc_elements.specs.declared.parse_error.ParseError.{ParseError}
 use Rattle.hevc_elements.specs.declared.parse_error.ParseError.TheVariants as errors
 use Rattle.hevc_stream.specs.Options.{Options}
 use Rattle.hevc_stream.specs.Kept.{Kept, with_sequence_set, with_picture_set}
-use Rattle.hevc_stream.specs.Contents.{Content, refused, video_set, sequence_set, picture_set, unread_picture_set, picture_set_read, content}
+use Rattle.hevc_stream.specs.Contents.{Content, refused, video_set, sequence_set, picture_set}
+use Rattle.hevc_stream.specs.Contents.{unread_picture_set, picture_set_read, content}
 use Rattle.hevc_stream.specs.Stream.{with_waited, kept_behind}
 
 -- the error that tells of a cause; a parameter set is refused for no other

@@ -1,5 +1,6 @@
 //! Sets that are kept, and units of picture sets that wait.
-ghost use Rattle.std.specs.Prelude.{◌≡◌, ◌<◌, ◌≤◌, ◌^◌, ◌∷◌, ℕ, List, length, drop, IsTrue, IsSome, IfSome, OnOk, OnErr, Some, Ok};
+ghost use Rattle.std.specs.Prelude.{◌≡◌, ◌<◌, ◌≤◌, ◌^◌, ◌∷◌, ℕ, List, length, drop, IsTrue, IsSome};
+ghost use Rattle.std.specs.Prelude.{IfSome, OnOk, OnErr, Some, Ok};
 ghost use Rattle.std.specs.List.{list_all};
 ghost use Rattle.hevc_spec.specs.UnitHeader.{unit_header};
 ghost use Rattle.hevc_bits.specs.FoundUnit.{bytes_of};
@@ -27,8 +28,8 @@ use std::collections::VecDeque;
 
 /// The parameter sets that are kept, and the units of picture sets that wait (7.4.2.4.2).
 ///
-/// A picture set that can't be read is kept as its unit. It is tried again where the sequence set that it names has changed since:
-/// it has the same meaning for as long as that set is the same.
+/// A picture set that can't be read is kept as its unit. It is tried again where the sequence set
+/// that it names has changed since: it has the same meaning for as long as that set is the same.
 #[derive(Drop)]
 pub struct KeptSets {
     alloc: Global,
@@ -37,7 +38,8 @@ pub struct KeptSets {
     waiting: VecDeque<WaitingUnit>,
     /// The ids of the sequence sets that units which wait name, and maybe more: a bit for each.
     named: u16,
-    /// The ids of the sequence sets that changed since all units that wait were tried: a bit for each.
+    /// The ids of the sequence sets that changed since all units that wait were tried: a bit for
+    /// each.
     changed: u16,
     /// The unit of the sequence set that was read last, if there was room for a copy.
     last_read: Option<ReadUnit>,
@@ -49,7 +51,8 @@ pub struct KeptSets {
 
 impl KeptSets {
     ghost use Rattle.hevc_kept_sets.specs.Kept.{kept_of, options_in};
-    ghost use Rattle.hevc_kept_sets.specs.Takes.{TakesVideoSet, KeepsSequenceSet, StopsReading, first_waited};
+    ghost use Rattle.hevc_kept_sets.specs.Takes.{TakesVideoSet, KeepsSequenceSet, StopsReading};
+    ghost use Rattle.hevc_kept_sets.specs.Takes.{first_waited};
 
     /// No set is kept, and no unit waits. Takes no memory; sets and units take theirs from `alloc`.
     pub fn new(alloc: Global, options: Options) -> KeptSets
@@ -89,10 +92,11 @@ impl KeptSets {
         self.options
     }
 
-    /// Reads the video set of a unit, of a wanted sub-layer and a stream of less than 2^60 bytes, by table 1 (7.3.2.1), and keeps it.
+    /// Reads the video set of a unit, of a wanted sub-layer and a stream of less than 2^60 bytes,
+    /// by table 1 (7.3.2.1), and keeps it.
     ///
-    /// Errors: `OutOfBits` where the payload ends within an element; `OutOfRange` with table and row of the first element that isn't
-    /// allowed; `NoMemory`. What is kept then stays.
+    /// Errors: `OutOfBits` where the payload ends within an element; `OutOfRange` with table and
+    /// row of the first element that isn't allowed; `NoMemory`. What is kept then stays.
     pub fn take_video_set(&mut self, nalu: &Nalu<'_, NaluHeader>) -> Result<(), ParseError>
         requires short { length nalu.now.stream < STREAM_LIMIT }
         requires typed { nalu.now.header.nal_unit_type ≡ 32 }
@@ -107,8 +111,9 @@ impl KeptSets {
         Ok(())
     }
 
-    /// Reads the sequence set of a unit, of a wanted sub-layer and a stream of less than 2^60 bytes, by table 5 (7.3.2.2.1), keeps it,
-    /// and gives its id. No waiting unit is tried again: that is `read_waiting`.
+    /// Reads the sequence set of a unit, of a wanted sub-layer and a stream of less than 2^60
+    /// bytes, by table 5 (7.3.2.2.1), keeps it, and gives its id. No waiting unit is tried again:
+    /// that is `read_waiting`.
     ///
     /// Errors: those of `take_video_set`. What is kept then stays.
     pub fn keep_sequence_set(&mut self, nalu: &Nalu<'_, NaluHeader>) -> Result<u8, ParseError>
@@ -146,7 +151,8 @@ impl KeptSets {
         Ok(id)
     }
 
-    /// The id of the sequence set as which these bytes were read, where they are those that were read last, and the set is kept.
+    /// The id of the sequence set as which these bytes were read, where they are those that were
+    /// read last, and the set is kept.
     fn repeated(&self, bytes: &[u8]) -> Option<u8>
         ensures { IfSome result (λ id. (set : PlainSps) × ((set_read bytes.now ≡ Some set)
             × ((kept_by self.now.parser).sequence_sets id ≡ Some set)
@@ -160,10 +166,12 @@ impl KeptSets {
         Some(set.seq_parameter_set_id)
     }
 
-    /// Tries all units that wait once more, in their order: each is read now and its set kept, or waits on. One whose sequence set is
-    /// as it was at the last try waits on unread, and where that holds of all, none is looked at.
+    /// Tries all units that wait once more, in their order: each is read now and its set kept, or
+    /// waits on. One whose sequence set is as it was at the last try waits on unread, and where
+    /// that holds of all, none is looked at.
     ///
-    /// Errors: an allocation fails at some unit. The units before it were tried; it and those after it wait on, in their order.
+    /// Errors: an allocation fails at some unit. The units before it were tried; it and those after
+    /// it wait on, in their order.
     pub fn read_waiting(&mut self) -> Result<(), AllocError>
         ensures read { OnOk result
             (kept_of self.new ≡ with_all_waited (options_in self.old) (kept_of self.old)) }
@@ -179,8 +187,9 @@ impl KeptSets {
         Ok(())
     }
 
-    /// Reads the picture set of a unit, of a wanted sub-layer and a stream of less than 2^60 bytes, by table 11 (7.3.2.3.1), and keeps
-    /// it. Where it can't be read, a copy of the unit waits after the others.
+    /// Reads the picture set of a unit, of a wanted sub-layer and a stream of less than 2^60 bytes,
+    /// by table 11 (7.3.2.3.1), and keeps it. Where it can't be read, a copy of the unit waits
+    /// after the others.
     ///
     /// Errors: an allocation fails. What is kept then stays.
     pub fn take_picture_set(&mut self, nalu: &Nalu<'_, NaluHeader>) -> Result<(), AllocError>
@@ -202,8 +211,9 @@ impl KeptSets {
         Ok(())
     }
 
-    /// Looks at all units that wait, in their order, and tries those once more whose sequence set changed. Where an allocation fails at some unit
-    /// it and those after it wait on, in their order.
+    /// Looks at all units that wait, in their order, and tries those once more whose sequence set
+    /// changed. Where an allocation fails at some unit it and those after it wait on, in their
+    /// order.
     fn try_all(&mut self) -> Result<(), AllocError>
         ensures tried { OnOk result
             (kept_of self.new ≡ with_all_waited (options_in self.old) (kept_of self.old)) }
@@ -221,8 +231,8 @@ impl KeptSets {
         Ok(())
     }
 
-    /// Tries the first unit that waits once more: it is read now, or waits after the others. Where an allocation fails it stays the first.
-    /// It isn't read where its sequence set is as it was.
+    /// Tries the first unit that waits once more: it is read now, or waits after the others. Where
+    /// an allocation fails it stays the first. It isn't read where its sequence set is as it was.
     fn try_first(&mut self) -> Result<(), AllocError>
         requires { 0 < length (kept_of self.old).waiting }
         ensures tried { OnOk result

@@ -1,4 +1,5 @@
-//! Parameter sets that are kept, with the units of picture sets that wait for their sequence set (7.4.2.4.2).
+//! Parameter sets that are kept, with the units of picture sets that wait for their sequence set
+//! (7.4.2.4.2).
 #![tactic(auto)]
 
 mod kept_sets;

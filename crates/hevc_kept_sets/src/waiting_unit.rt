@@ -25,8 +25,8 @@ use std::marker::Model;
 #[derive(Drop)]
 pub(crate) struct WaitingUnit {
     stream: Vec<u8>,
-    /// The id of the sequence set that it names: 0 to 15. `None` where its payload tells none that is allowed, so that it can't be
-    /// read whatever sets are kept.
+    /// The id of the sequence set that it names: 0 to 15. `None` where its payload tells none that
+    /// is allowed, so that it can't be read whatever sets are kept.
     named: Option<u8>,
 }
 
@@ -73,7 +73,8 @@ impl WaitingUnit {
         Nalu::next(&self.stream, &mut position).unwrap()
     }
 
-    /// The id of the sequence set that it names, 0 to 15; `None` where it can't be read whatever sets are kept.
+    /// The id of the sequence set that it names, 0 to 15; `None` where it can't be read whatever
+    /// sets are kept.
     pub(crate) fn named(&self) -> Option<u8>
         ensures value { result ≡ named_set self.now }
         ensures bound { IfSome result (λ id. id < 16) }
@@ -93,7 +94,8 @@ pub(crate) fn named_by(units: &VecDeque<WaitingUnit>) -> u16
     ids
 }
 
-/// The id of the sequence set that the payload of a picture set names, if it tells one that is allowed.
+/// The id of the sequence set that the payload of a picture set names, if it tells one that is
+/// allowed.
 fn read_named(payload: &[u8]) -> Option<u8>
     requires { length payload.now < STREAM_LIMIT }
     ensures { (pps : PlainPps)

@@ -19,12 +19,14 @@ use Rattle.hevc_parser.specs.Slices.{AreActive}
 own_id : {X : Type 0} (o : Option X) (x : X) (P : X → Type 0) → o ≡ Some x → IfSome o P → P x
 own_id o x P is h = subst (λ (p : Option _). IfSome p P) is h
 
-pub are_active : (p : Parser) (id : ℕ) (r : Result code.ActiveSets ParseError) → IfOk r (λ sets. AreFound p.picture_sets p.sequence_sets id sets) → IfOk r (λ sets. AreActive (kept_by p) id sets)
+pub are_active : (p : Parser) (id : ℕ) (r : Result code.ActiveSets ParseError)
+    → IfOk r (λ sets. AreFound p.picture_sets p.sequence_sets id sets) → IfOk r (λ sets. AreActive (kept_by p) id sets)
 are_active p id (Err e) found = tt
 are_active p id (Ok sets) found = record {
   active = active_found p.picture_sets p.sequence_sets id sets.pps.now sets.sps.now found.picture found.sequence;
   picture = own_id (get nat_cmp p.picture_sets id) sets.pps.now _ found.picture (p.picture_ids id);
-  sequence = own_id (get nat_cmp p.sequence_sets sets.pps.now.seq_parameter_set_id) sets.sps.now _ found.sequence (p.sequence_ids sets.pps.now.seq_parameter_set_id);
+  sequence = own_id (get nat_cmp p.sequence_sets sets.pps.now.seq_parameter_set_id) sets.sps.now _
+      found.sequence (p.sequence_ids sets.pps.now.seq_parameter_set_id);
 }
 
 module _ {X Y : Type 0} (kept : ℕ → Option ActiveSets) (unit : FoundUnit UnitHeader) (header : SliceHeader) where
@@ -33,7 +35,12 @@ module _ {X Y : Type 0} (kept : ℕ → Option ActiveSets) (unit : FoundUnit Uni
   read_whole x y h = record {
     wrong_type = (λ e. absurd (cc e), λ f. absurd (cc (h.wrong_type.1 f)));
     read = h.read;
-    means = λ is. let m = h.means is in record { found = m.found; only = m.only; refused = m.refused; broken = m.broken };
+    means = λ is. let m = h.means is in record {
+      found = m.found;
+      only = m.only;
+      refused = m.refused;
+      broken = m.broken;
+    };
     names = tt;
     refused = tt;
     predictions = h.predictions;
@@ -41,11 +48,17 @@ module _ {X Y : Type 0} (kept : ℕ → Option ActiveSets) (unit : FoundUnit Uni
     lists = h.lists;
   }
 
-  pub refused_whole : (e : ParseError) → ReadsSlice {X = X} kept unit (Err e) header → ReadsSlice {X = Y} kept unit (Err e) header
+  pub refused_whole : (e : ParseError) → ReadsSlice {X = X} kept unit (Err e) header
+      → ReadsSlice {X = Y} kept unit (Err e) header
   refused_whole e h = record {
     wrong_type = (λ is. h.wrong_type.0 (cc is), λ f. cc (h.wrong_type.1 f));
     read = h.read;
-    means = λ is. let m = h.means is in record { found = m.found; only = m.only; refused = m.refused; broken = m.broken };
+    means = λ is. let m = h.means is in record {
+      found = m.found;
+      only = m.only;
+      refused = m.refused;
+      broken = m.broken;
+    };
     names = h.names;
     refused = h.refused;
     predictions = h.predictions;

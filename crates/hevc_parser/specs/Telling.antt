@@ -22,7 +22,7 @@ told_of_unit kept unit =
     if header.nal_unit_type == 32 then told video_parameter_set bits
     else if header.nal_unit_type == 33 then told sequence_parameter_set bits
     else if header.nal_unit_type == 34 then
-      told (picture_parameter_set (header.nuh_temporal_id_plus1 - 1) kept.sequence_sets) bits
+    told (picture_parameter_set (header.nuh_temporal_id_plus1 - 1) kept.sequence_sets) bits
     else if is_slice header.nal_unit_type then
-      told (slice_segment_header header.nal_unit_type (drop 2 (bytes_of unit)) (active_of kept)) bits
+    told (slice_segment_header header.nal_unit_type (drop 2 (bytes_of unit)) (active_of kept)) bits
     else []

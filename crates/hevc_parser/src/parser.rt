@@ -1,5 +1,7 @@
 //! The parameter sets that are kept (7.4.2.4.2).
-ghost use Rattle.std.specs.Prelude.{◌≡◌, ◌-◌, ◌<◌, ◌^◌, ◌↔◌, length, true, IsTrue, IfErr, IfOk, IfSome, IsFalse, IsErrOf, IsSome, OnErr, OnOk, option_map, Some, None, [], if◌then◌else◌};
+ghost use Rattle.std.specs.Prelude.{◌≡◌, ◌-◌, ◌<◌, ◌^◌, ◌↔◌, length, true, IsTrue, IfErr, IfOk};
+ghost use Rattle.std.specs.Prelude.{IfSome, IsFalse, IsErrOf, IsSome, OnErr, OnOk, option_map};
+ghost use Rattle.std.specs.Prelude.{Some, None, [], if◌then◌else◌};
 ghost use Rattle.std.specs.Ordering.{nat_cmp};
 ghost use Rattle.std.specs.BTreeMap.{get};
 ghost use Rattle.hevc_spec.specs.Payload.{payload, payload_bits};
@@ -15,7 +17,8 @@ ghost use Rattle.hevc_elements.specs.Words.{NamesNoSet, ReadsSetUnit};
 ghost use Rattle.hevc_tables.specs.VpsTable.{video_parameter_set};
 ghost use Rattle.hevc_tables.specs.SpsTable.{sequence_parameter_set};
 ghost use Rattle.hevc_tables.specs.PpsTable.{picture_parameter_set};
-ghost use Rattle.hevc_stream.specs.Kept.{none_kept, with_video_set, with_sequence_set, with_picture_set};
+ghost use Rattle.hevc_stream.specs.Kept.{none_kept, with_video_set, with_sequence_set};
+ghost use Rattle.hevc_stream.specs.Kept.{with_picture_set};
 ghost use Rattle.hevc_video_set.specs.Vps.{plain_vps};
 ghost use Rattle.hevc_sequence_set.specs.Sps.{plain_sps};
 ghost use Rattle.hevc_picture_slice.specs.Pps.{plain_pps};
@@ -24,7 +27,8 @@ ghost use Rattle.hevc_picture_slice.specs.SliceHeader.{plain_slice_header};
 ghost use Rattle.hevc_slice_header.specs.Answers.{ReadsSlice};
 ghost use Rattle.hevc_parser.specs.Slices.{active_of, AreActive};
 ghost use Rattle.hevc_parser.specs.Answers.{NamesNoPictureSet};
-ghost use Rattle.hevc_parser.specs.OwnIds.{HasOwnIds, HasOwnIds-prop, HasNamedSets, HasNamedSets-prop};
+ghost use Rattle.hevc_parser.specs.OwnIds.{HasOwnIds, HasOwnIds-prop, HasNamedSets};
+ghost use Rattle.hevc_parser.specs.OwnIds.{HasNamedSets-prop};
 ghost use Rattle.hevc_bits.specs.declared.stream_limit.TheConstants.{STREAM_LIMIT};
 
 use hevc_bits::{Nalu, NaluHeader, NaluType};
@@ -41,8 +45,9 @@ use std::collections::BTreeMap;
 
 /// The parameter sets that are kept, of each id the latest one (7.4.2.4.2).
 ///
-/// Each is kept under its own id. The sequence parameter set that a kept picture parameter set names is kept; it may be another one
-/// than the picture parameter set was read with, which stays as it was read.
+/// Each is kept under its own id. The sequence parameter set that a kept picture parameter set
+/// names is kept; it may be another one than the picture parameter set was read with, which stays
+/// as it was read.
 #[derive(Drop)]
 pub struct Parser {
     alloc: Global,
@@ -72,7 +77,8 @@ impl Parser {
         }
     }
 
-    /// Reads the video parameter set of a unit, of a stream of less than 2^60 bytes, by table 1 (7.3.2.1), and keeps it.
+    /// Reads the video parameter set of a unit, of a stream of less than 2^60 bytes, by table 1
+    /// (7.3.2.1), and keeps it.
     ///
     /// Errors: those of `read_vps`; what is kept then stays.
     #[tactic(auto, using(hevc_elements::proofs::SetMeaning::set_meanings))]
@@ -112,7 +118,8 @@ impl Parser {
         Ok(())
     }
 
-    /// Reads the sequence parameter set of a unit, of a stream of less than 2^60 bytes, by table 5 (7.3.2.2.1), and keeps it.
+    /// Reads the sequence parameter set of a unit, of a stream of less than 2^60 bytes, by table 5
+    /// (7.3.2.2.1), and keeps it.
     ///
     /// Errors: those of `read_sps`; what is kept then stays.
     #[tactic(auto, using(hevc_elements::proofs::SetMeaning::set_meanings))]
@@ -140,8 +147,9 @@ impl Parser {
         Ok(self.sequence_sets.get(&id).unwrap().get())
     }
 
-    /// Keeps a sequence parameter set, in the place of an earlier one of its id (7.4.2.4.2), and tells whether that changed what is
-    /// kept: whether no set was kept under its id, or one that differs from it.
+    /// Keeps a sequence parameter set, in the place of an earlier one of its id (7.4.2.4.2), and
+    /// tells whether that changed what is kept: whether no set was kept under its id, or one that
+    /// differs from it.
     ///
     /// Errors: an allocation fails; what is kept then stays.
     pub fn keep_sequence_set(&mut self, set: Boxed<Sps>) -> Result<bool, AllocError>
@@ -179,8 +187,8 @@ impl Parser {
         Ok(())
     }
 
-    /// Reads the picture parameter set of a unit, of a stream of less than 2^60 bytes, by table 11 (7.3.2.3.1), with the sequence
-    /// parameter sets that are kept, and keeps it.
+    /// Reads the picture parameter set of a unit, of a stream of less than 2^60 bytes, by table 11
+    /// (7.3.2.3.1), with the sequence parameter sets that are kept, and keeps it.
     ///
     /// Errors: those of `read_pps`, and `NoMemory`; what is kept then stays.
     #[tactic(auto, using(hevc_elements::proofs::SetMeaning::set_meanings))]
@@ -234,12 +242,15 @@ impl Parser {
         Slice::new(SliceHeader::new(self.alloc), nalu)
     }
 
-    /// Reads the header of a slice segment, a new one over a unit of a stream of less than 2^60 bytes, by table 14 (7.3.6.1), with the
-    /// sets that are kept. What is kept stays. Its entry points take memory. The answer is the sets that the header makes active.
+    /// Reads the header of a slice segment, a new one over a unit of a stream of less than 2^60
+    /// bytes, by table 14 (7.3.6.1), with the sets that are kept. What is kept stays. Its entry
+    /// points take memory. The answer is the sets that the header makes active.
     ///
-    /// Errors: `WrongNaluType` first, where the unit is no slice (types 0 to 9 and 16 to 21); `OutOfBits` where the payload ends
-    /// within an element; `OutOfRange` with table and row of the first element that isn't allowed; after row 3, `MissingPps` where no
-    /// picture parameter set of the id that it names is kept; `NoMemory`. The header is again that of `SliceHeader::new` then.
+    /// Errors: `WrongNaluType` first, where the unit is no slice (types 0 to 9 and 16 to 21);
+    /// `OutOfBits` where the payload ends within an element; `OutOfRange` with table and row of the
+    /// first element that isn't allowed; after row 3, `MissingPps` where no picture parameter set
+    /// of the id that it names is kept; `NoMemory`. The header is again that of `SliceHeader::new`
+    /// then.
     pub fn read_slice<'a>(&'a self, slice: &mut Slice<'_>) -> Result<ActiveSets<'a>, ParseError>
         requires short { length slice.old.nalu.stream < STREAM_LIMIT }
         requires new { plain_slice_header slice.old.header ≡ default_slice_header }
@@ -259,7 +270,8 @@ impl Parser {
         )
     }
 
-    /// Reads the slice segment header of a unit, of a stream of less than 2^60 bytes, as `read_slice` does, and gives the slice segment.
+    /// Reads the slice segment header of a unit, of a stream of less than 2^60 bytes, as
+    /// `read_slice` does, and gives the slice segment.
     ///
     /// Errors: those of `read_slice`.
     pub fn parse_slice_header<'a>(
@@ -277,9 +289,10 @@ impl Parser {
         Ok(slice)
     }
 
-    /// Tells the elements of a unit, of a stream of less than 2^60 bytes, with the sets that are kept, after what is in the list and as
-    /// long as it has room: those of a parameter set or of a slice segment header, of a refused one up to the element that is refused,
-    /// and none of another unit. What is kept stays.
+    /// Tells the elements of a unit, of a stream of less than 2^60 bytes, with the sets that are
+    /// kept, after what is in the list and as long as it has room: those of a parameter set or of a
+    /// slice segment header, of a refused one up to the element that is refused, and none of
+    /// another unit. What is kept stays.
     ///
     /// Errors: reading wants memory that isn't there.
     pub fn tell(
@@ -350,7 +363,8 @@ impl Parser {
         Some(set.get())
     }
 
-    /// The picture parameter set of an id, if it is kept. The sequence parameter set that it names is kept too.
+    /// The picture parameter set of an id, if it is kept. The sequence parameter set that it names
+    /// is kept too.
     pub fn get_pps(&self, pps_id: u8) -> Option<&Pps>
         ensures found { option_map (λ set. plain_pps set.now) result
             ≡ (kept_by self.now).picture_sets pps_id }

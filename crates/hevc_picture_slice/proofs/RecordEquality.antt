@@ -1,6 +1,8 @@
 -- The derived `==` of each record: true exactly at equal records.
 use Rattle.hevc_set_parts.proofs.Equality.{IsEquality, bool, nat, int, list, field, last, struct}
-use Rattle.hevc_set_parts.proofs.RecordEquality.{scaling_lists, pps_range_extension, pps_scc_extension, short_term_ref_pic_set, ref_pic_list_modification}
+use Rattle.hevc_set_parts.proofs.RecordEquality.{scaling_lists, pps_range_extension}
+use Rattle.hevc_set_parts.proofs.RecordEquality.{pps_scc_extension, short_term_ref_pic_set}
+use Rattle.hevc_set_parts.proofs.RecordEquality.{ref_pic_list_modification}
 use Rattle.hevc_video_set.proofs.RecordEquality.{pred_weight_table}
 use Rattle.hevc_picture_slice.proofs.SliceTypeEquality.{slice_type}
 use Rattle.hevc_picture_slice.specs.contracts.pps.Pps as pps_record

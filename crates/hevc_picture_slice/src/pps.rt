@@ -32,7 +32,8 @@ pub struct Pps {
     pub transform_skip_enabled_flag: bool,
     /// Whether coding units may change the quantiser.
     pub cu_qp_delta_enabled_flag: bool,
-    /// The most splits of a coding tree block above a unit that changes the quantiser: 0 to `log2_diff_max_min_luma_coding_block_size` of the sequence set.
+    /// The most splits of a coding tree block above a unit that changes the quantiser: 0 to
+    /// `log2_diff_max_min_luma_coding_block_size` of the sequence set.
     pub diff_cu_qp_delta_depth: u8,
     /// The Cb quantiser offset: -12 to 12.
     pub cb_qp_offset: i8,
@@ -80,7 +81,8 @@ pub struct Pps {
     pub scaling_list: ScalingLists,
     /// Whether slice headers may modify the reference lists.
     pub lists_modification_present_flag: bool,
-    /// The logarithm of the size of regions whose merge candidates are found in parallel, less 2: 0 to that of coding tree blocks, less 2.
+    /// The logarithm of the size of regions whose merge candidates are found in parallel, less 2: 0
+    /// to that of coding tree blocks, less 2.
     pub log2_parallel_merge_level_minus2: u8,
     /// Whether slice headers have an extension.
     pub slice_segment_header_extension_present_flag: bool,
@@ -119,7 +121,8 @@ impl Pps {
     ghost use Rattle.hevc_records.specs.Pps.{default_pps};
     ghost use Rattle.hevc_picture_slice.specs.Pps.{plain_pps};
 
-    /// All numbers 0 and all flags not set, but for `uniform_spacing_flag` and `loop_filter_across_tiles_enabled_flag`.
+    /// All numbers 0 and all flags not set, but for `uniform_spacing_flag` and
+    /// `loop_filter_across_tiles_enabled_flag`.
     pub fn new() -> Pps
         ensures { plain_pps result ≡ default_pps }
     {

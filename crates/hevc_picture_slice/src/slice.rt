@@ -44,9 +44,10 @@ impl<'a> Slice<'a> {
         &self.nalu
     }
 
-    /// Completes the header of a dependent slice segment by that of the independent one before it (7.4.7.1). What is before the
-    /// slice type stays, and so do the entry points, the bit size of the header and the number of its emulation prevention bytes; all else
-    /// is taken from `header`.
+    /// Completes the header of a dependent slice segment by that of the independent one before it
+    /// (7.4.7.1). What is before the slice type stays, and so do the entry points, the bit size of
+    /// the header and the number of its emulation prevention bytes; all else is taken from
+    /// `header`.
     ///
     /// Errors: the segment isn't a dependent one; it then stays as it was, and `header` is dropped.
     pub fn replace_header(&mut self, header: SliceHeader) -> Result<(), NotDependent>

@@ -10,8 +10,8 @@ use std::alloc::{AllocError, Global};
 
 /// A slice segment header (H.265 7.3.6.1, 7.4.7.1).
 ///
-/// The arrays of sixteen have a place for each long-term member: first those that are candidates of the sequence set,
-/// then those that the header gives itself.
+/// The arrays of sixteen have a place for each long-term member: first those that are candidates of
+/// the sequence set, then those that the header gives itself.
 #[derive(Drop, PartialEq, Eq)]
 pub struct SliceHeader {
     /// Whether the segment is the first of its picture.
@@ -50,7 +50,8 @@ pub struct SliceHeader {
     pub used_by_curr_pic_lt: [bool; 16],
     /// For each long-term member, whether the upper part of its order count is given.
     pub delta_poc_msb_present_flag: [bool; 16],
-    /// For each long-term member, how many times MaxPicOrderCntLsb the upper part of its order count is before that of the picture, as DeltaPocMsbCycleLt.
+    /// For each long-term member, how many times MaxPicOrderCntLsb the upper part of its order
+    /// count is before that of the picture, as DeltaPocMsbCycleLt.
     pub delta_poc_msb_cycle_lt: [u64; 16],
     /// Whether motion vectors are predicted from another picture.
     pub temporal_mvp_enabled_flag: bool,
@@ -110,13 +111,15 @@ pub struct SliceHeader {
     pub offset_len_minus1: u8,
     /// The bytes from each entry point to the next one, less 1.
     pub entry_point_offset_minus1: Items<u32>,
-    /// Which short-term set the picture has: one of the sequence set's, or the header's own after them: 0 to 64.
+    /// Which short-term set the picture has: one of the sequence set's, or the header's own after
+    /// them: 0 to 64.
     pub curr_rps_idx: u8,
     /// For P and B slices, the number of pictures that the picture may refer to.
     pub num_pic_total_curr: u32,
     /// The bits of the header: the 16 of the unit's header, and the payload bits of this one.
     pub header_bit_size: u32,
-    /// How many emulation prevention bytes of the unit are before the byte in which the header ends.
+    /// How many emulation prevention bytes of the unit are before the byte in which the header
+    /// ends.
     pub n_emulation_prevention_bytes: u32,
     /// The payload bits of the header's own short-term set.
     pub st_rps_bits: u32,
@@ -128,13 +131,15 @@ pub struct SliceHeader {
 }
 
 impl SliceHeader {
-    ghost use Rattle.hevc_records.specs.SliceHeader.{completed_header, default_slice_header, with_inferred};
+    ghost use Rattle.hevc_records.specs.SliceHeader.{completed_header, default_slice_header};
+    ghost use Rattle.hevc_records.specs.SliceHeader.{with_inferred};
     ghost use Rattle.hevc_set_parts.specs.RefPicListModification.{plain_ref_pic_list_modification};
     ghost use Rattle.hevc_picture_slice.specs.Pps.{plain_pps};
     ghost use Rattle.hevc_picture_slice.specs.SliceHeader.{plain_slice_header};
 
-    /// All numbers 0, all flags not set and all lists empty, but for `pic_output_flag` and `collocated_from_l0_flag`,
-    /// which are set; the type is P. It takes memory from `alloc` as its list of entry points grows.
+    /// All numbers 0, all flags not set and all lists empty, but for `pic_output_flag` and
+    /// `collocated_from_l0_flag`, which are set; the type is P. It takes memory from `alloc` as its
+    /// list of entry points grows.
     pub fn new(alloc: Global) -> SliceHeader
         ensures { plain_slice_header result ≡ default_slice_header }
     {
@@ -195,8 +200,9 @@ impl SliceHeader {
         }
     }
 
-    /// Sets what the sets infer for absent elements (7.4.7.1): the offsets and flags of in-loop filters from `pps`, `curr_rps_idx` to the
-    /// number of the sequence set's short-term sets, and `use_integer_mv_flag` to whether `motion_vector_resolution_control_idc` isn't 0.
+    /// Sets what the sets infer for absent elements (7.4.7.1): the offsets and flags of in-loop
+    /// filters from `pps`, `curr_rps_idx` to the number of the sequence set's short-term sets, and
+    /// `use_integer_mv_flag` to whether `motion_vector_resolution_control_idc` isn't 0.
     pub fn set_defaults(
         &mut self,
         pps: &Pps,
@@ -216,8 +222,9 @@ impl SliceHeader {
         self.use_integer_mv_flag = motion_vector_resolution_control_idc != 0;
     }
 
-    /// Completes the header of a dependent segment by that of the independent one before it (7.4.7.1). What is before the slice
-    /// type stays, and so do the entry points, the bit size and the number of emulation prevention bytes; all else is taken over.
+    /// Completes the header of a dependent segment by that of the independent one before it
+    /// (7.4.7.1). What is before the slice type stays, and so do the entry points, the bit size and
+    /// the number of emulation prevention bytes; all else is taken over.
     pub fn complete(&mut self, independent: &SliceHeader)
         ensures { plain_slice_header self.new
             ≡ completed_header (plain_slice_header self.old) (plain_slice_header independent.now) }
@@ -244,8 +251,8 @@ impl SliceHeader {
         self.st_rps_bits = independent.st_rps_bits;
     }
 
-    /// Takes over what is between the long-term members and the weights. Neighbours are read before they are written,
-    /// so that they move together.
+    /// Takes over what is between the long-term members and the weights. Neighbours are read before
+    /// they are written, so that they move together.
     fn complete_prediction(&mut self, independent: &SliceHeader)
         ensures { plain_slice_header self.new ≡ record (plain_slice_header self.old) {
           temporal_mvp_enabled_flag = independent.now.temporal_mvp_enabled_flag;

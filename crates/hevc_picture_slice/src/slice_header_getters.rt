@@ -139,7 +139,8 @@ impl SliceHeader {
         self.delta_poc_msb_present_flag
     }
 
-    /// For each long-term member, how many times MaxPicOrderCntLsb the upper part of its order count is before that of the picture, as DeltaPocMsbCycleLt.
+    /// For each long-term member, how many times MaxPicOrderCntLsb the upper part of its order
+    /// count is before that of the picture, as DeltaPocMsbCycleLt.
     pub fn delta_poc_msb_cycle_lt(&self) -> [u64; 16]
         ensures { result ≡ self.now.delta_poc_msb_cycle_lt }
     {
@@ -349,7 +350,8 @@ impl SliceHeader {
         self.entry_point_offset_minus1.as_slice()
     }
 
-    /// Which short-term set the picture has: one of the sequence set's, or the header's own after them.
+    /// Which short-term set the picture has: one of the sequence set's, or the header's own after
+    /// them.
     pub fn curr_rps_idx(&self) -> u8
         ensures { result ≡ self.now.curr_rps_idx }
     {
@@ -370,7 +372,8 @@ impl SliceHeader {
         self.header_bit_size
     }
 
-    /// How many emulation prevention bytes of the unit are before the byte in which the header ends.
+    /// How many emulation prevention bytes of the unit are before the byte in which the header
+    /// ends.
     pub fn n_emulation_prevention_bytes(&self) -> u32
         ensures { result ≡ self.now.n_emulation_prevention_bytes }
     {

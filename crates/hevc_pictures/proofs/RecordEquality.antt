@@ -14,10 +14,18 @@ use Rattle.hevc_pictures.specs.contracts.picture_data.PictureData as picture_dat
 use Rattle.hevc_pictures.specs.contracts.picture_data.PictureDataPartialEq.TheImpl as picture_data_eq
 
 pub nalu_type : IsEquality nalu_type_eq.ghosts.eq
-nalu_type x y = (λ h. same_true nalu_type_enum.the_type (search rules) x y h, λ e. subst (λ (z : NaluType). nalu_type_eq.ghosts.eq x z ≡ true) e (nalu_type_laws.laws-law.refl x))
+nalu_type x y = (
+  λ h. same_true nalu_type_enum.the_type (search rules) x y h,
+  λ e. subst
+      (λ (z : NaluType). nalu_type_eq.ghosts.eq x z ≡ true) e (nalu_type_laws.laws-law.refl x),
+)
 
 pub reference : IsEquality reference_eq.ghosts.eq
-reference x y = (λ h. same_true reference_enum.the_type (search rules) x y h, λ e. subst (λ (z : Reference). reference_eq.ghosts.eq x z ≡ true) e (reference_laws.laws-law.refl x))
+reference x y = (
+  λ h. same_true reference_enum.the_type (search rules) x y h,
+  λ e. subst
+      (λ (z : Reference). reference_eq.ghosts.eq x z ≡ true) e (reference_laws.laws-law.refl x),
+)
 
 pub picture_data : IsEquality picture_data_eq.ghosts.eq
 picture_data a b = struct picture_data_record.the_type

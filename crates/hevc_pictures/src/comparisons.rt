@@ -1,6 +1,7 @@
 //! What the derived comparisons answer, `==` equality of all fields, and what `default()` is.
 //!
-//! Each function is the operator at one type, with its meaning as a contract, for proofs that rest on it.
+//! Each function is the operator at one type, with its meaning as a contract, for proofs that rest
+//! on it.
 ghost use Rattle.std.specs.Prelude.{◌≡◌, ◌↔◌, IsTrue};
 ghost use Rattle.hevc_pictures.specs.Marks.{Unmarked};
 ghost use Rattle.hevc_pictures.specs.declared.reference.Reference.TheVariants.{None};
@@ -21,8 +22,8 @@ pub fn reference_default() -> Reference
     Reference::default()
 }
 
-/// A picture of which nothing is known, as `default()` gives: numbers are 0, flags aren't set, and it is unused for
-/// reference.
+/// A picture of which nothing is known, as `default()` gives: numbers are 0, flags aren't set, and
+/// it is unused for reference.
 pub fn picture_data_default() -> PictureData
     ensures { Unmarked result }
 {

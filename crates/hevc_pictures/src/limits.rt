@@ -19,7 +19,8 @@ impl Limits {
     ghost use Rattle.hevc_walk_inputs.specs.Sequences.{limits_of_set};
     ghost use Rattle.hevc_pictures.specs.Limits.{limits_of};
 
-    /// Those of a sequence set for the sub-layers up to `highest_tid`, or for all where it has fewer.
+    /// Those of a sequence set for the sub-layers up to `highest_tid`, or for all where it has
+    /// fewer.
     pub fn of(sps: &Sps, highest_tid: u8) -> Limits
         ensures { limits_of result ≡ limits_of_set highest_tid (plain_sps sps.now) }
     {

@@ -1,7 +1,9 @@
 //! What a picture's first slice tells of it (8.1.3, 8.3.1).
-ghost use Rattle.std.specs.Prelude.{◌≡◌, ◌↔◌, ◌||◌, ◌&&◌, ◌==◌, ◌+◌, not, false, ℕ, IfOk, IsErr, option_map};
+ghost use Rattle.std.specs.Prelude.{◌≡◌, ◌↔◌, ◌||◌, ◌&&◌, ◌==◌, ◌+◌, not, false, ℕ, IfOk, IsErr};
+ghost use Rattle.std.specs.Prelude.{option_map};
 ghost use Rattle.std.specs.Option.{option_copied};
-ghost use Rattle.hevc_spec.specs.UnitTypes.{is_idr, is_bla, is_cra, is_irap, is_radl, is_rasl, is_slnr};
+ghost use Rattle.hevc_spec.specs.UnitTypes.{is_idr, is_bla, is_cra, is_irap, is_radl, is_rasl};
+ghost use Rattle.hevc_spec.specs.UnitTypes.{is_slnr};
 ghost use Rattle.hevc_bits.specs.NaluType.{nalu_type_number};
 
 use crate::order_count::{PocOutOfRange, order_count};
@@ -54,7 +56,8 @@ fn discards_prior(
     begins_sequence && !first_in_bitstream && (nalu_type.is_cra() || no_output_of_prior_pics_flag)
 }
 
-/// Whether later pictures may take their order counts from a picture of this type and temporal id (8.3.1).
+/// Whether later pictures may take their order counts from a picture of this type and temporal id
+/// (8.3.1).
 fn is_valid_for_prev_tid0(nalu_type: NaluType, temporal_id_plus1: u8) -> bool
     ensures { (temporal_id : ℕ) → temporal_id_plus1 ≡ temporal_id + 1
         → result ≡ (temporal_id == 0 && not (is_radl (nalu_type_number nalu_type)
@@ -79,8 +82,8 @@ impl PictureData {
     ghost use Rattle.hevc_pictures.specs.OrderCounts.{IsMaxPicOrderCntLsb};
     ghost use Rattle.hevc_pictures.specs.NewPicture.{IsContext, IsFirstSlice, IsNewPicture};
 
-    /// The picture that begins with a slice segment. `max_pic_order_cnt_lsb` is MaxPicOrderCntLsb of its sequence set, and
-    /// `prev_tid0_pic` prevTid0Pic (8.3.1), if there is such a picture.
+    /// The picture that begins with a slice segment. `max_pic_order_cnt_lsb` is MaxPicOrderCntLsb
+    /// of its sequence set, and `prev_tid0_pic` prevTid0Pic (8.3.1), if there is such a picture.
     ///
     /// Errors: its order count, or the most significant bits of it, isn't a 32-bit number.
     pub fn new_from_slice(
@@ -113,7 +116,8 @@ impl PictureData {
         )
     }
 
-    /// The same, where `prev_tid0_count` is the order count of prevTid0Pic (8.3.1), if there is such a picture.
+    /// The same, where `prev_tid0_count` is the order count of prevTid0Pic (8.3.1), if there is
+    /// such a picture.
     ///
     /// Errors: its order count, or the most significant bits of it, isn't a 32-bit number.
     pub fn new_after(

@@ -1,5 +1,6 @@
 //! Picture order counts (8.3.1).
-ghost use Rattle.std.specs.Prelude.{◌≡◌, ◌↔◌, ◌&&◌, ℕ, pos, ◌-ℤ◌, ◌≤ℤ◌, ◌<ℤ◌, false, true, IfOk, OnOk, OnErr, IsErr};
+ghost use Rattle.std.specs.Prelude.{◌≡◌, ◌↔◌, ◌&&◌, ℕ, pos, ◌-ℤ◌, ◌≤ℤ◌, ◌<ℤ◌, false, true, IfOk};
+ghost use Rattle.std.specs.Prelude.{OnOk, OnErr, IsErr};
 ghost use Rattle.std.specs.Int.{int_rem_euclid};
 ghost use Rattle.hevc_walk.specs.OrderCounts.{centred_difference, nearest, count_behind, is_i32};
 ghost use Rattle.hevc_pictures.specs.OrderCounts.{IsMaxPicOrderCntLsb, count_by};
@@ -18,8 +19,8 @@ pub(crate) struct OrderCount {
     pub msb: i32,
 }
 
-/// The order count of a picture with these low bits, which begins a sequence or follows prevTid0Pic, which has this
-/// order count, if there is such a picture.
+/// The order count of a picture with these low bits, which begins a sequence or follows
+/// prevTid0Pic, which has this order count, if there is such a picture.
 pub(crate) fn order_count(
     begins_sequence: bool,
     prev_tid0_count: Option<i32>,

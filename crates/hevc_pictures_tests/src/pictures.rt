@@ -7,7 +7,8 @@ use hevc_sequence_set::Sps;
 use std::alloc::Global;
 use std::process::Abort;
 
-/// A picture of this unit and these low bits after a picture of this order count, where MaxPicOrderCntLsb is 16.
+/// A picture of this unit and these low bits after a picture of this order count, where
+/// MaxPicOrderCntLsb is 16.
 fn behind(
     rt: &impl Abort,
     alloc: Global,

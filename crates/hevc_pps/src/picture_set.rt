@@ -1,5 +1,6 @@
 //! Picture parameter sets (7.3.2.3.1, table 11).
-ghost use Rattle.std.specs.Prelude.{◌≡◌, ◌==◌, ◌-◌, ◌<◌, ◌^◌, ◌↔◌, IfErr, IfOk, OnOk, IsErrOf, length};
+ghost use Rattle.std.specs.Prelude.{◌≡◌, ◌==◌, ◌-◌, ◌<◌, ◌^◌, ◌↔◌, IfErr, IfOk, OnOk, IsErrOf};
+ghost use Rattle.std.specs.Prelude.{length};
 ghost use Rattle.hevc_spec.specs.Payload.{payload, payload_bits};
 ghost use Rattle.hevc_bits.specs.FoundUnit.{bytes_of};
 ghost use Rattle.hevc_bits.specs.NaluType.{nalu_type_number};
@@ -29,15 +30,15 @@ use hevc_spec::Row;
 use std::alloc::Global;
 use std::collections::BTreeMap;
 
-/// Reads a picture parameter set out of its unit, of a stream of less than 2^60 bytes, by table 11 (7.3.2.3.1), with the sequence
-/// parameter sets that are kept, by their ids. It takes no memory.
+/// Reads a picture parameter set out of its unit, of a stream of less than 2^60 bytes, by table 11
+/// (7.3.2.3.1), with the sequence parameter sets that are kept, by their ids. It takes no memory.
 ///
-/// An element that is absent has its value of `Pps::new`, but for the scaling lists, which are the default ones (7.4.5), and the
-/// sizes of tiles, which follow from the size of the picture (6.5.1).
+/// An element that is absent has its value of `Pps::new`, but for the scaling lists, which are the
+/// default ones (7.4.5), and the sizes of tiles, which follow from the size of the picture (6.5.1).
 ///
-/// Errors: `WrongNaluType` first, where the unit is of another type; `OutOfBits` where the payload ends within an element;
-/// `OutOfRange` with table and row of the first element that isn't allowed; after row 2, `MissingSps` where none of the sets has
-/// the id that it names.
+/// Errors: `WrongNaluType` first, where the unit is of another type; `OutOfBits` where the payload
+/// ends within an element; `OutOfRange` with table and row of the first element that isn't allowed;
+/// after row 2, `MissingSps` where none of the sets has the id that it names.
 #[tactic(auto, using(hevc_elements::proofs::SetMeaning::set_meanings))]
 // Its frame has whole sets: the stack of its callers stays small without it.
 #[inline(never)]
@@ -85,8 +86,9 @@ fn read_payload(
     read_rows(temporal_id, &mut ElementReader::new(payload), spses)
 }
 
-/// Tells the elements of a picture parameter set's payload (7.3.1.1) by table 11, in a unit of this temporal id, those of a refused one up
-/// to the element that is refused, after what is in the list and as long as it has room.
+/// Tells the elements of a picture parameter set's payload (7.3.1.1) by table 11, in a unit of this
+/// temporal id, those of a refused one up to the element that is refused, after what is in the list
+/// and as long as it has room.
 #[tactic(auto, using(hevc_elements::proofs::ScanLaws::tells))]
 #[inline(never)]
 pub fn tell_pps(

@@ -43,7 +43,8 @@ fn even_size(length: u32, count: u32, i: u32) -> u32
     (i + 1) * length / count - i * length / count - 1
 }
 
-/// Row 17 or 18 of table 11: the sizes of the parts before the last one are told, and the last one takes what is left.
+/// Row 17 or 18 of table 11: the sizes of the parts before the last one are told, and the last one
+/// takes what is left.
 #[tactic(auto, using(crate::proofs::ToldSizes::told), unfolding(hevc_tables::specs::PpsTable::told_sizes))]
 pub(crate) fn read_told_sizes<const N: usize>(
     r: &mut ElementReader<'_>,

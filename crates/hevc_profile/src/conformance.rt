@@ -1,13 +1,14 @@
 //! Which profiles a layer conforms to, and which elements it has by them (7.3.3).
 ghost use Rattle.std.specs.Prelude.{◌≡◌, ◌<◌};
-ghost use Rattle.hevc_records.specs.ProfileConformance.{conforms_to as conforms_to_number, has_range_extensions_flags, has_inbld_flag};
+ghost use Rattle.hevc_records.specs.ProfileConformance.{conforms_to as conforms_to_number};
+ghost use Rattle.hevc_records.specs.ProfileConformance.{has_range_extensions_flags, has_inbld_flag};
 ghost use Rattle.hevc_tables.specs.ProfileTierLevelTable as table;
 ghost use Rattle.hevc_profile.specs.LayerProfile.{plain_layer_profile};
 
 use crate::layer_profile::LayerProfile;
 
-/// Whether a layer with this `profile_idc` and these compatibility flags conforms to the profile of a number: it is the
-/// `profile_idc`, or its compatibility flag is set.
+/// Whether a layer with this `profile_idc` and these compatibility flags conforms to the profile of
+/// a number: it is the `profile_idc`, or its compatibility flag is set.
 pub fn conforms_to(profile_idc: u8, compatibility_flags: &[bool; 32], number: u8) -> bool
     requires { number < 32 }
     ensures { result ≡ conforms_to_number profile_idc compatibility_flags.now number }
@@ -15,8 +16,8 @@ pub fn conforms_to(profile_idc: u8, compatibility_flags: &[bool; 32], number: u8
     profile_idc == number || compatibility_flags[usize::from(number)]
 }
 
-/// Whether constraint flags of the range extensions' profiles are in a set of a layer with this `profile_idc` and these
-/// compatibility flags: it conforms to one of the profiles 4 to 11.
+/// Whether constraint flags of the range extensions' profiles are in a set of a layer with this
+/// `profile_idc` and these compatibility flags: it conforms to one of the profiles 4 to 11.
 pub fn has_range_extensions(profile_idc: u8, compatibility_flags: &[bool; 32]) -> bool
     ensures { result ≡ has_range_extensions_flags profile_idc compatibility_flags.now }
 {

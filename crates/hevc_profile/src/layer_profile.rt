@@ -6,8 +6,8 @@ ghost use Rattle.hevc_profile.specs.LayerProfile.{plain_layer_profile};
 
 use hevc_set_parts::ProfileTierLevel;
 
-/// The profile of the whole stream, or of a sub-layer. Fields have the names of their syntax elements, without `general_` and
-/// `sub_layer_`.
+/// The profile of the whole stream, or of a sub-layer. Fields have the names of their syntax
+/// elements, without `general_` and `sub_layer_`.
 #[derive(Clone, Copy)]
 pub(crate) struct LayerProfile {
     /// 0 to 3.

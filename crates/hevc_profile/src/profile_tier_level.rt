@@ -14,12 +14,13 @@ use hevc_elements::{ElementReader, ParseError};
 use hevc_set_parts::ProfileTierLevel;
 use hevc_spec::Row;
 
-/// Reads profile, tier and level of a set whose highest sub-layer is `max_sub_layers_minus1`, by table 2 (7.3.3).
+/// Reads profile, tier and level of a set whose highest sub-layer is `max_sub_layers_minus1`, by
+/// table 2 (7.3.3).
 ///
 /// An element that is absent has its value of `ProfileTierLevel::new`.
 ///
-/// Errors: `OutOfBits` where the payload ends within an element, and `OutOfRange` with table 2 and the row where a level isn't one
-/// of Table A.8. The reader then is where that element begins.
+/// Errors: `OutOfBits` where the payload ends within an element, and `OutOfRange` with table 2 and
+/// the row where a level isn't one of Table A.8. The reader then is where that element begins.
 #[tactic(auto, using(hevc_elements::proofs::Meaning::meanings))]
 pub fn read_profile_tier_level(
     r: &mut ElementReader<'_>,

@@ -12,7 +12,8 @@ pub(crate) enum Scope {
     SubLayer,
 }
 
-/// The row of table 2 at which an element of a profile is told: those of a sub-layer are all of row 30.
+/// The row of table 2 at which an element of a profile is told: those of a sub-layer are all of row
+/// 30.
 pub(crate) fn row_of(scope: Scope, number: u8) -> Row
     ensures { result ≡ row_of_scope (plain_scope scope) number }
 {

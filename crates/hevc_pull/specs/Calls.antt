@@ -1,5 +1,6 @@
 -- What the calls of a decoder do, as C sees them.
-use Rattle.std.specs.Prelude.{◌≡◌, ◌⊎◌, ℕ, ◌≤◌, ◌<◌, ◌^◌, List, length, Option, Some, None, Result, Ok, Err}
+use Rattle.std.specs.Prelude.{◌≡◌, ◌⊎◌, ℕ, ◌≤◌, ◌<◌, ◌^◌, List, length, Option, Some, None, Result}
+use Rattle.std.specs.Prelude.{Ok, Err}
 use Rattle.hevc_spec.specs.Units.{units}
 use Rattle.hevc_driver.specs.declared.decode_error.DecodeError.{DecodeError}
 use Rattle.hevc_driver.specs.Given.{Given}
@@ -12,7 +13,8 @@ use Rattle.hevc_pull.specs.declared.decoder.PullDecoder.{PullDecoder}
 use Rattle.hevc_pull.specs.declared.pulled.Pulled.{Pulled}
 use Rattle.hevc_pull.specs.declared.pulled.Pulled.TheVariants.{Asked, Output, FormatChanged}
 use Rattle.hevc_pull.specs.Pulling.{PullsNext}
-use Rattle.hevc_pull.specs.Views.{kept_of, options_for, seen_of, num_taken, pulled_traces, view_in, wanted_after, with_free_frames}
+use Rattle.hevc_pull.specs.Views.{kept_of, options_for, seen_of, num_taken, pulled_traces, view_in}
+use Rattle.hevc_pull.specs.Views.{wanted_after, with_free_frames}
 use Rattle.hevc_pull.specs.declared.calls.DecodeCall.{DecodeCall}
 use Rattle.hevc_pull.specs.Status.{row_of, status_in, table_of}
 

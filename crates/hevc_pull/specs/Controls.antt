@@ -1,7 +1,10 @@
 -- What is filled for Linux's stateless decoders, as C sees it.
 use Rattle.std.specs.Prelude.{◌≡◌, ◌⊎◌, ℕ, Option, Some, None, Result, Ok, Err}
 use Rattle.hevc_v4l2.specs.declared.error.ControlError.{ControlError}
-use Rattle.hevc_v4l2.specs.declared.error.ControlError.TheVariants.{TileColumns, TileRows, UnitSize, ShortTermSize, ChromaDenominator, LumaOffset, ChromaOffset, CurrentPicture}
+use Rattle.hevc_v4l2.specs.declared.error.ControlError.TheVariants.{TileColumns, TileRows, UnitSize}
+use Rattle.hevc_v4l2.specs.declared.error.ControlError.TheVariants.{ShortTermSize}
+use Rattle.hevc_v4l2.specs.declared.error.ControlError.TheVariants.{ChromaDenominator, LumaOffset}
+use Rattle.hevc_v4l2.specs.declared.error.ControlError.TheVariants.{ChromaOffset, CurrentPicture}
 use Rattle.hevc_v4l2.specs.declared.slice.V4l2CtrlHevcSliceParams.{V4l2CtrlHevcSliceParams}
 use Rattle.hevc_queue.specs.declared.controls.PictureControls.{PictureControls}
 use Rattle.hevc_queue.specs.Controls.{latest_picture_controls, latest_slice_control}

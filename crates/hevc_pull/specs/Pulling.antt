@@ -1,5 +1,6 @@
 -- The order in which what came of units is taken.
-use Rattle.std.specs.Prelude.{◌≡◌, ℕ, ◌+◌, ◌==◌, Bool, true, false, List, [], ◌∷◌, slice_index_or, Option, Some, None}
+use Rattle.std.specs.Prelude.{◌≡◌, ℕ, ◌+◌, ◌==◌, Bool, true, false, List, [], ◌∷◌, slice_index_or}
+use Rattle.std.specs.Prelude.{Option, Some, None}
 use Rattle.hevc_backend.specs.declared.call.Call.{Call}
 use Rattle.hevc_stateless.specs.States.{is_awaited}
 use Rattle.hevc_stateless.specs.Views.{View}

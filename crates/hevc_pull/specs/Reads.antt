@@ -1,5 +1,6 @@
 -- What reading a unit's parameter set or slice segment header tells and keeps.
-use Rattle.std.specs.Prelude.{◌≡◌, ◌⊎◌, ℕ, ◌-◌, ◌<◌, ◌≤◌, ◌^◌, List, Bool, length, IsTrue, IsFalse, Result, Ok, Err}
+use Rattle.std.specs.Prelude.{◌≡◌, ◌⊎◌, ℕ, ◌-◌, ◌<◌, ◌≤◌, ◌^◌, List, Bool, length, IsTrue, IsFalse}
+use Rattle.std.specs.Prelude.{Result, Ok, Err}
 use Rattle.hevc_spec.specs.UnitHeader.{UnitHeader}
 use Rattle.hevc_spec.specs.UnitTypes.{is_slice}
 use Rattle.hevc_spec.specs.Payload.{payload}
@@ -15,7 +16,10 @@ use Rattle.hevc_stream.specs.Kept.{Kept, with_video_set, with_sequence_set, with
 use Rattle.hevc_bits.specs.FoundUnit.{FoundUnit, bytes_of}
 use Rattle.hevc_bits.specs.declared.header.UnitError.{UnitError}
 use Rattle.hevc_elements.specs.declared.parse_error.ParseError.{ParseError}
-use Rattle.hevc_elements.specs.declared.parse_error.ParseError.TheVariants.{WrongNaluType, OutOfBits, OutOfRange, MissingSps, MissingPps, NoMemory}
+use Rattle.hevc_elements.specs.declared.parse_error.ParseError.TheVariants.{WrongNaluType}
+use Rattle.hevc_elements.specs.declared.parse_error.ParseError.TheVariants.{OutOfBits, OutOfRange}
+use Rattle.hevc_elements.specs.declared.parse_error.ParseError.TheVariants.{MissingSps, MissingPps}
+use Rattle.hevc_elements.specs.declared.parse_error.ParseError.TheVariants.{NoMemory}
 use Rattle.hevc_elements.specs.Sets.{RefusesSet}
 use Rattle.hevc_slice_header.specs.Answers.{slice_table}
 use Rattle.hevc_parser.specs.declared.parser.Parser.{Parser}

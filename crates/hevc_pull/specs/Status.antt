@@ -1,7 +1,17 @@
 -- The statuses of answers, and what goes with them.
 use Rattle.std.specs.Prelude.{ℕ, Result, Ok, Err}
 use Rattle.hevc_driver.specs.declared.decode_error.DecodeError.{DecodeError}
-use Rattle.hevc_driver.specs.declared.decode_error.DecodeError.TheVariants.{NoNal, TruncatedNalu, InvalidNaluType, OutOfBits, OutOfRange, MissingPps, NoIndependentSlice, ChangedMidPicture, PocOutOfRange, DpbFull, NotEnoughOutputBuffers, CheckEvents, PictureNumbersSpent, Backend, NoMemory}
+use Rattle.hevc_driver.specs.declared.decode_error.DecodeError.TheVariants.{NoNal, TruncatedNalu}
+use Rattle.hevc_driver.specs.declared.decode_error.DecodeError.TheVariants.{InvalidNaluType}
+use Rattle.hevc_driver.specs.declared.decode_error.DecodeError.TheVariants.{OutOfBits, OutOfRange}
+use Rattle.hevc_driver.specs.declared.decode_error.DecodeError.TheVariants.{MissingPps}
+use Rattle.hevc_driver.specs.declared.decode_error.DecodeError.TheVariants.{NoIndependentSlice}
+use Rattle.hevc_driver.specs.declared.decode_error.DecodeError.TheVariants.{ChangedMidPicture}
+use Rattle.hevc_driver.specs.declared.decode_error.DecodeError.TheVariants.{PocOutOfRange, DpbFull}
+use Rattle.hevc_driver.specs.declared.decode_error.DecodeError.TheVariants.{NotEnoughOutputBuffers}
+use Rattle.hevc_driver.specs.declared.decode_error.DecodeError.TheVariants.{CheckEvents}
+use Rattle.hevc_driver.specs.declared.decode_error.DecodeError.TheVariants.{PictureNumbersSpent}
+use Rattle.hevc_driver.specs.declared.decode_error.DecodeError.TheVariants.{Backend, NoMemory}
 
 -- each error has a status of its own
 abbrev pub status_of : DecodeError → ℕ

@@ -1,5 +1,6 @@
 -- What is told of the units of a stream.
-use Rattle.std.specs.Prelude.{◌≡◌, ◌≢◌, ◌⊎◌, ◌↔◌, ℕ, ◌+◌, ◌-◌, ◌<◌, ◌≤◌, List, [], ◌∷◌, length, Result, Ok, Err, IfOk, IfErr}
+use Rattle.std.specs.Prelude.{◌≡◌, ◌≢◌, ◌⊎◌, ◌↔◌, ℕ, ◌+◌, ◌-◌, ◌<◌, ◌≤◌, List, [], ◌∷◌, length}
+use Rattle.std.specs.Prelude.{Result, Ok, Err, IfOk, IfErr}
 use Rattle.hevc_spec.specs.Units.{NalUnit, kept_bytes, units_from}
 use Rattle.hevc_spec.specs.UnitHeader.{UnitHeader, unit_header}
 use Rattle.hevc_bits.specs.FoundUnit.{FoundUnit, unit_of}

@@ -19,7 +19,8 @@ pub struct DecodeCall {
     pub taken: u64,
     /// Answered: of an element that is out of range, its table in docs/TABLES.md.
     pub table: u32,
-    /// Answered: of such an element its row; of an unspecified unit type, or a picture parameter set that isn't kept, its number.
+    /// Answered: of such an element its row; of an unspecified unit type, or a picture parameter
+    /// set that isn't kept, its number.
     pub row: u32,
 }
 
@@ -46,7 +47,8 @@ pub fn decode(decoder: &mut PullDecoder, bytes: &[u8], call: &mut DecodeCall) ->
     }
 }
 
-/// The next of what came of the units. The answer is 1 where there was one, and else 0; then the event stays as it was.
+/// The next of what came of the units. The answer is 1 where there was one, and else 0; then the
+/// event stays as it was.
 pub fn next_event(decoder: &mut PullDecoder, event: &mut Event) -> u32
     ensures { TakesNext decoder.old decoder.new event.old event.new result }
 {
@@ -74,7 +76,8 @@ fn event_of_pulled(pulled: Pulled) -> Event
     }
 }
 
-/// The stream ends, or is left: the open picture is over, and all that waits is output. The answer is a status.
+/// The stream ends, or is left: the open picture is over, and all that waits is output. The answer
+/// is a status.
 pub fn flush(decoder: &mut PullDecoder) -> u32
     ensures { FlushesAll decoder.old decoder.new result }
 {

@@ -10,7 +10,8 @@ use crate::status::{NO_CONTROLS, NO_MEMORY};
 use hevc_queue::PictureControls;
 use hevc_v4l2::{ControlError, V4l2CtrlHevcSliceParams};
 
-/// From here on, structs are filled with each picture that begins, and each slice segment of it. The answer is a status.
+/// From here on, structs are filled with each picture that begins, and each slice segment of it.
+/// The answer is a status.
 pub fn want_controls(decoder: &mut PullDecoder) -> u32
     ensures { WantsControls decoder.old decoder.new result }
 {
@@ -20,7 +21,8 @@ pub fn want_controls(decoder: &mut PullDecoder) -> u32
     }
 }
 
-/// The structs of the latest picture that began. The answer is a status; the structs stay where it isn't 0.
+/// The structs of the latest picture that began. The answer is a status; the structs stay where it
+/// isn't 0.
 pub fn picture_controls(decoder: &PullDecoder, structs: &mut PictureControls) -> u32
     ensures { Fills (latest_picture_controls (given_wanted (view_in decoder.now).backend))
         structs.old structs.new result }
@@ -35,7 +37,8 @@ pub fn picture_controls(decoder: &PullDecoder, structs: &mut PictureControls) ->
     }
 }
 
-/// The struct of its latest slice segment. The answer is a status; the struct stays where it isn't 0.
+/// The struct of its latest slice segment. The answer is a status; the struct stays where it isn't
+/// 0.
 pub fn slice_control(decoder: &PullDecoder, control: &mut V4l2CtrlHevcSliceParams) -> u32
     ensures { Fills (latest_slice_control (given_wanted (view_in decoder.now).backend))
         control.old control.new result }

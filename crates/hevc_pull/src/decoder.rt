@@ -1,15 +1,18 @@
 //! The decoder and its calls.
-ghost use Rattle.std.specs.Prelude.{◌≡◌, ◌<◌, ◌≤◌, ◌↔◌, [], true, length, Some, IfOk, IfNone, IfSome, IsOk, OnErr, OnOk, MatchOption};
+ghost use Rattle.std.specs.Prelude.{◌≡◌, ◌<◌, ◌≤◌, ◌↔◌, [], true, length, Some, IfOk, IfNone};
+ghost use Rattle.std.specs.Prelude.{IfSome, IsOk, OnErr, OnOk, MatchOption};
 ghost use Rattle.hevc_bits.specs.declared.stream_limit.TheConstants.{STREAM_LIMIT};
 ghost use Rattle.hevc_spec.specs.Units.{units};
 ghost use Rattle.hevc_driver.specs.Given.{Given};
-ghost use Rattle.hevc_stateless.specs.declared.state.State.TheVariants.{AwaitingFormat, Decoding, Reset};
+ghost use Rattle.hevc_stateless.specs.declared.state.State.TheVariants.{AwaitingFormat, Decoding};
+ghost use Rattle.hevc_stateless.specs.declared.state.State.TheVariants.{Reset};
 ghost use Rattle.hevc_stateless.specs.Flushes.{Flushes};
 ghost use Rattle.hevc_stateless.specs.Steps.{TakesFirst};
 ghost use Rattle.hevc_stateless.specs.Views.{OutputsFew, PopsFrame};
 ghost use Rattle.hevc_queue.specs.Controls.{latest_picture_controls, latest_slice_control};
 ghost use Rattle.hevc_queue.specs.Queue.{given_wanted, with_controls};
-ghost use Rattle.hevc_pull.specs.Views.{kept_of, options_for, seen_of, num_taken, pulled_traces, view_in, wanted_after, with_free_frames};
+ghost use Rattle.hevc_pull.specs.Views.{kept_of, options_for, seen_of, num_taken, pulled_traces};
+ghost use Rattle.hevc_pull.specs.Views.{view_in, wanted_after, with_free_frames};
 ghost use Rattle.hevc_pull.specs.Pulling.{PullsNext, TakesEvent, outputs_are_due};
 
 use crate::pulled::Pulled;
@@ -26,8 +29,8 @@ use thiserror::Error;
 #[error("no format is awaited")]
 pub struct NotAwaited;
 
-/// The decoder of a stream, which is given unit by unit and calls nobody: what it asks a backend for, and the pictures that are output,
-/// wait until they are taken.
+/// The decoder of a stream, which is given unit by unit and calls nobody: what it asks a backend
+/// for, and the pictures that are output, wait until they are taken.
 ///
 /// It is made of its two parts. Pictures and handles are numbers, from 0 in order of decoding.
 #[derive(Drop)]
@@ -46,8 +49,9 @@ impl PullDecoder {
         self.decoder.backend().num_waiting()
     }
 
-    /// Takes the first unit of the input, of less than 2^60 bytes, with the time at which its picture is to be output, in the caller's
-    /// unit, while so many frames are free. The answer is the place after the unit, in bytes: 3 at least.
+    /// Takes the first unit of the input, of less than 2^60 bytes, with the time at which its
+    /// picture is to be output, in the caller's unit, while so many frames are free. The answer is
+    /// the place after the unit, in bytes: 3 at least.
     ///
     /// Errors: those of `decode` of `StatelessDecoder`.
     pub fn decode(
@@ -90,8 +94,9 @@ impl PullDecoder {
         self.decoder.flush()
     }
 
-    /// The next of what came of the units: calls in their order, the pictures that are output, and that a format is awaited. Pictures
-    /// come after the calls, but those that are output before a sequence begins come before that.
+    /// The next of what came of the units: calls in their order, the pictures that are output, and
+    /// that a format is awaited. Pictures come after the calls, but those that are output before a
+    /// sequence begins come before that.
     pub fn next(&mut self) -> Option<Pulled>
         ensures next { PullsNext result (view_in self.old) (view_in self.new) }
         ensures kept { kept_of self.new ≡ kept_of self.old }
@@ -171,7 +176,8 @@ impl PullDecoder {
         let _stand_in = self.decoder.replace_backend(backend);
     }
 
-    /// From here on, the structs of Linux's stateless decoders are filled with each picture that begins, and each slice segment of it.
+    /// From here on, the structs of Linux's stateless decoders are filled with each picture that
+    /// begins, and each slice segment of it.
     ///
     /// Errors: an allocation fails.
     pub fn want_controls(&mut self) -> Result<(), AllocError>
@@ -189,7 +195,8 @@ impl PullDecoder {
         done
     }
 
-    /// The structs of the latest picture that began, or what they can't hold; None where structs aren't wanted, or none has begun since.
+    /// The structs of the latest picture that began, or what they can't hold; None where structs
+    /// aren't wanted, or none has begun since.
     pub fn picture_controls(&self) -> Option<Result<PictureControls, ControlError>>
         ensures { result ≡ latest_picture_controls (given_wanted (view_in self.now).backend) }
     {

@@ -1,5 +1,6 @@
-//! A decoder that calls nobody: it is given units, and what came of them is taken one by one. Its calls as C sees them, with plain structs
-//! and statuses; and the units of a stream, their parameter sets and slice segment headers as plain structs.
+//! A decoder that calls nobody: it is given units, and what came of them is taken one by one. Its
+//! calls as C sees them, with plain structs and statuses; and the units of a stream, their
+//! parameter sets and slice segment headers as plain structs.
 #![tactic(auto)]
 
 mod calls;

@@ -8,7 +8,9 @@ ghost use Rattle.hevc_bits.specs.declared.stream_limit.TheConstants.{STREAM_LIMI
 ghost use Rattle.hevc_parser.specs.Kept.{kept_by};
 ghost use Rattle.hevc_parser.specs.Slices.{active_of};
 ghost use Rattle.hevc_slice_header.specs.Answers.{slice_table};
-ghost use Rattle.hevc_pull.specs.Reads.{Reads, ReadsContent, ReadsUnit, Takes, keep_nothing, row_of_refusal, status_of_reading, status_of_refusal, table_of_refusal, with_slice};
+ghost use Rattle.hevc_pull.specs.Reads.{Reads, ReadsContent, ReadsUnit, Takes, keep_nothing};
+ghost use Rattle.hevc_pull.specs.Reads.{row_of_refusal, status_of_reading, status_of_refusal};
+ghost use Rattle.hevc_pull.specs.Reads.{table_of_refusal, with_slice};
 
 use crate::fields::{
     PpsFields, SliceFields, SpsFields, VpsFields, pps_fields, slice_fields, sps_fields, vps_fields,
@@ -20,7 +22,8 @@ use hevc_driver::DecodeError;
 use hevc_elements::ParseError;
 use hevc_parser::Parser;
 
-/// What a unit has. Of sets and headers the one of the unit's type is written, and the others stay as they were.
+/// What a unit has. Of sets and headers the one of the unit's type is written, and the others stay
+/// as they were.
 #[repr(C)]
 #[derive(Clone, Copy)]
 pub struct UnitRead {
@@ -36,8 +39,9 @@ pub struct UnitRead {
     pub slice: SliceFields,
 }
 
-/// Reads the first unit of the bytes: a parameter set, which is kept, or a slice segment header, with the sets that are kept. Of other
-/// units nothing is read. The answer is a status, 0 where nothing was refused.
+/// Reads the first unit of the bytes: a parameter set, which is kept, or a slice segment header,
+/// with the sets that are kept. Of other units nothing is read. The answer is a status, 0 where
+/// nothing was refused.
 pub fn read_unit(sets: &mut Parser, bytes: &[u8], told: &mut UnitRead) -> u32
     ensures { Reads bytes.now sets.old sets.new told.old told.new result }
 {

@@ -55,8 +55,8 @@ pub(crate) fn table_of(error: &DecodeError) -> u32
     }
 }
 
-/// Of an element that is out of range, its row there; of a unit type that is unspecified, its number; of a picture parameter set that isn't
-/// kept, its id.
+/// Of an element that is out of range, its row there; of a unit type that is unspecified, its
+/// number; of a picture parameter set that isn't kept, its id.
 pub(crate) fn row_of(error: &DecodeError) -> u32
     ensures { result ≡ row_of error.now }
 {

@@ -1,5 +1,6 @@
 -- What is filled after one more call.
-use Rattle.std.proofs.Common.{◌≡◌, List, [], ◌∷◌, ◌++◌, length, drop, Option, Some, None, Result, refl, ap, sym, ◌∙◌, arith}
+use Rattle.std.proofs.Common.{◌≡◌, List, [], ◌∷◌, ◌++◌, length, drop, Option, Some, None, Result}
+use Rattle.std.proofs.Common.{refl, ap, sym, ◌∙◌, arith}
 use Rattle.std.specs.Option.{option_map}
 use Rattle.std.proofs.lemmas.List.{drop-append-le, length_push}
 use Rattle.std.proofs.lemmas.List.Sums.{fold-append}
@@ -30,7 +31,8 @@ filled_begins given b = rw (begun_more given (Begun b), slice_more given (Begun 
 filled_slices : (given : List Given) (s : GivenSlice)
     → controls_of (given ++ Slice s ∷ []) ≡ with_slice s (controls_of given)
 filled_slices given s =
-    rw (begun_more given (Slice s), slice_more given (Slice s)) (of_latest (latest_begun given) (slice_of_picture (latest_begun given) (latest_slice given)))
+    rw (begun_more given (Slice s), slice_more given (Slice s))
+    (of_latest (latest_begun given) (slice_of_picture (latest_begun given) (latest_slice given)))
   where
     filled : Option BegunPicture → Option (Result V4l2CtrlHevcSliceParams ControlError) → Controls
     filled latest slice = record { begun = option_map begun_controls latest; slice = slice }

@@ -1,5 +1,6 @@
 -- The queue after a call, and its first event.
-use Rattle.std.proofs.Common.{◌≡◌, ℕ, zero, suc, ◌+◌, List, [], ◌∷◌, ◌++◌, length, drop, map, get_or, Option, Some, None, IfSome, IfNone, refl, ap, sym, ◌∙◌, arith}
+use Rattle.std.proofs.Common.{◌≡◌, ℕ, zero, suc, ◌+◌, List, [], ◌∷◌, ◌++◌, length, drop, map}
+use Rattle.std.proofs.Common.{get_or, Option, Some, None, IfSome, IfNone, refl, ap, sym, ◌∙◌, arith}
 use Rattle.std.proofs.lemmas.List.{drop-append-le, length_push, length-map, map-append}
 use Rattle.hevc_backend.specs.declared.call.Call.{Call}
 use Rattle.hevc_events.specs.declared.event.Event.{Event}

@@ -4,7 +4,8 @@ use Rattle.hevc_bits.specs.NaluType.{nalu_type_number}
 use Rattle.hevc_refs.specs.declared.ref_pic_list.RefPicListEntry.{RefPicListEntry}
 use Rattle.hevc_refs.specs.declared.ref_pic_list.RefPicListEntry.TheVariants as place
 use Rattle.hevc_backend.specs.declared.call.Call.{Call}
-use Rattle.hevc_backend.specs.declared.call.Call.TheVariants.{NewSequence, NewPicture, BeginPicture, DecodeSlice, SubmitPicture}
+use Rattle.hevc_backend.specs.declared.call.Call.TheVariants.{NewSequence, NewPicture, BeginPicture}
+use Rattle.hevc_backend.specs.declared.call.Call.TheVariants.{DecodeSlice, SubmitPicture}
 use Rattle.hevc_v4l2.specs.Arrays.{padded}
 use Rattle.hevc_events.specs.declared.event.Places.{Places}
 use Rattle.hevc_events.specs.declared.event.Event.{Event}

@@ -11,12 +11,16 @@ use Rattle.hevc_refs.specs.declared.ref_pic_set.RefPicSet.{RefPicSet}
 use Rattle.hevc_refs.specs.declared.ref_pic_list.RefPicList.{RefPicList}
 use Rattle.hevc_backend.specs.declared.call.Call.{Call}
 use Rattle.hevc_backend.specs.declared.call.Call.TheVariants.{SubmitPicture}
-use Rattle.hevc_backend.specs.Calls.{new_sequence_call, new_picture_call, begin_picture_call, decode_slice_call}
-use Rattle.hevc_backend.specs.Handed.{Handed, Sequence as SequenceHanded, Announced, Begun as BegunHanded, Decoded, plain_dpb, plain_picture, segment_of}
+use Rattle.hevc_backend.specs.Calls.{new_sequence_call, new_picture_call, begin_picture_call}
+use Rattle.hevc_backend.specs.Calls.{decode_slice_call}
+use Rattle.hevc_backend.specs.Handed.{Handed, Sequence as SequenceHanded, Announced}
+use Rattle.hevc_backend.specs.Handed.{Begun as BegunHanded, Decoded, plain_dpb, plain_picture}
+use Rattle.hevc_backend.specs.Handed.{segment_of}
 use Rattle.hevc_queue.specs.declared.given.BegunPicture.{BegunPicture}
 use Rattle.hevc_queue.specs.declared.given.GivenSlice.{GivenSlice}
 use Rattle.hevc_queue.specs.declared.given.Given.{Given}
-use Rattle.hevc_queue.specs.declared.given.Given.TheVariants.{Sequence, Picture, Begun, Slice, Submission}
+use Rattle.hevc_queue.specs.declared.given.Given.TheVariants.{Sequence, Picture, Begun, Slice}
+use Rattle.hevc_queue.specs.declared.given.Given.TheVariants.{Submission}
 
 -- a picture, and a slice segment, with what came with them
 abbrev pub begun_with : (number : ℕ) → PictureData → Sps → Pps → Dpb ℕ → RefPicSet → code.Slice

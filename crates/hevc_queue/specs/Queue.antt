@@ -1,5 +1,6 @@
 -- What a backend that queues its calls tells.
-use Rattle.std.specs.Prelude.{ℕ, Bool, false, List, [], length, drop, map, Option, Some, None, unwrap_or}
+use Rattle.std.specs.Prelude.{ℕ, Bool, false, List, [], length, drop, map, Option, Some, None}
+use Rattle.std.specs.Prelude.{unwrap_or}
 use Rattle.std.specs.List.{flat_map}
 use Rattle.hevc_backend.specs.declared.call.Call.{Call}
 use Rattle.hevc_backend.specs.Handed.{Handed}

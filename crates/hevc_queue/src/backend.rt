@@ -1,11 +1,14 @@
 //! A backend that puts its calls into a queue.
-ghost use Rattle.std.specs.Prelude.{◌≡◌, ◌+◌, ◌<◌, ◌^◌, ◌↔◌, [], ◌∷◌, ℕ, drop, length, slice_index_or, None, Some, IsNone, IfSome, IfNone, IfOk, OnOk, OnErr};
+ghost use Rattle.std.specs.Prelude.{◌≡◌, ◌+◌, ◌<◌, ◌^◌, ◌↔◌, [], ◌∷◌, ℕ, drop, length};
+ghost use Rattle.std.specs.Prelude.{slice_index_or, None, Some, IsNone, IfSome, IfNone, IfOk, OnOk};
+ghost use Rattle.std.specs.Prelude.{OnErr};
 ghost use Rattle.hevc_backend.specs.Trait.{CountsFaults};
 ghost use Rattle.hevc_backend.specs.declared.call.Call.{Call};
 ghost use Rattle.hevc_events.specs.Waiting.{sequence_is_next};
 ghost use Rattle.hevc_queue.specs.Events.{event_of, events_of};
 ghost use Rattle.hevc_queue.specs.Controls.{latest_picture_controls, latest_slice_control};
-ghost use Rattle.hevc_queue.specs.Queue.{given_wanted, handed_of, log_of, new_queue, with_controls_after, with_controls, with_taken};
+ghost use Rattle.hevc_queue.specs.Queue.{given_wanted, handed_of, log_of, new_queue};
+ghost use Rattle.hevc_queue.specs.Queue.{with_controls_after, with_controls, with_taken};
 
 use crate::asked::{picture_event, sequence_event, sets_event, slice_event, submission_event};
 use crate::controls::{Controls, PictureControls, fill_picture, fill_slice, no_controls};
@@ -21,11 +24,12 @@ use hevc_v4l2::{ControlError, V4l2CtrlHevcSliceParams};
 use std::alloc::{AllocError, Global};
 use std::marker::Model;
 
-/// A backend that puts each call into a queue, as an event, and has as many free frames as it was told of. A call fails only where an
-/// allocation does, or 2^64 - 1 calls were made.
+/// A backend that puts each call into a queue, as an event, and has as many free frames as it was
+/// told of. A call fails only where an allocation does, or 2^64 - 1 calls were made.
 ///
-/// It keeps no call: its log is there in proofs alone. Its pictures and handles are the numbers of pictures. The events that were taken,
-/// followed by those that wait, are those of the calls of its log.
+/// It keeps no call: its log is there in proofs alone. Its pictures and handles are the numbers of
+/// pictures. The events that were taken, followed by those that wait, are those of the calls of its
+/// log.
 #[derive(Drop)]
 pub struct QueueBackend {
     /// The events of its calls that wait.
@@ -94,7 +98,8 @@ impl QueueBackend {
         }
     }
 
-    /// A backend that took the same calls, and of which no event waits: one that stands in for this one while its events are taken.
+    /// A backend that took the same calls, and of which no event waits: one that stands in for this
+    /// one while its events are taken.
     pub fn stand_in(&self, alloc: Global) -> QueueBackend
         ensures { result ≡ with_controls_after None
             (with_taken (length self.now.given) [] self.now) }
@@ -126,7 +131,8 @@ impl QueueBackend {
         self.free_frames = free_frames;
     }
 
-    /// How many events wait. These are the events of the calls of the log that were not taken yet, in order.
+    /// How many events wait. These are the events of the calls of the log that were not taken yet,
+    /// in order.
     pub fn num_waiting(&self) -> usize
         ensures value { result ≡ length self.now.waiting }
         ensures events { self.now.waiting ≡ drop self.now.counts.taken (events_of (log_of self.now)) }
@@ -135,7 +141,8 @@ impl QueueBackend {
         self.queue.num_waiting()
     }
 
-    /// Takes the first event that waits: that of the call whose place in the log is the number of events that were taken before.
+    /// Takes the first event that waits: that of the call whose place in the log is the number of
+    /// events that were taken before.
     pub fn take_event(&mut self) -> Option<Event>
         ensures none { IsNone result ↔ (self.old.waiting ≡ []) }
         ensures first { IfSome result (λ event. self.old.waiting ≡ event ∷ self.new.waiting) }
@@ -149,7 +156,8 @@ impl QueueBackend {
         self.queue.take()
     }
 
-    /// From here on, the structs of Linux's stateless decoders are filled with each picture that begins.
+    /// From here on, the structs of Linux's stateless decoders are filled with each picture that
+    /// begins.
     ///
     /// Errors: an allocation fails; all stays.
     pub fn want_controls(&mut self, alloc: Global) -> Result<(), AllocError>
@@ -163,7 +171,8 @@ impl QueueBackend {
         Ok(())
     }
 
-    /// The structs of the latest picture that began, or what they can't hold; None where structs aren't wanted, or none has begun since.
+    /// The structs of the latest picture that began, or what they can't hold; None where structs
+    /// aren't wanted, or none has begun since.
     pub fn picture_controls(&self) -> Option<Result<PictureControls, ControlError>>
         ensures { result ≡ latest_picture_controls (given_wanted self.now) }
     {

@@ -2,7 +2,8 @@
 ghost use Rattle.std.specs.Prelude.{◌≡◌, []};
 ghost use Rattle.std.specs.Option.{option_map};
 ghost use Rattle.hevc_queue.specs.Given.{begun_with, slice_with};
-ghost use Rattle.hevc_queue.specs.Controls.{controls_of, picture_controls, wanted, with_begun, with_slice};
+ghost use Rattle.hevc_queue.specs.Controls.{controls_of, picture_controls, wanted, with_begun};
+ghost use Rattle.hevc_queue.specs.Controls.{with_slice};
 
 use hevc_dpb::{Dpb, PictureData};
 use hevc_picture_slice::{Pps, Slice};
@@ -93,7 +94,8 @@ pub(crate) fn fill_picture(
     }
 }
 
-/// A slice segment comes: where structs are wanted, and were filled for its picture, its own is filled.
+/// A slice segment comes: where structs are wanted, and were filled for its picture, its own is
+/// filled.
 pub(crate) fn fill_slice(
     controls: &mut Option<Box<Controls>>,
     slice: &Slice<'_>,

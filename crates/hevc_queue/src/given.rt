@@ -4,7 +4,8 @@ use hevc_picture_slice::{Pps, Slice};
 use hevc_refs::{RefPicList, RefPicSet};
 use hevc_sequence_set::Sps;
 
-/// A picture whose slices come: its sets, the buffer, its reference picture set, and its first slice segment.
+/// A picture whose slices come: its sets, the buffer, its reference picture set, and its first
+/// slice segment.
 #[derive(Drop)]
 pub struct BegunPicture {
     pub number: u64,

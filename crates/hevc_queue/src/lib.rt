@@ -1,4 +1,5 @@
-//! A backend that puts its calls into a queue, as plain events that a caller takes one after another.
+//! A backend that puts its calls into a queue, as plain events that a caller takes one after
+//! another.
 #![tactic(auto)]
 
 mod asked;

@@ -1,7 +1,8 @@
 //! Lists of pictures as plain structs.
 ghost use Rattle.std.specs.Prelude.{◌≡◌, ◌≤◌, length};
 ghost use Rattle.hevc_v4l2.specs.Arrays.{padded};
-ghost use Rattle.hevc_queue.specs.Events.{entry_kind, entry_number, member_kind, member_number, places_of_entries, places_of_members};
+ghost use Rattle.hevc_queue.specs.Events.{entry_kind, entry_number, member_kind, member_number};
+ghost use Rattle.hevc_queue.specs.Events.{places_of_entries, places_of_members};
 
 use arrayvec::ArrayVec;
 use hevc_events::Places;

@@ -1,4 +1,5 @@
-//! Each bound of a row of docs/TABLES.md: a value at it is let through, and the one beyond it is refused with the row.
+//! Each bound of a row of docs/TABLES.md: a value at it is let through, and the one beyond it is
+//! refused with the row.
 ghost use Rattle.std.specs.Prelude.{◌<◌, length};
 
 mod fields;
@@ -42,8 +43,8 @@ enum Line {
     Bits(u32, u32),
     /// An element of this value, a row, and the least and the greatest value that it allows.
     Bounded(Form, i64, Row, i64, i64),
-    /// A row that looks at the element so many lines before it: the least and the greatest value that it allows, where it
-    /// refuses one that the element's own row lets through.
+    /// A row that looks at the element so many lines before it: the least and the greatest value
+    /// that it allows, where it refuses one that the element's own row lets through.
     Checked(usize, Row, Option<i64>, Option<i64>),
 }
 

@@ -69,7 +69,8 @@ fn picture_set_kept(sets: &KeptSets) -> Option<bool> {
     Some(set.dependent_slice_segments_enabled_flag)
 }
 
-/// So many picture sets wait, and that of id 0 has dependent slice segments or hasn't, if it is kept.
+/// So many picture sets wait, and that of id 0 has dependent slice segments or hasn't, if it is
+/// kept.
 fn stand(rt: &impl Abort, sets: &KeptSets, waiting: usize, kept: Option<bool>) {
     expect_eq(rt, sets.num_waiting(), waiting);
     expect_eq(rt, picture_set_kept(sets), kept);

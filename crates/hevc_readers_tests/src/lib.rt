@@ -1,4 +1,5 @@
-//! Tests of the readers of parameter sets and of slice segment headers, and of the sets that are kept.
+//! Tests of the readers of parameter sets and of slice segment headers, and of the sets that are
+//! kept.
 #![tactic(auto)]
 
 #[cfg(test)]

@@ -1,2 +1,3 @@
-//! What reading by a syntax table means: laws on the definitions of `hevc_spec`, which the contracts of readers rest on.
+//! What reading by a syntax table means: laws on the definitions of `hevc_spec`, which the
+//! contracts of readers rest on.
 #![tactic(auto)]

@@ -1,5 +1,6 @@
 use Rattle.std.specs.Prelude.{ℕ, Bool, false, List, replicate}
-use Rattle.hevc_records.specs.SublayerHrdParameters.{PlainSublayerHrdParameters, default_sublayer_hrd_parameters}
+use Rattle.hevc_records.specs.SublayerHrdParameters.{PlainSublayerHrdParameters}
+use Rattle.hevc_records.specs.SublayerHrdParameters.{default_sublayer_hrd_parameters}
 
 -- Parameters of the hypothetical reference decoder (H.265 E.2.2), with any numbers
 pub record PlainHrdParams : Type 0 where

@@ -1,6 +1,7 @@
 use Rattle.std.specs.Prelude.{ℕ, ℤ, pos, Bool, false, true, List, replicate}
 use Rattle.hevc_records.specs.ScalingLists.{PlainScalingLists, zero_scaling_lists}
-use Rattle.hevc_records.specs.PpsRangeExtension.{PlainPpsRangeExtension, default_pps_range_extension}
+use Rattle.hevc_records.specs.PpsRangeExtension.{PlainPpsRangeExtension}
+use Rattle.hevc_records.specs.PpsRangeExtension.{default_pps_range_extension}
 use Rattle.hevc_records.specs.PpsSccExtension.{PlainPpsSccExtension, default_pps_scc_extension}
 
 -- A picture parameter set (H.265 7.3.2.3.1), with any numbers

@@ -1,4 +1,5 @@
-use Rattle.std.specs.Prelude.{ℕ, ℤ, pos, ◌+◌, ◌<◌, ◌<ℤ◌, Bool, false, List, replicate, slice_index_or}
+use Rattle.std.specs.Prelude.{ℕ, ℤ, pos, ◌+◌, ◌<◌, ◌<ℤ◌, Bool, false, List, replicate}
+use Rattle.std.specs.Prelude.{slice_index_or}
 
 -- A short-term reference picture set (H.265 7.3.7), with any numbers
 pub record PlainShortTermRefPicSet : Type 0 where

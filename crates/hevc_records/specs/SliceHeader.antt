@@ -1,6 +1,8 @@
 use Rattle.std.specs.Prelude.{ℕ, ℤ, pos, Bool, false, true, not, ◌==◌, List, [], replicate}
-use Rattle.hevc_records.specs.ShortTermRefPicSet.{PlainShortTermRefPicSet, default_short_term_ref_pic_set}
-use Rattle.hevc_records.specs.RefPicListModification.{PlainRefPicListModification, default_ref_pic_list_modification}
+use Rattle.hevc_records.specs.ShortTermRefPicSet.{PlainShortTermRefPicSet}
+use Rattle.hevc_records.specs.ShortTermRefPicSet.{default_short_term_ref_pic_set}
+use Rattle.hevc_records.specs.RefPicListModification.{PlainRefPicListModification}
+use Rattle.hevc_records.specs.RefPicListModification.{default_ref_pic_list_modification}
 use Rattle.hevc_records.specs.PredWeightTable.{PlainPredWeightTable, default_pred_weight_table}
 use Rattle.hevc_records.specs.Pps.{PlainPps}
 

@@ -2,7 +2,8 @@ use Rattle.std.specs.Prelude.{ℕ, Bool, false, List, [], replicate}
 use Rattle.hevc_records.specs.ProfileTierLevel.{PlainProfileTierLevel, default_profile_tier_level}
 use Rattle.hevc_records.specs.ScalingLists.{PlainScalingLists, zero_scaling_lists}
 use Rattle.hevc_records.specs.ShortTermRefPicSet.{PlainShortTermRefPicSet}
-use Rattle.hevc_records.specs.SpsRangeExtension.{PlainSpsRangeExtension, default_sps_range_extension}
+use Rattle.hevc_records.specs.SpsRangeExtension.{PlainSpsRangeExtension}
+use Rattle.hevc_records.specs.SpsRangeExtension.{default_sps_range_extension}
 use Rattle.hevc_records.specs.SpsSccExtension.{PlainSpsSccExtension, default_sps_scc_extension}
 use Rattle.hevc_records.specs.VuiParams.{PlainVuiParams, default_vui_params}
 

@@ -1,5 +1,6 @@
 -- What follows from the numbers of a sequence parameter set (7.4.3.2, A.4.2).
-use Rattle.std.specs.Prelude.{ℕ, ◌+◌, ◌-◌, ◌*◌, ◌/◌, ◌^◌, min, Bool, ◌||◌, ◌&&◌, ◌==◌, nat_le, nat_lt, if◌then◌else◌}
+use Rattle.std.specs.Prelude.{ℕ, ◌+◌, ◌-◌, ◌*◌, ◌/◌, ◌^◌, min, Bool, ◌||◌, ◌&&◌, ◌==◌, nat_le}
+use Rattle.std.specs.Prelude.{nat_lt, if◌then◌else◌}
 use Rattle.hevc_records.specs.Level.{max_luma_ps_of_level}
 use Rattle.hevc_records.specs.Profile.{max_dpb_pic_buf_of_profile}
 use Rattle.hevc_records.specs.Sps.{PlainSps}

@@ -10,7 +10,8 @@ use Rattle.hevc_walk.specs.ReferenceSets.{RefPicSet}
 use Rattle.hevc_walk.specs.ReferenceLists.{list0_for, list1_for, ref_pic_list0, ref_pic_list1}
 use Rattle.hevc_refs.specs.Lists.{HasHeader}
 
-module _ (s : walk.Slice) (header : SliceHeader) (enabled : Bool) (h : HasHeader s header enabled) (type : SliceType) (is : header.type_ ≡ type) where
+module _ (s : walk.Slice) (header : SliceHeader) (enabled : Bool) (h : HasHeader s header enabled)
+    (type : SliceType) (is : header.type_ ≡ type) where
   type_is : s.slice_type ≡ slice_type_of (slice_type_number type)
   type_is = ap (λ (x : walk.SliceHeader). x.slice_type) h.same_header ∙ ap (λ t. slice_type_of (slice_type_number t)) is
 

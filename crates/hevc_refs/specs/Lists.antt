@@ -1,12 +1,14 @@
 -- Reference picture lists, as the walk has them.
-use Rattle.std.specs.Prelude.{◌≡◌, ℕ, Bool, List, [], ◌∷◌, ◌++◌, map, if◌then◌else◌, Option, Some, option_map}
+use Rattle.std.specs.Prelude.{◌≡◌, ℕ, Bool, List, [], ◌∷◌, ◌++◌, map, if◌then◌else◌, Option, Some}
+use Rattle.std.specs.Prelude.{option_map}
 use Rattle.hevc_walk_inputs.specs.Headers.{slice_header_of}
 use Rattle.hevc_picture_slice.specs.declared.slice_header.SliceHeader.{SliceHeader}
 use Rattle.hevc_picture_slice.specs.SliceHeader.{plain_slice_header}
 use Rattle.hevc_walk.specs.Meanings.{Slice}
 use Rattle.hevc_walk.specs.ReferenceLists as walk
 use Rattle.hevc_refs.specs.declared.ref_pic_list.RefPicListEntry.{RefPicListEntry}
-use Rattle.hevc_refs.specs.declared.ref_pic_list.RefPicListEntry.TheVariants.{CurrentPicture, DpbEntry}
+use Rattle.hevc_refs.specs.declared.ref_pic_list.RefPicListEntry.TheVariants.{CurrentPicture}
+use Rattle.hevc_refs.specs.declared.ref_pic_list.RefPicListEntry.TheVariants.{DpbEntry}
 use Rattle.hevc_refs.specs.declared.ref_pic_list.RefPicList.{RefPicList}
 
 abbrev pub places_of : RefPicList → List (Option RefPicListEntry)

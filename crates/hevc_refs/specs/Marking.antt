@@ -10,7 +10,8 @@ use Rattle.hevc_pictures.specs.declared.picture_data.PictureData.{PictureData}
 use Rattle.hevc_walk.specs.Meanings as walk
 use Rattle.hevc_walk.specs.Pictures.{Head}
 use Rattle.hevc_walk.specs.Buffer.{Buffer, is_reference}
-use Rattle.hevc_walk.specs.ReferenceSets.{RefPicSet, short_term_set, reference_set, with_marks, five_lists, with_long_term, marked_if, all_members, names}
+use Rattle.hevc_walk.specs.ReferenceSets.{RefPicSet, short_term_set, reference_set, with_marks}
+use Rattle.hevc_walk.specs.ReferenceSets.{five_lists, with_long_term, marked_if, all_members, names}
 use Rattle.hevc_walk_marks.specs.Marked.{has_reference, short_term_members}
 use Rattle.hevc_walk_marks.specs.Marked as marked
 use Rattle.hevc_dpb.specs.declared.dpb.Dpb.{Dpb}

@@ -6,7 +6,8 @@ ghost use Rattle.hevc_walk.specs.ReferenceSets.{references_before};
 ghost use Rattle.hevc_pictures.specs.OrderCounts.{IsMaxPicOrderCntLsb};
 ghost use Rattle.hevc_dpb.specs.Views.{buffer_of};
 ghost use Rattle.hevc_refs.specs.Sets.{plain_set};
-ghost use Rattle.hevc_refs.specs.Marking.{RefersAs, OfPicture, FindsMembers, DerivesSet, Derives, KeepsAllButMarks};
+ghost use Rattle.hevc_refs.specs.Marking.{RefersAs, OfPicture, FindsMembers, DerivesSet, Derives};
+ghost use Rattle.hevc_refs.specs.Marking.{KeepsAllButMarks};
 
 use crate::long_term::find_long_term;
 use crate::marking::{mark_long_term, unmark_others};
@@ -78,11 +79,11 @@ fn derive<T: Copy>(
     derive_members(dpb, pic, header, set, max_pic_order_cnt_lsb, out);
 }
 
-/// Makes `out` the reference picture set of a picture, as `derive_and_mark` gives it, and marks what is stored by it (8.3.2). So a
-/// set that is kept in one place isn't moved.
+/// Makes `out` the reference picture set of a picture, as `derive_and_mark` gives it, and marks
+/// what is stored by it (8.3.2). So a set that is kept in one place isn't moved.
 ///
-/// `header` is that of the picture's first slice, `set` the short-term set that it means, and `max_pic_order_cnt_lsb`
-/// MaxPicOrderCntLsb of its sequence set.
+/// `header` is that of the picture's first slice, `set` the short-term set that it means, and
+/// `max_pic_order_cnt_lsb` MaxPicOrderCntLsb of its sequence set.
 pub fn derive_into<T: Copy>(
     dpb: &mut Dpb<T>,
     pic: &PictureData,
@@ -99,11 +100,12 @@ pub fn derive_into<T: Copy>(
     derive(dpb, pic, header, set, max_pic_order_cnt_lsb, out);
 }
 
-/// The reference picture set of a picture over what is stored (8.3.2). What is stored is marked by it: long-term members
-/// as used for long-term reference, and what no list names as unused for reference.
+/// The reference picture set of a picture over what is stored (8.3.2). What is stored is marked by
+/// it: long-term members as used for long-term reference, and what no list names as unused for
+/// reference.
 ///
-/// `header` is that of the picture's first slice, `set` the short-term set that it means, and `max_pic_order_cnt_lsb`
-/// MaxPicOrderCntLsb of its sequence set.
+/// `header` is that of the picture's first slice, `set` the short-term set that it means, and
+/// `max_pic_order_cnt_lsb` MaxPicOrderCntLsb of its sequence set.
 pub fn derive_and_mark<T: Copy>(
     dpb: &mut Dpb<T>,
     pic: &PictureData,

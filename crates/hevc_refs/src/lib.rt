@@ -1,4 +1,5 @@
-//! Reference picture sets with the marks that they leave, and reference picture lists (8.3.2, 8.3.4).
+//! Reference picture sets with the marks that they leave, and reference picture lists (8.3.2,
+//! 8.3.4).
 #![tactic(auto)]
 
 pub mod comparisons;

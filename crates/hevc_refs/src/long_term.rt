@@ -1,13 +1,15 @@
 //! The long-term members of a reference picture set (8.3.2).
 ghost use Rattle.std.specs.Int.{int_rem_euclid};
-ghost use Rattle.std.specs.Prelude.{◌≡◌, ◌≤◌, ◌<◌, ◌+◌, ◌*◌, ◌&&◌, ◌<ℤ◌, ◌≤ℤ◌, ℕ, pos, not, map, filter};
+ghost use Rattle.std.specs.Prelude.{◌≡◌, ◌≤◌, ◌<◌, ◌+◌, ◌*◌, ◌&&◌, ◌<ℤ◌, ◌≤ℤ◌, ℕ, pos, not, map};
+ghost use Rattle.std.specs.Prelude.{filter};
 ghost use Rattle.arrayvec.specs.ArrayVec.{array_vec_len};
 ghost use Rattle.hevc_walk_inputs.specs.Headers.{long_term_member, long_term_members};
 ghost use Rattle.hevc_picture_slice.specs.SliceHeader.{plain_slice_header};
 ghost use Rattle.hevc_walk.specs.Meanings.{Slice};
 ghost use Rattle.hevc_walk.specs.Pictures.{Head};
 ghost use Rattle.hevc_walk.specs.Buffer.{Entry, is_reference};
-ghost use Rattle.hevc_walk.specs.ReferenceSets.{long_term_count, is_named, long_term_entry, is_curr_long_term};
+ghost use Rattle.hevc_walk.specs.ReferenceSets.{long_term_count, is_named, long_term_entry};
+ghost use Rattle.hevc_walk.specs.ReferenceSets.{is_curr_long_term};
 ghost use Rattle.hevc_pictures.specs.OrderCounts.{IsMaxPicOrderCntLsb};
 ghost use Rattle.hevc_dpb.specs.Sought.{fits, HasModulus};
 ghost use Rattle.hevc_dpb.specs.Views.{buffer_of};
@@ -44,7 +46,8 @@ fn whole_count(order_count: i32, cycle: u64, modulus: i32, lsb: u32) -> i128
         + lsb as i128
 }
 
-/// What is looked for as a long-term member: low bits, or a whole order count where its most significant bits are signalled.
+/// What is looked for as a long-term member: low bits, or a whole order count where its most
+/// significant bits are signalled.
 fn sought(order_count: i32, header: &SliceHeader, i: usize, modulus: i32) -> Sought
     requires within { i < 16 }
     requires modulus { IsMaxPicOrderCntLsb modulus }
@@ -83,7 +86,8 @@ fn number_of<T: Copy>(
     dpb.find(sought(order_count, header, i, modulus))
 }
 
-/// RefPicSetLtCurr and RefPicSetLtFoll: the long-term members, those that the picture itself may refer to apart.
+/// RefPicSetLtCurr and RefPicSetLtFoll: the long-term members, those that the picture itself may
+/// refer to apart.
 pub(crate) fn find_long_term<T: Copy>(
     dpb: &Dpb<T>,
     order_count: i32,

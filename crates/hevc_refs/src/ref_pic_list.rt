@@ -12,7 +12,8 @@ pub enum RefPicListEntry {
     DpbEntry(u64),
 }
 
-/// A reference picture list (8.3.4), at most 16 places. A place is None where there is no such picture.
+/// A reference picture list (8.3.4), at most 16 places. A place is None where there is no such
+/// picture.
 #[derive(Drop)]
 pub struct RefPicList {
     pub(crate) entries: ArrayVec<Option<RefPicListEntry>, 16>,

@@ -1,11 +1,15 @@
 //! Building the reference picture lists of a slice (8.3.4).
-ghost use Rattle.std.specs.Prelude.{◌≡◌, ◌≤◌, ◌<◌, ◌-◌, ◌%◌, ◌++◌, ◌∷◌, [], ℕ, true, length, map, take, slice_index_or, Some, None, if◌then◌else◌, option_map};
+ghost use Rattle.std.specs.Prelude.{◌≡◌, ◌≤◌, ◌<◌, ◌-◌, ◌%◌, ◌++◌, ◌∷◌, [], ℕ, true, length, map};
+ghost use Rattle.std.specs.Prelude.{take, slice_index_or, Some, None, if◌then◌else◌, option_map};
 ghost use Rattle.arrayvec.specs.ArrayVec.{array_vec_len};
 ghost use Rattle.hevc_walk.specs.Meanings.{Slice};
-ghost use Rattle.hevc_walk.specs.ReferenceLists.{entry_of_number, entry_index, list_places, with_current, base0, base1, ref_pic_list0, ref_pic_list1};
+ghost use Rattle.hevc_walk.specs.ReferenceLists.{entry_of_number, entry_index, list_places};
+ghost use Rattle.hevc_walk.specs.ReferenceLists.{with_current, base0, base1, ref_pic_list0};
+ghost use Rattle.hevc_walk.specs.ReferenceLists.{ref_pic_list1};
 ghost use Rattle.hevc_walk.specs.ReferenceLists as walk;
 ghost use Rattle.hevc_refs.specs.Sets.{plain_set};
-ghost use Rattle.hevc_refs.specs.Lists.{base_places, plain_place, plain_places, places_of, HasHeader};
+ghost use Rattle.hevc_refs.specs.Lists.{base_places, plain_place, plain_places, places_of};
+ghost use Rattle.hevc_refs.specs.Lists.{HasHeader};
 
 use crate::ref_pic_list::{RefPicList, RefPicListEntry, ReferencePicLists};
 use crate::ref_pic_set::RefPicSet;
@@ -23,8 +27,8 @@ fn place_of(number: Option<u64>) -> Option<RefPicListEntry>
     }
 }
 
-/// What a list is taken from: RefPicListTemp0 (8-8) or RefPicListTemp1 (8-10), gone through once. It has the members of three lists
-/// and, where it may be referred to, the current picture.
+/// What a list is taken from: RefPicListTemp0 (8-8) or RefPicListTemp1 (8-10), gone through once.
+/// It has the members of three lists and, where it may be referred to, the current picture.
 #[derive(Drop)]
 struct Base<'a> {
     first: &'a [Option<u64>],
@@ -185,8 +189,9 @@ fn push_bi_list1(
 }
 
 impl ReferencePicLists {
-    /// Makes these the reference picture lists of a slice (8.3.4). List 0 is empty for I slices, list 1 but for B slices. No memory is
-    /// moved, so lists that are used again for each slice cost least.
+    /// Makes these the reference picture lists of a slice (8.3.4). List 0 is empty for I slices,
+    /// list 1 but for B slices. No memory is moved, so lists that are used again for each slice
+    /// cost least.
     pub fn build(&mut self, header: &SliceHeader, sets: &RefPicSet, curr_pic_ref_enabled: bool)
         ensures list0 { (s : Slice) → HasHeader s header.now curr_pic_ref_enabled
             → plain_places (places_of self.new.ref_pic_list0)

@@ -42,7 +42,8 @@ impl RefPicSet {
         self.lt_foll.clear();
     }
 
-    /// RefPicSetStCurrBefore: short-term pictures that the picture may refer to, and that precede it in output order.
+    /// RefPicSetStCurrBefore: short-term pictures that the picture may refer to, and that precede
+    /// it in output order.
     pub fn st_curr_before(&self) -> &[Option<u64>]
         ensures value { result.now ≡ (plain_set self.now).st_curr_before }
         ensures few { length result.now ≤ 16 }
@@ -50,7 +51,8 @@ impl RefPicSet {
         self.st_curr_before.as_slice()
     }
 
-    /// RefPicSetStCurrAfter: short-term pictures that the picture may refer to, and that follow it in output order.
+    /// RefPicSetStCurrAfter: short-term pictures that the picture may refer to, and that follow it
+    /// in output order.
     pub fn st_curr_after(&self) -> &[Option<u64>]
         ensures value { result.now ≡ (plain_set self.now).st_curr_after }
         ensures few { length result.now ≤ 16 }

@@ -1,11 +1,13 @@
 //! The short-term members of a reference picture set (8.3.2).
-ghost use Rattle.std.specs.Prelude.{◌≡◌, ◌≤◌, ◌+◌, ◌++◌, ◌&&◌, ◌+ℤ◌, not, map, filter, if◌then◌else◌};
+ghost use Rattle.std.specs.Prelude.{◌≡◌, ◌≤◌, ◌+◌, ◌++◌, ◌&&◌, ◌+ℤ◌, not, map, filter};
+ghost use Rattle.std.specs.Prelude.{if◌then◌else◌};
 ghost use Rattle.std.specs.Ordering.{int_eq};
 ghost use Rattle.arrayvec.specs.ArrayVec.{array_vec_len};
 ghost use Rattle.hevc_walk_inputs.specs.Headers.{short_term_members, short_term_set_of};
 ghost use Rattle.hevc_set_parts.specs.ShortTermRefPicSet.{plain_short_term_ref_pic_set};
 ghost use Rattle.hevc_walk.specs.Pictures.{Head};
-ghost use Rattle.hevc_walk.specs.ReferenceSets.{first_number, is_short_term, short_term_entry, is_curr_short_term};
+ghost use Rattle.hevc_walk.specs.ReferenceSets.{first_number, is_short_term, short_term_entry};
+ghost use Rattle.hevc_walk.specs.ReferenceSets.{is_curr_short_term};
 ghost use Rattle.hevc_dpb.specs.Views.{buffer_of};
 ghost use Rattle.hevc_refs.specs.Marking.{is_wanted};
 
@@ -30,7 +32,8 @@ fn is_wanted(is_used: bool, wanted: bool) -> bool
     is_used == wanted
 }
 
-/// One half of a set: those of its members are pushed that the picture itself may refer to, or the others.
+/// One half of a set: those of its members are pushed that the picture itself may refer to, or the
+/// others.
 fn push_members<T: Copy>(
     dpb: &Dpb<T>,
     order_count: i32,
@@ -53,8 +56,8 @@ fn push_members<T: Copy>(
     }
 }
 
-/// RefPicSetStCurrBefore, RefPicSetStCurrAfter and RefPicSetStFoll: the short-term members, those that the picture itself may refer
-/// to apart.
+/// RefPicSetStCurrBefore, RefPicSetStCurrAfter and RefPicSetStFoll: the short-term members, those
+/// that the picture itself may refer to apart.
 pub(crate) fn find_short_term<T: Copy>(
     dpb: &Dpb<T>,
     order_count: i32,

@@ -5,7 +5,9 @@ use Rattle.hevc_spec.specs.Units.{NalUnit}
 use Rattle.hevc_walk.specs.Meanings.{Meaning}
 use Rattle.hevc_stream.specs.Options.{Options}
 use Rattle.hevc_stream.specs.Kept.{Kept}
-use Rattle.hevc_stream.specs.Contents.{Content, refused, video_set, sequence_set, picture_set, unread_picture_set, slice, end_of_sequence, end_of_bitstream, nothing, content}
+use Rattle.hevc_stream.specs.Contents.{Content, refused, video_set, sequence_set, picture_set}
+use Rattle.hevc_stream.specs.Contents.{unread_picture_set, slice, end_of_sequence, end_of_bitstream}
+use Rattle.hevc_stream.specs.Contents.{nothing, content}
 use Rattle.hevc_stream.specs.Stream.{with_content, kept_behind, meaning_of, meaning, meanings_behind}
 use Rattle.hevc_rewrite_laws.specs.Replaced.{is_all, MeansTheSame, StandFor}
 
@@ -35,23 +37,29 @@ module _ (options : Options) (kept : Kept) (bytes others : List ℕ) where
   meaning_alike nothing e = refl
 
   -- after a unit that stands for another the same is kept
-  one_kept : (others ≡ bytes) ⊎ MeansTheSame options kept bytes others → kept_behind options kept others ≡ kept_behind options kept bytes
+  one_kept : (others ≡ bytes) ⊎ MeansTheSame options kept bytes others
+      → kept_behind options kept others ≡ kept_behind options kept bytes
   unfolding kept_behind
   one_kept (inl e) = ap (λ (b : List ℕ). with_content options b (content options kept b) kept) e
-  one_kept (inr h) = ap (λ (c : Content). with_content options others c kept) h.same ∙ kept_alike (content options kept bytes) h.all
+  one_kept (inr h) = ap (λ (c : Content). with_content options others c kept) h.same
+      ∙ kept_alike (content options kept bytes) h.all
 
   -- and it means the same
-  one_meaning : (others ≡ bytes) ⊎ MeansTheSame options kept bytes others → meaning options kept others ≡ meaning options kept bytes
+  one_meaning : (others ≡ bytes) ⊎ MeansTheSame options kept bytes others
+      → meaning options kept others ≡ meaning options kept bytes
   unfolding meaning
   one_meaning (inl e) = ap (λ (b : List ℕ). meaning_of options kept b (content options kept b)) e
-  one_meaning (inr h) = ap (λ (c : Content). meaning_of options kept others c) h.same ∙ meaning_alike (content options kept bytes) h.all
+  one_meaning (inr h) = ap (λ (c : Content). meaning_of options kept others c) h.same
+      ∙ meaning_alike (content options kept bytes) h.all
 
 -- so do all units after it
-pub same_meanings : (options : Options) (kept : Kept) (us vs : List NalUnit) → StandFor options kept us vs → meanings_behind options kept vs ≡ meanings_behind options kept us
+pub same_meanings : (options : Options) (kept : Kept) (us vs : List NalUnit) → StandFor options kept us vs
+    → meanings_behind options kept vs ≡ meanings_behind options kept us
 same_meanings options kept [] [] h = refl
 same_meanings options kept [] (v ∷ vs) h = absurd h
 same_meanings options kept (u ∷ us) [] h = absurd h
 same_meanings options kept (u ∷ us) (v ∷ vs) h =
     let rest = same_meanings options (kept_behind options kept u.bytes) us vs h.1 in
     let kept_is = one_kept options kept u.bytes v.bytes h.0 in
-    ap₂ (λ (m : Meaning) (ms : List Meaning). m ∷ ms) (one_meaning options kept u.bytes v.bytes h.0) (ap (λ (k : Kept). meanings_behind options k vs) kept_is ∙ rest)
+    ap₂ (λ (m : Meaning) (ms : List Meaning). m ∷ ms) (one_meaning options kept u.bytes v.bytes h.0)
+    (ap (λ (k : Kept). meanings_behind options k vs) kept_is ∙ rest)

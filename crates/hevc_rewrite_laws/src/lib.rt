@@ -9,8 +9,8 @@ ghost use Rattle.hevc_stream.specs.Options.{Options, default_options};
 ghost use Rattle.hevc_stream.specs.Stream.{meanings_behind};
 ghost use Rattle.hevc_rewrite_laws.specs.Replaced.{StandFor};
 
-/// Units in whose place others are mean the same for the pictures, under the options under which they stand for one another. Those of all
-/// sub-layers do so under the default options.
+/// Units in whose place others are mean the same for the pictures, under the options under which
+/// they stand for one another. Those of all sub-layers do so under the default options.
 #[tactic(auto, using(crate::proofs::SameMeanings::same_meanings, crate::proofs::AllSubLayers::same_by_default))]
 pub fn replaced_units_mean_the_same()
     ensures same_options { (options : Options) (kept : Kept) (us vs : List NalUnit)

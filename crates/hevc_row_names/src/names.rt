@@ -11,14 +11,15 @@ use crate::rows::{
 /// What H.265 calls a row, and where it has it.
 #[derive(Clone, Copy)]
 pub struct RowName {
-    /// The syntax elements of the row with their indices, as `cu_chroma_qp_offset_enabled_flag`. Where the row is a condition, those
-    /// that it is about.
+    /// The syntax elements of the row with their indices, as `cu_chroma_qp_offset_enabled_flag`.
+    /// Where the row is a condition, those that it is about.
     pub element: &'static str,
     /// The clause that has the table's syntax, as `7.3.6.1`.
     pub clause: &'static str,
 }
 
-/// What H.265 calls a row of a table, both by their numbers in docs/TABLES.md. There is a name for each row, and none for other numbers.
+/// What H.265 calls a row of a table, both by their numbers in docs/TABLES.md. There is a name for
+/// each row, and none for other numbers.
 pub fn row_name(table: u8, row: u8) -> Option<RowName>
     ensures { is_some result ≡ is_row table row }
 {

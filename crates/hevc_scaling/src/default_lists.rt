@@ -1,6 +1,7 @@
 //! The default scaling lists (7.4.5).
 ghost use Rattle.std.specs.Prelude.{◌≡◌};
-ghost use Rattle.hevc_records.specs.DefaultScalingLists.{default_lists, flat_list, intra_list, inter_list};
+ghost use Rattle.hevc_records.specs.DefaultScalingLists.{default_lists, flat_list, intra_list};
+ghost use Rattle.hevc_records.specs.DefaultScalingLists.{inter_list};
 ghost use Rattle.hevc_set_parts.specs.ScalingLists.{plain_scaling_lists};
 
 use hevc_set_parts::ScalingLists;
@@ -25,11 +26,13 @@ const INTER: [u8; 64] = [
 /// The lists of the 4x4 matrices.
 pub(crate) const FLAT_LISTS: [[u8; 16]; 6] = [FLAT; 6];
 
-/// The lists of the matrices of each larger size, three of intra and three of inter prediction (Table 7-4).
+/// The lists of the matrices of each larger size, three of intra and three of inter prediction
+/// (Table 7-4).
 pub(crate) const LARGER_LISTS: [[u8; 64]; 6] = [INTRA, INTRA, INTRA, INTER, INTER, INTER];
 
-/// The default scaling lists of a set that has none of its own (7.4.5), with 16 as the first entry of each matrix of 16x16 and 32x32.
-/// Lists that the syntax doesn't have, those of chroma at 32x32, have entries 0.
+/// The default scaling lists of a set that has none of its own (7.4.5), with 16 as the first entry
+/// of each matrix of 16x16 and 32x32. Lists that the syntax doesn't have, those of chroma at 32x32,
+/// have entries 0.
 pub fn default_scaling_lists() -> ScalingLists
     ensures { plain_scaling_lists result ≡ default_lists }
 {

@@ -11,11 +11,12 @@ use hevc_set_parts::ScalingLists;
 
 /// Reads scaling lists, by table 6 (7.3.4).
 ///
-/// A list of which the syntax says that it is the default one is that of Tables 7-5 and 7-6, with 8 as its number of the first entry
-/// less 8. Of the 32x32 matrices those of chroma aren't read: their entries are 0.
+/// A list of which the syntax says that it is the default one is that of Tables 7-5 and 7-6, with 8
+/// as its number of the first entry less 8. Of the 32x32 matrices those of chroma aren't read:
+/// their entries are 0.
 ///
-/// Errors: `OutOfBits` where the payload ends within an element, and `OutOfRange` with table and row of the first element that
-/// isn't allowed. The reader then is where that element begins.
+/// Errors: `OutOfBits` where the payload ends within an element, and `OutOfRange` with table and
+/// row of the first element that isn't allowed. The reader then is where that element begins.
 #[tactic(auto, using(hevc_elements::proofs::Meaning::meanings))]
 pub fn read_scaling_list_data(r: &mut ElementReader<'_>) -> Result<ScalingLists, ParseError>
     ensures rows { ReadsTable plain_scaling_lists scaling_list_data result r.old r.new }

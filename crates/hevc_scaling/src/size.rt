@@ -1,6 +1,9 @@
 //! The sizes of matrices (7.4.5).
 ghost use Rattle.std.specs.Prelude.{◌≡◌, ◌≤◌, ◌/◌};
-ghost use Rattle.hevc_tables.specs.ScalingListTable.{has_dc_coef as has_dc_coef_in_size, has_matrix as has_matrix_in_size, matrix_step as matrix_step_of_size, ref_matrix as ref_matrix_in_size};
+ghost use Rattle.hevc_tables.specs.ScalingListTable.{has_dc_coef as has_dc_coef_in_size};
+ghost use Rattle.hevc_tables.specs.ScalingListTable.{has_matrix as has_matrix_in_size};
+ghost use Rattle.hevc_tables.specs.ScalingListTable.{matrix_step as matrix_step_of_size};
+ghost use Rattle.hevc_tables.specs.ScalingListTable.{ref_matrix as ref_matrix_in_size};
 ghost use Rattle.hevc_scaling.specs.Projections.{plain_size};
 
 /// The size of a matrix, in the order of sizeId.

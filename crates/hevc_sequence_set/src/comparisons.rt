@@ -1,6 +1,7 @@
 //! What the derived comparisons answer: `==` is equality of all fields.
 //!
-//! Each function is the operator at one type, with its meaning as a contract, for proofs that rest on it.
+//! Each function is the operator at one type, with its meaning as a contract, for proofs that rest
+//! on it.
 ghost use Rattle.std.specs.Prelude.{◌≡◌, ◌↔◌, IsTrue};
 
 use crate::{Point, Rect, Sps, SpsRangeExtension, SpsSccExtension};

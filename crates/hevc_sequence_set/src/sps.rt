@@ -1,5 +1,6 @@
 //! Sequence parameter sets.
-ghost use Rattle.std.specs.Prelude.{◌≡◌, ◌+◌, ◌*◌, ◌^◌, ◌≤◌, min, length, IsTrue, IfOk, if◌then◌else◌};
+ghost use Rattle.std.specs.Prelude.{◌≡◌, ◌+◌, ◌*◌, ◌^◌, ◌≤◌, min, length, IsTrue, IfOk};
+ghost use Rattle.std.specs.Prelude.{if◌then◌else◌};
 ghost use Rattle.std.specs.Int.{div_ceil};
 ghost use Rattle.hevc_records.specs.Bounds.{AtMost, AtMostEach};
 ghost use Rattle.hevc_records.specs.SpsSizes.{leaves_some, wp_offset_half_range};
@@ -12,9 +13,9 @@ use std::alloc::{AllocError, Global};
 
 /// A sequence parameter set (H.265 7.3.2.2.1, 7.4.3.2.1), and the values that are derived from it.
 ///
-/// The arrays of seven have a place for each sub-layer. Logarithms are to the base 2, of sizes in luma samples.
-/// SubWidthC and SubHeightC, the luma samples for a chroma sample across and down, are 2 and 2 where
-/// `chroma_array_type` is 1, 2 and 1 where it is 2, and else 1 and 1 (Table 6-1).
+/// The arrays of seven have a place for each sub-layer. Logarithms are to the base 2, of sizes in
+/// luma samples. SubWidthC and SubHeightC, the luma samples for a chroma sample across and down,
+/// are 2 and 2 where `chroma_array_type` is 1, 2 and 1 where it is 2, and else 1 and 1 (Table 6-1).
 #[derive(Drop, PartialEq, Eq)]
 pub struct Sps {
     /// The number of the video parameter set that the set refers to: 0 to 15.
@@ -55,7 +56,8 @@ pub struct Sps {
     pub sub_layer_ordering_info_present_flag: bool,
     /// For each sub-layer, the size of the decoded picture buffer in pictures, less 1: 0 to 16.
     pub max_dec_pic_buffering_minus1: [u8; 7],
-    /// For each sub-layer, the most pictures that precede one in decoding order and follow it in output order: at most `max_dec_pic_buffering_minus1` there.
+    /// For each sub-layer, the most pictures that precede one in decoding order and follow it in
+    /// output order: at most `max_dec_pic_buffering_minus1` there.
     pub max_num_reorder_pics: [u8; 7],
     /// For each sub-layer, the latency beyond reordering, plus 1: 0 for no bound.
     pub max_latency_increase_plus1: [u8; 7],
@@ -65,7 +67,8 @@ pub struct Sps {
     pub log2_diff_max_min_luma_coding_block_size: u8,
     /// The logarithm of the smallest size of a luma transform block, less 2: 0 to 3.
     pub log2_min_luma_transform_block_size_minus2: u8,
-    /// The logarithm of the largest size of a luma transform block, less that of the smallest: 0 to 3.
+    /// The logarithm of the largest size of a luma transform block, less that of the smallest: 0 to
+    /// 3.
     pub log2_diff_max_min_luma_transform_block_size: u8,
     /// How often a coding unit in inter prediction may be split into transform blocks: 0 to 4.
     pub max_transform_hierarchy_depth_inter: u8,
@@ -89,7 +92,8 @@ pub struct Sps {
     pub pcm_sample_bit_depth_chroma_minus1: u8,
     /// The logarithm of the smallest size of a block in pulse code modulation, less 3: 0 to 2.
     pub log2_min_pcm_luma_coding_block_size_minus3: u8,
-    /// The logarithm of the largest size of a block in pulse code modulation, less that of the smallest: 0 to 2.
+    /// The logarithm of the largest size of a block in pulse code modulation, less that of the
+    /// smallest: 0 to 2.
     pub log2_diff_max_min_pcm_luma_coding_block_size: u8,
     /// Whether blocks in pulse code modulation are left out of the loop filters.
     pub pcm_loop_filter_disabled_flag: bool,
@@ -123,7 +127,8 @@ pub struct Sps {
     pub range_extension: SpsRangeExtension,
     /// The screen content coding extension.
     pub scc_extension: SpsSccExtension,
-    /// The chroma format by which blocks are coded: `chroma_format_idc`, but 0 where the colour planes are coded apart.
+    /// The chroma format by which blocks are coded: `chroma_format_idc`, but 0 where the colour
+    /// planes are coded apart.
     pub chroma_array_type: u8,
     /// The logarithm of the smallest size of a luma coding block: 3 to 6.
     pub min_cb_log2_size_y: u32,
@@ -131,15 +136,18 @@ pub struct Sps {
     pub ctb_log2_size_y: u32,
     /// The size of a luma coding tree block in samples: 8 to 4096.
     pub ctb_size_y: u32,
-    /// The width of a picture in coding tree blocks, the last column included where it is cut: 1 to 2111.
+    /// The width of a picture in coding tree blocks, the last column included where it is cut: 1 to
+    /// 2111.
     pub pic_width_in_ctbs_y: u32,
-    /// The height of a picture in coding tree blocks, the last row included where it is cut: 1 to 2111.
+    /// The height of a picture in coding tree blocks, the last row included where it is cut: 1 to
+    /// 2111.
     pub pic_height_in_ctbs_y: u32,
     /// The number of coding tree blocks in a picture: 1 to 4456321.
     pub pic_size_in_ctbs_y: u32,
     /// The number of luma samples in a picture: 1 to 285204544.
     pub pic_size_in_samples_y: u32,
-    /// The logarithm of the largest size of a luma transform block: 2 to 5, at most `ctb_log2_size_y`.
+    /// The logarithm of the largest size of a luma transform block: 2 to 5, at most
+    /// `ctb_log2_size_y`.
     pub max_tb_log2_size_y: u32,
     /// Half the range of luma offsets in weighted prediction: 128 to 8192.
     pub wp_offset_half_range_y: u32,
@@ -178,8 +186,8 @@ impl Sps {
     ghost use Rattle.hevc_records.specs.Sps.{default_sps};
     ghost use Rattle.hevc_sequence_set.specs.Sps.{plain_sps};
 
-    /// A set of pictures of one luma sample. Its other elements are 0, not set or empty, and its parts those of their
-    /// own `new`; the derived values follow from these.
+    /// A set of pictures of one luma sample. Its other elements are 0, not set or empty, and its
+    /// parts those of their own `new`; the derived values follow from these.
     pub fn new(alloc: Global) -> Sps
         ensures { plain_sps result ≡ default_sps }
     {

@@ -141,7 +141,8 @@ impl Sps {
         self.max_dec_pic_buffering_minus1
     }
 
-    /// For each sub-layer, the most pictures that precede one in decoding order and follow it in output order.
+    /// For each sub-layer, the most pictures that precede one in decoding order and follow it in
+    /// output order.
     pub fn max_num_reorder_pics(&self) -> [u8; 7]
         ensures { result ≡ self.now.max_num_reorder_pics }
     {
@@ -260,7 +261,8 @@ impl Sps {
         self.log2_min_pcm_luma_coding_block_size_minus3
     }
 
-    /// The logarithm of the largest size of a block in pulse code modulation, less that of the smallest.
+    /// The logarithm of the largest size of a block in pulse code modulation, less that of the
+    /// smallest.
     pub fn log2_diff_max_min_pcm_luma_coding_block_size(&self) -> u8
         ensures { result ≡ self.now.log2_diff_max_min_pcm_luma_coding_block_size }
     {

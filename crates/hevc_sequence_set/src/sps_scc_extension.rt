@@ -18,9 +18,11 @@ pub struct SpsSccExtension {
     pub num_palette_predictor_initializer_minus1: u8,
     /// For each component, the first palette predictors.
     pub palette_predictor_initializer: [[u32; 128]; 3],
-    /// Whether motion vectors are whole samples: 0 never, 1 always, 2 as each slice says; 3 is reserved.
+    /// Whether motion vectors are whole samples: 0 never, 1 always, 2 as each slice says; 3 is
+    /// reserved.
     pub motion_vector_resolution_control_idc: u8,
-    /// Whether intra prediction goes without filtering of block boundaries where the standard lets it.
+    /// Whether intra prediction goes without filtering of block boundaries where the standard lets
+    /// it.
     pub intra_boundary_filtering_disabled_flag: bool,
     pub ghost palette: { palette_max_size ≤ 64 },
     pub ghost predictors: { palette_max_size + delta_palette_max_predictor_size ≤ 128 },
@@ -103,7 +105,8 @@ impl SpsSccExtension {
         self.motion_vector_resolution_control_idc
     }
 
-    /// Whether intra prediction goes without filtering of block boundaries where the standard lets it.
+    /// Whether intra prediction goes without filtering of block boundaries where the standard lets
+    /// it.
     pub fn intra_boundary_filtering_disabled_flag(&self) -> bool
         ensures { result ≡ self.now.intra_boundary_filtering_disabled_flag }
     {

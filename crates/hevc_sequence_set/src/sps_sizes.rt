@@ -1,6 +1,9 @@
-//! What follows from a sequence parameter set: the size of the buffer, the cropping window, and the derived values.
+//! What follows from a sequence parameter set: the size of the buffer, the cropping window, and the
+//! derived values.
 ghost use Rattle.std.specs.Prelude.{◌≡◌, ◌≤◌};
-ghost use Rattle.hevc_records.specs.SpsSizes.{max_dpb_size_of, window_left, window_top, window_width, window_height, sub_width_c, sub_height_c};
+ghost use Rattle.hevc_records.specs.SpsSizes.{max_dpb_size_of, window_left, window_top};
+ghost use Rattle.hevc_records.specs.SpsSizes.{window_width, window_height, sub_width_c};
+ghost use Rattle.hevc_records.specs.SpsSizes.{sub_height_c};
 
 use crate::point::Point;
 use crate::rect::Rect;
@@ -9,8 +12,8 @@ use crate::sps::Sps;
 impl Sps {
     ghost use Rattle.hevc_sequence_set.specs.Sps.{plain_sps};
 
-    /// The most pictures that a decoded picture buffer holds at the size, the level and the profile of the set
-    /// (MaxDpbSize, A.4.2): 6 to 16.
+    /// The most pictures that a decoded picture buffer holds at the size, the level and the profile
+    /// of the set (MaxDpbSize, A.4.2): 6 to 16.
     pub fn max_dpb_size(&self) -> usize
         ensures by_size { result ≡ max_dpb_size_of (plain_sps self.now) }
         ensures cap { result ≤ 16 }
@@ -44,8 +47,9 @@ impl Sps {
         self.pic_height_in_luma_samples
     }
 
-    /// The conformance cropping window in luma samples (7.4.3.2.1): `min` is its upper left corner, `max` its width and
-    /// height. Where nothing is cropped on the left and at the top, `max` is its lower right corner too.
+    /// The conformance cropping window in luma samples (7.4.3.2.1): `min` is its upper left corner,
+    /// `max` its width and height. Where nothing is cropped on the left and at the top, `max` is
+    /// its lower right corner too.
     pub fn visible_rectangle(&self) -> Rect<u32>
         ensures left { result.min.x ≡ window_left (plain_sps self.now) }
         ensures top { result.min.y ≡ window_top (plain_sps self.now) }

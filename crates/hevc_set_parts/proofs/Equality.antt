@@ -28,14 +28,18 @@ bool false false = (λ _. refl, λ _. refl)
 pub list : {A : Type 0} {E : A → A → Bool} → IsEquality E → IsEquality (pointwise E)
 list t = pointwise_decides t
 
-pub array_vec : {A : Type 0} {E : A → A → Bool} → IsEquality E → IsEquality (λ (v w : ArrayVec A). pointwise E v.items w.items)
+pub array_vec : {A : Type 0} {E : A → A → Bool} → IsEquality E
+    → IsEquality (λ (v w : ArrayVec A). pointwise E v.items w.items)
 array_vec {A} {E} t v w =
-    Decides-like (pointwise E v.items w.items) (λ h. λ i. record { items = h i }) (λ e. ap (λ (x : ArrayVec A). x.items) e) (list t v.items w.items)
+    Decides-like (pointwise E v.items w.items) (λ h. λ i. record { items = h i })
+    (λ e. ap (λ (x : ArrayVec A). x.items) e) (list t v.items w.items)
 
 -- a field, and the fields after it
-pub field : {A B : Type 0} {x y : A} {xs ys : B} {s t : Bool} → Decides s (x ≡ y) → Decides t (xs ≡ ys) → Decides (s && t) (◌≡◌ {A = A × B} (x, xs) (y, ys))
+pub field : {A B : Type 0} {x y : A} {xs ys : B} {s t : Bool} → Decides s (x ≡ y) → Decides t (xs ≡ ys)
+    → Decides (s && t) (◌≡◌ {A = A × B} (x, xs) (y, ys))
 field {A} {B} {x} {y} {xs} {ys} {s} {t} one more =
-    Decides-like (s && t) (λ h. λ i. (h.0 i, h.1 i)) (λ e. (ap (λ (p : A × B). p.0) e, ap (λ (p : A × B). p.1) e)) (Decides-and s t one more)
+    Decides-like (s && t) (λ h. λ i. (h.0 i, h.1 i))
+    (λ e. (ap (λ (p : A × B). p.0) e, ap (λ (p : A × B). p.1) e)) (Decides-and s t one more)
 
 -- the last field
 pub last : {A : Type 0} {x y : A} {s : Bool} → Decides s (x ≡ y) → Decides s (◌≡◌ {A = A × Unit {0}} (x, tt) (y, tt))

@@ -8,4 +8,8 @@ use Rattle.hevc_set_parts.proofs.Equality.{IsEquality}
 use denote.Enum.Bare.{same_true}
 
 pub level : IsEquality ghosts.eq
-level x y = (λ h. same_true the_type (search rules) x y h, λ e. subst (λ (z : Level). ghosts.eq x z ≡ true) e (laws-law.refl x))
+level x y = (
+  λ h. same_true the_type (search rules) x y h,
+  λ e. subst
+      (λ (z : Level). ghosts.eq x z ≡ true) e (laws-law.refl x),
+)

@@ -1,6 +1,7 @@
 use Rattle.std.specs.Prelude.{ℕ}
 use Rattle.hevc_set_parts.specs.declared.level.Level.{Level}
-use Rattle.hevc_set_parts.specs.declared.level.Level.TheVariants.{L1, L2, L2_1, L3, L3_1, L4, L4_1, L5, L5_1, L5_2, L6, L6_1, L6_2}
+use Rattle.hevc_set_parts.specs.declared.level.Level.TheVariants.{L1, L2, L2_1, L3, L3_1, L4, L4_1}
+use Rattle.hevc_set_parts.specs.declared.level.Level.TheVariants.{L5, L5_1, L5_2, L6, L6_1, L6_2}
 
 -- The number of a level, thirty times the level (H.265 A.4.1).
 abbrev pub level_number : Level → ℕ

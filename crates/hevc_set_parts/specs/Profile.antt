@@ -1,6 +1,12 @@
 use Rattle.std.specs.Prelude.{ℕ}
 use Rattle.hevc_set_parts.specs.declared.profile.Profile.{Profile}
-use Rattle.hevc_set_parts.specs.declared.profile.Profile.TheVariants.{Main, Main10, MainStill, RangeExtensions, HighThroughput, MultiviewMain, ScalableMain, ThreeDMain, ScreenContentCoding, ScalableRangeExtensions, HighThroughputScreenContentCoding}
+use Rattle.hevc_set_parts.specs.declared.profile.Profile.TheVariants.{Main, Main10, MainStill}
+use Rattle.hevc_set_parts.specs.declared.profile.Profile.TheVariants.{RangeExtensions}
+use Rattle.hevc_set_parts.specs.declared.profile.Profile.TheVariants.{HighThroughput, MultiviewMain}
+use Rattle.hevc_set_parts.specs.declared.profile.Profile.TheVariants.{ScalableMain, ThreeDMain}
+use Rattle.hevc_set_parts.specs.declared.profile.Profile.TheVariants.{ScreenContentCoding}
+use Rattle.hevc_set_parts.specs.declared.profile.Profile.TheVariants.{ScalableRangeExtensions}
+use Rattle.hevc_set_parts.specs.declared.profile.Profile.TheVariants.{HighThroughputScreenContentCoding}
 
 -- The number of a profile (H.265 A.3, G.11, H.11, I.11).
 abbrev pub profile_number : Profile → ℕ

@@ -1,6 +1,8 @@
-//! What the derived comparisons answer, `==` equality of all fields and order by number, and what `default()` is.
+//! What the derived comparisons answer, `==` equality of all fields and order by number, and what
+//! `default()` is.
 //!
-//! Each function is one operator at one type, with its meaning as a contract, for proofs that rest on it.
+//! Each function is one operator at one type, with its meaning as a contract, for proofs that rest
+//! on it.
 ghost use Rattle.std.specs.Prelude.{◌≡◌, ◌↔◌, ◌<◌, IsTrue};
 ghost use Rattle.std.specs.Ordering.{nat_cmp};
 ghost use Rattle.hevc_set_parts.specs.Level.{level_number};

@@ -18,9 +18,11 @@ pub struct PpsRangeExtension {
     pub cb_qp_offset_list: [i32; 6],
     /// The Cr quantiser offsets to choose from: -12 to 12.
     pub cr_qp_offset_list: [i32; 6],
-    /// The logarithm of the scale of sample adaptive offsets of luma: at most the luma bit depth less 10.
+    /// The logarithm of the scale of sample adaptive offsets of luma: at most the luma bit depth
+    /// less 10.
     pub log2_sao_offset_scale_luma: u32,
-    /// The logarithm of the scale of sample adaptive offsets of chroma: at most the chroma bit depth less 10.
+    /// The logarithm of the scale of sample adaptive offsets of chroma: at most the chroma bit
+    /// depth less 10.
     pub log2_sao_offset_scale_chroma: u32,
 }
 

@@ -8,11 +8,13 @@ use crate::level::Level;
 /// The arrays of six have a place for each sub-layer below the highest.
 #[derive(Clone, Copy, PartialEq, Eq)]
 pub struct ProfileTierLevel {
-    /// How `general_profile_idc` and the compatibility flags are understood: 0 to 3, 0 for the profiles of Annex A.
+    /// How `general_profile_idc` and the compatibility flags are understood: 0 to 3, 0 for the
+    /// profiles of Annex A.
     pub general_profile_space: u8,
     /// Whether the tier is High: Main otherwise.
     pub general_tier_flag: bool,
-    /// The number of the profile that the stream conforms to: 0 to 31; `Profile` names those of Annex A.
+    /// The number of the profile that the stream conforms to: 0 to 31; `Profile` names those of
+    /// Annex A.
     pub general_profile_idc: u8,
     /// For each profile number, whether the stream conforms to that profile.
     pub general_profile_compatibility_flag: [bool; 32],
@@ -64,7 +66,8 @@ pub struct ProfileTierLevel {
     pub sub_layer_progressive_source_flag: [bool; 6],
     /// For each sub-layer, whether the source of the pictures is interlaced.
     pub sub_layer_interlaced_source_flag: [bool; 6],
-    /// For each sub-layer, whether no frame packing or segmented rectangular frame packing message is present.
+    /// For each sub-layer, whether no frame packing or segmented rectangular frame packing message
+    /// is present.
     pub sub_layer_non_packed_constraint_flag: [bool; 6],
     /// For each sub-layer, whether each picture is a frame and none a field.
     pub sub_layer_frame_only_constraint_flag: [bool; 6],
@@ -373,7 +376,8 @@ impl ProfileTierLevel {
         self.sub_layer_interlaced_source_flag
     }
 
-    /// For each sub-layer, whether no frame packing or segmented rectangular frame packing message is present.
+    /// For each sub-layer, whether no frame packing or segmented rectangular frame packing message
+    /// is present.
     pub fn sub_layer_non_packed_constraint_flag(&self) -> [bool; 6]
         ensures { result ≡ self.now.sub_layer_non_packed_constraint_flag }
     {

@@ -4,8 +4,9 @@ ghost use Rattle.hevc_records.specs.Bounds.{Within};
 
 /// The scaling lists of a sequence or picture parameter set (H.265 7.3.4, 7.4.5).
 ///
-/// Each array has a list for each of six matrices: intra Y, Cb and Cr, then inter Y, Cb and Cr. The entries are
-/// in the order of the up-right diagonal scan. Of the 32x32 matrices the syntax has those of Y alone, at 0 and 3.
+/// Each array has a list for each of six matrices: intra Y, Cb and Cr, then inter Y, Cb and Cr. The
+/// entries are in the order of the up-right diagonal scan. Of the 32x32 matrices the syntax has
+/// those of Y alone, at 0 and 3.
 #[derive(Clone, Copy, PartialEq, Eq)]
 pub struct ScalingLists {
     /// The first entry of each 16x16 matrix less 8: -7 to 247.

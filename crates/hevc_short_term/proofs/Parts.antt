@@ -5,5 +5,7 @@ use Rattle.hevc_records.specs.ShortTermRefPicSet.{PlainShortTermRefPicSet}
 use Rattle.hevc_set_parts.specs.declared.short_term_ref_pic_set.ShortTermRefPicSet.{ShortTermRefPicSet}
 use Rattle.hevc_set_parts.specs.ShortTermRefPicSet.{plain_short_term_ref_pic_set}
 
-pub set_at : (sets : List ShortTermRefPicSet) (i : ℕ) (d : ShortTermRefPicSet) (e : PlainShortTermRefPicSet) → i < length sets → slice_index_or (map plain_short_term_ref_pic_set sets) i e ≡ plain_short_term_ref_pic_set (get_or sets i d)
+pub set_at : (sets : List ShortTermRefPicSet) (i : ℕ) (d : ShortTermRefPicSet) (e : PlainShortTermRefPicSet)
+    → i < length sets
+    → slice_index_or (map plain_short_term_ref_pic_set sets) i e ≡ plain_short_term_ref_pic_set (get_or sets i d)
 set_at sets i d e below = get_or-map plain_short_term_ref_pic_set sets i d e below

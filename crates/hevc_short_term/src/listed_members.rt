@@ -1,9 +1,11 @@
 //! Members that are written out (7.3.7, rows 9 to 12 of table 7).
-ghost use Rattle.std.specs.Prelude.{◌≡◌, ◌≤◌, ℤ, pos, negsuc, ◌+ℤ◌, ◌-ℤ◌, ◌<ℤ◌, ◌≤ℤ◌, [], IfOk, OnOk, length};
+ghost use Rattle.std.specs.Prelude.{◌≡◌, ◌≤◌, ℤ, pos, negsuc, ◌+ℤ◌, ◌-ℤ◌, ◌<ℤ◌, ◌≤ℤ◌, [], IfOk};
+ghost use Rattle.std.specs.Prelude.{OnOk, length};
 ghost use Rattle.hevc_spec.specs.Payload.{bits, IsAhead};
 ghost use Rattle.hevc_spec.specs.Table.{read};
 ghost use Rattle.hevc_elements.specs.Reads.{Reads};
-ghost use Rattle.hevc_tables.specs.ShortTermTable.{member_before, member_after, listed_before, listed_after, last_delta};
+ghost use Rattle.hevc_tables.specs.ShortTermTable.{member_before, member_after, listed_before};
+ghost use Rattle.hevc_tables.specs.ShortTermTable.{listed_after, last_delta};
 ghost use Rattle.hevc_short_term_laws.specs.Sides.{LieBefore, LieAfter};
 
 use crate::side::Side;

@@ -3,7 +3,8 @@ ghost use Rattle.std.specs.Prelude.{◌≡◌, ◌+◌, ◌≤◌, ◌<◌, IfOk
 ghost use Rattle.hevc_spec.specs.Payload.{bits, IsAhead};
 ghost use Rattle.hevc_spec.specs.Table.{read};
 ghost use Rattle.hevc_elements.specs.Reads.{Reads};
-ghost use Rattle.hevc_tables.specs.ShortTermTable.{member_flags as member_flags_table, all_member_flags};
+ghost use Rattle.hevc_tables.specs.ShortTermTable.{member_flags as member_flags_table};
+ghost use Rattle.hevc_tables.specs.ShortTermTable.{all_member_flags};
 
 use arrayvec::ArrayVec;
 use hevc_elements::rows::{flag, flag_or};

@@ -1,6 +1,7 @@
 //! The members of a predicted set (7.4.8).
 ghost use Rattle.std.specs.Prelude.{◌≡◌, ◌+◌, ◌≤◌, ◌<◌, [], ◌++◌, length, reverse};
-ghost use Rattle.hevc_tables.specs.ShortTermTable.{deltas, shifted, shifted_one, predicted_members as members_by_table};
+ghost use Rattle.hevc_tables.specs.ShortTermTable.{deltas, shifted, shifted_one};
+ghost use Rattle.hevc_tables.specs.ShortTermTable.{predicted_members as members_by_table};
 ghost use Rattle.hevc_set_parts.specs.ShortTermRefPicSet.{plain_short_term_ref_pic_set};
 ghost use Rattle.hevc_short_term_laws.specs.Orders.{Rises};
 
@@ -10,8 +11,8 @@ use hevc_tables::{MemberFlags, ShortTermMember};
 
 /// The members of a set that is predicted from another, in rising order.
 ///
-/// The other set's members before its picture fall and those after it rise, so those before are taken from the last to the
-/// first, then the picture, then those after.
+/// The other set's members before its picture fall and those after it rise, so those before are
+/// taken from the last to the first, then the picture, then those after.
 #[tactic(auto)]
 pub(crate) fn predicted_members(
     other: &ShortTermRefPicSet,

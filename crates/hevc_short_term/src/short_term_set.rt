@@ -14,16 +14,17 @@ use hevc_spec::Row;
 
 /// Reads a short-term reference picture set, by table 7 (7.3.7).
 ///
-/// `sets` are the sets of the sequence parameter set in their order, at least those before number `st_rps_idx`; `count` is
-/// num_short_term_ref_pic_sets, 0 to 64. The set that is read is number `st_rps_idx` of these, or, where it is `count`, that of
-/// a slice header. `buffering` is sps_max_dec_pic_buffering_minus1 of the highest sub-layer, 0 to 16.
+/// `sets` are the sets of the sequence parameter set in their order, at least those before number
+/// `st_rps_idx`; `count` is num_short_term_ref_pic_sets, 0 to 64. The set that is read is number
+/// `st_rps_idx` of these, or, where it is `count`, that of a slice header. `buffering` is
+/// sps_max_dec_pic_buffering_minus1 of the highest sub-layer, 0 to 16.
 ///
-/// A predicted set has each member of the set that predicts it and, as difference 0, that set's own picture, moved by the shift,
-/// where its flag says so and the sum isn't 0 (7-61, 7-62).
+/// A predicted set has each member of the set that predicts it and, as difference 0, that set's own
+/// picture, moved by the shift, where its flag says so and the sum isn't 0 (7-61, 7-62).
 ///
-/// Errors: `OutOfBits` where the payload ends within an element, and `OutOfRange` with table and row of the first element that
-/// isn't allowed; row 6 where a predicted set has more than 16 members or a difference that isn't of 32 bits. The reader then
-/// is where that element begins.
+/// Errors: `OutOfBits` where the payload ends within an element, and `OutOfRange` with table and
+/// row of the first element that isn't allowed; row 6 where a predicted set has more than 16
+/// members or a difference that isn't of 32 bits. The reader then is where that element begins.
 #[tactic(auto, using(hevc_elements::proofs::Meaning::meanings))]
 pub fn read_short_term_set(
     r: &mut ElementReader<'_>,

@@ -1,12 +1,14 @@
 //! The members of a set on one side of the current picture (7.4.8).
 ghost use Rattle.std.specs.Prelude.{◌≡◌, ◌<◌, ◌≤◌, ◌++◌, ◌∷◌, [], pos, false, length, IsTrue};
-ghost use Rattle.hevc_tables.specs.ShortTermTable.{array_of, deltas, is_i32, last_delta, used as used_members};
+ghost use Rattle.hevc_tables.specs.ShortTermTable.{array_of, deltas, is_i32, last_delta};
+ghost use Rattle.hevc_tables.specs.ShortTermTable.{used as used_members};
 
 use hevc_history::History;
 use hevc_tables::ShortTermMember;
 use std::marker::Model;
 
-/// The members of a set on one side of the current picture, at most 16, nearest first. They are in the arrays that the set has.
+/// The members of a set on one side of the current picture, at most 16, nearest first. They are in
+/// the arrays that the set has.
 ///
 /// Contracts see it as the list of its members.
 #[derive(Drop)]
@@ -25,7 +27,8 @@ pub(crate) struct Side {
 impl Model for Side {
     ghost use Rattle.std.specs.Prelude.{◌≡◌, ◌≤◌, List, pos, false, length};
     ghost use Rattle.hevc_tables.specs.declared.short_term_member.ShortTermMember.{ShortTermMember};
-    ghost use Rattle.hevc_tables.specs.ShortTermTable.{array_of, deltas, last_delta, used as used_members};
+    ghost use Rattle.hevc_tables.specs.ShortTermTable.{array_of, deltas, last_delta};
+    ghost use Rattle.hevc_tables.specs.ShortTermTable.{used as used_members};
 
     ghost Value = { List ShortTermMember };
 

@@ -1,7 +1,10 @@
 //! The members on either side of the current picture (7.4.8).
 ghost use Rattle.std.specs.Prelude.{◌≡◌, ◌≤◌, IsTrue, length};
 ghost use Rattle.std.specs.List.{list_all};
-ghost use Rattle.hevc_tables.specs.ShortTermTable.{deltas, is_i32, members_before as before_by_table, members_after as after_by_table, has_room as has_room_by_table};
+ghost use Rattle.hevc_tables.specs.ShortTermTable.{deltas, is_i32};
+ghost use Rattle.hevc_tables.specs.ShortTermTable.{members_before as before_by_table};
+ghost use Rattle.hevc_tables.specs.ShortTermTable.{members_after as after_by_table};
+ghost use Rattle.hevc_tables.specs.ShortTermTable.{has_room as has_room_by_table};
 ghost use Rattle.hevc_short_term_laws.specs.Orders.{Rises};
 ghost use Rattle.hevc_short_term_laws.specs.Sides.{LieBefore, LieAfter};
 

@@ -10,7 +10,10 @@ use Rattle.hevc_elements.proofs.ScanLaws.{gave_is_read, refused_is_read, naming_
 use Rattle.hevc_elements.specs.Sets.{IsRefused}
 use Rattle.hevc_records.specs.SliceHeader.{PlainSliceSegmentHeader}
 use Rattle.hevc_elements.specs.declared.parse_error.ParseError.{ParseError}
-use Rattle.hevc_elements.specs.declared.parse_error.ParseError.TheVariants.{WrongNaluType, OutOfBits, OutOfRange, MissingSps, MissingPps, NoMemory}
+use Rattle.hevc_elements.specs.declared.parse_error.ParseError.TheVariants.{WrongNaluType}
+use Rattle.hevc_elements.specs.declared.parse_error.ParseError.TheVariants.{OutOfBits, OutOfRange}
+use Rattle.hevc_elements.specs.declared.parse_error.ParseError.TheVariants.{MissingSps, MissingPps}
+use Rattle.hevc_elements.specs.declared.parse_error.ParseError.TheVariants.{NoMemory}
 use Rattle.hevc_elements.specs.Reads.{Refuses}
 use Rattle.hevc_elements.specs.Growing.{RefusesGrowing}
 use Rattle.hevc_elements.specs.Sets.{RefusesSet, ReadsSet, MeansSet}
@@ -37,8 +40,10 @@ module _ {A : Type 0} (new : Position) (reading : Scan A) where
 
 pub ruleset answered = (names_none, names_none_growing)
 
-module _ (nal_unit_type : ℕ) (payload : List ℕ) (kept : ℕ → Option ActiveSets) (all : List Bool) (t : Telling) (new : Position) where
-  sized_refused : (fault : Fault) → scan (aligned (elements nal_unit_type kept)) t all ≡ refused fault new.telling (left new)
+module _ (nal_unit_type : ℕ) (payload : List ℕ) (kept : ℕ → Option ActiveSets) (all : List Bool)
+    (t : Telling) (new : Position) where
+  sized_refused : (fault : Fault)
+      → scan (aligned (elements nal_unit_type kept)) t all ≡ refused fault new.telling (left new)
       → IsRefused fault (read (slice_segment_header nal_unit_type payload kept) all)
   unfolding slice_segment_header
   sized_refused fault h =
@@ -46,7 +51,9 @@ module _ (nal_unit_type : ℕ) (payload : List ℕ) (kept : ℕ → Option Activ
       refused_is_read (aligned (elements nal_unit_type kept)) t new.telling all (left new) fault h in
       (left new, rw e refl)
 
-  pub header_refused : (e : ParseError) → RefusesHeader e new (scan (aligned (elements nal_unit_type kept)) t all) → RefusesSet e (read (slice_segment_header nal_unit_type payload kept) all)
+  pub header_refused : (e : ParseError)
+      → RefusesHeader e new (scan (aligned (elements nal_unit_type kept)) t all)
+      → RefusesSet e (read (slice_segment_header nal_unit_type payload kept) all)
   header_refused WrongNaluType h = absurd h
   header_refused OutOfBits h = sized_refused out_of_bits h
   header_refused (OutOfRange table number) h = sized_refused (out_of_range (row table number)) h
@@ -54,8 +61,10 @@ module _ (nal_unit_type : ℕ) (payload : List ℕ) (kept : ℕ → Option Activ
   header_refused (MissingPps id) h = sized_refused (not_kept names_picture_set id) h
   header_refused NoMemory h = tt
 
-  pub header_read : (h : PlainSliceSegmentHeader) → scan (aligned (elements nal_unit_type kept)) t all ≡ gave h new.telling (left new)
-      → read (slice_segment_header nal_unit_type payload kept) all ≡ gives (with_sizes payload h (length all - length (left new))) (left new)
+  pub header_read : (h : PlainSliceSegmentHeader)
+      → scan (aligned (elements nal_unit_type kept)) t all ≡ gave h new.telling (left new)
+      → read (slice_segment_header nal_unit_type payload kept) all ≡ gives
+      (with_sizes payload h (length all - length (left new))) (left new)
   unfolding slice_segment_header
   header_read h s =
       let e : read (aligned (elements nal_unit_type kept)) all ≡ gives h (left new) =
@@ -63,7 +72,8 @@ module _ (nal_unit_type : ℕ) (payload : List ℕ) (kept : ℕ → Option Activ
       rw e refl
 
 -- What is told, but where memory is wanted.
-module _ (nal_unit_type : ℕ) (payload : List ℕ) (kept : ℕ → Option ActiveSets) (all : List Bool) (t : Telling) (new : Position) where
+module _ (nal_unit_type : ℕ) (payload : List ℕ) (kept : ℕ → Option ActiveSets) (all : List Bool)
+    (t : Telling) (new : Position) where
   pub header_tells : {X : Type 0} (view : X → PlainSliceSegmentHeader) (r : Result X ParseError)
       → AnswersHeader view r new (scan (aligned (elements nal_unit_type kept)) t all)
       → (IsErrOf r NoMemory → ⊥)
@@ -72,11 +82,21 @@ module _ (nal_unit_type : ℕ) (payload : List ℕ) (kept : ℕ → Option Activ
   header_tells view (Err NoMemory) h some = absurd (some refl)
   header_tells view (Ok x) h some = naming_tells view new (aligned (elements nal_unit_type kept)) t all (Ok x) h
   header_tells view (Err WrongNaluType) h some = absurd h
-  header_tells view (Err OutOfBits) h some = naming_tells view new (aligned (elements nal_unit_type kept)) t all (Err OutOfBits) h
-  header_tells view (Err (OutOfRange a b)) h some = naming_tells view new (aligned (elements nal_unit_type kept)) t all (Err (OutOfRange a b)) h
-  header_tells view (Err (MissingSps id)) h some = naming_tells view new (aligned (elements nal_unit_type kept)) t all (Err (MissingSps id)) h
-  header_tells view (Err (MissingPps id)) h some = naming_tells view new (aligned (elements nal_unit_type kept)) t all (Err (MissingPps id)) h
+  header_tells view (Err OutOfBits) h some =
+      naming_tells view new (aligned (elements nal_unit_type kept)) t all (Err OutOfBits) h
+  header_tells view (Err (OutOfRange a b)) h some =
+      naming_tells view new (aligned (elements nal_unit_type kept)) t all (Err (OutOfRange a b)) h
+  header_tells view (Err (MissingSps id)) h some =
+      naming_tells view new (aligned (elements nal_unit_type kept)) t all (Err (MissingSps id)) h
+  header_tells view (Err (MissingPps id)) h some =
+      naming_tells view new (aligned (elements nal_unit_type kept)) t all (Err (MissingPps id)) h
 
 -- what was read means what the lines of the payload say
-pub means_as_read : {X A : Type 0} (view : X → A) (t : Table A) (r : Result X ParseError) (payload : List Bool) → ReadsSet view r (read t payload) → MeansSet view t r payload
-means_as_read view t r payload h = record { found = set_found view t payload r h; only = set_only view t payload r h; refused = set_refused view t payload r h; broken = set_broken view t payload r h }
+pub means_as_read : {X A : Type 0} (view : X → A) (t : Table A) (r : Result X ParseError)
+    (payload : List Bool) → ReadsSet view r (read t payload) → MeansSet view t r payload
+means_as_read view t r payload h = record {
+  found = set_found view t payload r h;
+  only = set_only view t payload r h;
+  refused = set_refused view t payload r h;
+  broken = set_broken view t payload r h;
+}

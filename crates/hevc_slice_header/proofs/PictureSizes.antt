@@ -23,15 +23,26 @@ module _ (s : Sps) where
   some_size = rw s.coding_tree_block (pow_pos s.ctb_log2_size_y)
 
   pub width_range : (1 ≤ s.pic_width_in_ctbs_y) × (s.pic_width_in_ctbs_y ≤ 16888)
-  width_range = let w = s.width_range in rw s.width_in_ctbs (some_block s.pic_width_in_luma_samples s.ctb_size_y w.0 some_size, grind (arith, w.1, few_blocks s.pic_width_in_luma_samples s.ctb_size_y w.0 some_size))
+  width_range = let w =
+      s.width_range in
+      rw s.width_in_ctbs (
+        some_block s.pic_width_in_luma_samples s.ctb_size_y w.0 some_size,
+        grind (arith, w.1, few_blocks s.pic_width_in_luma_samples s.ctb_size_y w.0 some_size),
+      )
 
   pub height_range : (1 ≤ s.pic_height_in_ctbs_y) × (s.pic_height_in_ctbs_y ≤ 16888)
-  height_range = let h = s.height_range in rw s.height_in_ctbs (some_block s.pic_height_in_luma_samples s.ctb_size_y h.0 some_size, grind (arith, h.1, few_blocks s.pic_height_in_luma_samples s.ctb_size_y h.0 some_size))
+  height_range = let h =
+      s.height_range in
+      rw s.height_in_ctbs (
+        some_block s.pic_height_in_luma_samples s.ctb_size_y h.0 some_size,
+        grind (arith, h.1, few_blocks s.pic_height_in_luma_samples s.ctb_size_y h.0 some_size),
+      )
 
   pub size_range : (1 ≤ s.pic_size_in_ctbs_y) × (s.pic_size_in_ctbs_y ≤ 2 ^ 31)
   size_range =
       let least : 1 * 1 ≤ s.pic_width_in_ctbs_y * s.pic_height_in_ctbs_y = mul-le-mul width_range.0 height_range.0 in
-      let most : s.pic_width_in_ctbs_y * s.pic_height_in_ctbs_y ≤ 16888 * 16888 = mul-le-mul width_range.1 height_range.1 in
+      let most : s.pic_width_in_ctbs_y * s.pic_height_in_ctbs_y ≤ 16888 * 16888 =
+      mul-le-mul width_range.1 height_range.1 in
       rw s.size_in_ctbs (grind (arith, least), grind (arith, most))
 
 one_of : (b : Bool) (x y most : ℕ) → x ≤ most → y ≤ most → (if b then x else y) ≤ most
@@ -41,8 +52,12 @@ one_of false x y most p q = q
 -- not more than tile columns, at most 20, and rows of blocks
 pub few_parts : (s : Sps) (p : Pps) → most_entry_points (plain_sps s) (plain_pps p) < 2 ^ 20
 few_parts s p =
-    let columns : (if p.tiles_enabled_flag then p.num_tile_columns_minus1 + 1 else 1) ≤ 20 = one_of p.tiles_enabled_flag (p.num_tile_columns_minus1 + 1) 1 20 (grind (arith, p.tile_columns)) (grind arith) in
-    let rows : (if p.entropy_coding_sync_enabled_flag then s.pic_height_in_ctbs_y else p.num_tile_rows_minus1 + 1) ≤ 16888 = one_of p.entropy_coding_sync_enabled_flag s.pic_height_in_ctbs_y (p.num_tile_rows_minus1 + 1) 16888 (height_range s).1 (grind (arith, p.tile_rows)) in
+    let columns : (if p.tiles_enabled_flag then p.num_tile_columns_minus1 + 1 else 1) ≤ 20 =
+    one_of p.tiles_enabled_flag (p.num_tile_columns_minus1 + 1) 1 20 (grind (arith, p.tile_columns)) (grind arith) in
+    let rows : (if
+    p.entropy_coding_sync_enabled_flag then s.pic_height_in_ctbs_y else p.num_tile_rows_minus1 + 1)
+    ≤ 16888 = one_of p.entropy_coding_sync_enabled_flag s.pic_height_in_ctbs_y
+    (p.num_tile_rows_minus1 + 1) 16888 (height_range s).1 (grind (arith, p.tile_rows)) in
     let all = mul-le-mul columns rows in
     grind (arith, all)
 

@@ -1,6 +1,7 @@
 -- What reading the rows of a header answered, and where it left the reader:
 -- they name a picture set, and want memory.
-use Rattle.std.specs.Prelude.{◌≡◌, ◌↔◌, ℕ, drop, Option, Result, Ok, Err, IfOk, IfErr, OnOk, OnErr, IsErrOf, IsTrue, IsFalse}
+use Rattle.std.specs.Prelude.{◌≡◌, ◌↔◌, ℕ, drop, Option, Result, Ok, Err, IfOk, IfErr, OnOk, OnErr}
+use Rattle.std.specs.Prelude.{IsErrOf, IsTrue, IsFalse}
 use Rattle.std.specs.BTreeMap.{BTreeMap}
 use Rattle.hevc_spec.specs.Payload.{payload}
 use Rattle.hevc_spec.specs.Table.{Table, read}
@@ -13,7 +14,8 @@ use Rattle.hevc_short_term.specs.Predictions.{IsInOrder}
 use Rattle.hevc_picture_slice.specs.declared.slice_header.SliceHeader.{SliceHeader}
 use Rattle.hevc_picture_slice.specs.SliceHeader.{plain_slice_header}
 use Rattle.hevc_elements.specs.declared.parse_error.ParseError.{ParseError}
-use Rattle.hevc_elements.specs.declared.parse_error.ParseError.TheVariants.{WrongNaluType, MissingSps, NoMemory}
+use Rattle.hevc_elements.specs.declared.parse_error.ParseError.TheVariants.{WrongNaluType}
+use Rattle.hevc_elements.specs.declared.parse_error.ParseError.TheVariants.{MissingSps, NoMemory}
 use Rattle.hevc_elements.specs.Scan.{Position, left, Scan, gave}
 use Rattle.hevc_elements.specs.Naming.{RefusesNaming}
 use Rattle.hevc_elements.specs.Sets.{ReadsSet, MeansSet}

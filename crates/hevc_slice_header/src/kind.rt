@@ -1,4 +1,5 @@
-//! Of which kind a slice is, and its sample adaptive offset (7.3.6.1, rows 6 to 9, 22 and 23 of table 14).
+//! Of which kind a slice is, and its sample adaptive offset (7.3.6.1, rows 6 to 9, 22 and 23 of
+//! table 14).
 ghost use Rattle.std.specs.Prelude.{◌≡◌};
 ghost use Rattle.hevc_spec.specs.Rows.{row, ue_row};
 ghost use Rattle.hevc_elements.specs.Words.{Reads, Fills};

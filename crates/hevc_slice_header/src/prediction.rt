@@ -112,11 +112,12 @@ fn read_table(
     )
 }
 
-/// Reads the weights of predictions into the header of a P or B slice, by table 16 (7.3.6.3), with the sequence set of its picture. All
-/// else of the header stays.
+/// Reads the weights of predictions into the header of a P or B slice, by table 16 (7.3.6.3), with
+/// the sequence set of its picture. All else of the header stays.
 ///
-/// Errors: `OutOfBits` where the payload ends within an element, and `OutOfRange` with table and row of the first element that
-/// isn't allowed. The header is then as before, and the reader is where that element begins.
+/// Errors: `OutOfBits` where the payload ends within an element, and `OutOfRange` with table and
+/// row of the first element that isn't allowed. The header is then as before, and the reader is
+/// where that element begins.
 #[tactic(auto, using(hevc_elements::proofs::Meaning::meanings))]
 pub fn parse_pred_weight_table(
     hdr: &mut SliceHeader,

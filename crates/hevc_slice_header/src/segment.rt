@@ -44,8 +44,8 @@ pub(crate) fn read_behind_sets(
     read_ending(alloc, r, sps, pps, h)
 }
 
-/// Sets what the sets of a slice infer for absent elements of its header (7.4.7.1), as `SliceHeader::set_defaults` does with the
-/// numbers of `sps`.
+/// Sets what the sets of a slice infer for absent elements of its header (7.4.7.1), as
+/// `SliceHeader::set_defaults` does with the numbers of `sps`.
 pub fn slice_header_set_defaults(hdr: &mut SliceHeader, sps: &Sps, pps: &Pps)
     ensures { plain_slice_header hdr.new
         ≡ table.with_defaults (plain_sps sps.now) (plain_pps pps.now) (plain_slice_header hdr.old) }

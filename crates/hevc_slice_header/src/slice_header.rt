@@ -1,5 +1,6 @@
 //! Slice segment headers (7.3.6.1, table 14).
-ghost use Rattle.std.specs.Prelude.{◌≡◌, ◌==◌, ◌+◌, ◌-◌, ◌<◌, ◌%◌, ◌^◌, ◌↔◌, IfErr, IfOk, OnOk, OnErr, IsErrOf, IsFalse, IsTrue, ◌≤◌, drop, length};
+ghost use Rattle.std.specs.Prelude.{◌≡◌, ◌==◌, ◌+◌, ◌-◌, ◌<◌, ◌%◌, ◌^◌, ◌↔◌, IfErr, IfOk, OnOk};
+ghost use Rattle.std.specs.Prelude.{OnErr, IsErrOf, IsFalse, IsTrue, ◌≤◌, drop, length};
 ghost use Rattle.hevc_spec.specs.Payload.{payload, payload_bits, bits_left, IsAhead};
 ghost use Rattle.hevc_spec.specs.UnitTypes.{is_slice as is_slice_number};
 ghost use Rattle.hevc_bits.specs.FoundUnit.{bytes_of};
@@ -34,15 +35,18 @@ use hevc_spec::Row;
 use std::alloc::{AllocError, Global};
 use std::collections::BTreeMap;
 
-/// Reads a slice segment header out of its unit, of a stream of less than 2^60 bytes, by table 14 (7.3.6.1), with the parameter sets
-/// that are kept, by their ids, into a header of `SliceHeader::new`. It takes memory from `alloc` for its entry points. The answer is
-/// the sets that the header makes active.
+/// Reads a slice segment header out of its unit, of a stream of less than 2^60 bytes, by table 14
+/// (7.3.6.1), with the parameter sets that are kept, by their ids, into a header of
+/// `SliceHeader::new`. It takes memory from `alloc` for its entry points. The answer is the sets
+/// that the header makes active.
 ///
-/// An element that is absent has its value of `SliceHeader::new`, but for what its sets infer (`SliceHeader::set_defaults`).
+/// An element that is absent has its value of `SliceHeader::new`, but for what its sets infer
+/// (`SliceHeader::set_defaults`).
 ///
-/// Errors: `WrongNaluType` first, where the unit is no slice (types 0 to 9 and 16 to 21); `OutOfBits` where the payload ends within
-/// an element; `OutOfRange` with table and row of the first element that isn't allowed; after row 3, `MissingPps` where none of
-/// the picture sets has the id that it names, with a sequence set that is kept; `NoMemory`. The header is again that of
+/// Errors: `WrongNaluType` first, where the unit is no slice (types 0 to 9 and 16 to 21);
+/// `OutOfBits` where the payload ends within an element; `OutOfRange` with table and row of the
+/// first element that isn't allowed; after row 3, `MissingPps` where none of the picture sets has
+/// the id that it names, with a sequence set that is kept; `NoMemory`. The header is again that of
 /// `SliceHeader::new` then.
 #[tactic(auto, using(hevc_elements::proofs::SetMeaning::set_meanings, crate::proofs::CurrentSets::in_order))]
 pub fn read_slice_header<'a>(
@@ -99,9 +103,10 @@ fn read_payload<'a>(
     }
 }
 
-/// Tells the elements of a slice segment header by table 14, in a unit of this type whose payload bytes these are (7.3.1.1), those of a
-/// refused one up to the element that is refused, after what is in the list and as long as it has room. `AllocError` where reading
-/// wants memory that isn't there.
+/// Tells the elements of a slice segment header by table 14, in a unit of this type whose payload
+/// bytes these are (7.3.1.1), those of a refused one up to the element that is refused, after what
+/// is in the list and as long as it has room. `AllocError` where reading wants memory that isn't
+/// there.
 #[tactic(auto, using(crate::proofs::Answered::header_tells), unfolding(hevc_spec::specs::Payload::bits_left))]
 #[inline(never)]
 pub fn tell_slice_header(

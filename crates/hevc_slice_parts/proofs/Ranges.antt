@@ -11,17 +11,21 @@ use Rattle.hevc_records.specs.Bounds.{AtMost}
 use Rattle.hevc_records.specs.SpsSizes.{wp_offset_half_range}
 
 -- half ranges are from 1 to 8192
-pub some_half_range : (high_precision : Bool) (bit_depth_minus8 : ℕ) → 1 ≤ wp_offset_half_range high_precision bit_depth_minus8
+pub some_half_range : (high_precision : Bool) (bit_depth_minus8 : ℕ)
+    → 1 ≤ wp_offset_half_range high_precision bit_depth_minus8
 some_half_range true n = pow_pos (n + 7)
 some_half_range false n = grind arith
 
-pub small_half_range : (high_precision : Bool) (bit_depth_minus8 : ℕ) → bit_depth_minus8 ≤ 6 → wp_offset_half_range high_precision bit_depth_minus8 ≤ 8192
-small_half_range true n le = let small : n + 7 ≤ 13 = grind (arith, le) in let up : 2 ^ (n + 7) ≤ 2 ^ 13 = pow_mono small in grind (arith, up)
+pub small_half_range : (high_precision : Bool) (bit_depth_minus8 : ℕ) → bit_depth_minus8 ≤ 6
+    → wp_offset_half_range high_precision bit_depth_minus8 ≤ 8192
+small_half_range true n le = let small : n + 7 ≤ 13 = grind (arith, le) in let up : 2 ^ (n + 7) ≤ 2 ^ 13 =
+    pow_mono small in grind (arith, up)
 small_half_range false n le = grind arith
 
 -- numbers up to a bound, and one more
 pub AtMost-more : (bound : ℕ) (xs : List ℕ) (x : ℕ) → AtMost bound xs → x ≤ bound → AtMost bound (xs ++ x ∷ [])
-AtMost-more bound xs x h le = grind (arith, common_steps, h, le, list_all-append (λ (n : ℕ). nat_le n bound) xs (x ∷ []))
+AtMost-more bound xs x h le =
+    grind (arith, common_steps, h, le, list_all-append (λ (n : ℕ). nat_le n bound) xs (x ∷ []))
 
 pub ruleset half_ranges = (some_half_range, small_half_range)
 

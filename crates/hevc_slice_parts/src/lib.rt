@@ -1,4 +1,5 @@
-//! The parts of slice segment headers that stand alone, and their readers: list modification and weighted prediction.
+//! The parts of slice segment headers that stand alone, and their readers: list modification and
+//! weighted prediction.
 #![tactic(auto)]
 
 mod list_modification;

@@ -14,11 +14,12 @@ use hevc_spec::Row;
 
 /// Reads how the reference picture lists of a P or B slice are ordered, by table 15 (7.3.6.2).
 ///
-/// `num_pic_total_curr` is NumPicTotalCurr (7-55), at least 1 and at most 2^31; the counts are those of active places, less 1, 0 to
-/// 14. Only a B slice has a list 1.
+/// `num_pic_total_curr` is NumPicTotalCurr (7-55), at least 1 and at most 2^31; the counts are
+/// those of active places, less 1, 0 to 14. Only a B slice has a list 1.
 ///
-/// Errors: `OutOfBits` where the payload ends within an element, and `OutOfRange` with table and row of an entry that isn't below
-/// `num_pic_total_curr`. The reader then is where that element begins.
+/// Errors: `OutOfBits` where the payload ends within an element, and `OutOfRange` with table and
+/// row of an entry that isn't below `num_pic_total_curr`. The reader then is where that element
+/// begins.
 #[tactic(auto, using(hevc_elements::proofs::Meaning::meanings))]
 pub fn read_ref_pic_list_modification(
     r: &mut ElementReader<'_>,
@@ -32,7 +33,8 @@ pub fn read_ref_pic_list_modification(
     ensures rows { ReadsTable plain_ref_pic_list_modification (table.ref_pic_list_modification is_b
         num_pic_total_curr num_ref_idx_l0_active_minus1 num_ref_idx_l1_active_minus1) result r.old
         r.new }
-    // A list whose order is signalled has an entry for each active place, each below NumPicTotalCurr.
+    // A list whose order is signalled has an entry for each active place, each below
+    // NumPicTotalCurr.
     ensures entries_l0 { IfOk result
         (λ m. IsTrue m.ref_pic_list_modification_flag_l0
         → HasEntries num_pic_total_curr num_ref_idx_l0_active_minus1 m.list_entry_l0.items) }

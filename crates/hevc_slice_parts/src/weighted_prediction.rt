@@ -1,5 +1,6 @@
 //! Weighted prediction (7.3.6.3, table 16).
-ghost use Rattle.std.specs.Prelude.{◌≡◌, ◌≤◌, ◌+◌, pos, neg_ℤ, ◌+ℤ◌, IfOk, ◌≤ℤ◌, if◌then◌else◌, unsigned_abs};
+ghost use Rattle.std.specs.Prelude.{◌≡◌, ◌≤◌, ◌+◌, pos, neg_ℤ, ◌+ℤ◌, IfOk, ◌≤ℤ◌, if◌then◌else◌};
+ghost use Rattle.std.specs.Prelude.{unsigned_abs};
 ghost use Rattle.hevc_spec.specs.Rows.{row, se_row};
 ghost use Rattle.hevc_elements.specs.Words.{when, Reads, Fills, ReadsTable};
 ghost use Rattle.hevc_tables.specs.WeightedPredictionTable as table;
@@ -15,12 +16,14 @@ use hevc_sequence_set::Sps;
 use hevc_spec::Row;
 use hevc_video_set::PredWeightTable;
 
-/// Reads the weights of predictions of a P or B slice, by table 16 (7.3.6.3), with the sequence set of its picture.
+/// Reads the weights of predictions of a P or B slice, by table 16 (7.3.6.3), with the sequence set
+/// of its picture.
 ///
-/// The counts are those of active places, less 1, 0 to 14. Only a B slice has a list 1. A flag stands for every active place.
+/// The counts are those of active places, less 1, 0 to 14. Only a B slice has a list 1. A flag
+/// stands for every active place.
 ///
-/// Errors: `OutOfBits` where the payload ends within an element, and `OutOfRange` with table and row of the first element that
-/// isn't allowed. The reader then is where that element begins.
+/// Errors: `OutOfBits` where the payload ends within an element, and `OutOfRange` with table and
+/// row of the first element that isn't allowed. The reader then is where that element begins.
 #[tactic(auto, using(hevc_elements::proofs::Meaning::meanings))]
 pub fn read_pred_weight_table(
     r: &mut ElementReader<'_>,

@@ -9,5 +9,6 @@ pub few_cycles : (n : ℕ) → 4 ≤ n → 2 ^ (32 - n) ≤ 2 ^ 28
 few_cycles n le = let small : 32 - n ≤ 28 = grind (arith, le) in pow_mono small
 
 -- what the next picture adds its own to are those of this one, or none
-pub cycles_fit : (i : ℕ) (h : PlainSliceSegmentHeader) (most : ℕ) → slice_index_or h.delta_poc_msb_cycle_lt i 0 ≤ most → cycles_before (i + 1) h ≤ most
+pub cycles_fit : (i : ℕ) (h : PlainSliceSegmentHeader) (most : ℕ)
+    → slice_index_or h.delta_poc_msb_cycle_lt i 0 ≤ most → cycles_before (i + 1) h ≤ most
 cycles_fit i h most le = grind (arith, common_steps, le)

@@ -17,11 +17,11 @@ use hevc_sequence_set::Sps;
 use hevc_set_parts::RefPicListModification;
 use hevc_slice_parts::read_ref_pic_list_modification;
 
-/// Fills in rows 24 to 27 of table 14 (7.3.6.1) of a P or B slice: the active places of its lists, the number of pictures that it may
-/// refer to (7-55), and how its lists are ordered.
+/// Fills in rows 24 to 27 of table 14 (7.3.6.1) of a P or B slice: the active places of its lists,
+/// the number of pictures that it may refer to (7-55), and how its lists are ordered.
 ///
-/// Errors: `OutOfBits` where the payload ends within an element, and `OutOfRange` with table and row of the first element that
-/// isn't allowed. The reader then is where that element begins.
+/// Errors: `OutOfBits` where the payload ends within an element, and `OutOfRange` with table and
+/// row of the first element that isn't allowed. The reader then is where that element begins.
 #[tactic(auto, unfolding(hevc_tables::specs::SliceHeaderTable::reference_lists, hevc_spec::specs::Rows::when))]
 pub fn read_reference_lists(
     r: &mut ElementReader<'_>,

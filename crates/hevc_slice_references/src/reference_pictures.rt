@@ -12,11 +12,11 @@ use hevc_picture_slice::SliceHeader;
 use hevc_sequence_set::Sps;
 use hevc_spec::Row;
 
-/// Fills in rows 10 to 21 of table 14 (7.3.6.1) of a slice whose picture isn't IDR: its order count, and its short-term and long-term
-/// reference pictures.
+/// Fills in rows 10 to 21 of table 14 (7.3.6.1) of a slice whose picture isn't IDR: its order
+/// count, and its short-term and long-term reference pictures.
 ///
-/// Errors: `OutOfBits` where the payload ends within an element, and `OutOfRange` with table and row of the first element that
-/// isn't allowed. The reader then is where that element begins.
+/// Errors: `OutOfBits` where the payload ends within an element, and `OutOfRange` with table and
+/// row of the first element that isn't allowed. The reader then is where that element begins.
 #[tactic(auto, unfolding(hevc_tables::specs::SliceHeaderTable::reference_pictures, hevc_spec::specs::Rows::when))]
 pub fn read_reference_pictures(
     r: &mut ElementReader<'_>,

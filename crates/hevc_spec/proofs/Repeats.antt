@@ -3,15 +3,19 @@ use Rattle.std.proofs.Common.{◌≡◌, ℕ, suc, ◌+◌, ◌-◌, ◌<◌, �
 use Rattle.hevc_spec.specs.Table.{Table, Reading, gives, refuses, Fault, read}
 use Rattle.hevc_spec.specs.Rows.{repeat}
 
-module _ {S : Type 0} (body : ℕ → S → Table S) (i n : ℕ) (s : S) (bits : List Bool) (total : Reading S) (so_far : read (repeat body i (n - i) s) bits ≡ total) where
-  pub repeat_more : (next : S) (rest : List Bool) → i < n → read (body i s) bits ≡ gives next rest → read (repeat body (i + 1) (n - (i + 1)) next) rest ≡ total
+module _ {S : Type 0} (body : ℕ → S → Table S) (i n : ℕ) (s : S) (bits : List Bool) (total : Reading S)
+    (so_far : read (repeat body i (n - i) s) bits ≡ total) where
+  pub repeat_more : (next : S) (rest : List Bool) → i < n → read (body i s) bits ≡ gives next rest
+      → read (repeat body (i + 1) (n - (i + 1)) next) rest ≡ total
   unfolding repeat
   repeat_more next rest lt h =
       let k : n - i ≡ suc (n - (i + 1)) = omega arith in
-      let one : read (repeat body i (n - i) s) bits ≡ read (repeat body (i + 1) (n - (i + 1)) next) rest = rw (k, h) refl in
+      let one : read (repeat body i (n - i) s) bits ≡ read (repeat body (i + 1) (n - (i + 1)) next) rest =
+      rw (k, h) refl in
       sym one ∙ so_far
 
-  pub repeat_refused : (f : Fault) (rest : List Bool) → i < n → read (body i s) bits ≡ refuses f rest → total ≡ refuses f rest
+  pub repeat_refused : (f : Fault) (rest : List Bool) → i < n → read (body i s) bits ≡ refuses f rest
+      → total ≡ refuses f rest
   unfolding repeat
   repeat_refused f rest lt h =
       let k : n - i ≡ suc (n - (i + 1)) = omega arith in

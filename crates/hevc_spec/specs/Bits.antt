@@ -1,5 +1,7 @@
 -- How an element is spelled in bits (7.2, 9.2), and what is at the front of bits.
-use Rattle.std.specs.Prelude.{◌≡◌, ℕ, suc, ◌+◌, ◌-◌, ◌*◌, ◌≤◌, Bool, true, false, List, [], ◌∷◌, ◌++◌, length, replicate, take, drop, nat_le, ◌&&◌, ◌==◌, if◌then◌else◌, ℤ, pos, neg_ℤ, int_le, ◌/◌, ◌%◌}
+use Rattle.std.specs.Prelude.{◌≡◌, ℕ, suc, ◌+◌, ◌-◌, ◌*◌, ◌≤◌, Bool, true, false, List, [], ◌∷◌}
+use Rattle.std.specs.Prelude.{◌++◌, length, replicate, take, drop, nat_le, ◌&&◌, ◌==◌}
+use Rattle.std.specs.Prelude.{if◌then◌else◌, ℤ, pos, neg_ℤ, int_le, ◌/◌, ◌%◌}
 
 -- the number that bits spell after a number, the most significant bit first
 abbrev pub number_after : ℕ → List Bool → ℕ

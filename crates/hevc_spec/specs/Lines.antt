@@ -1,8 +1,10 @@
 -- The lines of a table (7.3), what a record's lines are, and where a payload breaks off.
-use Rattle.std.specs.Prelude.{◌≡◌, ◌≢◌, ℕ, Bool, true, false, List, [], ◌∷◌, ◌++◌, length, replicate, ◌⊎◌}
+use Rattle.std.specs.Prelude.{◌≡◌, ◌≢◌, ℕ, Bool, true, false, List, [], ◌∷◌, ◌++◌, length}
+use Rattle.std.specs.Prelude.{replicate, ◌⊎◌}
 use Rattle.hevc_spec.specs.declared.Row.{Row}
 use Rattle.hevc_spec.specs.Bits.{Form, u, ue, se, skip, check, IsSpelled}
-use Rattle.hevc_spec.specs.Table.{Table, done, missing, element, sized, part, Fault, out_of_bits, out_of_range, not_kept}
+use Rattle.hevc_spec.specs.Table.{Table, done, missing, element, sized, part, Fault, out_of_bits}
+use Rattle.hevc_spec.specs.Table.{out_of_range, not_kept}
 
 -- what a line asks for: its row, its form, and which values are allowed
 pub record Head : Type 0 where

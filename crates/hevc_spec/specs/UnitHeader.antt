@@ -1,5 +1,6 @@
 -- The header of a unit, its first two bytes (7.3.1.2).
-use Rattle.std.specs.Prelude.{ℕ, ◌+◌, ◌*◌, ◌/◌, ◌%◌, List, [], ◌∷◌, Result, Ok, Err, ◌==◌, nat_le, if◌then◌else◌}
+use Rattle.std.specs.Prelude.{ℕ, ◌+◌, ◌*◌, ◌/◌, ◌%◌, List, [], ◌∷◌, Result, Ok, Err, ◌==◌, nat_le}
+use Rattle.std.specs.Prelude.{if◌then◌else◌}
 
 pub record UnitHeader : Type 0 where
   pub nal_unit_type : ℕ

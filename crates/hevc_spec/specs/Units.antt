@@ -1,5 +1,6 @@
 -- The units of a byte stream (Annex B).
-use Rattle.std.specs.Prelude.{ℕ, ◌+◌, Bool, true, false, List, [], ◌∷◌, length, drop, take, ◌==◌, ◌&&◌, nat_le, if◌then◌else◌}
+use Rattle.std.specs.Prelude.{ℕ, ◌+◌, Bool, true, false, List, [], ◌∷◌, length, drop, take, ◌==◌}
+use Rattle.std.specs.Prelude.{◌&&◌, nat_le, if◌then◌else◌}
 use Rattle.hevc_spec.specs.UnitHeader.{nal_unit_type}
 use Rattle.hevc_spec.specs.UnitTypes.{is_end}
 

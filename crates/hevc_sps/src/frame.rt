@@ -1,7 +1,8 @@
 //! The size and the depth of pictures (7.3.2.2.1, rows 6 to 15 of table 5).
 ghost use Rattle.std.specs.Prelude.{◌≡◌, ◌≤◌, ◌<◌, if◌then◌else◌, true, false, IsTrue};
 ghost use Rattle.hevc_elements.specs.Words.{Fills};
-ghost use Rattle.hevc_records.specs.SpsSizes.{leaves_some, sub_width_c, sub_height_c, wp_offset_half_range};
+ghost use Rattle.hevc_records.specs.SpsSizes.{leaves_some, sub_width_c, sub_height_c};
+ghost use Rattle.hevc_records.specs.SpsSizes.{wp_offset_half_range};
 ghost use Rattle.hevc_tables.specs.SpsTable as table;
 ghost use Rattle.hevc_sequence_set.specs.Sps.{plain_sps};
 

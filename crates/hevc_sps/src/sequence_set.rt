@@ -1,11 +1,13 @@
 //! Sequence parameter sets (7.3.2.2.1, table 5).
-ghost use Rattle.std.specs.Prelude.{◌≡◌, ◌==◌, ◌<◌, ◌≤◌, ◌^◌, ◌↔◌, IfErr, IfOk, IsErrOf, IsTrue, length};
+ghost use Rattle.std.specs.Prelude.{◌≡◌, ◌==◌, ◌<◌, ◌≤◌, ◌^◌, ◌↔◌, IfErr, IfOk, IsErrOf, IsTrue};
+ghost use Rattle.std.specs.Prelude.{length};
 ghost use Rattle.hevc_spec.specs.Payload.{payload, payload_bits};
 ghost use Rattle.hevc_bits.specs.FoundUnit.{bytes_of};
 ghost use Rattle.hevc_bits.specs.NaluType.{nalu_type_number};
 ghost use Rattle.hevc_elements.specs.Kept.{telling_in};
 ghost use Rattle.hevc_elements.specs.Telling.{and_told, told};
-ghost use Rattle.hevc_elements.specs.Words.{read, Fills, FillsGrowing, ReadsGrowing, ReadsSet, NamesNoSet, ReadsSetUnit};
+ghost use Rattle.hevc_elements.specs.Words.{read, Fills, FillsGrowing, ReadsGrowing, ReadsSet};
+ghost use Rattle.hevc_elements.specs.Words.{NamesNoSet, ReadsSetUnit};
 ghost use Rattle.hevc_records.specs.Sps.{default_sps};
 ghost use Rattle.hevc_tables.specs.SpsTable as table;
 ghost use Rattle.hevc_sequence_set.specs.Sps.{plain_sps};
@@ -27,14 +29,15 @@ use hevc_elements::{ElementReader, ParseError, Told, wants_memory};
 use hevc_sequence_set::Sps;
 use std::alloc::{AllocError, Global};
 
-/// Reads a sequence parameter set out of its unit, of a stream of less than 2^60 bytes, by table 5 (7.3.2.2.1), into a place of its
-/// own.
+/// Reads a sequence parameter set out of its unit, of a stream of less than 2^60 bytes, by table 5
+/// (7.3.2.2.1), into a place of its own.
 ///
-/// An element that is absent has its value of `Sps::new`. Where each sub-layer doesn't have its own numbers of buffering, reordering
-/// and latency, those of the highest hold for all lower ones.
+/// An element that is absent has its value of `Sps::new`. Where each sub-layer doesn't have its own
+/// numbers of buffering, reordering and latency, those of the highest hold for all lower ones.
 ///
-/// Errors: `WrongNaluType` first, where the unit is of another type; `OutOfBits` where the payload ends within an element;
-/// `OutOfRange` with table and row of the first element that isn't allowed; `NoMemory`.
+/// Errors: `WrongNaluType` first, where the unit is of another type; `OutOfBits` where the payload
+/// ends within an element; `OutOfRange` with table and row of the first element that isn't allowed;
+/// `NoMemory`.
 #[tactic(auto, using(hevc_elements::proofs::SetMeaning::set_meanings, crate::proofs::Orders::are_in_order))]
 // Its frame has whole sets: the stack of its callers stays small without it.
 #[inline(never)]
@@ -69,8 +72,9 @@ fn read_payload(alloc: Global, payload: &[u8]) -> Result<Boxed<Sps>, ParseError>
     read_rows(alloc, &mut ElementReader::new(payload))
 }
 
-/// Tells the elements of a sequence parameter set's payload (7.3.1.1) by table 5, those of a refused one up to the element that is refused, after what is
-/// in the list and as long as it has room. `AllocError` where reading wants memory that isn't there.
+/// Tells the elements of a sequence parameter set's payload (7.3.1.1) by table 5, those of a
+/// refused one up to the element that is refused, after what is in the list and as long as it has
+/// room. `AllocError` where reading wants memory that isn't there.
 #[tactic(auto, using(hevc_elements::proofs::ScanLaws::tells))]
 #[inline(never)]
 pub fn tell_sps(alloc: Global, payload: &[u8], list: Vec<Told>) -> Result<Vec<Told>, AllocError>

@@ -1,5 +1,6 @@
 -- The four states of the decoder, and what a unit means in each.
-use Rattle.std.specs.Prelude.{◌≡◌, ℕ, ◌&&◌, ◌||◌, nat_le, Bool, true, false, if◌then◌else◌, List, Result, Err}
+use Rattle.std.specs.Prelude.{◌≡◌, ℕ, ◌&&◌, ◌||◌, nat_le, Bool, true, false, if◌then◌else◌, List}
+use Rattle.std.specs.Prelude.{Result, Err}
 use Rattle.hevc_spec.specs.UnitTypes.{is_idr}
 use Rattle.hevc_spec.specs.UnitHeader.{UnitHeader}
 use Rattle.hevc_walk.specs.Meanings.{Meaning, SequenceSet, Other}
@@ -10,7 +11,8 @@ use Rattle.hevc_stream.specs.Stream.{meaning}
 use Rattle.hevc_driver.specs.declared.decode_error.DecodeError.{DecodeError}
 use Rattle.hevc_driver.specs.declared.decode_error.DecodeError.TheVariants as errors
 use Rattle.hevc_stateless.specs.declared.state.State.{State}
-use Rattle.hevc_stateless.specs.declared.state.State.TheVariants.{AwaitingStreamInfo, AwaitingFormat, Decoding, Reset}
+use Rattle.hevc_stateless.specs.declared.state.State.TheVariants.{AwaitingStreamInfo}
+use Rattle.hevc_stateless.specs.declared.state.State.TheVariants.{AwaitingFormat, Decoding, Reset}
 
 -- What a decoder takes: a unit whose header isn't refused.
 pub record Unit : Type 0 where

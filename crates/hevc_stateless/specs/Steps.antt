@@ -1,5 +1,6 @@
 -- What a call of `decode` does.
-use Rattle.std.specs.Prelude.{◌≡◌, ◌⊎◌, ℕ, ◌+◌, List, [], ◌∷◌, length, Option, Result, Ok, Err, IfOk, true, false}
+use Rattle.std.specs.Prelude.{◌≡◌, ◌⊎◌, ℕ, ◌+◌, List, [], ◌∷◌, length, Option, Result, Ok, Err}
+use Rattle.std.specs.Prelude.{IfOk, true, false}
 use Rattle.hevc_spec.specs.Units.{NalUnit}
 use Rattle.hevc_spec.specs.UnitHeader.{UnitHeader, HeaderFault, unit_header}
 use Rattle.hevc_walk.specs.Meanings.{Meaning}

@@ -8,7 +8,8 @@ ghost use Rattle.hevc_walk_units.specs.Units.{open_head};
 ghost use Rattle.hevc_driver.specs.Given.{Given};
 ghost use Rattle.hevc_driver.specs.Heads.{head_of};
 ghost use Rattle.hevc_driver.specs.Answers.{IsFair};
-ghost use Rattle.hevc_stateless.specs.declared.state.State.TheVariants.{AwaitingFormat, Decoding, Reset};
+ghost use Rattle.hevc_stateless.specs.declared.state.State.TheVariants.{AwaitingFormat, Decoding};
+ghost use Rattle.hevc_stateless.specs.declared.state.State.TheVariants.{Reset};
 ghost use Rattle.hevc_stateless.specs.States.{is_awaited};
 ghost use Rattle.hevc_stateless.specs.Events.{TellsNext};
 ghost use Rattle.hevc_stateless.specs.Flushes.{Flushes};
@@ -28,8 +29,9 @@ use std::alloc::Global;
 
 /// The decoder of a stream, which is given unit by unit.
 ///
-/// It keeps parameter sets (7.4.2.4.2), begins and finishes pictures over a backend (8.1.3), and puts each picture that is output into a
-/// queue at the moment that the bumping process asks for (C.5.2).
+/// It keeps parameter sets (7.4.2.4.2), begins and finishes pictures over a backend (8.1.3), and
+/// puts each picture that is output into a queue at the moment that the bumping process asks for
+/// (C.5.2).
 #[derive(Drop)]
 pub struct StatelessDecoder<B: StatelessH265DecoderBackend> {
     pub(crate) session: Session<B>,
@@ -37,7 +39,8 @@ pub struct StatelessDecoder<B: StatelessH265DecoderBackend> {
 }
 
 impl<B: StatelessH265DecoderBackend> StatelessDecoder<B> {
-    /// A decoder at the beginning of a stream: CRA pictures are handled as such, and all sub-layers are wanted.
+    /// A decoder at the beginning of a stream: CRA pictures are handled as such, and all sub-layers
+    /// are wanted.
     pub fn new(alloc: Global, backend: B) -> StatelessDecoder<B>
         ensures view { view_of result ≡ at_beginning backend }
         ensures kept { kept_in result ≡ none_kept }
@@ -46,7 +49,8 @@ impl<B: StatelessH265DecoderBackend> StatelessDecoder<B> {
         StatelessDecoder::new_with(alloc, backend, Options::new())
     }
 
-    /// A decoder at the beginning of a stream, with what is set for decoding by external means (8.1.2, 8.1.3).
+    /// A decoder at the beginning of a stream, with what is set for decoding by external means
+    /// (8.1.2, 8.1.3).
     pub fn new_with(alloc: Global, backend: B, options: Options) -> StatelessDecoder<B>
         ensures view { view_of result ≡ at_beginning backend }
         ensures kept { kept_in result ≡ none_kept }
@@ -58,11 +62,13 @@ impl<B: StatelessH265DecoderBackend> StatelessDecoder<B> {
         }
     }
 
-    /// Takes the first unit of the input, of less than 2^60 bytes, with the time at which its picture is to be output, in the caller's
-    /// unit. The answer is the place after the unit, in bytes: 3 at least.
+    /// Takes the first unit of the input, of less than 2^60 bytes, with the time at which its
+    /// picture is to be output, in the caller's unit. The answer is the place after the unit, in
+    /// bytes: 3 at least.
     ///
-    /// Errors: `NoNal`, there is none; those of the unit's header; `CheckEvents`, a format is awaited, from here on where the unit opened
-    /// its negotiation, and the unit is to be given once more when it is accepted; else those of the unit. `DecodeError` names each.
+    /// Errors: `NoNal`, there is none; those of the unit's header; `CheckEvents`, a format is
+    /// awaited, from here on where the unit opened its negotiation, and the unit is to be given
+    /// once more when it is accepted; else those of the unit. `DecodeError` names each.
     pub fn decode(&mut self, timestamp: u64, bitstream: &[u8]) -> Result<usize, DecodeError>
         requires short { length bitstream.now < STREAM_LIMIT }
         ensures few { OutputsFew (view_of self.old) (view_of self.new) }
@@ -80,11 +86,13 @@ impl<B: StatelessH265DecoderBackend> StatelessDecoder<B> {
         Ok(nalu.offset() + nalu.size())
     }
 
-    /// Takes a unit that was found in a stream of less than 2^60 bytes, with the time at which its picture is to be output, in the
-    /// caller's unit. Its bytes are not searched again, so it may be given once more at no cost.
+    /// Takes a unit that was found in a stream of less than 2^60 bytes, with the time at which its
+    /// picture is to be output, in the caller's unit. Its bytes are not searched again, so it may
+    /// be given once more at no cost.
     ///
-    /// Errors: `CheckEvents`, a format is awaited, from here on where the unit opened its negotiation, and the unit is to be given once
-    /// more when it is accepted; else those of the unit. `DecodeError` names each.
+    /// Errors: `CheckEvents`, a format is awaited, from here on where the unit opened its
+    /// negotiation, and the unit is to be given once more when it is accepted; else those of the
+    /// unit. `DecodeError` names each.
     pub fn decode_unit(
         &mut self,
         timestamp: u64,
@@ -108,11 +116,12 @@ impl<B: StatelessH265DecoderBackend> StatelessDecoder<B> {
         self.take_unit(timestamp, nalu)
     }
 
-    /// The stream ends, or is left: the open picture is over, and all that waits is output. After it an IDR picture or a sequence
-    /// parameter set is waited for. A format that is awaited is forgotten, and the next picture negotiates again.
+    /// The stream ends, or is left: the open picture is over, and all that waits is output. After
+    /// it an IDR picture or a sequence parameter set is waited for. A format that is awaited is
+    /// forgotten, and the next picture negotiates again.
     ///
-    /// Errors: `NoMemory`, `Backend`, `DpbFull`. The state and the stored pictures stay; where a call of the backend was refused the
-    /// open picture is given up, and a second call goes on.
+    /// Errors: `NoMemory`, `Backend`, `DpbFull`. The state and the stored pictures stay; where a
+    /// call of the backend was refused the open picture is given up, and a second call goes on.
     pub fn flush(&mut self) -> Result<(), DecodeError>
         ensures few { OutputsFew (view_of self.old) (view_of self.new) }
         ensures fair { IsFair B.counts B.is_faultless B.info (view_of self.old).backend
@@ -130,7 +139,8 @@ impl<B: StatelessH265DecoderBackend> StatelessDecoder<B> {
         self.session.flush()
     }
 
-    /// The next picture that was output, which leaves the queue; else, while a format is awaited, that it is.
+    /// The next picture that was output, which leaves the queue; else, while a format is awaited,
+    /// that it is.
     pub fn next_event(&mut self) -> Option<DecoderEvent<B::Handle>>
         ensures event { TellsNext result (view_of self.old).state
             (view_of self.old).queue (view_of self.new).queue }
@@ -165,15 +175,17 @@ impl<B: StatelessH265DecoderBackend> StatelessDecoder<B> {
         self.session.resume();
     }
 
-    /// How many pictures have begun so far, those included that are passed over (8.1.3): the number of the next one.
+    /// How many pictures have begun so far, those included that are passed over (8.1.3): the number
+    /// of the next one.
     pub fn num_pictures(&self) -> u64
         ensures { result ≡ (view_of self.now).standing.next.number }
     {
         self.session.num_pictures()
     }
 
-    /// The picture whose slice segments come: what its first one told of it (8.1.3, 8.3.1). `None` before the first picture, once a picture
-    /// is over or given up, and while the slices of a picture are passed over.
+    /// The picture whose slice segments come: what its first one told of it (8.1.3, 8.3.1). `None`
+    /// before the first picture, once a picture is over or given up, and while the slices of a
+    /// picture are passed over.
     pub fn open_picture(&self) -> Option<&Head>
         ensures { option_map (λ h. head_of h.now) result
             ≡ open_head (view_of self.now).standing.current }
@@ -195,8 +207,9 @@ impl<B: StatelessH265DecoderBackend> StatelessDecoder<B> {
         self.session.backend()
     }
 
-    /// Another backend takes the place of the backend, which is the answer: one that was handed what this one was, as its log
-    /// says. So a backend can be given out whose calls were kept, and one that keeps none yet goes on.
+    /// Another backend takes the place of the backend, which is the answer: one that was handed
+    /// what this one was, as its log says. So a backend can be given out whose calls were kept, and
+    /// one that keeps none yet goes on.
     pub fn replace_backend(&mut self, backend: B) -> B
         requires log { B.log backend ≡ B.log (view_of self.old).backend }
         requires handed { B.handed backend ≡ B.handed (view_of self.old).backend }
@@ -220,7 +233,8 @@ impl<B: StatelessH265DecoderBackend> StatelessDecoder<B> {
 impl StatelessDecoder<Backend> {
     ghost use Rattle.hevc_backend.specs.Recording.{planned};
 
-    /// A decoder at the beginning of a stream, over a backend that records its calls and never fails.
+    /// A decoder at the beginning of a stream, over a backend that records its calls and never
+    /// fails.
     pub fn new_dummy(alloc: Global) -> StatelessDecoder<Backend>
         ensures view { view_of result ≡ at_beginning (planned [] []) }
         ensures kept { kept_in result ≡ none_kept }

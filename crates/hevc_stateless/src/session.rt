@@ -14,12 +14,16 @@ ghost use Rattle.hevc_driver.specs.Answers.{IsFair};
 ghost use Rattle.hevc_driver.specs.Moments.{step_part};
 ghost use Rattle.hevc_driver.specs.Slices.{slice_of};
 ghost use Rattle.hevc_driver.specs.Sound.{AreNamed};
-ghost use Rattle.hevc_stateless.specs.declared.state.State.TheVariants.{AwaitingStreamInfo, AwaitingFormat, Decoding, Reset};
-ghost use Rattle.hevc_stateless.specs.States.{is_awaited, awaits_stream_info, is_decoding, state_at};
+ghost use Rattle.hevc_stateless.specs.declared.state.State.TheVariants.{AwaitingStreamInfo};
+ghost use Rattle.hevc_stateless.specs.declared.state.State.TheVariants.{AwaitingFormat, Decoding};
+ghost use Rattle.hevc_stateless.specs.declared.state.State.TheVariants.{Reset};
+ghost use Rattle.hevc_stateless.specs.States.{is_awaited, awaits_stream_info, is_decoding};
+ghost use Rattle.hevc_stateless.specs.States.{state_at};
 ghost use Rattle.hevc_stateless.specs.Flushes.{Flushes};
 ghost use Rattle.hevc_stateless.specs.Steps.{Acts, TakesIn};
 ghost use Rattle.hevc_records.specs.SliceHeader.{PlainSliceSegmentHeader};
-ghost use Rattle.hevc_stateless.specs.Views.{at_beginning, traces_at, moment_at, PopsFrame, OutputsFew};
+ghost use Rattle.hevc_stateless.specs.Views.{at_beginning, traces_at, moment_at, PopsFrame};
+ghost use Rattle.hevc_stateless.specs.Views.{OutputsFew};
 
 use crate::state::State;
 use hevc_bits::NaluType;
@@ -29,8 +33,9 @@ use hevc_sequence_set::Sps;
 use std::alloc::Global;
 use std::marker::Model;
 
-/// A stream that is being decoded: its pictures, and what is waited for. Between two calls its driver is sound, so that a backend is
-/// handed no reference that isn't stored, and no handle that it didn't give.
+/// A stream that is being decoded: its pictures, and what is waited for. Between two calls its
+/// driver is sound, so that a backend is handed no reference that isn't stored, and no handle that
+/// it didn't give.
 #[derive(Drop)]
 pub struct Session<B: StatelessH265DecoderBackend> {
     driver: Driver<B>,
@@ -52,7 +57,8 @@ impl<B: StatelessH265DecoderBackend> Model for Session<B> {
     ghost invariant = { λ s. IsSound (B.log s.driver.backend) (B.handed s.driver.backend) s.driver.standing × IsIdleBefore s.state (current_of s.driver.standing.set s.driver.standing.current) };
 }
 
-/// The state that follows a unit of this type, no parameter set: a slice of an IDR picture ends the wait after `flush`.
+/// The state that follows a unit of this type, no parameter set: a slice of an IDR picture ends the
+/// wait after `flush`.
 fn behind_unit(state: State, nalu_type: NaluType) -> State
     ensures { result ≡ state_at (is_idr (nalu_type_number nalu_type)) state }
 {
@@ -168,7 +174,8 @@ impl<B: StatelessH265DecoderBackend> Session<B> {
 
     /// The first sequence set: its format is negotiated.
     ///
-    /// Errors: `CheckEvents`, the format is awaited from here on; `Backend`, `NoMemory`, and nothing has changed then.
+    /// Errors: `CheckEvents`, the format is awaited from here on; `Backend`, `NoMemory`, and
+    /// nothing has changed then.
     pub(crate) fn open_sequence(&mut self, sps: &Sps) -> Result<(), DecodeError>
         requires first { self.old.state ≡ AwaitingStreamInfo }
         ensures few { OutputsFew self.old self.new }
@@ -185,10 +192,11 @@ impl<B: StatelessH265DecoderBackend> Session<B> {
         Err(DecodeError::CheckEvents)
     }
 
-    /// A slice segment that is decoded, with the sets that it makes active. Room is made before the wait after `flush` ends.
+    /// A slice segment that is decoded, with the sets that it makes active. Room is made before the
+    /// wait after `flush` ends.
     ///
-    /// Errors: `NoMemory` before a call of the backend, nothing has changed then; else those of the driver; after `CheckEvents` a
-    /// format is awaited.
+    /// Errors: `NoMemory` before a call of the backend, nothing has changed then; else those of the
+    /// driver; after `CheckEvents` a format is awaited.
     pub(crate) fn take_slice(
         &mut self,
         timestamp: u64,
@@ -237,9 +245,11 @@ impl<B: StatelessH265DecoderBackend> Session<B> {
         self.driver.end_bitstream();
     }
 
-    /// The open picture is over, and all that waits is output. A format that is awaited is forgotten.
+    /// The open picture is over, and all that waits is output. A format that is awaited is
+    /// forgotten.
     ///
-    /// Errors: `NoMemory`, `Backend`, `DpbFull`; where a call of the backend was refused the open picture is given up.
+    /// Errors: `NoMemory`, `Backend`, `DpbFull`; where a call of the backend was refused the open
+    /// picture is given up.
     pub(crate) fn flush(&mut self) -> Result<(), DecodeError>
         ensures few { OutputsFew self.old self.new }
         ensures fair { IsFair B.counts B.is_faultless B.info self.old.backend self.new.backend

@@ -1,5 +1,6 @@
 //! Units are taken.
-ghost use Rattle.std.specs.Prelude.{◌≡◌, ℕ, ◌<◌, ◌≤◌, length, true, false, Ok, Option, Some, IsSome, IfErr};
+ghost use Rattle.std.specs.Prelude.{◌≡◌, ℕ, ◌<◌, ◌≤◌, length, true, false, Ok, Option, Some};
+ghost use Rattle.std.specs.Prelude.{IsSome, IfErr};
 ghost use Rattle.hevc_spec.specs.UnitHeader.{unit_header};
 ghost use Rattle.hevc_spec.specs.UnitTypes.{is_idr, is_slice};
 ghost use Rattle.hevc_bits.specs.FoundUnit.{bytes_of};
@@ -7,7 +8,8 @@ ghost use Rattle.hevc_stream.specs.Slices.{temporal_id};
 ghost use Rattle.hevc_kept_sets.specs.Kept.{kept_of, options_in};
 ghost use Rattle.hevc_driver.specs.Given.{Given};
 ghost use Rattle.hevc_driver.specs.Answers.{IsFair};
-ghost use Rattle.hevc_stateless.specs.States.{is_awaited, is_decoding, is_parameter_set, state_at, unit_at};
+ghost use Rattle.hevc_stateless.specs.States.{is_awaited, is_decoding, is_parameter_set, state_at};
+ghost use Rattle.hevc_stateless.specs.States.{unit_at};
 ghost use Rattle.hevc_stateless.specs.Segments.{given_with, own_header, read_at};
 ghost use Rattle.hevc_stateless.specs.Steps.{Acts, Step, TakesIn, given_to, IsOfSet};
 ghost use Rattle.hevc_stateless.specs.Decoders.{seen_by};
@@ -48,7 +50,8 @@ impl<B: StatelessH265DecoderBackend> StatelessDecoder<B> {
         }
     }
 
-    /// Takes the unit of a sequence set. The first one opens a negotiation; after a later one the units that wait are read.
+    /// Takes the unit of a sequence set. The first one opens a negotiation; after a later one the
+    /// units that wait are read.
     pub(crate) fn take_sequence_set(
         &mut self,
         nalu: &Nalu<'_, NaluHeader>,
@@ -163,7 +166,8 @@ impl<B: StatelessH265DecoderBackend> StatelessDecoder<B> {
             .take_slice(timestamp, options, &mut slice, sets.sps, sets.pps)
     }
 
-    /// Takes a unit that is neither a parameter set nor a slice segment, while nothing is waited for.
+    /// Takes a unit that is neither a parameter set nor a slice segment, while nothing is waited
+    /// for.
     fn take_end(&mut self, nalu: &Nalu<'_, NaluHeader>)
         requires parsed { unit_header (bytes_of nalu.now) ≡ Ok nalu.now.header }
         requires other { is_parameter_set nalu.now.header.nal_unit_type ≡ false }
@@ -216,7 +220,8 @@ impl<B: StatelessH265DecoderBackend> StatelessDecoder<B> {
         Ok(())
     }
 
-    /// Takes a unit, while no format is awaited. One of a sub-layer that isn't wanted is passed over.
+    /// Takes a unit, while no format is awaited. One of a sub-layer that isn't wanted is passed
+    /// over.
     pub(crate) fn take_unit(
         &mut self,
         timestamp: u64,

@@ -1,8 +1,10 @@
 -- What a unit means in a state of the decoder.
-use Rattle.std.proofs.Common.{◌≡◌, ℕ, List, refl, sym, ◌∙◌, ap, subst, Option, Some, None, Ok, Bool, true, false, if◌then◌else◌}
+use Rattle.std.proofs.Common.{◌≡◌, ℕ, List, refl, sym, ◌∙◌, ap, subst, Option, Some, None, Ok, Bool}
+use Rattle.std.proofs.Common.{true, false, if◌then◌else◌}
 use Rattle.std.specs.Prelude.{is_some}
 use Rattle.hevc_spec.specs.UnitHeader.{UnitHeader, unit_header}
-use Rattle.hevc_walk.specs.Meanings.{Format, Meaning, SequenceSet, CodedSlice, EndOfSequence, EndOfBitstream, Other, Refused}
+use Rattle.hevc_walk.specs.Meanings.{Format, Meaning, SequenceSet, CodedSlice, EndOfSequence}
+use Rattle.hevc_walk.specs.Meanings.{EndOfBitstream, Other, Refused}
 use Rattle.hevc_walk.specs.Refusals.{refusal}
 use Rattle.hevc_walk_units.specs.Units.{Standing, unit_part, refusal_at, is_full_at}
 use Rattle.hevc_stream.specs.Options.{Options}
@@ -51,20 +53,29 @@ module _ (o : Options) (k : Kept) (bytes : List ℕ) (h : UnitHeader) (parsed : 
   unfolding meaning
   none_means none = by (is_parameter_set h.nal_unit_type) refl
     where
-      by : (b : Bool) → is_parameter_set h.nal_unit_type ≡ b → (if is_parameter_set h.nal_unit_type then u.meaning else Other) ≡ meaning_of o k bytes (content o k bytes)
-      by true e = ap (λ (b : Bool). if b then u.meaning else Other) e ∙ ap (meaning_of o (record k { has_sequence_set = true }) bytes) (set_is_same o k bytes h parsed e)
-      by false e = ap (λ (b : Bool). if b then u.meaning else Other) e ∙ sym (ap (meaning_of o k bytes) (other_is_nothing o k bytes h parsed e none))
+      by : (b : Bool) → is_parameter_set h.nal_unit_type ≡ b
+          → (if is_parameter_set h.nal_unit_type then u.meaning else Other) ≡ meaning_of o k bytes (content o k bytes)
+      by true e = ap (λ (b : Bool). if b then u.meaning else Other) e
+          ∙ ap (meaning_of o (record k { has_sequence_set = true }) bytes) (set_is_same o k bytes h parsed e)
+      by false e = ap (λ (b : Bool). if b then u.meaning else Other) e
+          ∙ sym (ap (meaning_of o k bytes) (other_is_nothing o k bytes h parsed e none))
 
-  pub first_is : (a : Option Format) → is_some a ≡ k.has_sequence_set → meaning_in (state_by a) u ≡ first_meaning a (meaning o k bytes)
+  pub first_is : (a : Option Format) → is_some a ≡ k.has_sequence_set
+      → meaning_in (state_by a) u ≡ first_meaning a (meaning o k bytes)
   first_is None has = none_means (sym has)
   first_is (Some f) has = ap later_meaning (sure_means (sym has))
 
-  pub means : (a : Option Format) (s : Standing) → s.store.accepted ≡ a → is_some a ≡ k.has_sequence_set → Means (meaning_in (state_by a) u) (meaning o k bytes) s
-  means None s is has = subst (λ (x : Meaning). Means x (meaning o k bytes) s) (sym (none_means (sym has))) (record { part = first_part (meaning o k bytes) s is; refusal = refl; full = refl; begins = refl })
-  means (Some f) s is has = subst (λ (x : Meaning). Means (later_meaning x) (meaning o k bytes) s) (sym (sure_means (sym has))) (later_part f (meaning o k bytes) s is)
+  pub means : (a : Option Format) (s : Standing) → s.store.accepted ≡ a → is_some a ≡ k.has_sequence_set
+      → Means (meaning_in (state_by a) u) (meaning o k bytes) s
+  means None s is has = subst (λ (x : Meaning). Means x (meaning o k bytes) s) (sym (none_means (sym has)))
+      (record { part = first_part (meaning o k bytes) s is; refusal = refl; full = refl; begins = refl })
+  means (Some f) s is has =
+      subst (λ (x : Meaning). Means (later_meaning x) (meaning o k bytes) s) (sym (sure_means (sym has)))
+      (later_part f (meaning o k bytes) s is)
 
 -- where a format is accepted
-pub later_is : (y : Meaning) (s : Standing) → is_some s.store.accepted ≡ true → step_part (later_meaning y) s ≡ unit_part y s
+pub later_is : (y : Meaning) (s : Standing) → is_some s.store.accepted ≡ true
+    → step_part (later_meaning y) s ≡ unit_part y s
 later_is y s some = by s.store.accepted refl some
   where
     by : (a : Option Format) → s.store.accepted ≡ a → is_some a ≡ true → step_part (later_meaning y) s ≡ unit_part y s

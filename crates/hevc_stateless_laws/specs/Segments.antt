@@ -13,7 +13,8 @@ use Rattle.hevc_stream.specs.Kept.{Kept, none_kept}
 use Rattle.hevc_stream.specs.Stream.{meaning, kept_behind}
 use Rattle.hevc_backend.specs.Handed.{Handed}
 use Rattle.hevc_driver.specs.Given.{Given, handed_by}
-use Rattle.hevc_stateless.specs.Segments.{ReadUnit, nothing_read, latest_at, own_header, read_at, given_with}
+use Rattle.hevc_stateless.specs.Segments.{ReadUnit, nothing_read, latest_at, own_header, read_at}
+use Rattle.hevc_stateless.specs.Segments.{given_with}
 
 -- the latest independent header (7.4.7.1) after a unit of these bytes
 abbrev pub latest_behind_unit : Options → Kept → (latest : Option PlainSliceSegmentHeader)

@@ -1,12 +1,14 @@
 -- When a decoder is after some units, and what each unit more brings.
-use Rattle.std.specs.Prelude.{◌≡◌, ℕ, is_some, true, false, List, [], ◌∷◌, ◌++◌, map, length, Option, Some, None, Ok, Err}
+use Rattle.std.specs.Prelude.{◌≡◌, ℕ, is_some, true, false, List, [], ◌∷◌, ◌++◌, map, length}
+use Rattle.std.specs.Prelude.{Option, Some, None, Ok, Err}
 use Rattle.std.specs.List.{AllByRecursion, flat_map}
 use Rattle.hevc_spec.specs.Units.{NalUnit}
 use Rattle.hevc_walk.specs.Meanings.{Format, Meaning}
 use Rattle.hevc_walk.specs.Pictures.{stream}
 use Rattle.hevc_walk.specs.Walk as walk
 use Rattle.hevc_walk.specs.Refusals.{Cause, refusal, stop}
-use Rattle.hevc_walk.specs.Results.{OutputPicture, verdict, calls, outputs, calls_of_unit, outputs_of_unit}
+use Rattle.hevc_walk.specs.Results.{OutputPicture, verdict, calls, outputs, calls_of_unit}
+use Rattle.hevc_walk.specs.Results.{outputs_of_unit}
 use Rattle.hevc_walk_units.specs.Units.{Standing, is_full_at}
 use Rattle.hevc_walk_agree.specs.Standings as joined
 use Rattle.hevc_stream.specs.Options.{Options}
@@ -24,7 +26,8 @@ use Rattle.hevc_driver.specs.Given.{Given, handed_by}
 use Rattle.hevc_driver.specs.Does.{call_in}
 use Rattle.hevc_driver.specs.Moments.{negotiates, opening}
 use Rattle.hevc_stateless.specs.declared.state.State.{State}
-use Rattle.hevc_stateless.specs.declared.state.State.TheVariants.{AwaitingStreamInfo, AwaitingFormat, Decoding}
+use Rattle.hevc_stateless.specs.declared.state.State.TheVariants.{AwaitingStreamInfo}
+use Rattle.hevc_stateless.specs.declared.state.State.TheVariants.{AwaitingFormat, Decoding}
 use Rattle.hevc_stateless.specs.States.{later_meaning}
 use Rattle.hevc_stateless.specs.Segments.{read_at, given_with}
 use Rattle.hevc_stateless.specs.Steps.{Seen, with_read_set}

@@ -9,12 +9,14 @@ ghost use Rattle.hevc_driver.specs.Given.{Given};
 ghost use Rattle.hevc_stateless.specs.Steps.{Seen, TakesFirst};
 ghost use Rattle.hevc_stateless.specs.Views.{at_beginning, traces_of};
 ghost use Rattle.hevc_stateless_laws.specs.Shortened.{moved};
-ghost use Rattle.hevc_stateless_laws.specs.Stands.{StandsAfter, StandsBetween, Took, Opened, TookAgain, IsRefusal, RefusedUnit, Ended, meant};
+ghost use Rattle.hevc_stateless_laws.specs.Stands.{StandsAfter, StandsBetween, Took, Opened};
+ghost use Rattle.hevc_stateless_laws.specs.Stands.{TookAgain, IsRefusal, RefusedUnit, Ended, meant};
 ghost use Rattle.hevc_walk.specs.Refusals.{DpbFull as full_buffer};
 ghost use Rattle.hevc_walk.specs.Results.{verdict};
 ghost use Rattle.hevc_stateless.specs.Flushes.{Ends};
 ghost use Rattle.hevc_driver.specs.declared.decode_error.DecodeError.{DecodeError};
-ghost use Rattle.hevc_driver.specs.declared.decode_error.DecodeError.TheVariants.{CheckEvents, DpbFull};
+ghost use Rattle.hevc_driver.specs.declared.decode_error.DecodeError.TheVariants.{CheckEvents};
+ghost use Rattle.hevc_driver.specs.declared.decode_error.DecodeError.TheVariants.{DpbFull};
 ghost use Rattle.hevc_stateless.specs.declared.state.State.TheVariants.{Decoding};
 
 /// A decoder at the beginning of a stream is after no units.
@@ -24,8 +26,9 @@ pub fn stands_at_the_beginning<B, H>()
         → StandsAfter options [] seen }
 {}
 
-/// Where a decoder is after some units of a stream and takes the next one, it is after that one too. Its log grew by exactly
-/// the calls at that unit, each new picture with the timestamp given, and its queue by exactly the pictures that are output there.
+/// Where a decoder is after some units of a stream and takes the next one, it is after that one
+/// too. Its log grew by exactly the calls at that unit, each new picture with the timestamp given,
+/// and its queue by exactly the pictures that are output there.
 pub fn takes_the_next_unit<B, H>()
     ensures { (timestamp : ℕ) (options : Options) (us others : List NalUnit) (u : NalUnit)
         (old new : Seen B H) (place : ℕ) → StandsAfter options us old
@@ -33,8 +36,9 @@ pub fn takes_the_next_unit<B, H>()
         → Took timestamp options us u old new }
 {}
 
-/// Where all bytes up to the end of the first unit are left out, as `decode` answers them, the units of what is left are the others: calls
-/// on the shortened input take the units of the stream in their order.
+/// Where all bytes up to the end of the first unit are left out, as `decode` answers them, the
+/// units of what is left are the others: calls on the shortened input take the units of the stream
+/// in their order.
 pub fn others_are_left()
     ensures { (stream : List ℕ) (u : NalUnit) (others : List NalUnit)
         → units stream ≡ u ∷ others
@@ -42,7 +46,8 @@ pub fn others_are_left()
         (units (drop (u.offset + length u.bytes) stream)) }
 {}
 
-/// Where the answer is `CheckEvents`, the unit opened a negotiation: all up to there was done, and all its outputs are in the queue.
+/// Where the answer is `CheckEvents`, the unit opened a negotiation: all up to there was done, and
+/// all its outputs are in the queue.
 pub fn opens_a_negotiation<B, H>()
     ensures { (timestamp : ℕ) (options : Options) (us others : List NalUnit) (u : NalUnit)
         (old new : Seen B H) → StandsAfter options us old
@@ -50,8 +55,8 @@ pub fn opens_a_negotiation<B, H>()
         → Opened timestamp options us u old new }
 {}
 
-/// Where its format was accepted and the unit is given again, the decoder is after it. Nothing is output twice, and both calls
-/// together made its calls.
+/// Where its format was accepted and the unit is given again, the decoder is after it. Nothing is
+/// output twice, and both calls together made its calls.
 pub fn takes_the_unit_again<B, H>()
     ensures { (timestamp : ℕ) (options : Options) (us others : List NalUnit) (u : NalUnit)
         (old new : Seen B H) (place : ℕ) → StandsBetween options us u old
@@ -60,8 +65,9 @@ pub fn takes_the_unit_again<B, H>()
         → TookAgain timestamp options us u old new }
 {}
 
-/// Where a unit is refused for what it is, the stream's definitions refuse it there for a cause of that name: that is the answer to
-/// the stream, whatever comes after. What comes before the refusal was done.
+/// Where a unit is refused for what it is, the stream's definitions refuse it there for a cause of
+/// that name: that is the answer to the stream, whatever comes after. What comes before the refusal
+/// was done.
 pub fn refuses_a_unit<B, H>()
     ensures { (error : DecodeError) (timestamp : ℕ) (options : Options)
         (us others : List NalUnit) (u : NalUnit) (old new : Seen B H) → IsRefusal error
@@ -70,7 +76,8 @@ pub fn refuses_a_unit<B, H>()
         → RefusedUnit error timestamp options us u old new }
 {}
 
-/// Where a picture is to be stored into a full buffer at a unit, that is the answer to the stream, whatever comes after.
+/// Where a picture is to be stored into a full buffer at a unit, that is the answer to the stream,
+/// whatever comes after.
 pub fn fills_the_buffer<B, H>()
     ensures { (timestamp : ℕ) (options : Options) (us others back : List NalUnit) (u : NalUnit)
         (old new : Seen B H) → StandsAfter options us old
@@ -79,8 +86,8 @@ pub fn fills_the_buffer<B, H>()
         ≡ Err (record { unit = length us; cause = full_buffer }) }
 {}
 
-/// Where a decoder is after all units of a stream and is flushed, the answer to the stream is the number of its pictures, and the
-/// calls and outputs at its end were made.
+/// Where a decoder is after all units of a stream and is flushed, the answer to the stream is the
+/// number of its pictures, and the calls and outputs at its end were made.
 pub fn ends_the_stream<B, H>()
     ensures { (given : Given) (options : Options) (us : List NalUnit) (old new : Seen B H)
         → StandsAfter options us old

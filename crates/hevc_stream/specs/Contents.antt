@@ -2,9 +2,11 @@
 -- parameter sets that are kept there.
 use Rattle.std.specs.Prelude.{ℕ, ◌==◌, nat_lt, not, List, drop, if◌then◌else◌, Result, Ok, Err}
 use Rattle.hevc_spec.specs.UnitTypes.{is_slice}
-use Rattle.hevc_spec.specs.UnitHeader.{UnitHeader, HeaderFault, truncated, unspecified_type, temporal_id_zero, unit_header}
+use Rattle.hevc_spec.specs.UnitHeader.{UnitHeader, HeaderFault, truncated, unspecified_type}
+use Rattle.hevc_spec.specs.UnitHeader.{temporal_id_zero, unit_header}
 use Rattle.hevc_spec.specs.Payload.{payload}
-use Rattle.hevc_spec.specs.Table.{Fault, out_of_bits, out_of_range, not_kept, Reading, gives, refuses, read}
+use Rattle.hevc_spec.specs.Table.{Fault, out_of_bits, out_of_range, not_kept, Reading, gives}
+use Rattle.hevc_spec.specs.Table.{refuses, read}
 use Rattle.hevc_records.specs.Vps.{PlainVps}
 use Rattle.hevc_records.specs.Sps.{PlainSps}
 use Rattle.hevc_records.specs.Pps.{PlainPps}
@@ -13,7 +15,8 @@ use Rattle.hevc_tables.specs.VpsTable.{video_parameter_set}
 use Rattle.hevc_tables.specs.SpsTable.{sequence_parameter_set}
 use Rattle.hevc_tables.specs.PpsTable.{picture_parameter_set}
 use Rattle.hevc_tables.specs.SliceHeaderTable.{slice_segment_header, active_sets}
-use Rattle.hevc_walk.specs.Meanings.{UnitCause, TruncatedNalu, InvalidNaluType, OutOfBits, OutOfRange, MissingPps}
+use Rattle.hevc_walk.specs.Meanings.{UnitCause, TruncatedNalu, InvalidNaluType, OutOfBits}
+use Rattle.hevc_walk.specs.Meanings.{OutOfRange, MissingPps}
 use Rattle.hevc_stream.specs.Options.{Options}
 use Rattle.hevc_stream.specs.Kept.{Kept}
 use Rattle.hevc_stream.specs.Slices.{temporal_id}

@@ -1,6 +1,7 @@
 -- The parameter sets that are kept (7.4.2.4.2): of each id the latest one. A picture set stays as
 -- it was read, also where the sequence set that it names is replaced.
-use Rattle.std.specs.Prelude.{ℕ, ◌==◌, Bool, false, true, List, [], ◌∷◌, ◌++◌, if◌then◌else◌, Option, Some, None}
+use Rattle.std.specs.Prelude.{ℕ, ◌==◌, Bool, false, true, List, [], ◌∷◌, ◌++◌, if◌then◌else◌}
+use Rattle.std.specs.Prelude.{Option, Some, None}
 use Rattle.hevc_records.specs.Vps.{PlainVps}
 use Rattle.hevc_records.specs.Sps.{PlainSps}
 use Rattle.hevc_records.specs.Pps.{PlainPps}

@@ -2,11 +2,15 @@
 -- each after the parameter sets that are kept at it (7.4.2.4.2).
 use Rattle.std.specs.Prelude.{ℕ, List, [], ◌∷◌, fold}
 use Rattle.hevc_spec.specs.Units.{NalUnit, units}
-use Rattle.hevc_walk.specs.Meanings.{Meaning, SequenceSet, EndOfSequence, EndOfBitstream, Other, Refused}
+use Rattle.hevc_walk.specs.Meanings.{Meaning, SequenceSet, EndOfSequence, EndOfBitstream, Other}
+use Rattle.hevc_walk.specs.Meanings.{Refused}
 use Rattle.hevc_stream.specs.Options.{Options}
 use Rattle.hevc_tables.specs.SliceHeaderTable.{active_sets}
-use Rattle.hevc_stream.specs.Kept.{Kept, none_kept, with_video_set, with_sequence_set, with_picture_set, with_waiting}
-use Rattle.hevc_stream.specs.Contents.{Content, refused, video_set, sequence_set, picture_set, unread_picture_set, slice, end_of_sequence, end_of_bitstream, content}
+use Rattle.hevc_stream.specs.Kept.{Kept, none_kept, with_video_set, with_sequence_set}
+use Rattle.hevc_stream.specs.Kept.{with_picture_set, with_waiting}
+use Rattle.hevc_stream.specs.Contents.{Content, refused, video_set, sequence_set, picture_set}
+use Rattle.hevc_stream.specs.Contents.{unread_picture_set, slice, end_of_sequence, end_of_bitstream}
+use Rattle.hevc_stream.specs.Contents.{content}
 use Rattle.hevc_walk_inputs.specs.Sequences.{format_of_set}
 use Rattle.hevc_stream.specs.Slices.{slice_segment_meaning}
 

@@ -1,10 +1,37 @@
 -- What the units of worked streams mean, computed.
 use Rattle.std.proofs.Common.{◌≡◌, false, true, [], ◌∷◌, map, refl}
-use Rattle.hevc_walk.specs.Meanings.{TruncatedNalu, InvalidNaluType, OutOfBits, OutOfRange, MissingPps, SequenceSet, CodedSlice, EndOfSequence, EndOfBitstream, Other, Refused}
+use Rattle.hevc_walk.specs.Meanings.{TruncatedNalu, InvalidNaluType, OutOfBits, OutOfRange}
+use Rattle.hevc_walk.specs.Meanings.{MissingPps, SequenceSet, CodedSlice, EndOfSequence}
+use Rattle.hevc_walk.specs.Meanings.{EndOfBitstream, Other, Refused}
 use Rattle.hevc_stream.specs.Options.{default_options}
 use Rattle.hevc_stream.specs.Stream.{meanings}
-use Rattle.hevc_walk_examples.specs.Streams.{plain_format, deep_format, p4, cra, dependent, plain, encoded, crowded, leading, ended_by, equal_counts, without_reference, dependent_alone, dependent_behind}
-use Rattle.hevc_stream_examples.specs.Worked.{plain_stream, encoded_stream, waiting_stream, still_waiting_stream, read_later_stream, in_order_stream, cut_sets_stream, cut_set_stream, not_read_again_stream, read_again_stream, resized_stream, mid_picture_stream, ended_within_stream, crowded_stream, ends_early_stream, missing_set_stream, no_sets_yet_stream, truncated_stream, unspecified_stream, no_temporal_id_stream, end_cut_stream, many_sub_layers_stream, no_level_stream, long_latency_stream, leading_stream, sequence_ends_stream, bitstream_ends_stream, equal_counts_stream, without_reference_stream, dependent_alone_stream, dependent_behind_stream, before_sets_stream, cut_video_set_stream, two_layers_stream, large_stream, screen_stream, idr_stream, longer_idr_stream, longer_idr_of, ended_stream, ended_twice_stream, referring_stream, referring_slices, cra_within_stream, sub_layers_stream, cut_pps_bytes, other_pps_bytes, idr_of, sets_then, waiting_behind, video_set_stream, has_video_set, wide_format, large_format, screen_format, idr_under, later_idr_at_1, sub_layer_p2, handled, cra_as_bla, up_to}
+use Rattle.hevc_walk_examples.specs.Streams.{plain_format, deep_format, p4, cra, dependent, plain}
+use Rattle.hevc_walk_examples.specs.Streams.{encoded, crowded, leading, ended_by, equal_counts}
+use Rattle.hevc_walk_examples.specs.Streams.{without_reference, dependent_alone, dependent_behind}
+use Rattle.hevc_stream_examples.specs.Worked.{plain_stream, encoded_stream, waiting_stream}
+use Rattle.hevc_stream_examples.specs.Worked.{still_waiting_stream, read_later_stream}
+use Rattle.hevc_stream_examples.specs.Worked.{in_order_stream, cut_sets_stream, cut_set_stream}
+use Rattle.hevc_stream_examples.specs.Worked.{not_read_again_stream, read_again_stream}
+use Rattle.hevc_stream_examples.specs.Worked.{resized_stream, mid_picture_stream}
+use Rattle.hevc_stream_examples.specs.Worked.{ended_within_stream, crowded_stream}
+use Rattle.hevc_stream_examples.specs.Worked.{ends_early_stream, missing_set_stream}
+use Rattle.hevc_stream_examples.specs.Worked.{no_sets_yet_stream, truncated_stream}
+use Rattle.hevc_stream_examples.specs.Worked.{unspecified_stream, no_temporal_id_stream}
+use Rattle.hevc_stream_examples.specs.Worked.{end_cut_stream, many_sub_layers_stream}
+use Rattle.hevc_stream_examples.specs.Worked.{no_level_stream, long_latency_stream, leading_stream}
+use Rattle.hevc_stream_examples.specs.Worked.{sequence_ends_stream, bitstream_ends_stream}
+use Rattle.hevc_stream_examples.specs.Worked.{equal_counts_stream, without_reference_stream}
+use Rattle.hevc_stream_examples.specs.Worked.{dependent_alone_stream, dependent_behind_stream}
+use Rattle.hevc_stream_examples.specs.Worked.{before_sets_stream, cut_video_set_stream}
+use Rattle.hevc_stream_examples.specs.Worked.{two_layers_stream, large_stream, screen_stream}
+use Rattle.hevc_stream_examples.specs.Worked.{idr_stream, longer_idr_stream, longer_idr_of}
+use Rattle.hevc_stream_examples.specs.Worked.{ended_stream, ended_twice_stream, referring_stream}
+use Rattle.hevc_stream_examples.specs.Worked.{referring_slices, cra_within_stream}
+use Rattle.hevc_stream_examples.specs.Worked.{sub_layers_stream, cut_pps_bytes, other_pps_bytes}
+use Rattle.hevc_stream_examples.specs.Worked.{idr_of, sets_then, waiting_behind, video_set_stream}
+use Rattle.hevc_stream_examples.specs.Worked.{has_video_set, wide_format, large_format}
+use Rattle.hevc_stream_examples.specs.Worked.{screen_format, idr_under, later_idr_at_1}
+use Rattle.hevc_stream_examples.specs.Worked.{sub_layer_p2, handled, cra_as_bla, up_to}
 use Rattle.hevc_spec.specs.Bits as bits
 use Rattle.hevc_spec.specs.Payload as payload
 use Rattle.hevc_spec.specs.Rows as rows
@@ -35,21 +62,31 @@ pub record Rows : Type 0 where
   pub empty : meanings default_options [] ≡ []
   pub encoded : meanings default_options encoded_stream ≡ encoded
   pub waiting : meanings default_options waiting_stream ≡ Other ∷ SequenceSet plain_format ∷ idr_of plain_format ∷ []
-  pub still_waiting : meanings default_options still_waiting_stream ≡ Other ∷ SequenceSet plain_format ∷ Refused (MissingPps 0) ∷ []
-  pub read_later : meanings default_options read_later_stream ≡ Other ∷ SequenceSet plain_format ∷ SequenceSet plain_format ∷ idr_of plain_format ∷ []
-  pub in_order : meanings default_options in_order_stream ≡ Other ∷ Other ∷ SequenceSet plain_format ∷ idr_of plain_format ∷ dependent ∷ []
+  pub still_waiting : meanings default_options still_waiting_stream ≡ Other ∷ SequenceSet plain_format
+      ∷ Refused (MissingPps 0) ∷ []
+  pub read_later : meanings default_options read_later_stream ≡ Other ∷ SequenceSet plain_format
+      ∷ SequenceSet plain_format ∷ idr_of plain_format ∷ []
+  pub in_order : meanings default_options in_order_stream ≡ Other ∷ Other ∷ SequenceSet plain_format
+      ∷ idr_of plain_format ∷ dependent ∷ []
   pub waits : waiting_behind cut_sets_stream ≡ cut_pps_bytes ∷ other_pps_bytes ∷ []
   pub leaves : waiting_behind cut_set_stream ≡ cut_pps_bytes ∷ []
   pub video_sets : map (has_video_set video_set_stream) (0 ∷ 5 ∷ []) ≡ false ∷ true ∷ []
-  pub not_read_again : meanings default_options not_read_again_stream ≡ sets_then plain_format (SequenceSet deep_format ∷ Refused (OutOfRange 14 36) ∷ [])
-  pub read_again : meanings default_options read_again_stream ≡ sets_then plain_format (sets_then deep_format (idr_of deep_format ∷ []))
-  pub resized : meanings default_options resized_stream ≡ sets_then plain_format (idr_of plain_format ∷ sets_then wide_format (idr_of wide_format ∷ []))
-  pub mid_picture : meanings default_options mid_picture_stream ≡ sets_then plain_format (idr_of plain_format ∷ sets_then wide_format (later_idr_at_1 wide_format ∷ []))
-  pub ended_within : meanings default_options ended_within_stream ≡ sets_then wide_format (idr_of wide_format ∷ EndOfSequence ∷ later_idr_at_1 wide_format ∷ [])
+  pub not_read_again : meanings default_options not_read_again_stream ≡ sets_then plain_format
+      (SequenceSet deep_format ∷ Refused (OutOfRange 14 36) ∷ [])
+  pub read_again : meanings default_options read_again_stream ≡ sets_then plain_format
+      (sets_then deep_format (idr_of deep_format ∷ []))
+  pub resized : meanings default_options resized_stream ≡ sets_then plain_format
+      (idr_of plain_format ∷ sets_then wide_format (idr_of wide_format ∷ []))
+  pub mid_picture : meanings default_options mid_picture_stream ≡ sets_then plain_format
+      (idr_of plain_format ∷ sets_then wide_format (later_idr_at_1 wide_format ∷ []))
+  pub ended_within : meanings default_options ended_within_stream ≡ sets_then wide_format
+      (idr_of wide_format ∷ EndOfSequence ∷ later_idr_at_1 wide_format ∷ [])
   pub crowded : meanings default_options crowded_stream ≡ crowded
-  pub ends_early : meanings default_options ends_early_stream ≡ sets_then plain_format (idr_of plain_format ∷ Refused OutOfBits ∷ [])
+  pub ends_early : meanings default_options ends_early_stream ≡ sets_then plain_format
+      (idr_of plain_format ∷ Refused OutOfBits ∷ [])
   pub missing_set : meanings default_options missing_set_stream ≡ sets_then plain_format (Refused (MissingPps 5) ∷ [])
-  pub no_sets_yet : meanings default_options no_sets_yet_stream ≡ sets_then plain_format (Refused (OutOfRange 14 11) ∷ [])
+  pub no_sets_yet : meanings default_options no_sets_yet_stream ≡ sets_then plain_format
+      (Refused (OutOfRange 14 11) ∷ [])
   pub truncated : meanings default_options truncated_stream ≡ Refused TruncatedNalu ∷ []
   pub unspecified : meanings default_options unspecified_stream ≡ Refused (InvalidNaluType 62) ∷ []
   pub no_temporal_id : meanings default_options no_temporal_id_stream ≡ Refused (OutOfRange 0 1) ∷ []
@@ -69,16 +106,20 @@ pub record Rows : Type 0 where
   pub idr : meanings default_options idr_stream ≡ sets_then plain_format (idr_of plain_format ∷ [])
   pub longer_idr : meanings default_options longer_idr_stream ≡ sets_then plain_format (longer_idr_of plain_format ∷ [])
   pub ended : meanings default_options ended_stream ≡ sets_then plain_format (idr_of plain_format ∷ EndOfSequence ∷ [])
-  pub ended_twice : meanings default_options ended_twice_stream ≡ sets_then plain_format (idr_of plain_format ∷ EndOfSequence ∷ EndOfSequence ∷ [])
+  pub ended_twice : meanings default_options ended_twice_stream ≡ sets_then plain_format
+      (idr_of plain_format ∷ EndOfSequence ∷ EndOfSequence ∷ [])
   pub equal_counts : meanings default_options equal_counts_stream ≡ equal_counts
   pub without_reference : meanings default_options without_reference_stream ≡ without_reference
   pub dependent_alone : meanings default_options dependent_alone_stream ≡ dependent_alone
   pub dependent_behind : meanings default_options dependent_behind_stream ≡ dependent_behind
-  pub before_sets : meanings default_options before_sets_stream ≡ Other ∷ Other ∷ SequenceSet plain_format ∷ Other ∷ idr_of plain_format ∷ []
+  pub before_sets : meanings default_options before_sets_stream ≡ Other ∷ Other ∷ SequenceSet plain_format
+      ∷ Other ∷ idr_of plain_format ∷ []
   pub as_cra : meanings default_options cra_within_stream ≡ sets_then plain_format (idr_of plain_format ∷ p4 ∷ cra ∷ [])
-  pub as_bla : meanings cra_as_bla cra_within_stream ≡ map handled (sets_then plain_format (idr_of plain_format ∷ p4 ∷ cra ∷ []))
+  pub as_bla : meanings cra_as_bla cra_within_stream ≡ map handled
+      (sets_then plain_format (idr_of plain_format ∷ p4 ∷ cra ∷ []))
   pub lowest : meanings (up_to 0) sub_layers_stream ≡ sets_then plain_format (idr_of plain_format ∷ p4 ∷ Other ∷ [])
-  pub with_sub_layer : meanings (up_to 1) sub_layers_stream ≡ sets_then plain_format (idr_of plain_format ∷ p4 ∷ CodedSlice sub_layer_p2 ∷ [])
+  pub with_sub_layer : meanings (up_to 1) sub_layers_stream ≡ sets_then plain_format
+      (idr_of plain_format ∷ p4 ∷ CodedSlice sub_layer_p2 ∷ [])
 
 pub computed : Rows
 unfolding bits.bits_after bits.bits_at bits.golomb_at bits.ue_at payload.payload_bits payload.bits

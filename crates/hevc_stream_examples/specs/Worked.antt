@@ -1,11 +1,15 @@
 -- Worked streams: the bytes of their units, and what these mean.
-use Rattle.std.specs.Prelude.{ℕ, negsuc, pos, true, false, Some, None, List, [], ◌∷◌, ◌++◌, replicate, take, drop, is_some, Bool}
-use Rattle.hevc_walk.specs.Meanings.{Format, ShortTermRefPicSet, SliceHeader, Slice, B, I, P, Meaning, SequenceSet, CodedSlice, Other}
+use Rattle.std.specs.Prelude.{ℕ, negsuc, pos, true, false, Some, None, List, [], ◌∷◌, ◌++◌}
+use Rattle.std.specs.Prelude.{replicate, take, drop, is_some, Bool}
+use Rattle.hevc_walk.specs.Meanings.{Format, ShortTermRefPicSet, SliceHeader, Slice, B, I, P}
+use Rattle.hevc_walk.specs.Meanings.{Meaning, SequenceSet, CodedSlice, Other}
 use Rattle.hevc_spec.specs.Units.{units}
 use Rattle.hevc_stream.specs.Options.{Options, default_options}
 use Rattle.hevc_stream.specs.Kept.{none_kept}
 use Rattle.hevc_stream.specs.Stream.{kept_behind_all}
-use Rattle.hevc_walk_examples.specs.Streams.{plain_format, plain_sets, plain_header, first_slice, later_slice, idr, idr_bytes, p4_bytes, p2_bytes, b2_bytes, dependent_bytes}
+use Rattle.hevc_walk_examples.specs.Streams.{plain_format, plain_sets, plain_header, first_slice}
+use Rattle.hevc_walk_examples.specs.Streams.{later_slice, idr, idr_bytes, p4_bytes, p2_bytes}
+use Rattle.hevc_walk_examples.specs.Streams.{b2_bytes, dependent_bytes}
 use Rattle.hevc_walk_examples.specs.Corners.{limited, long_member, short_member}
 
 -- ---- units

@@ -1,22 +1,57 @@
 //! Worked streams, computed from their bytes: what the definitions of `hevc_stream` say of them.
 #![tactic(auto)]
 
-ghost use Rattle.std.specs.Prelude.{◌≡◌, pos, true, false, List, [], ◌∷◌, map, filter, is_ok, Some, Ok, Err};
+ghost use Rattle.std.specs.Prelude.{◌≡◌, pos, true, false, List, [], ◌∷◌, map, filter, is_ok, Some};
+ghost use Rattle.std.specs.Prelude.{Ok, Err};
 ghost use Rattle.hevc_spec.specs.Payload.{payload_after};
 ghost use Rattle.hevc_spec.specs.Units.{units};
 ghost use Rattle.hevc_spec.specs.UnitHeader.{nal_unit_type, unit_header};
-ghost use Rattle.hevc_spec.specs.UnitTypes.{is_idr, is_bla, is_cra, is_irap, is_radl, is_rasl, is_slnr, is_slice, is_end};
-ghost use Rattle.hevc_records.specs.SpsSizes.{sub_width_c, sub_height_c, leaves_some, wp_offset_half_range, max_dpb_size};
-ghost use Rattle.hevc_walk.specs.Meanings.{TruncatedNalu, InvalidNaluType, OutOfBits, OutOfRange, MissingPps, SequenceSet, CodedSlice, EndOfSequence, EndOfBitstream, Other, Refused};
+ghost use Rattle.hevc_spec.specs.UnitTypes.{is_idr, is_bla, is_cra, is_irap, is_radl, is_rasl};
+ghost use Rattle.hevc_spec.specs.UnitTypes.{is_slnr, is_slice, is_end};
+ghost use Rattle.hevc_records.specs.SpsSizes.{sub_width_c, sub_height_c, leaves_some};
+ghost use Rattle.hevc_records.specs.SpsSizes.{wp_offset_half_range, max_dpb_size};
+ghost use Rattle.hevc_walk.specs.Meanings.{TruncatedNalu, InvalidNaluType, OutOfBits, OutOfRange};
+ghost use Rattle.hevc_walk.specs.Meanings.{MissingPps, SequenceSet, CodedSlice, EndOfSequence};
+ghost use Rattle.hevc_walk.specs.Meanings.{EndOfBitstream, Other, Refused};
 ghost use Rattle.hevc_walk.specs.ReferenceSets.{no_references};
 ghost use Rattle.hevc_walk.specs.ReferenceLists.{DpbEntry, numbers_below};
-ghost use Rattle.hevc_walk.specs.Walk.{NewSequence, NewPicture, BeginPicture, DecodeSlice, SubmitPicture};
+ghost use Rattle.hevc_walk.specs.Walk.{NewSequence, NewPicture, BeginPicture, DecodeSlice};
+ghost use Rattle.hevc_walk.specs.Walk.{SubmitPicture};
 ghost use Rattle.hevc_walk.specs.Refusals.{ChangedMidPicture, DpbFull};
 ghost use Rattle.hevc_walk.specs.Results.{calls, verdict};
 ghost use Rattle.hevc_stream.specs.Options.{default_options};
 ghost use Rattle.hevc_stream.specs.Stream.{meanings};
-ghost use Rattle.hevc_walk_examples.specs.Streams.{plain_format, deep_format, p4, cra, dependent, plain, encoded, crowded, leading, ended_by, equal_counts, without_reference, dependent_alone, dependent_behind, told_outputs, new_pictures, idr_bytes, p4_bytes, p2_bytes};
-ghost use Rattle.hevc_stream_examples.specs.Worked.{plain_stream, encoded_stream, waiting_stream, still_waiting_stream, read_later_stream, in_order_stream, cut_sets_stream, cut_set_stream, not_read_again_stream, read_again_stream, resized_stream, mid_picture_stream, ended_within_stream, later_idr_bytes, crowded_stream, ends_early_stream, missing_set_stream, no_sets_yet_stream, truncated_stream, unspecified_stream, no_temporal_id_stream, end_cut_stream, many_sub_layers_stream, no_level_stream, long_latency_stream, leading_stream, sequence_ends_stream, bitstream_ends_stream, equal_counts_stream, without_reference_stream, dependent_alone_stream, dependent_behind_stream, before_sets_stream, cut_video_set_stream, two_layers_stream, large_stream, screen_stream, referring_stream, referring_slices, cra_within_stream, sub_layers_stream, cut_pps_bytes, other_pps_bytes, idr_of, sets_then, waiting_behind, video_set_stream, has_video_set, wide_format, large_format, screen_format, idr_under, later_idr_at_1, sub_layer_p2, handled, cra_as_bla, up_to};
+ghost use Rattle.hevc_walk_examples.specs.Streams.{plain_format, deep_format, p4, cra, dependent};
+ghost use Rattle.hevc_walk_examples.specs.Streams.{plain, encoded, crowded, leading, ended_by};
+ghost use Rattle.hevc_walk_examples.specs.Streams.{equal_counts, without_reference};
+ghost use Rattle.hevc_walk_examples.specs.Streams.{dependent_alone, dependent_behind, told_outputs};
+ghost use Rattle.hevc_walk_examples.specs.Streams.{new_pictures, idr_bytes, p4_bytes, p2_bytes};
+ghost use Rattle.hevc_stream_examples.specs.Worked.{plain_stream, encoded_stream, waiting_stream};
+ghost use Rattle.hevc_stream_examples.specs.Worked.{still_waiting_stream, read_later_stream};
+ghost use Rattle.hevc_stream_examples.specs.Worked.{in_order_stream, cut_sets_stream};
+ghost use Rattle.hevc_stream_examples.specs.Worked.{cut_set_stream, not_read_again_stream};
+ghost use Rattle.hevc_stream_examples.specs.Worked.{read_again_stream, resized_stream};
+ghost use Rattle.hevc_stream_examples.specs.Worked.{mid_picture_stream, ended_within_stream};
+ghost use Rattle.hevc_stream_examples.specs.Worked.{later_idr_bytes, crowded_stream};
+ghost use Rattle.hevc_stream_examples.specs.Worked.{ends_early_stream, missing_set_stream};
+ghost use Rattle.hevc_stream_examples.specs.Worked.{no_sets_yet_stream, truncated_stream};
+ghost use Rattle.hevc_stream_examples.specs.Worked.{unspecified_stream, no_temporal_id_stream};
+ghost use Rattle.hevc_stream_examples.specs.Worked.{end_cut_stream, many_sub_layers_stream};
+ghost use Rattle.hevc_stream_examples.specs.Worked.{no_level_stream, long_latency_stream};
+ghost use Rattle.hevc_stream_examples.specs.Worked.{leading_stream, sequence_ends_stream};
+ghost use Rattle.hevc_stream_examples.specs.Worked.{bitstream_ends_stream, equal_counts_stream};
+ghost use Rattle.hevc_stream_examples.specs.Worked.{without_reference_stream};
+ghost use Rattle.hevc_stream_examples.specs.Worked.{dependent_alone_stream};
+ghost use Rattle.hevc_stream_examples.specs.Worked.{dependent_behind_stream, before_sets_stream};
+ghost use Rattle.hevc_stream_examples.specs.Worked.{cut_video_set_stream, two_layers_stream};
+ghost use Rattle.hevc_stream_examples.specs.Worked.{large_stream, screen_stream, referring_stream};
+ghost use Rattle.hevc_stream_examples.specs.Worked.{referring_slices, cra_within_stream};
+ghost use Rattle.hevc_stream_examples.specs.Worked.{sub_layers_stream, cut_pps_bytes};
+ghost use Rattle.hevc_stream_examples.specs.Worked.{other_pps_bytes, idr_of, sets_then};
+ghost use Rattle.hevc_stream_examples.specs.Worked.{waiting_behind, video_set_stream};
+ghost use Rattle.hevc_stream_examples.specs.Worked.{has_video_set, wide_format, large_format};
+ghost use Rattle.hevc_stream_examples.specs.Worked.{screen_format, idr_under, later_idr_at_1};
+ghost use Rattle.hevc_stream_examples.specs.Worked.{sub_layer_p2, handled, cra_as_bla, up_to};
 
 /// An IDR picture and two P pictures: what the units mean, and what the walk makes of it.
 pub fn plain_pictures()
@@ -41,7 +76,8 @@ pub fn plain_pictures()
     ensures verdict { verdict (meanings default_options plain_stream) ≡ Ok 3 }
 {}
 
-/// As an encoder writes it, with a video set, a message and a B slice, and a zero byte before each start code.
+/// As an encoder writes it, with a video set, a message and a B slice, and a zero byte before each
+/// start code.
 pub fn encoder_stream()
     ensures encoded { meanings default_options encoded_stream ≡ encoded }
     ensures outputs { told_outputs (meanings default_options encoded_stream)
@@ -56,8 +92,8 @@ pub fn beginnings()
         ≡ Other ∷ Other ∷ SequenceSet plain_format ∷ Other ∷ idr_of plain_format ∷ [] }
 {}
 
-/// A picture set that comes before its sequence set waits for it; of two with one id the later one is kept. One that names
-/// another sequence set waits on, and so does one that ends too early.
+/// A picture set that comes before its sequence set waits for it; of two with one id the later one
+/// is kept. One that names another sequence set waits on, and so does one that ends too early.
 pub fn waiting_sets()
     ensures waiting { meanings default_options waiting_stream
         ≡ Other ∷ SequenceSet plain_format ∷ idr_of plain_format ∷ [] }
@@ -77,8 +113,8 @@ pub fn kept_video_sets()
     ensures { map (has_video_set video_set_stream) (0 ∷ 5 ∷ []) ≡ false ∷ true ∷ [] }
 {}
 
-/// A picture set stays as it was read where its sequence set is replaced: the bounds of quantisers are still those of 8
-/// bits, until it comes again.
+/// A picture set stays as it was read where its sequence set is replaced: the bounds of quantisers
+/// are still those of 8 bits, until it comes again.
 pub fn replaced_sets()
     ensures not_read_again { meanings default_options not_read_again_stream
         ≡ sets_then plain_format (SequenceSet deep_format ∷ Refused (OutOfRange 14 36) ∷ []) }
@@ -86,7 +122,8 @@ pub fn replaced_sets()
         ≡ sets_then plain_format (sets_then deep_format (idr_of deep_format ∷ [])) }
 {}
 
-/// A sequence set of another size: it is negotiated as a picture begins by it, and refused within a picture.
+/// A sequence set of another size: it is negotiated as a picture begins by it, and refused within a
+/// picture.
 pub fn changed_sizes()
     ensures resized { meanings default_options resized_stream
         ≡ sets_then plain_format
@@ -100,7 +137,8 @@ pub fn changed_sizes()
         ≡ Err (record { unit = 5; cause = ChangedMidPicture plain_format wide_format }) }
 {}
 
-/// An end of sequence between two slices of a picture doesn't end it: the later slice is decoded as one of the same picture.
+/// An end of sequence between two slices of a picture doesn't end it: the later slice is decoded as
+/// one of the same picture.
 pub fn ends_within_pictures()
     ensures meant { meanings default_options ended_within_stream
         ≡ sets_then wide_format
@@ -113,7 +151,8 @@ pub fn ends_within_pictures()
         ∷ (5, SubmitPicture 0) ∷ [] }
 {}
 
-/// A sequence set declares its numbers for each sub-layer: those of the highest that is wanted are meant.
+/// A sequence set declares its numbers for each sub-layer: those of the highest that is wanted are
+/// meant.
 pub fn sub_layers()
     ensures lowest { meanings (up_to 0) two_layers_stream
         ≡ sets_then plain_format (idr_under 0 0 1 ∷ []) }
@@ -121,8 +160,9 @@ pub fn sub_layers()
         ≡ sets_then plain_format (idr_under 2 3 4 ∷ []) }
 {}
 
-/// MaxDpbSize falls from four times what the profile has to once as the picture has more than a quarter, half and three
-/// quarters of the samples of the level's largest, and is at most 16. A profile has six, one of screen content seven.
+/// MaxDpbSize falls from four times what the profile has to once as the picture has more than a
+/// quarter, half and three quarters of the samples of the level's largest, and is at most 16. A
+/// profile has six, one of screen content seven.
 pub fn buffer_sizes()
     ensures large { meanings default_options large_stream ≡ SequenceSet large_format ∷ [] }
     ensures screen_content { meanings default_options screen_stream
@@ -134,8 +174,8 @@ pub fn buffer_sizes()
         ≡ 16 ∷ 14 ∷ 9 ∷ 7 ∷ [] }
 {}
 
-/// An end of sequence has its header alone, a start code has two zeros, and zeros at the end are no part of a unit; a 03
-/// after two zeros is dropped, and the zeros are counted anew after it.
+/// An end of sequence has its header alone, a start code has two zeros, and zeros at the end are no
+/// part of a unit; a 03 after two zeros is dropped, and the zeros are counted anew after it.
 pub fn bytes_of_units()
     ensures units { units (0 ∷ 0 ∷ 0 ∷ 1 ∷ 72 ∷ 1 ∷ 128 ∷ 0 ∷ 0 ∷ 1 ∷ 2 ∷ 1 ∷ 7 ∷ 0 ∷ 1 ∷ 0 ∷ 5 ∷ 1 ∷ 0 ∷ 0 ∷ [])
         ≡ record { offset = 4; bytes = 72 ∷ 1 ∷ [] }
@@ -144,8 +184,8 @@ pub fn bytes_of_units()
         ≡ 0 ∷ 0 ∷ 0 ∷ 3 ∷ 0 ∷ 0 ∷ [] }
 {}
 
-/// The header of a unit has six bits of the type after one that isn't looked at, six of the layer and three of the temporal
-/// id; types from 48 on are unspecified.
+/// The header of a unit has six bits of the type after one that isn't looked at, six of the layer
+/// and three of the temporal id; types from 48 on are unspecified.
 pub fn headers_of_units()
     ensures fields { unit_header (221 ∷ 250 ∷ 7 ∷ [])
         ≡ Ok (record { nal_unit_type = 46; nuh_layer_id = 63; nuh_temporal_id_plus1 = 2 }) }
@@ -156,8 +196,8 @@ pub fn headers_of_units()
     ensures types { map nal_unit_type ([] ∷ (223 ∷ []) ∷ []) ≡ 0 ∷ 47 ∷ [] }
 {}
 
-/// By ChromaArrayType: the luma samples for a chroma sample across and down, and windows that just leave something or don't;
-/// and the range of offsets of weights.
+/// By ChromaArrayType: the luma samples for a chroma sample across and down, and windows that just
+/// leave something or don't; and the range of offsets of weights.
 pub fn sizes_of_samples()
     ensures across { map sub_width_c (0 ∷ 1 ∷ 2 ∷ 3 ∷ []) ≡ 1 ∷ 2 ∷ 2 ∷ 1 ∷ [] }
     ensures down { map sub_height_c (0 ∷ 1 ∷ 2 ∷ 3 ∷ []) ≡ 1 ∷ 2 ∷ 1 ∷ 1 ∷ [] }
@@ -189,8 +229,8 @@ pub fn full_buffer()
         ≡ Err (record { unit = 9; cause = DpbFull }) }
 {}
 
-/// A slice that ends too early, that names no kept picture set, or that takes a short-term set where the sequence set has
-/// none.
+/// A slice that ends too early, that names no kept picture set, or that takes a short-term set
+/// where the sequence set has none.
 pub fn refused_slices()
     ensures ends_early { meanings default_options ends_early_stream
         ≡ sets_then plain_format (idr_of plain_format ∷ Refused OutOfBits ∷ []) }
@@ -200,7 +240,8 @@ pub fn refused_slices()
         ≡ sets_then plain_format (Refused (OutOfRange 14 11) ∷ []) }
 {}
 
-/// Faults of the headers of units. The two bytes that an end keeps are looked at only once its header is read.
+/// Faults of the headers of units. The two bytes that an end keeps are looked at only once its
+/// header is read.
 pub fn refused_headers()
     ensures truncated { meanings default_options truncated_stream ≡ Refused TruncatedNalu ∷ [] }
     ensures unspecified { meanings default_options unspecified_stream
@@ -210,8 +251,8 @@ pub fn refused_headers()
     ensures end_cut { meanings default_options end_cut_stream ≡ Refused (OutOfRange 0 1) ∷ [] }
 {}
 
-/// Sequence sets of eight sub-layers, of a level that there is none of, and of a latency above 255; a video set that ends
-/// too early.
+/// Sequence sets of eight sub-layers, of a level that there is none of, and of a latency above 255;
+/// a video set that ends too early.
 pub fn refused_sets()
     ensures cut_video_set { meanings default_options cut_video_set_stream ≡ Refused OutOfBits ∷ [] }
     ensures many_sub_layers { meanings default_options many_sub_layers_stream
@@ -249,7 +290,8 @@ pub fn dependent_slices()
     ensures dependent_behind { meanings default_options dependent_behind_stream ≡ dependent_behind }
 {}
 
-/// A CRA picture handled as a BLA picture discards what is needed for output; a unit above the wanted sub-layers is passed over.
+/// A CRA picture handled as a BLA picture discards what is needed for output; a unit above the
+/// wanted sub-layers is passed over.
 pub fn options()
     ensures as_cra { meanings default_options cra_within_stream
         ≡ sets_then plain_format (idr_of plain_format ∷ p4 ∷ cra ∷ []) }

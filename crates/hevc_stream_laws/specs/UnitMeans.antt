@@ -13,7 +13,9 @@ use Rattle.hevc_tables.specs.SliceHeaderTable.{slice_segment_header, active_sets
 use Rattle.hevc_stream.specs.Options.{Options}
 use Rattle.hevc_stream.specs.Kept.{Kept}
 use Rattle.hevc_stream.specs.Slices.{temporal_id}
-use Rattle.hevc_stream.specs.Contents.{Content, refused, video_set, sequence_set, picture_set, unread_picture_set, slice, end_of_sequence, end_of_bitstream, nothing, header_cause, fault_cause}
+use Rattle.hevc_stream.specs.Contents.{Content, refused, video_set, sequence_set, picture_set}
+use Rattle.hevc_stream.specs.Contents.{unread_picture_set, slice, end_of_sequence, end_of_bitstream}
+use Rattle.hevc_stream.specs.Contents.{nothing, header_cause, fault_cause}
 
 -- The beginning of a payload spells a record of a table, and the content is what that means; or the
 -- payload breaks off at a line, and the content is what that means.

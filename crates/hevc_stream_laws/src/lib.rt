@@ -1,5 +1,5 @@
-//! Laws on what a stream means: one content a unit, what holds of the sets that are kept, and that all of it meets the premises of
-//! the walk's laws.
+//! Laws on what a stream means: one content a unit, what holds of the sets that are kept, and that
+//! all of it meets the premises of the walk's laws.
 #![tactic(auto)]
 
 ghost use Rattle.std.specs.Prelude.{◌≡◌, ℕ, ◌<◌, false, List, Ok, All, IfSome};
@@ -10,13 +10,15 @@ ghost use Rattle.hevc_walk.specs.Premises.{AreMeanings};
 ghost use Rattle.hevc_stream.specs.Options.{Options};
 ghost use Rattle.hevc_stream.specs.Kept.{Kept, none_kept, with_sequence_set};
 ghost use Rattle.hevc_stream.specs.Slices.{temporal_id};
-ghost use Rattle.hevc_stream.specs.Contents.{Content, sequence_set, unread_picture_set, nothing, content};
+ghost use Rattle.hevc_stream.specs.Contents.{Content, sequence_set, unread_picture_set, nothing};
+ghost use Rattle.hevc_stream.specs.Contents.{content};
 ghost use Rattle.hevc_stream.specs.Stream.{kept_behind, kept_behind_all, meanings_behind, meanings};
 ghost use Rattle.hevc_stream_laws.specs.UnitMeans.{Means, is_parameter_set};
 ghost use Rattle.hevc_stream_laws.specs.KeptWell.{IsKeptWell, sequence_set_named};
 
-/// What the units of any stream mean, under any options, meets the premises of the walk's laws: the bounds of formats, limits,
-/// order counts, reference picture sets and lists hold, and a sequence set comes before all slices and ends.
+/// What the units of any stream mean, under any options, meets the premises of the walk's laws: the
+/// bounds of formats, limits, order counts, reference picture sets and lists hold, and a sequence
+/// set comes before all slices and ends.
 pub fn meanings_meet_premises()
     ensures stream { (options : Options) (stream : List ℕ) → AreMeanings (meanings options stream) }
     ensures units { (options : Options) (us : List NalUnit)
@@ -32,8 +34,8 @@ pub fn one_content()
         → content options kept bytes ≡ c }
 {}
 
-/// At any place of a stream each set is kept under its own id, and with each picture set the sequence set that it names
-/// (7.4.2.4.2); before the first sequence set none is kept.
+/// At any place of a stream each set is kept under its own id, and with each picture set the
+/// sequence set that it names (7.4.2.4.2); before the first sequence set none is kept.
 pub fn sets_are_kept_well()
     ensures { (options : Options) (us : List NalUnit)
         → IsKeptWell (kept_behind_all options none_kept us) }
@@ -47,14 +49,16 @@ pub fn what_waits_is_unread()
         (kept_behind_all options none_kept us).waiting }
 {}
 
-/// A sequence set that is kept already is kept once: its unit leaves what it would leave without that.
+/// A sequence set that is kept already is kept once: its unit leaves what it would leave without
+/// that.
 pub fn kept_twice_is_kept_once()
     ensures { (options : Options) (kept : Kept) (bytes : List ℕ) (set : PlainSps)
         → content options kept bytes ≡ sequence_set set
         → kept_behind options (with_sequence_set set kept) bytes ≡ kept_behind options kept bytes }
 {}
 
-/// Units that ask for nothing: those of sub-layers above the wanted ones, and before the first sequence set all but parameter sets.
+/// Units that ask for nothing: those of sub-layers above the wanted ones, and before the first
+/// sequence set all but parameter sets.
 pub fn unasked_units()
     ensures above { (options : Options) (kept : Kept) (bytes : List ℕ) (h : UnitHeader)
         → unit_header bytes ≡ Ok h

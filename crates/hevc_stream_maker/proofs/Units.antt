@@ -1,5 +1,6 @@
 -- The units of made streams.
-use Rattle.std.proofs.Common.{◌≡◌, ℕ, zero, suc, ◌+◌, ◌-◌, ◌%◌, Bool, true, false, cond, eqb, List, [], ◌∷◌, ◌++◌, length, map, refl, sym, ap, ◌∙◌, arith}
+use Rattle.std.proofs.Common.{◌≡◌, ℕ, zero, suc, ◌+◌, ◌-◌, ◌%◌, Bool, true, false, cond, eqb, List}
+use Rattle.std.proofs.Common.{[], ◌∷◌, ◌++◌, length, map, refl, sym, ap, ◌∙◌, arith}
 use Rattle.std.specs.Prelude.{nat_le, ◌&&◌, replicate, All}
 use Rattle.std.specs.List.{range_with_len}
 use Rattle.std.proofs.lemmas.List.{length-append}
@@ -17,7 +18,8 @@ use Rattle.hevc_stream_maker.specs.Made.{sequence_set, picture_set, first_pictur
 use Rattle.hevc_stream_maker.proofs.Sizes.{length-falses}
 
 packed-append : (xs ys : List Bool) → length xs % 8 ≡ 0 → packed (xs ++ ys) ≡ packed xs ++ packed ys
-packed-append (a ∷ b ∷ c ∷ d ∷ e ∷ f ∷ g ∷ h ∷ xs) ys whole = ap (λ (x : List ℕ). number (a ∷ b ∷ c ∷ d ∷ e ∷ f ∷ g ∷ h ∷ []) ∷ x) (packed-append xs ys (omega arith))
+packed-append (a ∷ b ∷ c ∷ d ∷ e ∷ f ∷ g ∷ h ∷ xs) ys whole =
+    ap (λ (x : List ℕ). number (a ∷ b ∷ c ∷ d ∷ e ∷ f ∷ g ∷ h ∷ []) ∷ x) (packed-append xs ys (omega arith))
 packed-append [] ys whole = refl
 packed-append (a ∷ []) ys whole = absurd (omega arith)
 packed-append (a ∷ b ∷ []) ys whole = absurd (omega arith)
@@ -32,19 +34,24 @@ ends_whole : (bytes : List ℕ) → without_trailing_zeros (bytes ++ 128 ∷ [])
 ends_whole [] = refl
 ends_whole (byte ∷ bytes) = rw (ends_whole bytes) (by_rest bytes (eqb byte 0))
   where
-    by_rest : (bytes : List ℕ) (t : Bool) → cond (t && is_empty (bytes ++ 128 ∷ [])) [] (byte ∷ bytes ++ 128 ∷ []) ≡ byte ∷ bytes ++ 128 ∷ []
+    by_rest : (bytes : List ℕ) (t : Bool)
+        → cond (t && is_empty (bytes ++ 128 ∷ [])) [] (byte ∷ bytes ++ 128 ∷ []) ≡ byte ∷ bytes ++ 128 ∷ []
     by_rest [] true = refl
     by_rest [] false = refl
     by_rest (_ ∷ _) true = refl
     by_rest (_ ∷ _) false = refl
 
 -- a byte of data comes after whole bytes
-ends_in_data : (bits : List Bool) → without_trailing_zeros (packed (bits ++ trailing_bits (length bits) ++ low_bits 8 128)) ≡ packed (bits ++ trailing_bits (length bits) ++ low_bits 8 128)
+ends_in_data : (bits : List Bool)
+    → without_trailing_zeros (packed (bits ++ trailing_bits (length bits) ++ low_bits 8 128)) ≡ packed
+    (bits ++ trailing_bits (length bits) ++ low_bits 8 128)
 ends_in_data bits =
     let front = bits ++ trailing_bits (length bits) in
-    let long : length front ≡ length bits + suc (length (replicate (7 - length bits % 8) false)) = length-append bits (trailing_bits (length bits)) in
+    let long : length front ≡ length bits + suc (length (replicate (7 - length bits % 8) false)) =
+    length-append bits (trailing_bits (length bits)) in
     let whole : length front % 8 ≡ 0 = omega (arith, long, length-falses (7 - length bits % 8)) in
-    let parts : packed (front ++ low_bits 8 128) ≡ packed front ++ 128 ∷ [] = packed-append front (low_bits 8 128) whole in
+    let parts : packed (front ++ low_bits 8 128) ≡ packed front ++ 128 ∷ [] =
+    packed-append front (low_bits 8 128) whole in
     ap without_trailing_zeros parts ∙ ends_whole (packed front) ∙ sym parts
 
 picture_is_unit : (number : ℕ) → IsUnit (picture_unit number)
@@ -63,7 +70,9 @@ picture_is_unit number =
 
 all_pictures : (from n : ℕ) → All IsUnit (map picture_unit (range_with_len from n))
 all_pictures from zero = All-nil IsUnit
-all_pictures from (suc n) = All-cons IsUnit (picture_unit from) (map picture_unit (range_with_len (from + 1) n)) (picture_is_unit from) (all_pictures (from + 1) n)
+all_pictures from (suc n) =
+    All-cons IsUnit (picture_unit from) (map picture_unit (range_with_len (from + 1) n))
+    (picture_is_unit from) (all_pictures (from + 1) n)
 
 pub all_found : (pictures : ℕ) → units (made pictures) ≡ placed 0 (made_units pictures)
 all_found pictures =
@@ -72,4 +81,6 @@ all_found pictures =
     let pps : IsUnit picture_set = record { whole = refl; kept = refl } in
     let sps : IsUnit sequence_set = record { whole = refl; kept = refl } in
     found.all_found (made_units pictures)
-    (All-cons IsUnit sequence_set (picture_set ∷ first_picture ∷ rest) sps (All-cons IsUnit picture_set (first_picture ∷ rest) pps (All-cons IsUnit first_picture rest idr (all_pictures 0 (pictures - 1)))))
+    (All-cons IsUnit sequence_set (picture_set ∷ first_picture ∷ rest) sps
+    (All-cons IsUnit picture_set (first_picture ∷ rest) pps
+    (All-cons IsUnit first_picture rest idr (all_pictures 0 (pictures - 1)))))

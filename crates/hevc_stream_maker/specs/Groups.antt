@@ -1,5 +1,6 @@
 -- Groups of eight pictures, as the pictures of a made stream after its first one are coded.
-use Rattle.std.specs.Prelude.{ℕ, ◌+◌, ◌*◌, ◌/◌, ◌%◌, nat_lt, ◌&&◌, Bool, true, false, List, [], ◌∷◌, slice_index_or}
+use Rattle.std.specs.Prelude.{ℕ, ◌+◌, ◌*◌, ◌/◌, ◌%◌, nat_lt, ◌&&◌, Bool, true, false, List, [], ◌∷◌}
+use Rattle.std.specs.Prelude.{slice_index_or}
 
 -- A member of a short-term reference picture set (7.4.8): how far its order count is from that of
 -- the current picture, and whether that may refer to it.

@@ -2,8 +2,8 @@
 ghost use Rattle.std.specs.Prelude.{◌≡◌, ◌≤◌, IsTrue, length};
 ghost use Rattle.hevc_stream_maker.specs.Groups.{are_rising, order_count, picture};
 
-/// A member of a short-term reference picture set: how far its order count is from that of the current
-/// picture, and whether that may refer to it.
+/// A member of a short-term reference picture set: how far its order count is from that of the
+/// current picture, and whether that may refer to it.
 pub(crate) type Member = (u32, bool);
 
 /// The order count of the picture of this number after the first one.

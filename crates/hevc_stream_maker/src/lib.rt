@@ -21,8 +21,8 @@ const BEGINNING: [u8; 46] = [
     0x01, 0x44, 0x01, 0xc0, 0x71, 0x80, 0x12, 0x00, 0x00, 0x01, 0x26, 0x01, 0xaf, 0x80,
 ];
 
-/// A stream of so many pictures: an IDR picture, and groups of eight P pictures that are coded in another
-/// order than they are output in.
+/// A stream of so many pictures: an IDR picture, and groups of eight P pictures that are coded in
+/// another order than they are output in.
 pub fn make_stream(alloc: Global, pictures: u32) -> Result<Vec<u8>, AllocError>
     requires { 1 ≤ pictures }
     ensures { IfOk result (λ stream. stream.items ≡ made pictures) }

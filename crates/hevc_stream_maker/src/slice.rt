@@ -2,7 +2,8 @@
 ghost use Rattle.std.specs.Prelude.{◌≡◌, ◌≤◌, ◌<◌, ◌%◌, ◌++◌, [], length, IsTrue, OnOk};
 ghost use Rattle.hevc_spec.specs.declared.Row.{Row};
 ghost use Rattle.hevc_stream_maker.specs.Groups.{are_rising, picture, order_count};
-ghost use Rattle.hevc_stream_maker.specs.Slices.{beginning, ending, header, members as members_of, payload_bits, short_term_set, spelled_elements};
+ghost use Rattle.hevc_stream_maker.specs.Slices.{beginning, ending, header, members as members_of};
+ghost use Rattle.hevc_stream_maker.specs.Slices.{payload_bits, short_term_set, spelled_elements};
 
 use crate::group::{Member, members_after, members_before, order_count};
 use hevc_bit_writer::BitWriter;
@@ -77,7 +78,8 @@ fn write_members(payload: &mut BitWriter, members: &[Member]) -> Result<(), Allo
     Ok(())
 }
 
-/// Rows 24 to 35 of table 14: no active places of its own, merging, and no difference of quantisers.
+/// Rows 24 to 35 of table 14: no active places of its own, merging, and no difference of
+/// quantisers.
 fn write_ending(payload: &mut BitWriter) -> Result<(), AllocError>
     ensures { OnOk result (payload.new ≡ payload.old ++ spelled_elements ending) }
 {

@@ -4,7 +4,8 @@
 ghost use Rattle.std.specs.Prelude.{◌≡◌, ℕ, List, ◌++◌, All, length, true};
 ghost use Rattle.std.specs.declared.result.Result.TheVariants.{Ok};
 ghost use Rattle.hevc_spec.specs.UnitHeader.{UnitHeader, unit_header};
-ghost use Rattle.hevc_spec.specs.Units.{begins_with_start_code, kept_bytes, units, units_at, without_trailing_zeros};
+ghost use Rattle.hevc_spec.specs.Units.{begins_with_start_code, kept_bytes, units, units_at};
+ghost use Rattle.hevc_spec.specs.Units.{without_trailing_zeros};
 ghost use Rattle.hevc_bit_writer.specs.WrittenUnits.{placed, stream_of};
 ghost use Rattle.hevc_stream_pieces.specs.Pieces.{IsPiece, IsWholePiece, units_of_pieces};
 

@@ -1,4 +1,5 @@
-//! Laws of spellings (9.2) and of the tables (7.3, Annex E): what a payload's bits spell, they spell in one way.
+//! Laws of spellings (9.2) and of the tables (7.3, Annex E): what a payload's bits spell, they
+//! spell in one way.
 #![tactic(auto)]
 
 mod forms;

@@ -1,4 +1,5 @@
-//! A payload means one thing by the table of a parameter set or a slice header, and of a part of one.
+//! A payload means one thing by the table of a parameter set or a slice header, and of a part of
+//! one.
 ghost use Rattle.std.specs.Prelude.{ℕ, Bool, List, Option};
 ghost use Rattle.hevc_records.specs.HrdParams.{PlainHrdParams};
 ghost use Rattle.hevc_records.specs.ShortTermRefPicSet.{PlainShortTermRefPicSet};
@@ -47,7 +48,8 @@ pub fn one_scaling_list_data_meaning()
     ensures { HasOneMeaning scaling_list_data }
 {}
 
-/// A short-term reference picture set (table 7), with the sets before it and what else the table is given.
+/// A short-term reference picture set (table 7), with the sets before it and what else the table is
+/// given.
 #[tactic(auto, using(crate::proofs::Laws::one_meaning))]
 pub fn one_short_term_set_meaning()
     ensures { (sets : List PlainShortTermRefPicSet)
@@ -80,48 +82,54 @@ pub fn one_sps_range_extension_meaning()
     ensures { HasOneMeaning sps_range_extension }
 {}
 
-/// The screen content coding extension of a sequence parameter set (table 10), with the format of its samples.
+/// The screen content coding extension of a sequence parameter set (table 10), with the format of
+/// its samples.
 #[tactic(auto, using(crate::proofs::Laws::one_meaning))]
 pub fn one_sps_scc_extension_meaning()
     ensures { (format : SampleFormat) → HasOneMeaning (sps_scc_extension format) }
 {}
 
-/// A picture parameter set (table 11), with the temporal id of its unit and the sequence sets that are kept.
+/// A picture parameter set (table 11), with the temporal id of its unit and the sequence sets that
+/// are kept.
 #[tactic(auto, using(crate::proofs::Laws::one_meaning))]
 pub fn one_picture_set_meaning()
     ensures { (temporal_id : ℕ) (kept : ℕ → Option PlainSps)
         → HasOneMeaning (picture_parameter_set temporal_id kept) }
 {}
 
-/// The range extension of a picture parameter set (table 12), with its sequence set and whether it allows skipped transforms.
+/// The range extension of a picture parameter set (table 12), with its sequence set and whether it
+/// allows skipped transforms.
 #[tactic(auto, using(crate::proofs::Laws::one_meaning))]
 pub fn one_pps_range_extension_meaning()
     ensures { (sps : PlainSps) (transform_skip : Bool)
         → HasOneMeaning (pps_range_extension sps transform_skip) }
 {}
 
-/// The screen content coding extension of a picture parameter set (table 13), with what its sequence set says of samples and palettes.
+/// The screen content coding extension of a picture parameter set (table 13), with what its
+/// sequence set says of samples and palettes.
 #[tactic(auto, using(crate::proofs::Laws::one_meaning))]
 pub fn one_pps_scc_extension_meaning()
     ensures { (format : SampleFormat) (most : ℕ) → HasOneMeaning (pps_scc_extension format most) }
 {}
 
-/// A slice segment header (table 14), with the type of its unit, the bytes after the unit's header, and the sets that the ids of kept
-/// picture sets make active.
+/// A slice segment header (table 14), with the type of its unit, the bytes after the unit's header,
+/// and the sets that the ids of kept picture sets make active.
 #[tactic(auto, using(crate::proofs::Laws::one_meaning))]
 pub fn one_slice_header_meaning()
     ensures { (nal_unit_type : ℕ) (payload_bytes : List ℕ) (kept : ℕ → Option ActiveSets)
         → HasOneMeaning (slice_segment_header nal_unit_type payload_bytes kept) }
 {}
 
-/// A modification of reference picture lists (table 15), of a B slice or not, with the number of pictures and the active places, less 1.
+/// A modification of reference picture lists (table 15), of a B slice or not, with the number of
+/// pictures and the active places, less 1.
 #[tactic(auto, using(crate::proofs::Laws::one_meaning))]
 pub fn one_ref_pic_list_modification_meaning()
     ensures { (b : Bool) (num_pic_total_curr active_l0 active_l1 : ℕ)
         → HasOneMeaning (ref_pic_list_modification b num_pic_total_curr active_l0 active_l1) }
 {}
 
-/// Weights of predictions (table 16), with the sequence set, of a B slice or not, and the active places, less 1.
+/// Weights of predictions (table 16), with the sequence set, of a B slice or not, and the active
+/// places, less 1.
 #[tactic(auto, using(crate::proofs::Laws::one_meaning))]
 pub fn one_pred_weight_table_meaning()
     ensures { (sps : PlainSps) (b : Bool) (active_l0 active_l1 : ℕ)

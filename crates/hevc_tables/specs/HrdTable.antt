@@ -3,7 +3,8 @@
 use Rattle.std.specs.Prelude.{ℕ, ◌+◌, Bool, true, false, slice_set, ◌||◌, not}
 use Rattle.hevc_spec.specs.Table.{Table, done, ◌>>=◌}
 use Rattle.hevc_spec.specs.Rows.{row, flag_row, bits_row, ue_row, when, repeat}
-use Rattle.hevc_records.specs.SublayerHrdParameters.{PlainSublayerHrdParameters, default_sublayer_hrd_parameters}
+use Rattle.hevc_records.specs.SublayerHrdParameters.{PlainSublayerHrdParameters}
+use Rattle.hevc_records.specs.SublayerHrdParameters.{default_sublayer_hrd_parameters}
 use Rattle.hevc_records.specs.HrdParams.{PlainHrdParams, default_hrd_params}
 
 -- ---- table 4

@@ -2,7 +2,8 @@
 use Rattle.std.specs.Prelude.{ℕ, pos, neg_ℤ, ◌+◌, ◌-◌, Bool, slice_set}
 use Rattle.hevc_spec.specs.Table.{Table, done, ◌>>=◌}
 use Rattle.hevc_spec.specs.Rows.{row, flag_row, ue_row, se_row, when, repeat}
-use Rattle.hevc_records.specs.PpsRangeExtension.{PlainPpsRangeExtension, default_pps_range_extension}
+use Rattle.hevc_records.specs.PpsRangeExtension.{PlainPpsRangeExtension}
+use Rattle.hevc_records.specs.PpsRangeExtension.{default_pps_range_extension}
 use Rattle.hevc_records.specs.Sps.{PlainSps}
 
 -- row 5 of pair i of chroma quantiser offsets

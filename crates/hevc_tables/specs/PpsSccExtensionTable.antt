@@ -1,5 +1,6 @@
 -- The screen content coding extension of picture parameter sets (7.3.2.3.3, table 13).
-use Rattle.std.specs.Prelude.{ℕ, pos, neg_ℤ, ◌-◌, ◌^◌, ◌==◌, not, if◌then◌else◌, List, [], slice_set, slice_get, unwrap_or}
+use Rattle.std.specs.Prelude.{ℕ, pos, neg_ℤ, ◌-◌, ◌^◌, ◌==◌, not, if◌then◌else◌, List, []}
+use Rattle.std.specs.Prelude.{slice_set, slice_get, unwrap_or}
 use Rattle.hevc_spec.specs.Table.{Table, done, ◌>>=◌}
 use Rattle.hevc_spec.specs.Rows.{row, flag_row, bits_row, ue_row, se_row, when, repeat}
 use Rattle.hevc_records.specs.PpsSccExtension.{PlainPpsSccExtension, default_pps_scc_extension}

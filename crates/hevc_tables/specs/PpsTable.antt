@@ -1,10 +1,12 @@
 -- Picture parameter sets (7.3.2.3.1, table 11), with the sequence parameter set that they name.
 -- Each part fills in its elements of a set; those that are absent stay.
-use Rattle.std.specs.Prelude.{ℕ, pos, neg_ℤ, ◌+◌, ◌-◌, ◌*◌, ◌/◌, ◌==◌, min, not, if◌then◌else◌, List, ◌++◌, map, replicate, slice_set, Option, Some, None}
+use Rattle.std.specs.Prelude.{ℕ, pos, neg_ℤ, ◌+◌, ◌-◌, ◌*◌, ◌/◌, ◌==◌, min, not, if◌then◌else◌}
+use Rattle.std.specs.Prelude.{List, ◌++◌, map, replicate, slice_set, Option, Some, None}
 use Rattle.std.specs.List.{range_with_len}
 use Rattle.hevc_spec.specs.declared.Row.{Row}
 use Rattle.hevc_spec.specs.Table.{Table, done, missing, ◌>>=◌}
-use Rattle.hevc_spec.specs.Rows.{row, flag_row, zero_row, bits_row, ue_row, se_row, skip_row, when, either, repeat}
+use Rattle.hevc_spec.specs.Rows.{row, flag_row, zero_row, bits_row, ue_row, se_row, skip_row, when}
+use Rattle.hevc_spec.specs.Rows.{either, repeat}
 use Rattle.hevc_records.specs.DefaultScalingLists.{default_lists}
 use Rattle.hevc_records.specs.Pps.{PlainPps, default_pps}
 use Rattle.hevc_records.specs.Sps.{PlainSps}

@@ -1,10 +1,12 @@
 -- Profile, tier and level (7.3.3, table 2).
-use Rattle.std.specs.Prelude.{ℕ, ◌-◌, ◌*◌, Bool, false, List, replicate, slice_set, slice_get, unwrap_or, ◌||◌, not, nat_lt}
+use Rattle.std.specs.Prelude.{ℕ, ◌-◌, ◌*◌, Bool, false, List, replicate, slice_set, slice_get}
+use Rattle.std.specs.Prelude.{unwrap_or, ◌||◌, not, nat_lt}
 use Rattle.hevc_spec.specs.declared.Row.{Row}
 use Rattle.hevc_spec.specs.Bits.{u}
 use Rattle.hevc_spec.specs.Table.{Table, done, element, ◌>>=◌}
 use Rattle.hevc_spec.specs.Rows.{row, flag_row, bits_row, skip_row, when, either, repeat}
-use Rattle.hevc_records.specs.ProfileConformance.{conforms_to, has_range_extensions_flags, has_inbld_flag, is_level}
+use Rattle.hevc_records.specs.ProfileConformance.{conforms_to, has_range_extensions_flags}
+use Rattle.hevc_records.specs.ProfileConformance.{has_inbld_flag, is_level}
 use Rattle.hevc_records.specs.ProfileTierLevel.{PlainProfileTierLevel, default_profile_tier_level}
 
 -- whose profile rows 1 to 15 tell: the whole stream's (general_), or a sub-layer's (sub_layer_)

@@ -3,7 +3,8 @@ use Rattle.std.specs.Prelude.{ℕ, ◌+◌, ◌-◌, Bool, List, [], ◌∷◌, 
 use Rattle.hevc_spec.specs.declared.Row.{Row}
 use Rattle.hevc_spec.specs.Table.{Table, done, ◌>>=◌}
 use Rattle.hevc_spec.specs.Rows.{row, flag_row, bits_row, when, repeat}
-use Rattle.hevc_records.specs.RefPicListModification.{PlainRefPicListModification, default_ref_pic_list_modification}
+use Rattle.hevc_records.specs.RefPicListModification.{PlainRefPicListModification}
+use Rattle.hevc_records.specs.RefPicListModification.{default_ref_pic_list_modification}
 use Rattle.hevc_tables.specs.MathFunctions.{ceil_log2}
 
 -- the entry of one more place, after those before it: one of so many pictures

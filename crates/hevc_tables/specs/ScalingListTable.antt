@@ -1,5 +1,7 @@
 -- Scaling lists (7.3.4, table 6).
-use Rattle.std.specs.Prelude.{ℕ, ◌-◌, ◌*◌, ◌/◌, ◌%◌, ◌==◌, Bool, true, false, if◌then◌else◌, ℤ, pos, negsuc, ◌+ℤ◌, unsigned_abs, List, [], replicate, slice_set, slice_get, unwrap_or}
+use Rattle.std.specs.Prelude.{ℕ, ◌-◌, ◌*◌, ◌/◌, ◌%◌, ◌==◌, Bool, true, false, if◌then◌else◌, ℤ, pos}
+use Rattle.std.specs.Prelude.{negsuc, ◌+ℤ◌, unsigned_abs, List, [], replicate, slice_set, slice_get}
+use Rattle.std.specs.Prelude.{unwrap_or}
 use Rattle.hevc_spec.specs.Table.{Table, done, ◌>>=◌}
 use Rattle.hevc_spec.specs.Rows.{row, flag_row, ue_row, se_row, when, either, repeat}
 use Rattle.hevc_records.specs.ScalingLists.{PlainScalingLists}

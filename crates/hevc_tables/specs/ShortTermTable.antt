@@ -1,10 +1,14 @@
 -- Short-term reference picture sets (7.3.7, table 7).
-use Rattle.std.specs.Prelude.{ℕ, ◌+◌, ◌-◌, ℤ, pos, negsuc, neg_ℤ, ◌+ℤ◌, ◌-ℤ◌, int_le, int_lt, nat_le, ◌==◌, Bool, true, false, not, ◌&&◌, if◌then◌else◌, List, [], ◌∷◌, ◌++◌, length, take, map, filter, reverse, replicate, slice_index_or}
+use Rattle.std.specs.Prelude.{ℕ, ◌+◌, ◌-◌, ℤ, pos, negsuc, neg_ℤ, ◌+ℤ◌, ◌-ℤ◌, int_le, int_lt}
+use Rattle.std.specs.Prelude.{nat_le, ◌==◌, Bool, true, false, not, ◌&&◌, if◌then◌else◌, List, []}
+use Rattle.std.specs.Prelude.{◌∷◌, ◌++◌, length, take, map, filter, reverse, replicate}
+use Rattle.std.specs.Prelude.{slice_index_or}
 use Rattle.std.specs.List.{list_all}
 use Rattle.std.specs.Ordering.{int_eq}
 use Rattle.hevc_spec.specs.Table.{Table, done, ◌>>=◌}
 use Rattle.hevc_spec.specs.Rows.{row, flag_row, ue_row, check_row, when, either, repeat}
-use Rattle.hevc_records.specs.ShortTermRefPicSet.{PlainShortTermRefPicSet, default_short_term_ref_pic_set}
+use Rattle.hevc_records.specs.ShortTermRefPicSet.{PlainShortTermRefPicSet}
+use Rattle.hevc_records.specs.ShortTermRefPicSet.{default_short_term_ref_pic_set}
 use Rattle.hevc_tables.specs.declared.member_flags.MemberFlags.{MemberFlags}
 use Rattle.hevc_tables.specs.declared.short_term_member.ShortTermMember.{ShortTermMember}
 

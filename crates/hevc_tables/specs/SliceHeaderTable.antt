@@ -1,17 +1,23 @@
 -- Slice segment headers (7.3.6.1, table 14), with the parameter sets
 -- that they name. Each part fills in its elements of a header, with
 -- what is derived from them (7.4.7.1); those that are absent stay.
-use Rattle.std.specs.Prelude.{ℕ, ℤ, pos, neg_ℤ, int_le, ◌+ℤ◌, ◌+◌, ◌-◌, ◌*◌, ◌%◌, ◌^◌, min, nat_lt, Bool, true, false, not, ◌&&◌, ◌||◌, ◌==◌, if◌then◌else◌, List, [], ◌∷◌, ◌++◌, take, slice_set, slice_index_or, Option, option_map, option_and_then, unwrap_or}
+use Rattle.std.specs.Prelude.{ℕ, ℤ, pos, neg_ℤ, int_le, ◌+ℤ◌, ◌+◌, ◌-◌, ◌*◌, ◌%◌, ◌^◌, min, nat_lt}
+use Rattle.std.specs.Prelude.{Bool, true, false, not, ◌&&◌, ◌||◌, ◌==◌, if◌then◌else◌, List, []}
+use Rattle.std.specs.Prelude.{◌∷◌, ◌++◌, take, slice_set, slice_index_or, Option, option_map}
+use Rattle.std.specs.Prelude.{option_and_then, unwrap_or}
 use Rattle.std.specs.List.{count_by}
 use Rattle.hevc_spec.specs.Payload.{first_place, place_behind}
 use Rattle.hevc_spec.specs.Table.{Table, done, sized, ◌>>=◌}
-use Rattle.hevc_spec.specs.Rows.{row, flag_row, zero_row, bits_row, ue_row, se_row, skip_row, check_row, when, either, repeat}
+use Rattle.hevc_spec.specs.Rows.{row, flag_row, zero_row, bits_row, ue_row, se_row, skip_row}
+use Rattle.hevc_spec.specs.Rows.{check_row, when, either, repeat}
 use Rattle.hevc_spec.specs.UnitTypes.{is_idr, is_irap}
 use Rattle.hevc_records.specs.Pps.{PlainPps}
 use Rattle.hevc_records.specs.PredWeightTable.{default_pred_weight_table}
 use Rattle.hevc_records.specs.RefPicListModification.{default_ref_pic_list_modification}
-use Rattle.hevc_records.specs.ShortTermRefPicSet.{PlainShortTermRefPicSet, default_short_term_ref_pic_set}
-use Rattle.hevc_records.specs.SliceHeader.{PlainSliceSegmentHeader, default_slice_header, with_inferred}
+use Rattle.hevc_records.specs.ShortTermRefPicSet.{PlainShortTermRefPicSet}
+use Rattle.hevc_records.specs.ShortTermRefPicSet.{default_short_term_ref_pic_set}
+use Rattle.hevc_records.specs.SliceHeader.{PlainSliceSegmentHeader, default_slice_header}
+use Rattle.hevc_records.specs.SliceHeader.{with_inferred}
 use Rattle.hevc_records.specs.Sps.{PlainSps}
 use Rattle.hevc_tables.specs.MathFunctions.{ceil_log2}
 use Rattle.hevc_tables.specs.PpsTable.{named}

@@ -1,7 +1,8 @@
 -- The range extension of sequence parameter sets (7.3.2.2.2, table 9).
 use Rattle.hevc_spec.specs.Table.{Table, done, ◌>>=◌}
 use Rattle.hevc_spec.specs.Rows.{row, flag_row}
-use Rattle.hevc_records.specs.SpsRangeExtension.{PlainSpsRangeExtension, default_sps_range_extension}
+use Rattle.hevc_records.specs.SpsRangeExtension.{PlainSpsRangeExtension}
+use Rattle.hevc_records.specs.SpsRangeExtension.{default_sps_range_extension}
 
 -- table 9 (7.3.2.2.2)
 unfoldable pub sps_range_extension : Table PlainSpsRangeExtension

@@ -1,5 +1,6 @@
 -- The screen content coding extension of sequence parameter sets (7.3.2.2.3, table 10).
-use Rattle.std.specs.Prelude.{ℕ, ◌+◌, ◌-◌, ◌^◌, ◌==◌, if◌then◌else◌, List, [], slice_set, slice_get, unwrap_or}
+use Rattle.std.specs.Prelude.{ℕ, ◌+◌, ◌-◌, ◌^◌, ◌==◌, if◌then◌else◌, List, [], slice_set, slice_get}
+use Rattle.std.specs.Prelude.{unwrap_or}
 use Rattle.hevc_spec.specs.Table.{Table, done, ◌>>=◌}
 use Rattle.hevc_spec.specs.Rows.{row, flag_row, bits_row, ue_row, when, repeat}
 use Rattle.hevc_records.specs.SpsSccExtension.{PlainSpsSccExtension, default_sps_scc_extension}

@@ -1,9 +1,11 @@
 -- Sequence parameter sets (7.3.2.2.1, table 5). Each part fills in its elements of a set, with what
 -- is derived from them (7.4.3.2.1); those that are absent stay.
-use Rattle.std.specs.Prelude.{ℕ, ◌+◌, ◌-◌, ◌*◌, ◌^◌, ◌==◌, min, nat_le, true, false, if◌then◌else◌, List, [], ◌∷◌, ◌++◌, slice_set, slice_index_or}
+use Rattle.std.specs.Prelude.{ℕ, ◌+◌, ◌-◌, ◌*◌, ◌^◌, ◌==◌, min, nat_le, true, false, if◌then◌else◌}
+use Rattle.std.specs.Prelude.{List, [], ◌∷◌, ◌++◌, slice_set, slice_index_or}
 use Rattle.std.specs.Int.{div_ceil}
 use Rattle.hevc_spec.specs.Table.{Table, done, ◌>>=◌}
-use Rattle.hevc_spec.specs.Rows.{row, flag_row, zero_row, bits_row, ue_row, check_row, skip_row, when, either, repeat}
+use Rattle.hevc_spec.specs.Rows.{row, flag_row, zero_row, bits_row, ue_row, check_row, skip_row}
+use Rattle.hevc_spec.specs.Rows.{when, either, repeat}
 use Rattle.hevc_records.specs.ShortTermRefPicSet.{PlainShortTermRefPicSet}
 use Rattle.hevc_records.specs.Sps.{PlainSps, default_sps}
 use Rattle.hevc_records.specs.SpsSizes.{leaves_some, wp_offset_half_range}

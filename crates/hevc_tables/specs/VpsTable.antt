@@ -1,8 +1,11 @@
 -- Video parameter sets (7.3.2.1, table 1). Each part fills in its elements of a set;
 -- those that are absent stay.
-use Rattle.std.specs.Prelude.{ℕ, ◌+◌, ◌-◌, ◌*◌, ◌==◌, not, nat_le, Bool, true, if◌then◌else◌, List, [], ◌∷◌, ◌++◌, length, replicate, slice_set, slice_get, slice_index_or, unwrap_or}
+use Rattle.std.specs.Prelude.{ℕ, ◌+◌, ◌-◌, ◌*◌, ◌==◌, not, nat_le, Bool, true, if◌then◌else◌, List}
+use Rattle.std.specs.Prelude.{[], ◌∷◌, ◌++◌, length, replicate, slice_set, slice_get}
+use Rattle.std.specs.Prelude.{slice_index_or, unwrap_or}
 use Rattle.hevc_spec.specs.Table.{Table, done, ◌>>=◌}
-use Rattle.hevc_spec.specs.Rows.{row, flag_row, bits_row, ue_row, check_row, skip_row, when, either, repeat}
+use Rattle.hevc_spec.specs.Rows.{row, flag_row, bits_row, ue_row, check_row, skip_row, when, either}
+use Rattle.hevc_spec.specs.Rows.{repeat}
 use Rattle.hevc_records.specs.HrdParams.{PlainHrdParams, default_hrd_params}
 use Rattle.hevc_records.specs.Vps.{PlainVps, default_vps}
 use Rattle.hevc_tables.specs.ProfileTierLevelTable.{profile_tier_level}

@@ -1,5 +1,7 @@
 -- Weighted prediction (7.3.6.3, table 16).
-use Rattle.std.specs.Prelude.{ℕ, ◌+◌, ◌-◌, ◌*◌, ◌==◌, ℤ, pos, neg_ℤ, ◌+ℤ◌, unsigned_abs, Bool, false, not, if◌then◌else◌, List, [], replicate, slice_set, slice_index_or}
+use Rattle.std.specs.Prelude.{ℕ, ◌+◌, ◌-◌, ◌*◌, ◌==◌, ℤ, pos, neg_ℤ, ◌+ℤ◌, unsigned_abs, Bool}
+use Rattle.std.specs.Prelude.{false, not, if◌then◌else◌, List, [], replicate, slice_set}
+use Rattle.std.specs.Prelude.{slice_index_or}
 use Rattle.hevc_spec.specs.Table.{Table, done, ◌>>=◌}
 use Rattle.hevc_spec.specs.Rows.{row, flag_row, ue_row, se_row, when, repeat}
 use Rattle.hevc_records.specs.PredWeightTable.{PlainPredWeightTable, default_pred_weight_table}

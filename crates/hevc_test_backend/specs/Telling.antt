@@ -1,6 +1,7 @@
 -- What a backend that keeps all that comes has kept.
 use Rattle.std.specs.Prelude.{List, map}
-use Rattle.hevc_backend.specs.Handed.{Handed, Sequence, Announced, Begun, Decoded, Segment, PlainDpb, plain_picture}
+use Rattle.hevc_backend.specs.Handed.{Handed, Sequence, Announced, Begun, Decoded, Segment}
+use Rattle.hevc_backend.specs.Handed.{PlainDpb, plain_picture}
 use Rattle.hevc_sequence_set.specs.Sps.{plain_sps}
 use Rattle.hevc_picture_slice.specs.Pps.{plain_pps}
 use Rattle.hevc_picture_slice.specs.SliceHeader.{plain_slice_header}

@@ -83,7 +83,8 @@ pub enum Came {
     },
 }
 
-/// A backend that keeps all that comes with its calls. None fails unless an allocation does, and there is always a free frame.
+/// A backend that keeps all that comes with its calls. None fails unless an allocation does, and
+/// there is always a free frame.
 #[derive(Drop)]
 pub struct TellingBackend {
     alloc: Global,

@@ -1,4 +1,5 @@
-//! All records of H.265 syntax in one place: of what sets share, of video, sequence and picture sets, and of slices (7.3, Annex E).
+//! All records of H.265 syntax in one place: of what sets share, of video, sequence and picture
+//! sets, and of slices (7.3, Annex E).
 #![tactic(auto)]
 
 pub use hevc_boxed::Boxed;

@@ -1,10 +1,12 @@
 -- How many bits reading takes, exactly.
-use Rattle.std.proofs.Common.{◌≡◌, ℕ, suc, ◌+◌, ◌*◌, ◌^◌, ◌≤◌, ◌<◌, min, Bool, true, false, List, [], ◌∷◌, ◌++◌, length, refl, ap, ◌∙◌, arith}
+use Rattle.std.proofs.Common.{◌≡◌, ℕ, suc, ◌+◌, ◌*◌, ◌^◌, ◌≤◌, ◌<◌, min, Bool, true, false, List}
+use Rattle.std.proofs.Common.{[], ◌∷◌, ◌++◌, length, refl, ap, ◌∙◌, arith}
 use Rattle.std.specs.Prelude.{if◌then◌else◌}
 use Rattle.std.proofs.lemmas.List.{length-append, length-replicate}
 use Rattle.std.proofs.Math.Nat.{pow-suc, mul_assoc, mul_comm, mul-le-mul_right}
 use Rattle.hevc_spec.specs.declared.Row.{Row}
-use Rattle.hevc_spec.specs.Bits.{Form, u, ue, IsExpGolomb, IsSpelled, Found, found, out_of_bounds, ended, form_at, within, in_range, number_after}
+use Rattle.hevc_spec.specs.Bits.{Form, u, ue, IsExpGolomb, IsSpelled, Found, found, out_of_bounds}
+use Rattle.hevc_spec.specs.Bits.{ended, form_at, within, in_range, number_after}
 use Rattle.hevc_spec.specs.Rows.{flag_row, bits_row, ue_row}
 use Rattle.hevc_spec.specs.Table.{Table, done, element, part, Reading, gives, refuses, read, reading_then, line_found}
 use Rattle.hevc_reading_laws.proofs.FormLaws.{form_front}
@@ -21,12 +23,14 @@ pub record Took {A : Type 0} (P : A → ℕ → Type 0) (x : A) (bits rest : Lis
 pub record Costs {A : Type 0} (P : A → ℕ → Type 0) (t : Table A) : Type 0 where
   pub cost : (bits : List Bool) (x : A) (rest : List Bool) → read t bits ≡ gives x rest → Took P x bits rest
 
-gives_then : {A B : Type 0} (m : Reading A) (k : A → List Bool → Reading B) (r : B) (rest : List Bool) → reading_then m k ≡ gives r rest
+gives_then : {A B : Type 0} (m : Reading A) (k : A → List Bool → Reading B) (r : B) (rest : List Bool)
+    → reading_then m k ≡ gives r rest
     → (x : A) × (mid : List Bool) × (m ≡ gives x mid) × (k x mid ≡ gives r rest)
 gives_then (gives x mid) k r rest e = (x, mid, refl, e)
 gives_then (refuses f mid) k r rest e = absurd cc
 
-done_took : {A : Type 0} (P : A → ℕ → Type 0) (x : A) → P x 0 → (bits : List Bool) (y : A) (rest : List Bool) → read (done x) bits ≡ gives y rest → Took P y bits rest
+done_took : {A : Type 0} (P : A → ℕ → Type 0) (x : A) → P x 0
+    → (bits : List Bool) (y : A) (rest : List Bool) → read (done x) bits ≡ gives y rest → Took P y bits rest
 done_took P x p bits y rest e =
     let same : x ≡ y = cc in
     let at : bits ≡ rest = cc in
@@ -48,28 +52,42 @@ pub costs_part : {A B : Type 0} {P : A → ℕ → Type 0} {Q : B → ℕ → Ty
     → ((x : A) (n : ℕ) → P x n → Costs (λ y m. Q y (n + m)) (k x)) → Costs Q (part t k)
 costs_part {P = P} {Q = Q} {t = t} {k = k} first others = record { cost = part_took P Q t k first others }
 
-pub costs_so : {A : Type 0} {P : A → ℕ → Type 0} (Q : A → ℕ → Type 0) {t : Table A} → ((x : A) (n : ℕ) → P x n → Q x n) → Costs P t → Costs Q t
-costs_so Q so h = record { cost = λ bits x rest e. let one = h.cost bits x rest e in record { count = one.count; all = one.all; so = so x one.count one.so } }
+pub costs_so : {A : Type 0} {P : A → ℕ → Type 0} (Q : A → ℕ → Type 0) {t : Table A}
+    → ((x : A) (n : ℕ) → P x n → Q x n) → Costs P t → Costs Q t
+costs_so Q so h = record {
+  cost = λ bits x rest e. let one = h.cost bits x rest e in record {
+    count = one.count;
+    all = one.all;
+    so = so x one.count one.so;
+  };
+}
 
 -- ---- elements
 
-joined_size : (bits front mid rest : List Bool) → bits ≡ front ++ mid → mid ≡ rest → length bits ≡ length front + length rest
+joined_size : (bits front mid rest : List Bool) → bits ≡ front ++ mid → mid ≡ rest
+    → length bits ≡ length front + length rest
 joined_size bits front mid rest parts at = rw (parts, length-append, at) refl
 
 module _ {A : Type 0} (P : A → ℕ → Type 0) (row : Row) (form : Form) (allowed : ℕ → Bool) (value : ℕ → A)
     (holds : (v : ℕ) (front : List Bool) → allowed v ≡ true → IsSpelled form v front → P (value v) (length front)) where
-  line_took : (bits : List Bool) (x : A) (rest : List Bool) (f : Found) → form_at form bits ≡ f → line_found row value bits (within allowed f) ≡ gives x rest → Took P x bits rest
+  line_took : (bits : List Bool) (x : A) (rest : List Bool) (f : Found) → form_at form bits ≡ f
+      → line_found row value bits (within allowed f) ≡ gives x rest → Took P x bits rest
   line_took bits x rest out_of_bounds e h = absurd cc
   line_took bits x rest ended e h = absurd cc
   line_took bits x rest (found v mid) e h = by_test (allowed v) refl h
     where
-      by_test : (b : Bool) → allowed v ≡ b → line_found row value bits (if b then found v mid else out_of_bounds) ≡ gives x rest → Took P x bits rest
+      by_test : (b : Bool) → allowed v ≡ b
+          → line_found row value bits (if b then found v mid else out_of_bounds) ≡ gives x rest → Took P x bits rest
       by_test false t g = absurd cc
       by_test true t g =
           let same : value v ≡ x = cc in
           let at : mid ≡ rest = cc in
           let f = form_front form bits v mid e in
-          record { count = length f.front; all = joined_size bits f.front mid rest f.parts at; so = rw (← same) (holds v f.front t f.spelled) }
+          record {
+            count = length f.front;
+            all = joined_size bits f.front mid rest f.parts at;
+            so = rw (← same) (holds v f.front t f.spelled);
+          }
 
   pub costs_element : Costs P (element row form allowed value)
   costs_element = record { cost = λ bits x rest e. line_took bits x rest (form_at form bits) refl e }
@@ -81,7 +99,8 @@ number_least n (b ∷ bits) =
     let e : 2 ^ suc (length bits) ≡ 2 ^ length bits * 2 = pow-suc 2 (length bits) in
     let least : n * 2 ≤ 2 * n + (if b then 1 else 0) = at_least b in
     let step = mul-le-mul_right (2 ^ length bits) least in
-    let regrouped : n * 2 * 2 ^ length bits ≡ n * (2 ^ length bits * 2) = mul_assoc n 2 (2 ^ length bits) ∙ ap (λ (x : ℕ). n * x) (mul_comm 2 (2 ^ length bits)) in
+    let regrouped : n * 2 * 2 ^ length bits ≡ n * (2 ^ length bits * 2) = mul_assoc n 2 (2 ^ length bits)
+    ∙ ap (λ (x : ℕ). n * x) (mul_comm 2 (2 ^ length bits)) in
     rw e (omega (arith, h, step, regrouped))
   where
     at_least : (b : Bool) → n * 2 ≤ 2 * n + (if b then 1 else 0)
@@ -95,7 +114,8 @@ number_most n (b ∷ bits) =
     let e : 2 ^ suc (length bits) ≡ 2 ^ length bits * 2 = pow-suc 2 (length bits) in
     let most : 2 * n + (if b then 1 else 0) + 1 ≤ (n + 1) * 2 = at_most b in
     let step = mul-le-mul_right (2 ^ length bits) most in
-    let regrouped : (n + 1) * 2 * 2 ^ length bits ≡ (n + 1) * (2 ^ length bits * 2) = mul_assoc (n + 1) 2 (2 ^ length bits) ∙ ap (λ (x : ℕ). (n + 1) * x) (mul_comm 2 (2 ^ length bits)) in
+    let regrouped : (n + 1) * 2 * 2 ^ length bits ≡ (n + 1) * (2 ^ length bits * 2) =
+    mul_assoc (n + 1) 2 (2 ^ length bits) ∙ ap (λ (x : ℕ). (n + 1) * x) (mul_comm 2 (2 ^ length bits)) in
     rw e (omega (arith, h, step, regrouped))
   where
     at_most : (b : Bool) → 2 * n + (if b then 1 else 0) + 1 ≤ (n + 1) * 2
@@ -105,16 +125,19 @@ number_most n (b ∷ bits) =
 golomb_size : (v : ℕ) (front : List Bool) → IsExpGolomb v front → v ≤ 2147483647 → length front ≡ ue_bits v
 golomb_size v front s few =
     let n = length s.rest in
-    let long : length front ≡ n + suc n = rw (s.parts, length-append) (ap (λ (k : ℕ). k + suc n) (length-replicate n false)) in
+    let long : length front ≡ n + suc n =
+    rw (s.parts, length-append) (ap (λ (k : ℕ). k + suc n) (length-replicate n false)) in
     let least : 2 ^ n ≤ v + 1 = omega (arith, number_least 1 s.rest, s.value_is) in
     let most : v + 1 < 2 * 2 ^ n = omega (arith, number_most 1 s.rest, s.value_is) in
     let small : min v 2147483647 ≡ v = omega arith in
-    let log : ceil_log2 (v + 2) ≡ n + 1 = some_powers (v + 2) n (omega (arith, least)) (omega (arith, most)) (omega (arith, s.short)) in
+    let log : ceil_log2 (v + 2) ≡ n + 1 =
+    some_powers (v + 2) n (omega (arith, least)) (omega (arith, most)) (omega (arith, s.short)) in
     rw (long, small, log) (omega arith)
 
 -- ---- rows
 
-pub costs_ue : (r : Row) (min max : ℕ) → max ≤ 2147483647 → Costs (λ v n. (v ≤ max) × (n ≡ ue_bits v)) (ue_row r min max)
+pub costs_ue : (r : Row) (min max : ℕ) → max ≤ 2147483647
+    → Costs (λ v n. (v ≤ max) × (n ≡ ue_bits v)) (ue_row r min max)
 unfolding ue_row
 costs_ue r min max few =
     costs_element (λ v n. (v ≤ max) × (n ≡ ue_bits v)) r ue (in_range min max) (λ v. v)

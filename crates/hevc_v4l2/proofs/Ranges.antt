@@ -10,5 +10,6 @@ pub half_range_within : (high_precision : Bool) (depth : ℕ) → depth ≤ 6
     × (wp_offset_half_range high_precision depth ≤ 8192)
 half_range_within false depth few = (omega arith, omega arith)
 half_range_within true depth few =
-    let most : 2 ^ (depth + 7) ≤ 2 ^ 13 = pow-le-pow_right {n = 2} (omega arith) {i = depth + 7} {j = 13} (omega arith) in
+    let most : 2 ^ (depth + 7) ≤ 2 ^ 13 =
+    pow-le-pow_right {n = 2} (omega arith) {i = depth + 7} {j = 13} (omega arith) in
     (omega (arith, pow_pos (depth + 7)), omega arith)

@@ -1,5 +1,6 @@
 -- Arrays of a control.
-use Rattle.std.specs.Prelude.{ℕ, ℤ, pos, negsuc, ◌-◌, ◌&&◌, Bool, nat_le, int_le, List, [], ◌∷◌, ◌++◌, length, replicate}
+use Rattle.std.specs.Prelude.{ℕ, ℤ, pos, negsuc, ◌-◌, ◌&&◌, Bool, nat_le, int_le, List, [], ◌∷◌}
+use Rattle.std.specs.Prelude.{◌++◌, length, replicate}
 
 -- 0 to 255
 abbrev pub is_byte : ℕ → Bool

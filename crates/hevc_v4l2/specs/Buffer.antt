@@ -1,7 +1,9 @@
 -- The decoded picture buffer as Linux's stateless decoders take it.
-use Rattle.std.specs.Prelude.{ℕ, ◌==◌, pos, Bool, true, false, List, Option, Some, None, position, unwrap_or}
+use Rattle.std.specs.Prelude.{ℕ, ◌==◌, pos, Bool, true, false, List, Option, Some, None, position}
+use Rattle.std.specs.Prelude.{unwrap_or}
 use Rattle.hevc_pictures.specs.declared.reference.Reference.{Reference}
-use Rattle.hevc_pictures.specs.declared.reference.Reference.TheVariants.{None as Unmarked, ShortTerm, LongTerm}
+use Rattle.hevc_pictures.specs.declared.reference.Reference.TheVariants.{None as Unmarked}
+use Rattle.hevc_pictures.specs.declared.reference.Reference.TheVariants.{ShortTerm, LongTerm}
 use Rattle.hevc_pictures.specs.Marks.{reference_of}
 use Rattle.hevc_dpb.specs.declared.entry.DpbEntry.{DpbEntry}
 use Rattle.hevc_refs.specs.declared.ref_pic_list.RefPicListEntry.{RefPicListEntry}

@@ -1,5 +1,6 @@
 -- What a picture is decoded with, as Linux's stateless decoders take it.
-use Rattle.std.specs.Prelude.{ℕ, ◌+◌, ◌-◌, not, ◌||◌, nat_lt, List, [], ◌∷◌, length, map, filter, replicate, slice_index_or, if◌then◌else◌, Option, Some, None}
+use Rattle.std.specs.Prelude.{ℕ, ◌+◌, ◌-◌, not, ◌||◌, nat_lt, List, [], ◌∷◌, length, map, filter}
+use Rattle.std.specs.Prelude.{replicate, slice_index_or, if◌then◌else◌, Option, Some, None}
 use Rattle.hevc_spec.specs.UnitTypes.{is_idr}
 use Rattle.hevc_records.specs.Sps.{PlainSps}
 use Rattle.hevc_records.specs.SliceHeader.{PlainSliceSegmentHeader}

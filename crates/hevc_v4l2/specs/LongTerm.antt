@@ -1,5 +1,6 @@
 -- How many bits the long-term part of a slice header takes: rows 14 to 20 of table 14 (7.3.6.1).
-use Rattle.std.specs.Prelude.{ℕ, ◌+◌, ◌-◌, ◌*◌, min, ◌==◌, ◌||◌, not, nat_lt, map, sum, slice_index, slice_index_or, false, if◌then◌else◌}
+use Rattle.std.specs.Prelude.{ℕ, ◌+◌, ◌-◌, ◌*◌, min, ◌==◌, ◌||◌, not, nat_lt, map, sum, slice_index}
+use Rattle.std.specs.Prelude.{slice_index_or, false, if◌then◌else◌}
 use Rattle.std.specs.List.{range_with_len}
 use Rattle.hevc_spec.specs.UnitTypes.{is_idr}
 use Rattle.hevc_records.specs.Sps.{PlainSps}

@@ -1,5 +1,6 @@
 -- The scaling lists as Linux's stateless decoders take them.
-use Rattle.std.specs.Prelude.{ℕ, ◌+◌, ◌-◌, ℤ, pos, negsuc, List, [], ◌∷◌, map, replicate, not, if◌then◌else◌, slice_index, slice_index_or}
+use Rattle.std.specs.Prelude.{ℕ, ◌+◌, ◌-◌, ℤ, pos, negsuc, List, [], ◌∷◌, map, replicate, not}
+use Rattle.std.specs.Prelude.{if◌then◌else◌, slice_index, slice_index_or}
 use Rattle.hevc_records.specs.ScalingLists.{PlainScalingLists}
 use Rattle.hevc_records.specs.DefaultScalingLists.{default_lists}
 use Rattle.hevc_records.specs.Sps.{PlainSps}

@@ -1,5 +1,6 @@
 -- A slice segment as Linux's stateless decoders take it.
-use Rattle.std.specs.Prelude.{ℕ, ◌+◌, ◌*◌, ◌/◌, ◌||◌, nat_lt, ℤ, pos, List, [], ◌∷◌, map, replicate, if◌then◌else◌, Option, Some, None}
+use Rattle.std.specs.Prelude.{ℕ, ◌+◌, ◌*◌, ◌/◌, ◌||◌, nat_lt, ℤ, pos, List, [], ◌∷◌, map, replicate}
+use Rattle.std.specs.Prelude.{if◌then◌else◌, Option, Some, None}
 use Rattle.std.specs.List.{list_any}
 use Rattle.std.specs.Option.{option_or}
 use Rattle.hevc_records.specs.Sps.{PlainSps}
@@ -9,7 +10,8 @@ use Rattle.hevc_picture_slice.specs.declared.slice.Slice.{Slice}
 use Rattle.hevc_picture_slice.specs.SliceHeader.{plain_slice_header}
 use Rattle.hevc_refs.specs.declared.ref_pic_list.RefPicListEntry.{RefPicListEntry}
 use Rattle.hevc_v4l2.specs.declared.error.ControlError.{ControlError}
-use Rattle.hevc_v4l2.specs.declared.error.ControlError.TheVariants.{UnitSize, ShortTermSize, CurrentPicture}
+use Rattle.hevc_v4l2.specs.declared.error.ControlError.TheVariants.{UnitSize, ShortTermSize}
+use Rattle.hevc_v4l2.specs.declared.error.ControlError.TheVariants.{CurrentPicture}
 use Rattle.hevc_v4l2.specs.declared.weights.V4l2HevcPredWeightTable.{V4l2HevcPredWeightTable}
 use Rattle.hevc_v4l2.specs.declared.slice.V4l2CtrlHevcSliceParams.{V4l2CtrlHevcSliceParams}
 use Rattle.hevc_v4l2.specs.Arrays.{padded}

@@ -1,10 +1,12 @@
 -- The weights of predictions as Linux's stateless decoders take them.
-use Rattle.std.specs.Prelude.{ℕ, ◌^◌, ℤ, pos, neg_ℤ, ◌+ℤ◌, ◌-ℤ◌, ◌*ℤ◌, Bool, List, [], ◌∷◌, map, not, ◌&&◌, nat_lt, slice_index_or, if◌then◌else◌, Option, Some, None}
+use Rattle.std.specs.Prelude.{ℕ, ◌^◌, ℤ, pos, neg_ℤ, ◌+ℤ◌, ◌-ℤ◌, ◌*ℤ◌, Bool, List, [], ◌∷◌, map}
+use Rattle.std.specs.Prelude.{not, ◌&&◌, nat_lt, slice_index_or, if◌then◌else◌, Option, Some, None}
 use Rattle.std.specs.Int.{int_shr, int_max, int_min}
 use Rattle.std.specs.List.{list_all, range_with_len}
 use Rattle.hevc_records.specs.PredWeightTable.{PlainPredWeightTable}
 use Rattle.hevc_v4l2.specs.declared.error.ControlError.{ControlError}
-use Rattle.hevc_v4l2.specs.declared.error.ControlError.TheVariants.{ChromaDenominator, LumaOffset, ChromaOffset}
+use Rattle.hevc_v4l2.specs.declared.error.ControlError.TheVariants.{ChromaDenominator, LumaOffset}
+use Rattle.hevc_v4l2.specs.declared.error.ControlError.TheVariants.{ChromaOffset}
 use Rattle.hevc_v4l2.specs.declared.weights.V4l2HevcPredWeightTable.{V4l2HevcPredWeightTable}
 use Rattle.hevc_v4l2.specs.Arrays.{is_signed_byte, no_pair, padded}
 

@@ -1,10 +1,12 @@
-//! The decoded picture buffer in a control: its reference pictures, and which of them sets and lists name.
+//! The decoded picture buffer in a control: its reference pictures, and which of them sets and
+//! lists name.
 ghost use Rattle.std.specs.Prelude.{◌≡◌, ◌≤◌, ◌<◌, ◌==◌, length, map, filter, position, IfSome};
 ghost use Rattle.std.specs.List.{list_any};
 ghost use Rattle.hevc_dpb.specs.Entries.{is_ref};
 ghost use Rattle.hevc_dpb.specs.Views.{stored_entries};
 ghost use Rattle.hevc_v4l2.specs.Arrays.{padded};
-ghost use Rattle.hevc_v4l2.specs.Buffer.{control_of_entry, no_entry, number_index, member_index, place_index, is_current};
+ghost use Rattle.hevc_v4l2.specs.Buffer.{control_of_entry, no_entry, number_index, member_index};
+ghost use Rattle.hevc_v4l2.specs.Buffer.{place_index, is_current};
 
 use arrayvec::ArrayVec;
 use hevc_dpb::{Dpb, DpbEntry};
@@ -17,7 +19,8 @@ use hevc_refs::RefPicListEntry;
 pub struct V4l2HevcDpbEntry {
     /// The timestamp of the buffer that the picture is decoded into: its handle.
     pub timestamp: u64,
-    /// 1 of a long-term reference picture, 0 of a short-term one (`V4L2_HEVC_DPB_ENTRY_LONG_TERM_REFERENCE`).
+    /// 1 of a long-term reference picture, 0 of a short-term one
+    /// (`V4L2_HEVC_DPB_ENTRY_LONG_TERM_REFERENCE`).
     pub flags: u8,
     /// 0, a frame: that a picture is a field is told by SEI messages, which aren't read.
     pub field_pic: u8,

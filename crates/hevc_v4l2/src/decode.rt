@@ -7,7 +7,8 @@ ghost use Rattle.hevc_sequence_set.specs.Sps.{plain_sps};
 ghost use Rattle.hevc_picture_slice.specs.SliceHeader.{plain_slice_header};
 ghost use Rattle.hevc_dpb.specs.Views.{stored_entries};
 ghost use Rattle.hevc_refs.specs.Sets.{plain_set};
-ghost use Rattle.hevc_v4l2.specs.Decode.{control_of_decoding, decode_flags, indices_of, num_delta_pocs_of_ref_rps, short_term_error};
+ghost use Rattle.hevc_v4l2.specs.Decode.{control_of_decoding, decode_flags, indices_of};
+ghost use Rattle.hevc_v4l2.specs.Decode.{num_delta_pocs_of_ref_rps, short_term_error};
 
 use crate::buffer::{V4l2HevcDpbEntry, entry_places, member_indices, reference_controls};
 use crate::error::ControlError;
@@ -20,7 +21,8 @@ use hevc_refs::RefPicSet;
 use hevc_sequence_set::Sps;
 use hevc_set_parts::ShortTermRefPicSet;
 
-/// `struct v4l2_ctrl_hevc_decode_params`: a picture, the buffer and its reference picture set (8.3.2).
+/// `struct v4l2_ctrl_hevc_decode_params`: a picture, the buffer and its reference picture set
+/// (8.3.2).
 #[repr(C)]
 #[derive(Clone, Copy)]
 pub struct V4l2CtrlHevcDecodeParams {
@@ -38,13 +40,15 @@ pub struct V4l2CtrlHevcDecodeParams {
     pub num_poc_st_curr_after: u8,
     /// How many members RefPicSetLtCurr has.
     pub num_poc_lt_curr: u8,
-    /// For each member of RefPicSetStCurrBefore, which of `dpb` it is; 255 where there is no such picture, and after the members.
+    /// For each member of RefPicSetStCurrBefore, which of `dpb` it is; 255 where there is no such
+    /// picture, and after the members.
     pub poc_st_curr_before: [u8; 16],
     /// The same of RefPicSetStCurrAfter.
     pub poc_st_curr_after: [u8; 16],
     /// The same of RefPicSetLtCurr.
     pub poc_lt_curr: [u8; 16],
-    /// NumDeltaPocs of the set that the header's own short-term set is predicted from (7-61), 0 without one.
+    /// NumDeltaPocs of the set that the header's own short-term set is predicted from (7-61), 0
+    /// without one.
     pub num_delta_pocs_of_ref_rps_idx: u8,
     /// Zeros.
     pub reserved: [u8; 3],
@@ -64,8 +68,9 @@ struct Members {
     lt_curr: [u8; 16],
 }
 
-/// A picture as a stateless decoder takes it: with its first slice, the sequence set, the buffer as its slices find it and its reference
-/// picture set over that. The handle of each stored picture is the timestamp of the buffer that it is decoded into.
+/// A picture as a stateless decoder takes it: with its first slice, the sequence set, the buffer as
+/// its slices find it and its reference picture set over that. The handle of each stored picture is
+/// the timestamp of the buffer that it is decoded into.
 ///
 /// Errors: `ShortTermSize`.
 pub fn decode_control(

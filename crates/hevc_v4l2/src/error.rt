@@ -20,7 +20,8 @@ pub enum ControlError {
     /// ChromaLog2WeightDenom is above 7, which H.265 doesn't allow (7.4.7.3).
     #[error("the logarithm of the denominator of chroma weights is above 7")]
     ChromaDenominator,
-    /// A luma offset isn't -128 to 127, as can be with high precision (7.4.7.3, luma_offset_l0 and luma_offset_l1).
+    /// A luma offset isn't -128 to 127, as can be with high precision (7.4.7.3, luma_offset_l0 and
+    /// luma_offset_l1).
     #[error("an offset of luma takes more than 8 bits")]
     LumaOffset,
     /// A chroma offset isn't -128 to 127, as can be with high precision (7-56).

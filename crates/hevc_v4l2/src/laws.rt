@@ -9,8 +9,9 @@ ghost use Rattle.hevc_tables.specs.SliceHeaderTable.{long_term};
 ghost use Rattle.hevc_v4l2.specs.LongTerm.{long_term_size};
 ghost use Rattle.hevc_v4l2.specs.Places.{HasPlaces};
 
-/// Where rows 14 to 20 of table 14, those of long-term pictures (7.3.6.1), are read in the header of a slice segment that isn't of an
-/// IDR picture, they take as many bits as `long_term_ref_pic_set_size` tells of the header that they give: none where they are absent.
+/// Where rows 14 to 20 of table 14, those of long-term pictures (7.3.6.1), are read in the header
+/// of a slice segment that isn't of an IDR picture, they take as many bits as
+/// `long_term_ref_pic_set_size` tells of the header that they give: none where they are absent.
 #[tactic(auto, using(crate::proofs::LongTermCosts::long_term_cost))]
 pub fn long_term_size_is_what_is_read()
     ensures { (nal_unit_type : ℕ) (sps : PlainSps) (before h : PlainSliceSegmentHeader)

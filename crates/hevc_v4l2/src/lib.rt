@@ -1,4 +1,5 @@
-//! What Linux's stateless decoders take of a picture: sets, slices and the buffer as the structs of `linux/v4l2-controls.h`.
+//! What Linux's stateless decoders take of a picture: sets, slices and the buffer as the structs of
+//! `linux/v4l2-controls.h`.
 #![tactic(auto)]
 
 mod arrays;

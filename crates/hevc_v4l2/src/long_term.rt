@@ -3,7 +3,8 @@ ghost use Rattle.std.specs.Prelude.{◌≡◌, ◌≤◌, ◌<◌, ◌+◌, ◌*
 ghost use Rattle.hevc_tables.specs.SliceHeaderTable.{cycles_before};
 ghost use Rattle.hevc_sequence_set.specs.Sps.{plain_sps};
 ghost use Rattle.hevc_picture_slice.specs.SliceHeader.{plain_slice_header};
-ghost use Rattle.hevc_v4l2.specs.LongTerm.{candidate_count_bits, cycle_bits, long_term_bits, long_term_size, picture_bits, ue_bits};
+ghost use Rattle.hevc_v4l2.specs.LongTerm.{candidate_count_bits, cycle_bits, long_term_bits};
+ghost use Rattle.hevc_v4l2.specs.LongTerm.{long_term_size, picture_bits, ue_bits};
 
 use hevc_picture_slice::{Slice, SliceHeader};
 use hevc_sequence_set::Sps;

@@ -11,7 +11,8 @@ use crate::error::ControlError;
 use hevc_events::flag_bits;
 use hevc_picture_slice::Pps;
 
-/// `struct v4l2_ctrl_hevc_pps`: the elements of a picture parameter set (7.3.2.3.1), by their names in H.265.
+/// `struct v4l2_ctrl_hevc_pps`: the elements of a picture parameter set (7.3.2.3.1), by their names
+/// in H.265.
 #[repr(C)]
 #[derive(Clone, Copy)]
 pub struct V4l2CtrlHevcPps {
@@ -40,7 +41,8 @@ const _: () = prove!(size_of::<V4l2CtrlHevcPps>() == 64);
 
 /// The picture set as a stateless decoder takes it.
 ///
-/// Errors: `TileColumns`, a tile column is wider than 256 coding tree blocks; else `TileRows`, a tile row is higher than that.
+/// Errors: `TileColumns`, a tile column is wider than 256 coding tree blocks; else `TileRows`, a
+/// tile row is higher than that.
 pub fn pps_control(pps: &Pps) -> Result<V4l2CtrlHevcPps, ControlError>
     ensures filled { IfOk result (λ control. control ≡ control_of_pps (plain_pps pps.now)) }
     ensures refused { result_err result ≡ pps_error (plain_pps pps.now) }

@@ -5,7 +5,8 @@ ghost use Rattle.hevc_records.specs.Bounds.{Within};
 ghost use Rattle.hevc_set_parts.specs.ScalingLists.{plain_scaling_lists};
 ghost use Rattle.hevc_sequence_set.specs.Sps.{plain_sps};
 ghost use Rattle.hevc_picture_slice.specs.Pps.{plain_pps};
-ghost use Rattle.hevc_v4l2.specs.Scaling.{active_lists, control_of_lists, dc_coef, flat_lists, luma_lists, luma_coefs};
+ghost use Rattle.hevc_v4l2.specs.Scaling.{active_lists, control_of_lists, dc_coef, flat_lists};
+ghost use Rattle.hevc_v4l2.specs.Scaling.{luma_lists, luma_coefs};
 
 use hevc_events::{SCAN_PLACES_4X4, SCAN_PLACES_8X8, raster_list, raster_lists};
 use hevc_picture_slice::Pps;
@@ -15,7 +16,8 @@ use hevc_set_parts::ScalingLists;
 
 /// `struct v4l2_ctrl_hevc_scaling_matrix`: scaling lists (7.3.4), each in raster order.
 ///
-/// Of each size there are lists for intra Y, Cb and Cr, then inter Y, Cb and Cr; of 32x32 for those of Y alone.
+/// Of each size there are lists for intra Y, Cb and Cr, then inter Y, Cb and Cr; of 32x32 for those
+/// of Y alone.
 #[repr(C)]
 #[derive(Clone, Copy)]
 pub struct V4l2CtrlHevcScalingMatrix {
@@ -31,8 +33,9 @@ pub struct V4l2CtrlHevcScalingMatrix {
 
 const _: () = prove!(size_of::<V4l2CtrlHevcScalingMatrix>() == 1000);
 
-/// The scaling lists that are active where these sets are (7.4.3.2.1, 7.4.3.3.1), as a stateless decoder takes them: those of the picture
-/// set, else those of the sequence set, else the default ones; 16 everywhere where coefficients aren't scaled by lists.
+/// The scaling lists that are active where these sets are (7.4.3.2.1, 7.4.3.3.1), as a stateless
+/// decoder takes them: those of the picture set, else those of the sequence set, else the default
+/// ones; 16 everywhere where coefficients aren't scaled by lists.
 pub fn scaling_control(sps: &Sps, pps: &Pps) -> V4l2CtrlHevcScalingMatrix
     ensures { result ≡ control_of_lists (active_lists (plain_sps sps.now) (plain_pps pps.now)) }
 {

@@ -6,7 +6,8 @@ ghost use Rattle.hevc_v4l2.specs.SequenceSet.{control_of_sps};
 use hevc_events::flag_bits;
 use hevc_sequence_set::Sps;
 
-/// `struct v4l2_ctrl_hevc_sps`: the elements of a sequence parameter set (7.3.2.2.1), by their names in H.265.
+/// `struct v4l2_ctrl_hevc_sps`: the elements of a sequence parameter set (7.3.2.2.1), by their
+/// names in H.265.
 #[repr(C)]
 #[derive(Clone, Copy)]
 pub struct V4l2CtrlHevcSps {

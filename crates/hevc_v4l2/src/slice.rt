@@ -10,7 +10,8 @@ ghost use Rattle.hevc_refs.specs.Lists.{places_of};
 ghost use Rattle.hevc_v4l2.specs.declared.error.ControlError.TheVariants.{CurrentPicture};
 ghost use Rattle.hevc_v4l2.specs.Arrays.{padded};
 ghost use Rattle.hevc_v4l2.specs.Buffer.{place_index};
-ghost use Rattle.hevc_v4l2.specs.Slice.{control_of_slice, data_byte_offset, filled_control, lists_error, sizes_error, slice_error, slice_flags};
+ghost use Rattle.hevc_v4l2.specs.Slice.{control_of_slice, data_byte_offset, filled_control};
+ghost use Rattle.hevc_v4l2.specs.Slice.{lists_error, sizes_error, slice_error, slice_flags};
 
 use crate::buffer::{has_current, place_indices};
 use crate::error::ControlError;
@@ -24,7 +25,8 @@ use hevc_refs::RefPicList;
 use hevc_sequence_set::Sps;
 use hevc_set_parts::SliceType;
 
-/// `struct v4l2_ctrl_hevc_slice_params`: a slice segment (7.3.6.1), its elements by their names in H.265.
+/// `struct v4l2_ctrl_hevc_slice_params`: a slice segment (7.3.6.1), its elements by their names in
+/// H.265.
 #[repr(C)]
 #[derive(Clone, Copy)]
 pub struct V4l2CtrlHevcSliceParams {
@@ -57,7 +59,8 @@ pub struct V4l2CtrlHevcSliceParams {
     /// Zeros.
     pub reserved0: [u8; 3],
     pub slice_segment_addr: u32,
-    /// For each place of list 0, which of the `dpb` of the decode parameters it is; 255 where there is no such picture, and after the list.
+    /// For each place of list 0, which of the `dpb` of the decode parameters it is; 255 where there
+    /// is no such picture, and after the list.
     pub ref_idx_l0: [u8; 16],
     /// The same of list 1.
     pub ref_idx_l1: [u8; 16],
@@ -89,9 +92,11 @@ struct Indices {
     l1: [u8; 16],
 }
 
-/// A slice segment as a stateless decoder takes it: of this picture, with this sequence set, buffer and lists.
+/// A slice segment as a stateless decoder takes it: of this picture, with this sequence set, buffer
+/// and lists.
 ///
-/// Errors, the first that there is: `UnitSize`, `ShortTermSize`, `ChromaDenominator`, `LumaOffset`, `ChromaOffset`, `CurrentPicture`.
+/// Errors, the first that there is: `UnitSize`, `ShortTermSize`, `ChromaDenominator`, `LumaOffset`,
+/// `ChromaOffset`, `CurrentPicture`.
 pub fn slice_control(
     picture: &PictureData,
     slice: &Slice<'_>,

@@ -1,9 +1,12 @@
 //! The weights of predictions: `struct v4l2_hevc_pred_weight_table`.
-ghost use Rattle.std.specs.Prelude.{◌≡◌, ◌≤◌, ◌^◌, pos, negsuc, neg_ℤ, ◌≤ℤ◌, ◌+ℤ◌, ◌-ℤ◌, ◌*ℤ◌, IsTrue, IfOk};
+ghost use Rattle.std.specs.Prelude.{◌≡◌, ◌≤◌, ◌^◌, pos, negsuc, neg_ℤ, ◌≤ℤ◌, ◌+ℤ◌, ◌-ℤ◌, ◌*ℤ◌};
+ghost use Rattle.std.specs.Prelude.{IsTrue, IfOk};
 ghost use Rattle.std.specs.Int.{int_shr};
 ghost use Rattle.std.specs.Result.{result_err};
 ghost use Rattle.hevc_video_set.specs.PredWeightTable.{plain_pred_weight_table};
-ghost use Rattle.hevc_v4l2.specs.Weights.{chroma_offset, chroma_offset_pair, chroma_offsets, chroma_fits, clip3, control_of_weights, luma_fits, offsets_error, weights_error, with_chroma_offsets};
+ghost use Rattle.hevc_v4l2.specs.Weights.{chroma_offset, chroma_offset_pair, chroma_offsets};
+ghost use Rattle.hevc_v4l2.specs.Weights.{chroma_fits, clip3, control_of_weights, luma_fits};
+ghost use Rattle.hevc_v4l2.specs.Weights.{offsets_error, weights_error, with_chroma_offsets};
 
 use crate::arrays::{
     are_signed_byte_pairs, are_signed_bytes, padded_numbers, padded_pairs, signed_byte_pairs_of,
@@ -12,8 +15,8 @@ use crate::arrays::{
 use crate::error::ControlError;
 use hevc_video_set::PredWeightTable;
 
-/// `struct v4l2_hevc_pred_weight_table`: the weights and offsets of weighted prediction (7.3.6.3), with 16 places for the 15 entries of a
-/// list.
+/// `struct v4l2_hevc_pred_weight_table`: the weights and offsets of weighted prediction (7.3.6.3),
+/// with 16 places for the 15 entries of a list.
 #[repr(C)]
 #[derive(Clone, Copy)]
 pub struct V4l2HevcPredWeightTable {

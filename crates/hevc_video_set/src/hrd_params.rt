@@ -37,7 +37,8 @@ pub struct HrdParams {
     pub dpb_output_delay_length_minus1: u8,
     /// For each sub-layer, whether pictures are output at a fixed rate throughout.
     pub fixed_pic_rate_general_flag: [bool; 7],
-    /// For each sub-layer, whether pictures are output at a fixed rate within each coded video sequence.
+    /// For each sub-layer, whether pictures are output at a fixed rate within each coded video
+    /// sequence.
     pub fixed_pic_rate_within_cvs_flag: [bool; 7],
     /// For each sub-layer, the distance of outputs in ticks, less 1: 0 to 2047.
     pub elemental_duration_in_tc_minus1: [u32; 7],
@@ -57,7 +58,8 @@ impl HrdParams {
     ghost use Rattle.hevc_records.specs.HrdParams.{default_hrd_params};
     ghost use Rattle.hevc_video_set.specs.HrdParams.{plain_hrd_params};
 
-    /// All flags not set; all numbers 0 but three lengths that are 23 where nothing says otherwise (E.3.2).
+    /// All flags not set; all numbers 0 but three lengths that are 23 where nothing says otherwise
+    /// (E.3.2).
     pub fn new() -> HrdParams
         ensures { plain_hrd_params result ≡ default_hrd_params }
     {
@@ -183,7 +185,8 @@ impl HrdParams {
         self.fixed_pic_rate_general_flag
     }
 
-    /// For each sub-layer, whether pictures are output at a fixed rate within each coded video sequence.
+    /// For each sub-layer, whether pictures are output at a fixed rate within each coded video
+    /// sequence.
     pub fn fixed_pic_rate_within_cvs_flag(&self) -> [bool; 7]
         ensures { result ≡ self.now.fixed_pic_rate_within_cvs_flag }
     {

@@ -1,8 +1,8 @@
 //! Records of H.265 syntax: timing, usability, video parameter sets and weights.
 //!
-//! A record is plain data: each syntax element is a public field and has a getter of the field's name. `new` gives
-//! the values that hold where nothing was read. What holds of every value of a type, as a bound on a field, is one of
-//! its `ghost` fields.
+//! A record is plain data: each syntax element is a public field and has a getter of the field's
+//! name. `new` gives the values that hold where nothing was read. What holds of every value of a
+//! type, as a bound on a field, is one of its `ghost` fields.
 #![tactic(auto)]
 
 pub mod comparisons;

@@ -7,33 +7,41 @@ ghost use Rattle.hevc_records.specs.Bounds.{Within};
 pub struct PredWeightTable {
     /// The logarithm of the denominator of luma weights: 0 to 7.
     pub luma_log2_weight_denom: u8,
-    /// What the logarithm of the denominator of chroma weights adds to that of luma: `-luma_log2_weight_denom` to 127.
+    /// What the logarithm of the denominator of chroma weights adds to that of luma:
+    /// `-luma_log2_weight_denom` to 127.
     pub delta_chroma_log2_weight_denom: i8,
-    /// The logarithm of the denominator of chroma weights: `luma_log2_weight_denom + delta_chroma_log2_weight_denom`, 0 without chroma.
+    /// The logarithm of the denominator of chroma weights: `luma_log2_weight_denom +
+    /// delta_chroma_log2_weight_denom`, 0 without chroma.
     pub chroma_log2_weight_denom: u8,
     /// For each entry of list 0, whether luma is weighted.
     pub luma_weight_l0_flag: [bool; 15],
     /// For each entry of list 0, whether chroma is weighted.
     pub chroma_weight_l0_flag: [bool; 15],
-    /// For each entry of list 0, what its luma weight adds to 1: -128 to 127 over the denominator of luma weights.
+    /// For each entry of list 0, what its luma weight adds to 1: -128 to 127 over the denominator
+    /// of luma weights.
     pub delta_luma_weight_l0: [i8; 15],
     /// For each entry of list 0, the offset of luma: -8192 to 8191.
     pub luma_offset_l0: [i16; 15],
-    /// For each entry of list 0, what its Cb and Cr weights add to 1: -128 to 127 over the denominator of chroma weights.
+    /// For each entry of list 0, what its Cb and Cr weights add to 1: -128 to 127 over the
+    /// denominator of chroma weights.
     pub delta_chroma_weight_l0: [[i8; 2]; 15],
-    /// For each entry of list 0, the differences that give the offsets of Cb and Cr: -32768 to 32767.
+    /// For each entry of list 0, the differences that give the offsets of Cb and Cr: -32768 to
+    /// 32767.
     pub delta_chroma_offset_l0: [[i16; 2]; 15],
     /// For each entry of list 1, whether luma is weighted.
     pub luma_weight_l1_flag: [bool; 15],
     /// For each entry of list 1, whether chroma is weighted.
     pub chroma_weight_l1_flag: [bool; 15],
-    /// For each entry of list 1, what its luma weight adds to 1: -128 to 127 over the denominator of luma weights.
+    /// For each entry of list 1, what its luma weight adds to 1: -128 to 127 over the denominator
+    /// of luma weights.
     pub delta_luma_weight_l1: [i8; 15],
     /// For each entry of list 1, the offset of luma: -8192 to 8191.
     pub luma_offset_l1: [i16; 15],
-    /// For each entry of list 1, what its Cb and Cr weights add to 1: -128 to 127 over the denominator of chroma weights.
+    /// For each entry of list 1, what its Cb and Cr weights add to 1: -128 to 127 over the
+    /// denominator of chroma weights.
     pub delta_chroma_weight_l1: [[i8; 2]; 15],
-    /// For each entry of list 1, the differences that give the offsets of Cb and Cr: -32768 to 32767.
+    /// For each entry of list 1, the differences that give the offsets of Cb and Cr: -32768 to
+    /// 32767.
     pub delta_chroma_offset_l1: [[i16; 2]; 15],
     pub ghost luma_denominator: { luma_log2_weight_denom ≤ 7 },
     pub ghost chroma_denominator: { pos 0 ≤ℤ (pos luma_log2_weight_denom +ℤ delta_chroma_log2_weight_denom) },

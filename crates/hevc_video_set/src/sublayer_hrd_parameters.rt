@@ -1,7 +1,8 @@
 //! Buffer sizes and bit rates of a sub-layer.
 ghost use Rattle.std.specs.Prelude.{◌≡◌};
 
-/// The bit rates and buffer sizes of a sub-layer, one of each for each schedule of delivery (H.265 E.2.3, E.3.3).
+/// The bit rates and buffer sizes of a sub-layer, one of each for each schedule of delivery (H.265
+/// E.2.3, E.3.3).
 ///
 /// The scales of `HrdParams` turn these numbers into bits a second and bits.
 #[derive(Clone, Copy, PartialEq, Eq)]

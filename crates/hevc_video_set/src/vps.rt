@@ -28,7 +28,8 @@ pub struct Vps {
     pub sub_layer_ordering_info_present_flag: bool,
     /// For each sub-layer, the size of the decoded picture buffer in pictures, less 1: 0 to 15.
     pub max_dec_pic_buffering_minus1: [u32; 7],
-    /// For each sub-layer, the most pictures that precede one in decoding order and follow it in output order: at most `max_dec_pic_buffering_minus1` there.
+    /// For each sub-layer, the most pictures that precede one in decoding order and follow it in
+    /// output order: at most `max_dec_pic_buffering_minus1` there.
     pub max_num_reorder_pics: [u32; 7],
     /// For each sub-layer, the latency beyond reordering, plus 1: 0 for no bound.
     pub max_latency_increase_plus1: [u32; 7],
@@ -63,8 +64,8 @@ impl Vps {
     ghost use Rattle.hevc_records.specs.Vps.{default_vps};
     ghost use Rattle.hevc_video_set.specs.Vps.{plain_vps};
 
-    /// All numbers 0, all flags not set and all lists empty, but for `cprms_present_flag`, which is true alone: the
-    /// first structure of parameters always has its common part.
+    /// All numbers 0, all flags not set and all lists empty, but for `cprms_present_flag`, which is
+    /// true alone: the first structure of parameters always has its common part.
     ///
     /// Errors: no memory.
     pub fn new(alloc: Global) -> Result<Vps, AllocError>
@@ -198,7 +199,8 @@ impl Vps {
         self.max_dec_pic_buffering_minus1
     }
 
-    /// For each sub-layer, the most pictures that precede one in decoding order and follow it in output order.
+    /// For each sub-layer, the most pictures that precede one in decoding order and follow it in
+    /// output order.
     pub fn max_num_reorder_pics(&self) -> [u32; 7]
         ensures { result ≡ self.now.max_num_reorder_pics }
     {

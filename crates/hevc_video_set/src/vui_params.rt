@@ -8,7 +8,8 @@ use crate::hrd_params::HrdParams;
 pub struct VuiParams {
     /// Whether the sample aspect ratio is present.
     pub aspect_ratio_info_present_flag: bool,
-    /// The number of the sample aspect ratio: 0 to 255, 255 for one given by `sar_width` and `sar_height`.
+    /// The number of the sample aspect ratio: 0 to 255, 255 for one given by `sar_width` and
+    /// `sar_height`.
     pub aspect_ratio_idc: u32,
     /// The width of a sample in any unit: 0 to 65535.
     pub sar_width: u32,
@@ -76,7 +77,8 @@ pub struct VuiParams {
     pub motion_vectors_over_pic_boundaries_flag: bool,
     /// Whether all slices of a picture have the same reference lists.
     pub restricted_ref_pic_lists_flag: bool,
-    /// How finely each picture is cut into parts that decode independently: 0 to 4095, 0 for none said.
+    /// How finely each picture is cut into parts that decode independently: 0 to 4095, 0 for none
+    /// said.
     pub min_spatial_segmentation_idc: u32,
     /// The denominator of a bound on the bytes of a picture: 0 for none said.
     pub max_bytes_per_pic_denom: u32,

@@ -1,5 +1,6 @@
 //! Video parameter sets (7.3.2.1, table 1).
-ghost use Rattle.std.specs.Prelude.{IfOk, ◌≡◌, ◌==◌, ◌<◌, ◌^◌, ◌↔◌, IfErr, IsErrOf, IsTrue, length, drop, ◌≤◌};
+ghost use Rattle.std.specs.Prelude.{IfOk, ◌≡◌, ◌==◌, ◌<◌, ◌^◌, ◌↔◌, IfErr, IsErrOf, IsTrue, length};
+ghost use Rattle.std.specs.Prelude.{drop, ◌≤◌};
 ghost use Rattle.hevc_spec.specs.Payload.{payload, payload_bits};
 ghost use Rattle.hevc_bits.specs.FoundUnit.{bytes_of};
 ghost use Rattle.hevc_bits.specs.NaluType.{nalu_type_number};
@@ -18,13 +19,15 @@ use hevc_elements::{ElementReader, ParseError, Told, wants_memory};
 use hevc_video_set::Vps;
 use std::alloc::{AllocError, Global};
 
-/// Reads a video parameter set out of its unit, of a stream of less than 2^60 bytes, by table 1 (7.3.2.1).
+/// Reads a video parameter set out of its unit, of a stream of less than 2^60 bytes, by table 1
+/// (7.3.2.1).
 ///
-/// An element that is absent has its value of `Vps::new`. Where each sub-layer doesn't have its own numbers of buffering, reordering
-/// and latency, those of the highest hold for all lower ones.
+/// An element that is absent has its value of `Vps::new`. Where each sub-layer doesn't have its own
+/// numbers of buffering, reordering and latency, those of the highest hold for all lower ones.
 ///
-/// Errors: `WrongNaluType` first, where the unit is of another type; `OutOfBits` where the payload ends within an element;
-/// `OutOfRange` with table and row of the first element that isn't allowed; `NoMemory`.
+/// Errors: `WrongNaluType` first, where the unit is of another type; `OutOfBits` where the payload
+/// ends within an element; `OutOfRange` with table and row of the first element that isn't allowed;
+/// `NoMemory`.
 #[tactic(auto, using(hevc_elements::proofs::SetMeaning::set_meanings))]
 // Its frame has whole sets: the stack of its callers stays small without it.
 #[inline(never)]
@@ -57,8 +60,9 @@ fn read_payload(alloc: Global, payload: &[u8]) -> Result<Vps, ParseError>
     read_rows(alloc, &mut ElementReader::new(payload))
 }
 
-/// Tells the elements of a video parameter set's payload (7.3.1.1) by table 1, those of a refused one up to the element that is refused, after what is
-/// in the list and as long as it has room. `AllocError` where reading wants memory that isn't there.
+/// Tells the elements of a video parameter set's payload (7.3.1.1) by table 1, those of a refused
+/// one up to the element that is refused, after what is in the list and as long as it has room.
+/// `AllocError` where reading wants memory that isn't there.
 #[tactic(auto, using(hevc_elements::proofs::ScanLaws::tells))]
 #[inline(never)]
 pub fn tell_vps(alloc: Global, payload: &[u8], list: Vec<Told>) -> Result<Vec<Told>, AllocError>

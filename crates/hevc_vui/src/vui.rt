@@ -12,12 +12,15 @@ use crate::timing::read_timing_info;
 use hevc_elements::{ElementReader, ParseError};
 use hevc_video_set::VuiParams;
 
-/// Reads video usability information of a set whose highest sub-layer is `max_sub_layers_minus1`, by table 8 (E.2.1), into `vui`.
+/// Reads video usability information of a set whose highest sub-layer is `max_sub_layers_minus1`,
+/// by table 8 (E.2.1), into `vui`.
 ///
-/// What `vui` is at first doesn't count: an element that is absent has its value of `VuiParams::new`.
+/// What `vui` is at first doesn't count: an element that is absent has its value of
+/// `VuiParams::new`.
 ///
-/// Errors: `OutOfBits` where the payload ends within an element, and `OutOfRange` with table and row of the first element that
-/// isn't allowed. The reader then is where that element begins, and `vui` is that of `VuiParams::new`.
+/// Errors: `OutOfBits` where the payload ends within an element, and `OutOfRange` with table and
+/// row of the first element that isn't allowed. The reader then is where that element begins, and
+/// `vui` is that of `VuiParams::new`.
 #[tactic(auto, using(hevc_elements::proofs::Meaning::meanings))]
 pub fn read_vui_parameters(
     r: &mut ElementReader<'_>,

@@ -1,6 +1,8 @@
 -- The decoded picture buffer, a list in the order in which pictures were stored,
 -- and bumping (C.5.2).
-use Rattle.std.specs.Prelude.{ℕ, ℤ, ◌+◌, ◌-◌, ◌^◌, min, Bool, true, false, not, ◌&&◌, ◌||◌, List, [], ◌∷◌, ◌++◌, length, map, if◌then◌else◌, ◌==◌, nat_lt, nat_le, count_by, int_lt}
+use Rattle.std.specs.Prelude.{ℕ, ℤ, ◌+◌, ◌-◌, ◌^◌, min, Bool, true, false, not, ◌&&◌, ◌||◌, List}
+use Rattle.std.specs.Prelude.{[], ◌∷◌, ◌++◌, length, map, if◌then◌else◌, ◌==◌, nat_lt, nat_le}
+use Rattle.std.specs.Prelude.{count_by, int_lt}
 use Rattle.std.specs.List.{list_any}
 use Rattle.hevc_walk.specs.Meanings.{Limits}
 use Rattle.hevc_walk.specs.Pictures.{Head}

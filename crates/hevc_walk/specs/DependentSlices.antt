@@ -1,5 +1,6 @@
 -- A dependent slice segment has the header of the latest independent one before it (7.4.7.1).
-use Rattle.std.specs.Prelude.{ℕ, Bool, ◌==◌, ◌&&◌, nat_le, length, if◌then◌else◌, Option, Some, None}
+use Rattle.std.specs.Prelude.{ℕ, Bool, ◌==◌, ◌&&◌, nat_le, length, if◌then◌else◌, Option, Some}
+use Rattle.std.specs.Prelude.{None}
 use Rattle.hevc_walk.specs.Meanings.{Slice, SliceHeader}
 
 -- What is kept of an independent slice for the dependent ones after it.

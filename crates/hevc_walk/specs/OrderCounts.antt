@@ -1,5 +1,6 @@
 -- Picture order counts (8.3.1).
-use Rattle.std.specs.Prelude.{◌≡◌, ℕ, ℤ, pos, ◌^◌, ◌+ℤ◌, ◌-ℤ◌, ◌*ℤ◌, ◌≤ℤ◌, ◌<ℤ◌, Bool, ◌&&◌, if◌then◌else◌, int_le, Option, Some, None}
+use Rattle.std.specs.Prelude.{◌≡◌, ℕ, ℤ, pos, ◌^◌, ◌+ℤ◌, ◌-ℤ◌, ◌*ℤ◌, ◌≤ℤ◌, ◌<ℤ◌, Bool, ◌&&◌}
+use Rattle.std.specs.Prelude.{if◌then◌else◌, int_le, Option, Some, None}
 use Rattle.std.specs.Int.{int_rem_euclid}
 
 -- x is congruent to the low bits modulo MaxPicOrderCntLsb, and its difference to the earlier count

@@ -1,7 +1,9 @@
 -- The pictures of some units, latest first, each with its flags and its order count.
-use Rattle.std.specs.Prelude.{ℕ, ℤ, pos, ◌+◌, ◌-ℤ◌, Bool, true, false, not, ◌&&◌, ◌||◌, List, [], ◌∷◌, ◌++◌, if◌then◌else◌, ◌==◌, Option, Some, None}
+use Rattle.std.specs.Prelude.{ℕ, ℤ, pos, ◌+◌, ◌-ℤ◌, Bool, true, false, not, ◌&&◌, ◌||◌, List, []}
+use Rattle.std.specs.Prelude.{◌∷◌, ◌++◌, if◌then◌else◌, ◌==◌, Option, Some, None}
 use Rattle.hevc_spec.specs.UnitTypes.{is_idr, is_bla, is_cra, is_irap, is_radl, is_rasl, is_slnr}
-use Rattle.hevc_walk.specs.Meanings.{Slice, Format, Limits, Meaning, SequenceSet, CodedSlice, EndOfSequence, EndOfBitstream, Other, Refused}
+use Rattle.hevc_walk.specs.Meanings.{Slice, Format, Limits, Meaning, SequenceSet, CodedSlice}
+use Rattle.hevc_walk.specs.Meanings.{EndOfSequence, EndOfBitstream, Other, Refused}
 use Rattle.hevc_walk.specs.DependentSlices.{KeptHeader, whole_slice, kept_header}
 use Rattle.hevc_walk.specs.OrderCounts.{count_behind, is_i32}
 

@@ -1,6 +1,9 @@
 -- What every list of meanings that is read from a byte stream meets, and the laws may ask for.
-use Rattle.std.specs.Prelude.{◌≡◌, ℕ, ℤ, pos, ◌+◌, ◌^◌, ◌≤◌, ◌<◌, ◌<ℤ◌, true, false, List, [], ◌∷◌, length, All, IfSome}
-use Rattle.hevc_walk.specs.Meanings.{Format, Limits, ShortTermMember, LongTermMember, ShortTermRefPicSet, ListRule, Slice, Meaning, SequenceSet, CodedSlice, EndOfSequence, EndOfBitstream, Other, Refused}
+use Rattle.std.specs.Prelude.{◌≡◌, ℕ, ℤ, pos, ◌+◌, ◌^◌, ◌≤◌, ◌<◌, ◌<ℤ◌, true, false, List, [], ◌∷◌}
+use Rattle.std.specs.Prelude.{length, All, IfSome}
+use Rattle.hevc_walk.specs.Meanings.{Format, Limits, ShortTermMember, LongTermMember}
+use Rattle.hevc_walk.specs.Meanings.{ShortTermRefPicSet, ListRule, Slice, Meaning, SequenceSet}
+use Rattle.hevc_walk.specs.Meanings.{CodedSlice, EndOfSequence, EndOfBitstream, Other, Refused}
 
 -- MaxDpbSize is at most 16 (A.4.2)
 pub record IsFormat (f : Format) : Type 0 where

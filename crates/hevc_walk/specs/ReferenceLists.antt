@@ -1,5 +1,6 @@
 -- The reference picture lists of a slice (8.3.4).
-use Rattle.std.specs.Prelude.{ℕ, ◌-◌, ◌%◌, ◌&&◌, nat_lt, List, [], ◌∷◌, ◌++◌, length, map, take, get_or, zero, suc, if◌then◌else◌, Option, Some, None, is_none}
+use Rattle.std.specs.Prelude.{ℕ, ◌-◌, ◌%◌, ◌&&◌, nat_lt, List, [], ◌∷◌, ◌++◌, length, map, take}
+use Rattle.std.specs.Prelude.{get_or, zero, suc, if◌then◌else◌, Option, Some, None, is_none}
 use Rattle.hevc_walk.specs.Meanings.{Slice, ListRule, SliceType, I, B}
 use Rattle.hevc_walk.specs.ReferenceSets.{RefPicSet}
 

@@ -1,8 +1,10 @@
 -- The unit that stops a stream, and why.
 use Rattle.std.specs.Prelude.{ℕ, ◌+◌, ◌||◌, List, [], ◌∷◌, if◌then◌else◌, Option, Some, None}
-use Rattle.hevc_walk.specs.Meanings.{Format, Slice, UnitCause, Meaning, CodedSlice, Refused, same_format}
+use Rattle.hevc_walk.specs.Meanings.{Format, Slice, UnitCause, Meaning, CodedSlice, Refused}
+use Rattle.hevc_walk.specs.Meanings.{same_format}
 use Rattle.hevc_walk.specs.DependentSlices.{whole_slice}
-use Rattle.hevc_walk.specs.Pictures.{Head, Picture, Stream, context, head, order_count_in_range, with_unit, nothing_yet}
+use Rattle.hevc_walk.specs.Pictures.{Head, Picture, Stream, context, head, order_count_in_range}
+use Rattle.hevc_walk.specs.Pictures.{with_unit, nothing_yet}
 
 -- Why a stream is refused.
 pub data Cause : Type 0 where

@@ -1,8 +1,10 @@
 -- What a whole list of units asks for: calls, outputs and the verdict.
-use Rattle.std.specs.Prelude.{ℕ, ℤ, List, [], ◌∷◌, ◌++◌, length, filter, flat_map, nat_lt, nat_eq, if◌then◌else◌, Option, Some, None, Result, Ok, Err}
+use Rattle.std.specs.Prelude.{ℕ, ℤ, List, [], ◌∷◌, ◌++◌, length, filter, flat_map, nat_lt, nat_eq}
+use Rattle.std.specs.Prelude.{if◌then◌else◌, Option, Some, None, Result, Ok, Err}
 use Rattle.hevc_walk.specs.Meanings.{Meaning}
 use Rattle.hevc_walk.specs.Pictures.{Stream, pictures}
-use Rattle.hevc_walk.specs.Walk.{Call, Event, Called, Output, at_unit, picture_events, store, latest_head, closing, is_full, full_store, earlier_of}
+use Rattle.hevc_walk.specs.Walk.{Call, Event, Called, Output, at_unit, picture_events, store}
+use Rattle.hevc_walk.specs.Walk.{latest_head, closing, is_full, full_store, earlier_of}
 use Rattle.hevc_walk.specs.Refusals.{Refusal, DpbFull, stop, covered_stream}
 
 abbrev pub walk_events : Stream → List (ℕ × Event)

@@ -1,9 +1,11 @@
 -- The walk over the pictures, as the output order decoding process goes (C.5.2): calls, and
 -- pictures that are output.
-use Rattle.std.specs.Prelude.{ℕ, ℤ, Bool, false, not, ◌&&◌, List, [], ◌∷◌, ◌++◌, length, map, filter, if◌then◌else◌, Option, Some, None, nat_le}
+use Rattle.std.specs.Prelude.{ℕ, ℤ, Bool, false, not, ◌&&◌, List, [], ◌∷◌, ◌++◌, length, map}
+use Rattle.std.specs.Prelude.{filter, if◌then◌else◌, Option, Some, None, nat_le}
 use Rattle.hevc_walk.specs.Meanings.{Format, Slice, same_format}
 use Rattle.hevc_walk.specs.Pictures.{Head, Picture, order_count_in_range}
-use Rattle.hevc_walk.specs.Buffer.{Entry, Buffer, Bumped, bumping, draining, needs_additional_bumping, needs_bumping, is_needed, with_stored}
+use Rattle.hevc_walk.specs.Buffer.{Entry, Buffer, Bumped, bumping, draining}
+use Rattle.hevc_walk.specs.Buffer.{needs_additional_bumping, needs_bumping, is_needed, with_stored}
 use Rattle.hevc_walk.specs.ReferenceSets.{RefPicSet, reference_set, with_marks}
 use Rattle.hevc_walk.specs.ReferenceLists.{RefPicListEntry, ref_pic_list0, ref_pic_list1}
 

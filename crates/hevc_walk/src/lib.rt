@@ -1,2 +1,3 @@
-//! What a stream of units asks for, picture by picture: definitions alone, for whoever reads what the decoder promises.
+//! What a stream of units asks for, picture by picture: definitions alone, for whoever reads what
+//! the decoder promises.
 #![tactic(auto)]

@@ -6,8 +6,12 @@ ghost use Rattle.hevc_walk.specs.Meanings.{Meaning, Other};
 ghost use Rattle.hevc_walk.specs.Pictures.{Stream, stream};
 ghost use Rattle.hevc_walk.specs.Walk.{at_unit};
 ghost use Rattle.hevc_walk.specs.Refusals.{refusal, first_refusal, stop};
-ghost use Rattle.hevc_walk.specs.Results.{calls, outputs, verdict, full, walk_events, calls_in, outputs_in, calls_below, calls_of_unit, calls_above, outputs_of_unit, outputs_above, so_far, full_or};
-ghost use Rattle.hevc_walk_units.specs.Units.{calls_by_units, outputs_by_units, verdict_by_units, unit_part, refusal_at, is_full_at, events_from, verdict_from};
+ghost use Rattle.hevc_walk.specs.Results.{calls, outputs, verdict, full, walk_events, calls_in};
+ghost use Rattle.hevc_walk.specs.Results.{outputs_in, calls_below, calls_of_unit, calls_above};
+ghost use Rattle.hevc_walk.specs.Results.{outputs_of_unit, outputs_above, so_far, full_or};
+ghost use Rattle.hevc_walk_units.specs.Units.{calls_by_units, outputs_by_units, verdict_by_units};
+ghost use Rattle.hevc_walk_units.specs.Units.{unit_part, refusal_at, is_full_at, events_from};
+ghost use Rattle.hevc_walk_units.specs.Units.{verdict_from};
 ghost use Rattle.hevc_walk_agree.specs.Standings.{standing, full_by, Takes};
 ghost use Rattle.hevc_walk_agree.specs.Submissions.{SubmitsFirst};
 ghost use Rattle.hevc_walk_agree.specs.Raised.{raised_call, raised_output, raised_verdict};
@@ -27,8 +31,8 @@ pub fn same_verdict()
     ensures { (us : List Meaning) → verdict_by_units us ≡ verdict us }
 {}
 
-/// One more unit that isn't refused does what the standing after the units before it asks, and leads to the standing
-/// after all of them.
+/// One more unit that isn't refused does what the standing after the units before it asks, and
+/// leads to the standing after all of them.
 pub fn next_moment()
     ensures { (us : List Meaning) (x : Meaning) → refusal (stream us) x ≡ None
         → Takes (length us) (stream us) (unit_part x (standing (stream us)))
@@ -54,7 +58,8 @@ pub fn done_at()
         ≡ outputs_in (at_unit (length front) (unit_part x (standing (stream front))).events) }
 {}
 
-/// What a list of units asks is what those in front ask, then what is asked from the next one on; so is the verdict.
+/// What a list of units asks is what those in front ask, then what is asked from the next one on;
+/// so is the verdict.
 pub fn done_from()
     ensures calls { (front back : List Meaning) → stop front ≡ None
         → calls (front ++ back)
@@ -70,7 +75,8 @@ pub fn done_from()
         (verdict_from (standing (stream front)) (length front) back) }
 {}
 
-/// Calls and outputs are in the order of their units: those below a unit, those at it, and those above.
+/// Calls and outputs are in the order of their units: those below a unit, those at it, and those
+/// above.
 pub fn in_unit_order()
     ensures calls { (us : List Meaning) (k : ℕ)
         → calls us ≡ calls_below k (calls us) ++ calls_of_unit k (calls us)
@@ -92,7 +98,8 @@ pub fn dropped_unit()
         ≡ raised_verdict (length front) (verdict (front ++ back)) }
 {}
 
-/// Where a picture is first to be stored into a full buffer, its submission is the first call of that unit.
+/// Where a picture is first to be stored into a full buffer, its submission is the first call of
+/// that unit.
 pub fn full_submits()
     ensures { (us : List Meaning) (k : ℕ) → full us ≡ Some k → SubmitsFirst k (calls us) }
 {}

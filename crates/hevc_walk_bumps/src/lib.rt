@@ -5,8 +5,9 @@ ghost use Rattle.std.specs.Prelude.{◌≡◌, Bool, true, false, List, [], ◌�
 ghost use Rattle.hevc_walk.specs.Buffer.{Entry, Buffer, in_output_order, bumping};
 ghost use Rattle.hevc_walk_bumps.specs.Steps.{Distinct, after_one, nothing_output, output_before};
 
-/// As long as a rule holds and an entry is needed for output, the first in output order is output, and bumping goes on with what is left;
-/// once the rule doesn't hold, or nothing is needed for output, nothing more is output.
+/// As long as a rule holds and an entry is needed for output, the first in output order is output,
+/// and bumping goes on with what is left; once the rule doesn't hold, or nothing is needed for
+/// output, nothing more is output.
 pub fn one_by_one()
     ensures more { (rule : Buffer → Bool) (es : Buffer) (e : Entry) (rest : List Entry)
         → Distinct es

@@ -1,5 +1,6 @@
 -- A list of units without some that mean nothing.
-use Rattle.std.specs.Prelude.{◌≡◌, ℕ, zero, suc, ◌+◌, Bool, true, false, List, [], ◌∷◌, if◌then◌else◌, Result, Ok, Err}
+use Rattle.std.specs.Prelude.{◌≡◌, ℕ, zero, suc, ◌+◌, Bool, true, false, List, [], ◌∷◌}
+use Rattle.std.specs.Prelude.{if◌then◌else◌, Result, Ok, Err}
 use Rattle.hevc_walk.specs.Meanings.{Meaning, Other}
 use Rattle.hevc_walk.specs.Walk.{Call}
 use Rattle.hevc_walk.specs.Refusals.{Refusal}

@@ -4,7 +4,8 @@
 ghost use Rattle.std.specs.Prelude.{◌≡◌, Bool, List, map};
 ghost use Rattle.hevc_walk.specs.Meanings.{Meaning};
 ghost use Rattle.hevc_walk.specs.Results.{calls, outputs, verdict};
-ghost use Rattle.hevc_walk_drop.specs.Dropping.{with_flags, DropsOther, renumbered_call, renumbered_output, renumbered_verdict};
+ghost use Rattle.hevc_walk_drop.specs.Dropping.{with_flags, DropsOther, renumbered_call};
+ghost use Rattle.hevc_walk_drop.specs.Dropping.{renumbered_output, renumbered_verdict};
 
 /// Without some units that mean nothing a stream asks for the same, each unit number replaced by
 /// how many units are kept before it.

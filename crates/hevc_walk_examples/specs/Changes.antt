@@ -1,9 +1,13 @@
 -- Streams that each turn on what changes between pictures: limits, the format, a stop.
 use Rattle.std.specs.Prelude.{ℕ, negsuc, true, ◌^◌, List, [], ◌∷◌, ◌++◌, map, replicate}
-use Rattle.hevc_walk.specs.Meanings.{Format, I, P, Meaning, SequenceSet, CodedSlice, Other, Refused, OutOfBits}
-use Rattle.hevc_walk.specs.Walk.{Call, NewSequence, NewPicture, BeginPicture, DecodeSlice, SubmitPicture}
+use Rattle.hevc_walk.specs.Meanings.{Format, I, P, Meaning, SequenceSet, CodedSlice, Other, Refused}
+use Rattle.hevc_walk.specs.Meanings.{OutOfBits}
+use Rattle.hevc_walk.specs.Walk.{Call, NewSequence, NewPicture, BeginPicture, DecodeSlice}
+use Rattle.hevc_walk.specs.Walk.{SubmitPicture}
 use Rattle.hevc_walk.specs.Results.{calls}
-use Rattle.hevc_walk_examples.specs.Streams.{plain_format, deep_format, tight_format, tight_sets, plain_sets, plain_header, later_slice, used_member, idr, idr_without_prior, p4, cra, rasl6, t0}
+use Rattle.hevc_walk_examples.specs.Streams.{plain_format, deep_format, tight_format, tight_sets}
+use Rattle.hevc_walk_examples.specs.Streams.{plain_sets, plain_header, later_slice, used_member}
+use Rattle.hevc_walk_examples.specs.Streams.{idr, idr_without_prior, p4, cra, rasl6, t0}
 use Rattle.hevc_walk_examples.specs.Corners.{sets, limited, intra, trailing}
 use Rattle.hevc_walk_examples.specs.References.{referring}
 

@@ -1,6 +1,7 @@
 -- Streams at the bounds of what is clean, and beyond each.
 use Rattle.std.specs.Prelude.{ℕ, negsuc, List, [], ◌∷◌}
-use Rattle.hevc_walk.specs.Meanings.{ShortTermMember, Format, I, P, NamedSets, Meaning, SequenceSet, CodedSlice, Other}
+use Rattle.hevc_walk.specs.Meanings.{ShortTermMember, Format, I, P, NamedSets, Meaning, SequenceSet}
+use Rattle.hevc_walk.specs.Meanings.{CodedSlice, Other}
 use Rattle.hevc_walk_examples.specs.Streams.{plain_format, plain_sets, used_member}
 use Rattle.hevc_walk_examples.specs.Corners.{intra}
 use Rattle.hevc_walk_examples.specs.References.{referring}

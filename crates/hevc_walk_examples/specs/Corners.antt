@@ -1,12 +1,18 @@
 -- Streams that each turn on one rule.
-use Rattle.std.specs.Prelude.{ℕ, ℤ, negsuc, ◌^◌, Bool, true, false, List, [], ◌∷◌, map, Option, Some, None}
-use Rattle.hevc_walk.specs.Meanings.{ShortTermMember, LongTermMember, ListRule, SliceHeader, B, I, P, NamedSets, Slice, Meaning, SequenceSet, CodedSlice, Other, Refused, OutOfBits}
+use Rattle.std.specs.Prelude.{ℕ, ℤ, negsuc, ◌^◌, Bool, true, false, List, [], ◌∷◌, map, Option}
+use Rattle.std.specs.Prelude.{Some, None}
+use Rattle.hevc_walk.specs.Meanings.{ShortTermMember, LongTermMember, ListRule, SliceHeader, B, I}
+use Rattle.hevc_walk.specs.Meanings.{P, NamedSets, Slice, Meaning, SequenceSet, CodedSlice, Other}
+use Rattle.hevc_walk.specs.Meanings.{Refused, OutOfBits}
 use Rattle.hevc_walk.specs.Pictures.{pictures}
 use Rattle.hevc_walk.specs.ReferenceSets.{RefPicSet}
-use Rattle.hevc_walk.specs.Walk.{Call, NewSequence, NewPicture, BeginPicture, DecodeSlice, SubmitPicture}
+use Rattle.hevc_walk.specs.Walk.{Call, NewSequence, NewPicture, BeginPicture, DecodeSlice}
+use Rattle.hevc_walk.specs.Walk.{SubmitPicture}
 use Rattle.hevc_walk.specs.Results.{calls}
 use Rattle.hevc_walk.specs.Fates.{Fate, fate}
-use Rattle.hevc_walk_examples.specs.Streams.{plain_format, deep_format, plain_sets, plain_header, first_slice, later_slice, idr, idr_without_prior, p4, cra, rasl4, rasl6}
+use Rattle.hevc_walk_examples.specs.Streams.{plain_format, deep_format, plain_sets, plain_header}
+use Rattle.hevc_walk_examples.specs.Streams.{first_slice, later_slice, idr, idr_without_prior, p4}
+use Rattle.hevc_walk_examples.specs.Streams.{cra, rasl4, rasl6}
 
 abbrev pub sets : NamedSets
 sets = plain_sets plain_format

@@ -2,7 +2,8 @@
 use Rattle.std.specs.Prelude.{ℕ, ℤ, List, [], ◌∷◌, map, reverse}
 use Rattle.hevc_walk.specs.Meanings.{I, NamedSets, Meaning, SequenceSet, CodedSlice, Other}
 use Rattle.hevc_walk.specs.Results.{OutputPicture, outputs}
-use Rattle.hevc_walk_examples.specs.Streams.{plain_format, plain_sets, plain_header, first_slice, idr, p4, p2}
+use Rattle.hevc_walk_examples.specs.Streams.{plain_format, plain_sets, plain_header, first_slice}
+use Rattle.hevc_walk_examples.specs.Streams.{idr, p4, p2}
 use Rattle.hevc_walk_order.specs.Sequences.{Sequence, sequences, pictures_of, outputs_of}
 
 -- TRAIL_R, an I slice of order count 2

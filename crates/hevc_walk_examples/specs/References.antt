@@ -1,8 +1,12 @@
 -- Streams that each turn on what a picture may refer to.
-use Rattle.std.specs.Prelude.{ℕ, ℤ, pos, negsuc, ◌-◌, ◌*◌, ◌^◌, true, false, List, [], ◌∷◌, Some, None}
-use Rattle.hevc_walk.specs.Meanings.{ShortTermMember, LongTermMember, SliceType, B, I, P, Slice, Meaning, SequenceSet, CodedSlice, EndOfSequence, Other}
-use Rattle.hevc_walk_examples.specs.Streams.{plain_format, plain_header, first_slice, later_slice, idr, p4, cra, used_member}
-use Rattle.hevc_walk_examples.specs.Corners.{sets, limited, screen_sets, intra, trailing, places, long_member, short_member, dependent_of}
+use Rattle.std.specs.Prelude.{ℕ, ℤ, pos, negsuc, ◌-◌, ◌*◌, ◌^◌, true, false, List, [], ◌∷◌, Some}
+use Rattle.std.specs.Prelude.{None}
+use Rattle.hevc_walk.specs.Meanings.{ShortTermMember, LongTermMember, SliceType, B, I, P, Slice}
+use Rattle.hevc_walk.specs.Meanings.{Meaning, SequenceSet, CodedSlice, EndOfSequence, Other}
+use Rattle.hevc_walk_examples.specs.Streams.{plain_format, plain_header, first_slice, later_slice}
+use Rattle.hevc_walk_examples.specs.Streams.{idr, p4, cra, used_member}
+use Rattle.hevc_walk_examples.specs.Corners.{sets, limited, screen_sets, intra, trailing, places}
+use Rattle.hevc_walk_examples.specs.Corners.{long_member, short_member, dependent_of}
 
 abbrev pub unused_member : ℤ → ShortTermMember
 unused_member delta = short_member delta false

@@ -1,9 +1,13 @@
 -- Small streams, as lists of what their units mean, with the bytes of each slice's unit.
-use Rattle.std.specs.Prelude.{ℕ, ℤ, pos, negsuc, Bool, true, false, List, [], ◌∷◌, ◌++◌, map, replicate, Option, None}
-use Rattle.hevc_walk.specs.Meanings.{Format, ShortTermMember, ListRule, SliceHeader, SliceType, B, I, P, NamedSets, Slice, Meaning, SequenceSet, CodedSlice, Other, Refused, OutOfBits}
+use Rattle.std.specs.Prelude.{ℕ, ℤ, pos, negsuc, Bool, true, false, List, [], ◌∷◌, ◌++◌, map}
+use Rattle.std.specs.Prelude.{replicate, Option, None}
+use Rattle.hevc_walk.specs.Meanings.{Format, ShortTermMember, ListRule, SliceHeader, SliceType, B}
+use Rattle.hevc_walk.specs.Meanings.{I, P, NamedSets, Slice, Meaning, SequenceSet, CodedSlice}
+use Rattle.hevc_walk.specs.Meanings.{Other, Refused, OutOfBits}
 use Rattle.hevc_walk.specs.Buffer.{Buffer, Entry, ShortTerm}
 use Rattle.hevc_walk.specs.ReferenceLists.{RefPicListEntry}
-use Rattle.hevc_walk.specs.Walk.{Call, NewSequence, NewPicture, BeginPicture, DecodeSlice, SubmitPicture}
+use Rattle.hevc_walk.specs.Walk.{Call, NewSequence, NewPicture, BeginPicture, DecodeSlice}
+use Rattle.hevc_walk.specs.Walk.{SubmitPicture}
 use Rattle.hevc_walk.specs.Results.{calls, outputs}
 
 -- a sequence set of 16 by 16 samples, Main profile, 8 bits, 4:2:0, a buffer of 16 pictures

@@ -4,16 +4,24 @@ ghost use Rattle.std.specs.Prelude.{◌≡◌, pos, true, List, [], ◌∷◌, m
 ghost use Rattle.hevc_walk.specs.Meanings.{OutOfBits};
 ghost use Rattle.hevc_walk.specs.Pictures.{stream, pictures};
 ghost use Rattle.hevc_walk.specs.ReferenceSets.{no_references};
-ghost use Rattle.hevc_walk.specs.Walk.{NewSequence, NewPicture, BeginPicture, DecodeSlice, SubmitPicture};
+ghost use Rattle.hevc_walk.specs.Walk.{NewSequence, NewPicture, BeginPicture, DecodeSlice};
+ghost use Rattle.hevc_walk.specs.Walk.{SubmitPicture};
 ghost use Rattle.hevc_walk.specs.Refusals.{UnitRefused};
-ghost use Rattle.hevc_walk.specs.Results.{calls, outputs, calls_below, calls_above, outputs_below, outputs_of_unit, outputs_above, verdict};
-ghost use Rattle.hevc_walk.specs.Fates.{discarded_numbers, numbers_for_output, times, output_numbers};
-ghost use Rattle.hevc_walk_examples.specs.Streams.{plain_format, plain, encoded, idr_bytes, told_outputs};
+ghost use Rattle.hevc_walk.specs.Results.{calls, outputs, calls_below, calls_above, outputs_below};
+ghost use Rattle.hevc_walk.specs.Results.{outputs_of_unit, outputs_above, verdict};
+ghost use Rattle.hevc_walk.specs.Fates.{discarded_numbers, numbers_for_output, times};
+ghost use Rattle.hevc_walk.specs.Fates.{output_numbers};
+ghost use Rattle.hevc_walk_examples.specs.Streams.{plain_format, plain, encoded, idr_bytes};
+ghost use Rattle.hevc_walk_examples.specs.Streams.{told_outputs};
 ghost use Rattle.hevc_walk_examples.specs.Corners.{without_prior};
-ghost use Rattle.hevc_walk_examples.specs.Changes.{discarded_waiting, narrowed, late_reference, wide_format, tall_format, ten_bits_format, chroma_format, full_format, small_format, reformed, negotiated, crowded_skipped, skipped_deeper, far_discard, stopped_waiting};
+ghost use Rattle.hevc_walk_examples.specs.Changes.{discarded_waiting, narrowed, late_reference};
+ghost use Rattle.hevc_walk_examples.specs.Changes.{wide_format, tall_format, ten_bits_format};
+ghost use Rattle.hevc_walk_examples.specs.Changes.{chroma_format, full_format, small_format};
+ghost use Rattle.hevc_walk_examples.specs.Changes.{reformed, negotiated, crowded_skipped};
+ghost use Rattle.hevc_walk_examples.specs.Changes.{skipped_deeper, far_discard, stopped_waiting};
 
-/// A picture is stored under its own limits, and others are bumped before it under them; one that was output already is
-/// never late.
+/// A picture is stored under its own limits, and others are bumped before it under them; one that
+/// was output already is never late.
 pub fn changed_limits()
     ensures discarded { told_outputs discarded_waiting ≡ (2, pos 0, 5) ∷ [] }
     ensures narrowed { told_outputs narrowed
@@ -29,8 +37,8 @@ pub fn changed_formats()
         (5, chroma_format) ∷ (6, full_format) ∷ (7, small_format) ∷ [] }
 {}
 
-/// A skipped picture finds no full buffer and keeps no format, one that isn't decoded discards nothing, and a refused unit
-/// outputs nothing that waits.
+/// A skipped picture finds no full buffer and keeps no format, one that isn't decoded discards
+/// nothing, and a refused unit outputs nothing that waits.
 pub fn stops()
     ensures skipped { verdict crowded_skipped ≡ Ok 7 }
     ensures format { verdict skipped_deeper ≡ Ok 2 }
@@ -40,7 +48,8 @@ pub fn stops()
         ≡ Err (record { unit = 4; cause = UnitRefused OutOfBits }) }
 {}
 
-/// What each picture of three becomes, counted: the one that is discarded is neither fated for output nor output.
+/// What each picture of three becomes, counted: the one that is discarded is neither fated for
+/// output nor output.
 pub fn counted_fates()
     ensures fated { numbers_for_output (discarded_numbers without_prior) (pictures without_prior)
         ≡ 2 ∷ 0 ∷ [] }
@@ -48,7 +57,8 @@ pub fn counted_fates()
     ensures times { map (λ n. times n (0 ∷ 2 ∷ 0 ∷ [])) (0 ∷ 1 ∷ 2 ∷ []) ≡ 2 ∷ 0 ∷ 1 ∷ [] }
 {}
 
-/// What is asked and output before a unit, at it and after it, and the units at which pictures begin.
+/// What is asked and output before a unit, at it and after it, and the units at which pictures
+/// begin.
 pub fn around_a_unit()
     ensures calls { calls_below 3 (calls plain)
         ≡ (0, NewSequence plain_format) ∷ (2, NewPicture 0 19 (pos 0) true 0)

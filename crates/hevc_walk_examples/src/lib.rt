@@ -7,16 +7,25 @@ pub mod corners;
 pub mod order;
 pub mod references;
 
-ghost use Rattle.std.specs.Prelude.{◌≡◌, ℤ, pos, negsuc, ◌-◌, true, false, ◌^◌, List, [], ◌∷◌, Some, None, Ok, Err};
+ghost use Rattle.std.specs.Prelude.{◌≡◌, ℤ, pos, negsuc, ◌-◌, true, false, ◌^◌, List, [], ◌∷◌};
+ghost use Rattle.std.specs.Prelude.{Some, None, Ok, Err};
 ghost use Rattle.hevc_walk.specs.OrderCounts.{nearest, is_i32};
 ghost use Rattle.hevc_walk.specs.Buffer.{draining};
 ghost use Rattle.hevc_walk.specs.ReferenceSets.{no_references};
 ghost use Rattle.hevc_walk.specs.ReferenceLists.{DpbEntry};
-ghost use Rattle.hevc_walk.specs.Walk.{NewSequence, NewPicture, BeginPicture, DecodeSlice, SubmitPicture};
+ghost use Rattle.hevc_walk.specs.Walk.{NewSequence, NewPicture, BeginPicture, DecodeSlice};
+ghost use Rattle.hevc_walk.specs.Walk.{SubmitPicture};
 ghost use Rattle.hevc_walk.specs.Refusals.{NoIndependentSlice, ChangedMidPicture, DpbFull};
 ghost use Rattle.hevc_walk.specs.Results.{calls, calls_of_unit, so_far, verdict};
 ghost use Rattle.hevc_walk.specs.Meanings.{EndOfSequence, EndOfBitstream};
-ghost use Rattle.hevc_walk_examples.specs.Streams.{plain_format, deep_format, plain, leading, ended_by, equal_counts, without_reference, encoded, dependent_alone, dependent_behind, crowded, crowded_refused, waiting, three_waiting, deeper, deeper_without_prior, deeper_mid_picture, told_outputs, slice_lists, new_pictures, idr_bytes, p4_bytes, p2_bytes, dependent_bytes};
+ghost use Rattle.hevc_walk_examples.specs.Streams.{plain_format, deep_format, plain, leading};
+ghost use Rattle.hevc_walk_examples.specs.Streams.{ended_by, equal_counts, without_reference};
+ghost use Rattle.hevc_walk_examples.specs.Streams.{encoded, dependent_alone, dependent_behind};
+ghost use Rattle.hevc_walk_examples.specs.Streams.{crowded, crowded_refused, waiting};
+ghost use Rattle.hevc_walk_examples.specs.Streams.{three_waiting, deeper, deeper_without_prior};
+ghost use Rattle.hevc_walk_examples.specs.Streams.{deeper_mid_picture, told_outputs, slice_lists};
+ghost use Rattle.hevc_walk_examples.specs.Streams.{new_pictures, idr_bytes, p4_bytes, p2_bytes};
+ghost use Rattle.hevc_walk_examples.specs.Streams.{dependent_bytes};
 
 /// An IDR picture and two P pictures, the second between the first two in output order.
 pub fn plain_stream()
@@ -50,7 +59,8 @@ pub fn skipped_leading()
     ensures verdict { verdict leading ≡ Ok 3 }
 {}
 
-/// A CRA picture after an end of sequence discards what is needed for output; after an end of bitstream it doesn't.
+/// A CRA picture after an end of sequence discards what is needed for output; after an end of
+/// bitstream it doesn't.
 pub fn ends()
     ensures sequence { told_outputs (ended_by EndOfSequence) ≡ (0, pos 0, 5) ∷ (2, pos 8, 6) ∷ [] }
     ensures sequence_verdict { verdict (ended_by EndOfSequence) ≡ Ok 3 }
@@ -121,8 +131,8 @@ pub fn full_buffer()
     ensures before_refusal { verdict crowded_refused ≡ Err (record { unit = 9; cause = DpbFull }) }
 {}
 
-/// Another bit depth is another format: it is negotiated anew, what is needed for output is output before it whatever the picture's flag
-/// says, and within a picture it is refused.
+/// Another bit depth is another format: it is negotiated anew, what is needed for output is output
+/// before it whatever the picture's flag says, and within a picture it is refused.
 pub fn changed_depth()
     ensures calls { calls deeper ≡ (0, NewSequence plain_format)
         ∷ (2, NewPicture 0 19 (pos 0) true 0) ∷ (2, BeginPicture 0 no_references)

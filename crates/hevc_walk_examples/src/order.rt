@@ -1,18 +1,25 @@
 //! Small streams, computed: each keeps the order that it declares, or doesn't.
 
-ghost use Rattle.std.specs.Prelude.{◌≡◌, pos, List, [], ◌∷◌, All, Some, Ok, map, take, option_map, true, false};
+ghost use Rattle.std.specs.Prelude.{◌≡◌, pos, List, [], ◌∷◌, All, Some, Ok, map, take, option_map};
+ghost use Rattle.std.specs.Prelude.{true, false};
 ghost use Rattle.hevc_walk.specs.Pictures.{pictures};
 ghost use Rattle.hevc_walk.specs.Results.{verdict};
 ghost use Rattle.hevc_walk_examples.specs.Streams.{plain, told_outputs};
 ghost use Rattle.hevc_walk_examples.specs.Corners.{broken_link};
-ghost use Rattle.hevc_walk_order.specs.Sequences.{Sequence, sequences, earliest, pictures_for_output};
-ghost use Rattle.hevc_walk_order.specs.DisplayOrder.{KeepsOrder, FewPrecede, latency_pictures, decoded_between, AreInOrder, ComeInOrder, ComeInTurn};
+ghost use Rattle.hevc_walk_order.specs.Sequences.{Sequence, sequences, earliest};
+ghost use Rattle.hevc_walk_order.specs.Sequences.{pictures_for_output};
+ghost use Rattle.hevc_walk_order.specs.DisplayOrder.{KeepsOrder, FewPrecede, latency_pictures};
+ghost use Rattle.hevc_walk_order.specs.DisplayOrder.{decoded_between, AreInOrder, ComeInOrder};
+ghost use Rattle.hevc_walk_order.specs.DisplayOrder.{ComeInTurn};
 ghost use Rattle.hevc_walk_order.specs.Bounds.{KeepsBounds};
 ghost use Rattle.hevc_walk_order.specs.Tests.{keeps_order, keeps_bounds};
-ghost use Rattle.hevc_walk_examples.specs.OrderStreams.{sets_of, two_sequences, reordered_too_far, late_stream, full_stream, overfull_stream, sequence_numbers, output_counts, last_first};
+ghost use Rattle.hevc_walk_examples.specs.OrderStreams.{sets_of, two_sequences, reordered_too_far};
+ghost use Rattle.hevc_walk_examples.specs.OrderStreams.{late_stream, full_stream, overfull_stream};
+ghost use Rattle.hevc_walk_examples.specs.OrderStreams.{sequence_numbers, output_counts};
+ghost use Rattle.hevc_walk_examples.specs.OrderStreams.{last_first};
 
-/// Two sequences, the first of which begins without an IRAP picture: both keep the order that they declare, and the
-/// plainer bounds.
+/// Two sequences, the first of which begins without an IRAP picture: both keep the order that they
+/// declare, and the plainer bounds.
 pub fn kept_order()
     ensures sequences { sequence_numbers two_sequences ≡ (4 ∷ 3 ∷ 2 ∷ []) ∷ (1 ∷ 0 ∷ []) ∷ [] }
     ensures keeps { All (KeepsOrder two_sequences) (sequences two_sequences) }
@@ -25,8 +32,9 @@ pub fn kept_order()
     ensures verdict { verdict two_sequences ≡ Ok 5 }
 {}
 
-/// An IDR picture, a P picture of order count 4, and I pictures of 2 and 1: two pictures precede the last and follow
-/// it in output order, where one is declared. It is output after a picture of a greater order count.
+/// An IDR picture, a P picture of order count 4, and I pictures of 2 and 1: two pictures precede
+/// the last and follow it in output order, where one is declared. It is output after a picture of a
+/// greater order count.
 pub fn broken_order()
     ensures breaks { All (λ q. FewPrecede q.first.limits.max_num_reorder_pics (pictures_for_output q) → ⊥)
         (sequences reordered_too_far) }
@@ -48,8 +56,8 @@ pub fn kept_latency()
     ensures verdict { verdict (late_stream 3) ≡ Ok 5 }
 {}
 
-/// The same under a latency of 2: every store raises a latency count, so the picture of 4 is output before that of 3
-/// comes.
+/// The same under a latency of 2: every store raises a latency count, so the picture of 4 is output
+/// before that of 3 comes.
 pub fn broken_latency()
     ensures breaks { All (λ q. KeepsOrder (late_stream 1) q → ⊥) (sequences (late_stream 1)) }
     ensures tested { map (keeps_order (late_stream 1)) (sequences (late_stream 1)) ≡ false ∷ [] }
@@ -80,7 +88,8 @@ pub fn broken_room()
     ensures verdict { verdict overfull_stream ≡ Ok 4 }
 {}
 
-/// Pictures that come in no rising order count, or not at all, and a sequence that comes before the one before it.
+/// Pictures that come in no rising order count, or not at all, and a sequence that comes before the
+/// one before it.
 pub fn wrong_orders()
     ensures falling { AreInOrder (pictures plain) (last_first plain) → ⊥ }
     ensures lacking { AreInOrder (pictures plain) [] → ⊥ }
@@ -88,7 +97,8 @@ pub fn wrong_orders()
     ensures turns { ComeInTurn two_sequences (last_first two_sequences) → ⊥ }
 {}
 
-/// A latency is kept where one picture more between two would break it; skipped pictures aren't counted.
+/// A latency is kept where one picture more between two would break it; skipped pictures aren't
+/// counted.
 pub fn counted_latency()
     ensures between { decoded_between 0 2 (pictures broken_link) ≡ 1 }
     ensures both { decoded_between 0 3 (pictures broken_link) ≡ 2 }

@@ -1,11 +1,18 @@
 -- Each picture that is decoded is submitted once, and what is output was submitted.
-use Rattle.std.proofs.Common.{◌≡◌, ℕ, ◌+◌, ◌≤◌, Bool, true, false, not, cond, ◌&&◌, eqb, List, [], ◌∷◌, ◌++◌, length, map, refl, ◌∙◌, ap, arith, Option, Some, None}
+use Rattle.std.proofs.Common.{◌≡◌, ℕ, ◌+◌, ◌≤◌, Bool, true, false, not, cond, ◌&&◌, eqb, List, []}
+use Rattle.std.proofs.Common.{◌∷◌, ◌++◌, length, map, refl, ◌∙◌, ap, arith, Option, Some, None}
 use Rattle.std.proofs.lemmas.Bool.Decides.{nat_tests}
 use Rattle.hevc_walk.specs.Meanings.{Format, Slice, Meaning}
 use Rattle.hevc_walk.specs.Pictures.{Head, Picture, Stream, context, nothing_yet}
 use Rattle.hevc_walk.specs.Buffer.{Entry, bumping, draining, needs_bumping, needs_additional_bumping, with_stored}
 use Rattle.hevc_walk.specs.ReferenceSets.{RefPicSet, reference_set, with_marks}
-use Rattle.hevc_walk.specs.Walk.{Event, Called, Output, output_of, NewSequence, NewPicture, BeginPicture, DecodeSlice, SubmitPicture, ◌>>=◌, nothing, Store, output_by, finish, store_picture, change_format, open_sequence, is_accepted, begin_picture, make_room, needed_entries, start_decoding, is_decoded, picture_part, latest_head, store, reference_set_of, picture_events, decode_slices, slice_call, at_unit, closing}
+use Rattle.hevc_walk.specs.Walk.{Event, Called, Output, output_of, NewSequence, NewPicture}
+use Rattle.hevc_walk.specs.Walk.{BeginPicture, DecodeSlice, SubmitPicture, ◌>>=◌, nothing, Store}
+use Rattle.hevc_walk.specs.Walk.{output_by, finish, store_picture, change_format, open_sequence}
+use Rattle.hevc_walk.specs.Walk.{is_accepted, begin_picture, make_room, needed_entries}
+use Rattle.hevc_walk.specs.Walk.{start_decoding, is_decoded, picture_part, latest_head, store}
+use Rattle.hevc_walk.specs.Walk.{reference_set_of, picture_events, decode_slices, slice_call}
+use Rattle.hevc_walk.specs.Walk.{at_unit, closing}
 use Rattle.hevc_walk.specs.Refusals.{Refusal, stop, covered_stream}
 use Rattle.hevc_walk.specs.Results.{ending, events, calls_in}
 use Rattle.hevc_walk.specs.Fates.{one, times, output_numbers}
@@ -13,7 +20,9 @@ use Rattle.hevc_walk_fates.specs.Submissions.{submitted_in, submitted_numbers}
 use Rattle.hevc_walk_fates.proofs.Accepted.{equal_numbers}
 use Rattle.hevc_walk_fates.proofs.Counts.{one-le, to_come}
 use Rattle.hevc_walk_fates.proofs.Numbers.{Numbered, covered-numbered}
-use Rattle.hevc_walk_fates.proofs.Fates.{over, over-all, all-once, balance, closing-balanced, given_in, given_in-none, given_in-append, given_in-at, given_in-numbers}
+use Rattle.hevc_walk_fates.proofs.Fates.{over, over-all, all-once, balance, closing-balanced}
+use Rattle.hevc_walk_fates.proofs.Fates.{given_in, given_in-none, given_in-append, given_in-at}
+use Rattle.hevc_walk_fates.proofs.Fates.{given_in-numbers}
 
 submits : ℕ → List Event → ℕ
 submits n [] = 0
@@ -72,18 +81,21 @@ submits_in-numbers : (n : ℕ) (es : List (ℕ × Event)) → times n (submitted
 unfolding submits_in
 submits_in-numbers n [] = refl
 submits_in-numbers n ((k, Output number count) ∷ es) = submits_in-numbers n es
-submits_in-numbers n ((k, Called (SubmitPicture number)) ∷ es) = ap (λ (m : ℕ). one (eqb number n) + m) (submits_in-numbers n es)
+submits_in-numbers n ((k, Called (SubmitPicture number)) ∷ es) =
+    ap (λ (m : ℕ). one (eqb number n) + m) (submits_in-numbers n es)
 submits_in-numbers n ((k, Called (NewSequence info)) ∷ es) = submits_in-numbers n es
 submits_in-numbers n ((k, Called (NewPicture number t c o s)) ∷ es) = submits_in-numbers n es
 submits_in-numbers n ((k, Called (BeginPicture number set)) ∷ es) = submits_in-numbers n es
 submits_in-numbers n ((k, Called (DecodeSlice number address bytes list0 list1)) ∷ es) = submits_in-numbers n es
 
-submits_in-slices : (n : ℕ) (p : Head) (set : RefPicSet) (slices : List (ℕ × Slice)) → submits_in n (decode_slices p set slices) ≡ 0
+submits_in-slices : (n : ℕ) (p : Head) (set : RefPicSet) (slices : List (ℕ × Slice))
+    → submits_in n (decode_slices p set slices) ≡ 0
 unfolding submits_in
 submits_in-slices n p set [] = refl
 submits_in-slices n p set (s ∷ slices) = by_test (is_decoded p) (submits_in-slices n p set slices)
   where
-    by_test : (b : Bool) → submits_in n (decode_slices p set slices) ≡ 0 → submits_in n (cond b ((s.0, Called (slice_call p set s.1)) ∷ []) [] ++ decode_slices p set slices) ≡ 0
+    by_test : (b : Bool) → submits_in n (decode_slices p set slices) ≡ 0
+        → submits_in n (cond b ((s.0, Called (slice_call p set s.1)) ∷ []) [] ++ decode_slices p set slices) ≡ 0
     by_test true h = h
     by_test false h = h
 
@@ -102,7 +114,9 @@ finish-submits n (Some q) s = by_skipped q.skipped
   where
     by_skipped : (b : Bool) → submits n (cond b (nothing s) (store_picture q s)).events ≡ one (not b && eqb q.number n)
     by_skipped true = refl
-    by_skipped false = let h = submits-output n (bumping (needs_additional_bumping q.limits) (with_stored q s.buffer)).outputs in omega (arith, h)
+    by_skipped false = let h =
+        submits-output n (bumping (needs_additional_bumping q.limits) (with_stored q s.buffer)).outputs in
+        omega (arith, h)
 
 change-submits : (n : ℕ) (f : Format) (s : Store) → submits n (change_format f s).events ≡ 0
 unfolding change_format submits
@@ -110,13 +124,18 @@ change-submits n f s = by_test (is_accepted f s.accepted)
   where
     by_test : (b : Bool) → submits n (cond b (nothing s) (output_by draining s >>= open_sequence f)).events ≡ 0
     by_test true = refl
-    by_test false = submits-append n (output_by draining s).events (open_sequence f (output_by draining s).next).events ∙ ap (λ (m : ℕ). m + 0) (submits-output n (draining s.buffer).outputs)
+    by_test false =
+        submits-append n (output_by draining s).events (open_sequence f (output_by draining s).next).events
+        ∙ ap (λ (m : ℕ). m + 0) (submits-output n (draining s.buffer).outputs)
 
 room-submits : (n : ℕ) (p : Head) (s : Store) → submits n (make_room p s).events ≡ 0
 unfolding make_room submits
 room-submits n p s = by_tests p.no_output_of_prior_pics p.starts_sequence
   where
-    by_tests : (b c : Bool) → submits n (cond b (nothing (record s { buffer = [] })) (cond c (output_by draining s) (output_by (bumping (needs_bumping p.limits)) (record s { buffer = needed_entries s.buffer })))).events ≡ 0
+    by_tests : (b c : Bool)
+        → submits n (cond b (nothing (record s { buffer = [] }))
+        (cond c (output_by draining s)
+        (output_by (bumping (needs_bumping p.limits)) (record s { buffer = needed_entries s.buffer })))).events ≡ 0
     by_tests true c = refl
     by_tests false true = submits-output n (draining s.buffer).outputs
     by_tests false false = submits-output n (bumping (needs_bumping p.limits) (needed_entries s.buffer)).outputs
@@ -128,8 +147,13 @@ begin-submits n p first s = by_test (is_decoded p)
     t : Store
     t = record s { buffer = with_marks p first s.buffer }
 
-    by_test : (b : Bool) → submits n (cond b (make_room p t >>= start_decoding p (reference_set p first s.buffer)) (nothing s)).events ≡ 0
-    by_test true = submits-append n (make_room p t).events (start_decoding p (reference_set p first s.buffer) (make_room p t).next).events ∙ ap (λ (m : ℕ). m + 0) (room-submits n p t)
+    by_test : (b : Bool)
+        → submits n (cond b (make_room p t >>= start_decoding p (reference_set p first s.buffer))
+        (nothing s)).events ≡ 0
+    by_test true =
+        submits-append n (make_room p t).events
+        (start_decoding p (reference_set p first s.buffer) (make_room p t).next).events
+        ∙ ap (λ (m : ℕ). m + 0) (room-submits n p t)
     by_test false = refl
 
 -- of the pictures that are over, those of this number that were submitted
@@ -146,7 +170,8 @@ unfolding over_submitted all_submitted
 over-all_submitted n [] = omega arith
 over-all_submitted n (p ∷ before) = ap (λ (m : ℕ). to_submit n p.head + m) (over-all_submitted n before)
 
-picture-submits : (n : ℕ) (set : Option (ℕ × Format)) (ps : List Picture) → submits_in n (picture_events set ps) ≡ over_submitted n ps
+picture-submits : (n : ℕ) (set : Option (ℕ × Format)) (ps : List Picture)
+    → submits_in n (picture_events set ps) ≡ over_submitted n ps
 unfolding submits_in over_submitted
 picture-submits n None [] = refl
 picture-submits n (Some set) [] = refl
@@ -161,7 +186,8 @@ picture-submits n set (p ∷ before) =
     let e1 = finish-submits n (latest_head before) old in
     let e2 = change-submits n p.format f.next in
     let e3 = begin-submits n p.head p.first c.next in
-    let g1 = submits_in-append n (picture_events set before ++ at_unit p.unit part.events) (decode_slices p.head references p.slices) in
+    let g1 = submits_in-append n (picture_events set before ++ at_unit p.unit part.events)
+    (decode_slices p.head references p.slices) in
     let g2 = submits_in-append n (picture_events set before) (at_unit p.unit part.events) in
     let g3 = submits_in-at n p.unit part.events in
     let g4 = submits-append n (f.events ++ c.events) b.events in
@@ -189,7 +215,8 @@ submitted-above : (n : ℕ) (ps : List Picture) → Numbered ps → (context ps)
 unfolding all_submitted
 submitted-above n [] h above = refl
 submitted-above n (p ∷ before) h above =
-    let first : to_submit n p.head ≡ 0 = ap (λ (b : Bool). one (not p.skipped && b)) (other_number p.number n above) ∙ none_submitted (not p.skipped) in
+    let first : to_submit n p.head ≡ 0 =
+    ap (λ (b : Bool). one (not p.skipped && b)) (other_number p.number n above) ∙ none_submitted (not p.skipped) in
     let rest : all_submitted n before ≡ 0 = submitted-above n before h.1 (let k = h.0 in omega (arith, k, above)) in
     omega (arith, first, rest)
 
@@ -198,7 +225,8 @@ unfolding all_submitted
 submitted-once n [] h = omega arith
 submitted-once n (p ∷ before) h = by_test (eqb p.number n) refl (submitted-once n before h.1)
   where
-    by_test : (c : Bool) → eqb p.number n ≡ c → all_submitted n before ≤ 1 → to_submit n p.head + all_submitted n before ≤ 1
+    by_test : (c : Bool) → eqb p.number n ≡ c → all_submitted n before ≤ 1
+        → to_submit n p.head + all_submitted n before ≤ 1
     by_test true is k =
         let same = equal_numbers p.number n is in
         let number = h.0 in
@@ -206,11 +234,13 @@ submitted-once n (p ∷ before) h = by_test (eqb p.number n) refl (submitted-onc
         let few = one-le (not p.skipped && eqb p.number n) in
         omega (arith, rest, few)
     by_test false is k =
-        let first : to_submit n p.head ≡ 0 = ap (λ (b : Bool). one (not p.skipped && b)) is ∙ none_submitted (not p.skipped) in
+        let first : to_submit n p.head ≡ 0 = ap (λ (b : Bool). one (not p.skipped && b)) is
+        ∙ none_submitted (not p.skipped) in
         omega (arith, first, k)
 
 -- with the ending
-whole-submits : (n k : ℕ) (stopped : Option Refusal) (v : Stream) → submits_in n (picture_events v.first_set v.pictures ++ ending stopped k v) ≤ all_submitted n v.pictures
+whole-submits : (n k : ℕ) (stopped : Option Refusal) (v : Stream)
+    → submits_in n (picture_events v.first_set v.pictures ++ ending stopped k v) ≤ all_submitted n v.pictures
 unfolding submits_in
 whole-submits n k None v =
     let s = store v.first_set v.pictures in
@@ -250,9 +280,12 @@ come-handed n (Some q) = output-submitted q.skipped q.pic_output_flag (eqb q.num
 over-submitted : (n : ℕ) (ps : List Picture) → over n ps ≤ over_submitted n ps
 unfolding over_submitted
 over-submitted n [] = omega arith
-over-submitted n (p ∷ before) = let h = come-handed n (latest_head before) in let k = over-submitted n before in omega (arith, h, k)
+over-submitted n (p ∷ before) = let h = come-handed n (latest_head before) in let k =
+    over-submitted n before in omega (arith, h, k)
 
-given-submits : (n k : ℕ) (stopped : Option Refusal) (v : Stream) → Numbered v.pictures → given_in n (picture_events v.first_set v.pictures ++ ending stopped k v) ≤ submits_in n (picture_events v.first_set v.pictures ++ ending stopped k v)
+given-submits : (n k : ℕ) (stopped : Option Refusal) (v : Stream) → Numbered v.pictures
+    → given_in n (picture_events v.first_set v.pictures ++ ending stopped k v) ≤ submits_in n
+    (picture_events v.first_set v.pictures ++ ending stopped k v)
 unfolding submits_in
 given-submits n k None v h =
     let s = store v.first_set v.pictures in

@@ -1,7 +1,8 @@
 -- The pictures that are submitted.
 use Rattle.std.specs.Prelude.{ℕ, List, [], ◌∷◌}
 use Rattle.hevc_walk.specs.Meanings.{Meaning}
-use Rattle.hevc_walk.specs.Walk.{Call, NewSequence, NewPicture, BeginPicture, DecodeSlice, SubmitPicture}
+use Rattle.hevc_walk.specs.Walk.{Call, NewSequence, NewPicture, BeginPicture, DecodeSlice}
+use Rattle.hevc_walk.specs.Walk.{SubmitPicture}
 use Rattle.hevc_walk.specs.Results.{calls}
 
 abbrev pub submitted_in : List (ℕ × Call) → List ℕ

@@ -5,7 +5,8 @@ ghost use Rattle.std.specs.Prelude.{◌≡◌, ◌≤◌, ℕ, List, None};
 ghost use Rattle.hevc_walk.specs.Meanings.{Meaning};
 ghost use Rattle.hevc_walk.specs.Pictures.{pictures};
 ghost use Rattle.hevc_walk.specs.Refusals.{stop};
-ghost use Rattle.hevc_walk.specs.Fates.{times, output_numbers, numbers_for_output, discarded_numbers};
+ghost use Rattle.hevc_walk.specs.Fates.{times, output_numbers, numbers_for_output};
+ghost use Rattle.hevc_walk.specs.Fates.{discarded_numbers};
 ghost use Rattle.hevc_walk_fates.specs.Submissions.{submitted_numbers};
 
 /// No picture is output twice.

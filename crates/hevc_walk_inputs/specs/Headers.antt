@@ -1,8 +1,10 @@
 -- A slice segment header, as the walk over pictures has it (7.4.7.1, 7.4.7.2, 7.4.8).
-use Rattle.std.specs.Prelude.{ℕ, ℤ, pos, ◌+◌, ◌==◌, Bool, false, List, map, slice_index_or, if◌then◌else◌, Option, Some, None}
+use Rattle.std.specs.Prelude.{ℕ, ℤ, pos, ◌+◌, ◌==◌, Bool, false, List, map, slice_index_or}
+use Rattle.std.specs.Prelude.{if◌then◌else◌, Option, Some, None}
 use Rattle.hevc_records.specs.ShortTermRefPicSet.{PlainShortTermRefPicSet}
 use Rattle.hevc_records.specs.SliceHeader.{PlainSliceSegmentHeader}
-use Rattle.hevc_walk.specs.Meanings.{ShortTermMember, ShortTermRefPicSet, LongTermMember, ListRule, SliceHeader, SliceType, B, P, I}
+use Rattle.hevc_walk.specs.Meanings.{ShortTermMember, ShortTermRefPicSet, LongTermMember, ListRule}
+use Rattle.hevc_walk.specs.Meanings.{SliceHeader, SliceType, B, P, I}
 use Rattle.hevc_walk.specs.ReferenceLists.{numbers_below}
 
 -- member i of one half of a short-term set

@@ -10,10 +10,11 @@ ghost use Rattle.hevc_walk.specs.ReferenceSets.{RefPicSet};
 ghost use Rattle.hevc_walk.specs.ReferenceLists.{ref_pic_list0, ref_pic_list1};
 ghost use Rattle.hevc_walk_marks.specs.Listed.{lists};
 ghost use Rattle.hevc_walk_bumps.specs.Steps.{Distinct};
-ghost use Rattle.hevc_walk_marks.specs.Marked.{has_reference, short_term_members, long_term_members};
+ghost use Rattle.hevc_walk_marks.specs.Marked.{has_reference, short_term_members};
+ghost use Rattle.hevc_walk_marks.specs.Marked.{long_term_members};
 
-/// After a picture's reference picture set each picture that a list names is used for reference, and what no list names
-/// isn't. No picture is a short-term and a long-term member.
+/// After a picture's reference picture set each picture that a list names is used for reference,
+/// and what no list names isn't. No picture is a short-term and a long-term member.
 pub fn marked_are_named()
     ensures each { (p : Head) (first : Slice) (es : Buffer) (n : ℕ)
         → names n (all_members (reference_set p first es)) ≡ true
@@ -26,7 +27,8 @@ pub fn marked_are_named()
         → names n (long_term_members (reference_set p first es)) ≡ false }
 {}
 
-/// Each stored picture at a place of a reference picture list is one that the reference picture set names.
+/// Each stored picture at a place of a reference picture list is one that the reference picture set
+/// names.
 pub fn listed_are_named()
     ensures list0 { (set : RefPicSet) (s : Slice) (n : ℕ) → lists n (ref_pic_list0 set s) ≡ true
         → names n (all_members set) ≡ true }

@@ -1,11 +1,14 @@
 -- Whether a sequence keeps the order that it declares, computed.
-use Rattle.std.specs.Prelude.{ℕ, ℤ, ◌+◌, Bool, true, not, ◌&&◌, ◌||◌, ◌==◌, nat_lt, nat_le, int_lt, List, [], ◌∷◌, ◌++◌, length, count_by, Option, Some, None}
+use Rattle.std.specs.Prelude.{ℕ, ℤ, ◌+◌, Bool, true, not, ◌&&◌, ◌||◌, ◌==◌, nat_lt, nat_le, int_lt}
+use Rattle.std.specs.Prelude.{List, [], ◌∷◌, ◌++◌, length, count_by, Option, Some, None}
 use Rattle.std.specs.Ordering.{int_eq}
 use Rattle.std.specs.List.{list_all}
 use Rattle.hevc_walk.specs.Meanings.{Format, Limits, Meaning, same_format}
 use Rattle.hevc_walk.specs.Pictures.{Picture, stream}
-use Rattle.hevc_walk_order.specs.Sequences.{Sequence, earliest, pictures_of, is_for_output, pictures_for_output}
-use Rattle.hevc_walk_order.specs.DisplayOrder.{latency_pictures, decoded_between, entries_before, needed_behind}
+use Rattle.hevc_walk_order.specs.Sequences.{Sequence, earliest, pictures_of, is_for_output}
+use Rattle.hevc_walk_order.specs.Sequences.{pictures_for_output}
+use Rattle.hevc_walk_order.specs.DisplayOrder.{latency_pictures, decoded_between, entries_before}
+use Rattle.hevc_walk_order.specs.DisplayOrder.{needed_behind}
 
 abbrev pub same_limits : Limits → Limits → Bool
 same_limits a b =

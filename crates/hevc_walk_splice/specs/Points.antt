@@ -1,7 +1,8 @@
 -- A stream with two points where decoding can start, and streams that miss a premise of the law.
 use Rattle.std.specs.Prelude.{true, negsuc, List, [], ◌∷◌}
 use Rattle.hevc_walk.specs.Meanings.{Meaning, SequenceSet, CodedSlice, Other, I, P}
-use Rattle.hevc_walk_examples.specs.Streams.{plain_format, plain_sets, plain_header, first_slice, idr, idr_bytes, idr_without_prior, dependent_bytes, p4}
+use Rattle.hevc_walk_examples.specs.Streams.{plain_format, plain_sets, plain_header, first_slice}
+use Rattle.hevc_walk_examples.specs.Streams.{idr, idr_bytes, idr_without_prior, dependent_bytes, p4}
 
 abbrev pub two_points : List Meaning
 two_points =

@@ -1,11 +1,13 @@
 -- A list of units that begins at a point where decoding can start, with parameter sets before it.
-use Rattle.std.specs.Prelude.{◌≡◌, ℕ, ◌+◌, ◌-◌, Bool, true, false, not, ◌||◌, List, ◌++◌, map, filter, drop, nat_le, Contains, Option, Some, None}
+use Rattle.std.specs.Prelude.{◌≡◌, ℕ, ◌+◌, ◌-◌, Bool, true, false, not, ◌||◌, List, ◌++◌, map}
+use Rattle.std.specs.Prelude.{filter, drop, nat_le, Contains, Option, Some, None}
 use Rattle.hevc_spec.specs.UnitTypes.{is_idr, is_bla}
 use Rattle.hevc_walk.specs.Meanings.{Meaning, SequenceSet, Other}
 use Rattle.hevc_walk.specs.Pictures.{Picture, pictures}
 use Rattle.hevc_walk.specs.ReferenceSets.{RefPicSet}
 use Rattle.hevc_walk.specs.ReferenceLists.{RefPicListEntry, CurrentPicture, DpbEntry}
-use Rattle.hevc_walk.specs.Walk.{Call, NewSequence, NewPicture, BeginPicture, DecodeSlice, SubmitPicture}
+use Rattle.hevc_walk.specs.Walk.{Call, NewSequence, NewPicture, BeginPicture, DecodeSlice}
+use Rattle.hevc_walk.specs.Walk.{SubmitPicture}
 use Rattle.hevc_walk.specs.Results.{OutputPicture}
 
 -- what a video, sequence or picture set may mean

@@ -1,15 +1,19 @@
 //! Where decoding can start in a stream, its units ask for what the whole asks from there on.
 #![tactic(auto)]
 
-ghost use Rattle.std.specs.Prelude.{◌≡◌, ℕ, ◌-◌, pos, List, [], ◌∷◌, ◌++◌, length, map, All, Ok, Err};
+ghost use Rattle.std.specs.Prelude.{◌≡◌, ℕ, ◌-◌, pos, List, [], ◌∷◌, ◌++◌, length, map, All, Ok};
+ghost use Rattle.std.specs.Prelude.{Err};
 ghost use Rattle.hevc_walk.specs.Meanings.{Meaning};
 ghost use Rattle.hevc_walk.specs.Pictures.{Picture};
 ghost use Rattle.hevc_walk.specs.Premises.{AreMeanings};
 ghost use Rattle.hevc_walk.specs.Refusals.{NoIndependentSlice};
 ghost use Rattle.hevc_walk.specs.Results.{calls, outputs, verdict};
 ghost use Rattle.hevc_walk_examples.specs.Streams.{plain_sets, plain_format, idr, t0, told_outputs};
-ghost use Rattle.hevc_walk_splice.specs.Points.{two_points, its_sets, high_idr, p8, dependent_first};
-ghost use Rattle.hevc_walk_splice.specs.Splicing.{IsPoint, IsOfSet, spliced, without_sequences, calls_for, outputs_for, moved_call, moved_output, moved_back_call, moved_back_output};
+ghost use Rattle.hevc_walk_splice.specs.Points.{two_points, its_sets, high_idr, p8};
+ghost use Rattle.hevc_walk_splice.specs.Points.{dependent_first};
+ghost use Rattle.hevc_walk_splice.specs.Splicing.{IsPoint, IsOfSet, spliced, without_sequences};
+ghost use Rattle.hevc_walk_splice.specs.Splicing.{calls_for, outputs_for, moved_call, moved_output};
+ghost use Rattle.hevc_walk_splice.specs.Splicing.{moved_back_call, moved_back_output};
 
 /// A stream that isn't refused may be begun at any IDR or BLA picture whose temporal id is 0, after
 /// any sets: what is left isn't refused, either. It asks for what the whole asks for that picture
@@ -39,7 +43,8 @@ pub fn spliced_stream()
         ≡ map (moved_back_output p.number p.unit (length sets)) (outputs (spliced sets p us)) }
 {}
 
-/// A stream that meets each premise, with its second IDR picture, which discards what is needed for output.
+/// A stream that meets each premise, with its second IDR picture, which discards what is needed for
+/// output.
 pub fn second_point()
     ensures real { AreMeanings two_points }
     ensures sets { All IsOfSet its_sets }

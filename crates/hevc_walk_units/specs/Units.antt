@@ -1,12 +1,17 @@
 -- What each unit does where the units before it have led. The parts are those of the walk over
 -- pictures; that both forms ask for the same is proved in hevc_walk_agree.
-use Rattle.std.specs.Prelude.{ℕ, ℤ, ◌+◌, Bool, true, false, ◌&&◌, List, [], ◌∷◌, ◌++◌, if◌then◌else◌, Option, Some, None, is_some, Result, Ok, Err}
-use Rattle.hevc_walk.specs.Meanings.{Format, Slice, Meaning, SequenceSet, CodedSlice, EndOfSequence, EndOfBitstream, Other, Refused, same_format}
+use Rattle.std.specs.Prelude.{ℕ, ℤ, ◌+◌, Bool, true, false, ◌&&◌, List, [], ◌∷◌, ◌++◌}
+use Rattle.std.specs.Prelude.{if◌then◌else◌, Option, Some, None, is_some, Result, Ok, Err}
+use Rattle.hevc_walk.specs.Meanings.{Format, Slice, Meaning, SequenceSet, CodedSlice, EndOfSequence}
+use Rattle.hevc_walk.specs.Meanings.{EndOfBitstream, Other, Refused, same_format}
 use Rattle.hevc_walk.specs.DependentSlices.{KeptHeader, whole_slice, kept_header}
 use Rattle.hevc_walk.specs.Pictures.{Head, Context, head, is_tid0}
 use Rattle.hevc_walk.specs.ReferenceSets.{RefPicSet, reference_set}
-use Rattle.hevc_walk.specs.Walk.{Event, Call, Part, ◌>>=◌, nothing, call, Store, finish, change_format, begin_picture, is_decoded, slice_call, open_sequence, closing, is_full, at_unit}
-use Rattle.hevc_walk.specs.Refusals.{Cause, UnitRefused, NoIndependentSlice, ChangedMidPicture, DpbFull, Refusal, refusal_of_picture}
+use Rattle.hevc_walk.specs.Walk.{Event, Call, Part, ◌>>=◌, nothing, call, Store, finish}
+use Rattle.hevc_walk.specs.Walk.{change_format, begin_picture, is_decoded, slice_call}
+use Rattle.hevc_walk.specs.Walk.{open_sequence, closing, is_full, at_unit}
+use Rattle.hevc_walk.specs.Refusals.{Cause, UnitRefused, NoIndependentSlice, ChangedMidPicture}
+use Rattle.hevc_walk.specs.Refusals.{DpbFull, Refusal, refusal_of_picture}
 use Rattle.hevc_walk.specs.Results.{OutputPicture, calls_in, outputs_in}
 
 -- The picture whose slices come: none, one that is passed over, or one that is decoded,

@@ -1,2 +1,3 @@
-//! The walk of `hevc_walk` once more, unit by unit, as a decoder goes: the form that proofs about a decoder take.
+//! The walk of `hevc_walk` once more, unit by unit, as a decoder goes: the form that proofs about a
+//! decoder take.
 #![tactic(auto)]

@@ -21,15 +21,18 @@ gives_one : {A : Type 0} (x y : A) (r s : List Bool) → Path (Reading A) (gives
 gives_one x y r s e = cc
 
 -- the record that was read is the one that was written, exactly where the bits are read as it
-pub same_read : {X A : Type 0} (view : X → A) (t : Table A) (x y : X) (bits : List Bool) (same : Bool) → IsItsValues view → (IsTrue same ↔ (y ≡ x)) → IsReadAs t (view y) bits → IsTrue same ↔ IsReadAs t (view x) bits
+pub same_read : {X A : Type 0} (view : X → A) (t : Table A) (x y : X) (bits : List Bool) (same : Bool)
+    → IsItsValues view → (IsTrue same ↔ (y ≡ x)) → IsReadAs t (view y) bits → IsTrue same ↔ IsReadAs t (view x) bits
 same_read view t x y bits same is test was = (
   λ s. (was.0, was.1 ∙ ap (λ r. gives (view r) was.0) (test.0 s)),
   λ again. test.1 (is y x (gives_one (view y) (view x) was.0 again.0 (sym was.1 ∙ again.1))),
 )
 
-module _ {A : Type 0} (n : ℕ) (t : Table A) (x : A) (header : UnitHeader) (bits : List Bool) (written : WritesWhole t x bits) where
+module _ {A : Type 0} (n : ℕ) (t : Table A) (x : A) (header : UnitHeader) (bits : List Bool)
+    (written : WritesWhole t x bits) where
   -- a set that is read back is added
-  pub set_added : (payload old new : List ℕ) → header.nal_unit_type ≡ n → IsReadAs t x bits → payload ≡ packed bits → new ≡ old ++ payload → AddsPayload (SetLines n t x header) [] old new
+  pub set_added : (payload old new : List ℕ) → header.nal_unit_type ≡ n → IsReadAs t x bits
+      → payload ≡ packed bits → new ≡ old ++ payload → AddsPayload (SetLines n t x header) [] old new
   set_added payload old new typed is bytes grew =
       let was = tried t x bits written is in
       let is_payload : IsPayload (SetLines n t x header) [] payload = record {
@@ -51,7 +54,8 @@ not_true true e = λ t. cc e
 not_true false e = λ t. cc t
 
 -- the bits of the unit that is read back are those that were written
-pub trial_read : {A : Type 0} (t : Table A) (x : A) (bits others : List Bool) → others ≡ bits → IsReadAs t x others → IsReadAs t x bits
+pub trial_read : {A : Type 0} (t : Table A) (x : A) (bits others : List Bool) → others ≡ bits
+    → IsReadAs t x others → IsReadAs t x bits
 trial_read t x bits others e is = (is.0, ap (read t) (sym e) ∙ is.1)
 
 -- both are so
@@ -60,10 +64,13 @@ and_first true b e = (refl, e)
 and_first false b e = absurd (cc e)
 
 -- a picture set
-module _ (sps : PlainSps) (pps : PlainPps) (header : UnitHeader) (bits : List Bool) (written : WritesWhole (picture_parameter_set (temporal_id header) (only_sequence_set sps)) pps bits) where
+module _ (sps : PlainSps) (pps : PlainPps) (header : UnitHeader) (bits : List Bool)
+    (written : WritesWhole (picture_parameter_set (temporal_id header) (only_sequence_set sps)) pps bits) where
   -- a picture set that is read back is added
-  pub picture_added : (payload old new : List ℕ) → header.nal_unit_type ≡ 34 → (pps.seq_parameter_set_id == sps.seq_parameter_set_id) ≡ true
-      → IsReadAs (picture_parameter_set (temporal_id header) (only_sequence_set sps)) pps bits → payload ≡ packed bits → new ≡ old ++ payload → AddsPayload (PictureSetLines sps pps header) [] old new
+  pub picture_added : (payload old new : List ℕ) → header.nal_unit_type ≡ 34
+      → (pps.seq_parameter_set_id == sps.seq_parameter_set_id) ≡ true
+      → IsReadAs (picture_parameter_set (temporal_id header) (only_sequence_set sps)) pps bits
+      → payload ≡ packed bits → new ≡ old ++ payload → AddsPayload (PictureSetLines sps pps header) [] old new
   picture_added payload old new typed named is bytes grew =
       let t = picture_parameter_set (temporal_id header) (only_sequence_set sps) in
       let added = set_added 34 t pps header bits written payload old new typed is bytes grew in
@@ -72,7 +79,10 @@ module _ (sps : PlainSps) (pps : PlainPps) (header : UnitHeader) (bits : List Bo
         parts = added.parts;
         is_payload = record {
           lines = added.is_payload.lines;
-          has = record { names = eqb-true pps.seq_parameter_set_id sps.seq_parameter_set_id named; set = added.is_payload.has };
+          has = record {
+            names = eqb-true pps.seq_parameter_set_id sps.seq_parameter_set_id named;
+            set = added.is_payload.has;
+          };
           chosen = added.is_payload.chosen;
           fewest = λ others h. added.is_payload.fewest others h.set;
           parts = added.is_payload.parts;
@@ -80,8 +90,12 @@ module _ (sps : PlainSps) (pps : PlainPps) (header : UnitHeader) (bits : List Bo
       }
 
   -- one that is not has no lines
-  pub no_picture_written : ¬ (IsReadAs (picture_parameter_set (temporal_id header) (only_sequence_set sps)) pps bits) → (lines : List Line) → ¬ (PictureSetLines sps pps header lines)
-  no_picture_written other lines has = other (read_again (picture_parameter_set (temporal_id header) (only_sequence_set sps)) pps bits written lines has.set.has has.set.good)
+  pub no_picture_written : ¬
+      (IsReadAs (picture_parameter_set (temporal_id header) (only_sequence_set sps)) pps bits)
+      → (lines : List Line) → ¬ (PictureSetLines sps pps header lines)
+  no_picture_written other lines has =
+      other (read_again (picture_parameter_set (temporal_id header) (only_sequence_set sps)) pps bits
+      written lines has.set.has has.set.good)
 
 -- two pairs of numbers that are equal
 pub both_equal : (a b d e : ℕ) → (a == b && d == e) ≡ true → (a ≡ b) × (d ≡ e)

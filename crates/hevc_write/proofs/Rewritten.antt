@@ -1,5 +1,6 @@
 -- Units that are rewritten one by one.
-use Rattle.std.proofs.Common.{◌≡◌, ℕ, ◌+◌, ◌≤◌, List, [], ◌∷◌, ◌++◌, length, refl, sym, ap, ◌∙◌, subst, append_assoc, append-nil}
+use Rattle.std.proofs.Common.{◌≡◌, ℕ, ◌+◌, ◌≤◌, List, [], ◌∷◌, ◌++◌, length, refl, sym, ap, ◌∙◌}
+use Rattle.std.proofs.Common.{subst, append_assoc, append-nil}
 use Rattle.std.specs.Prelude.{All}
 use Rattle.std.proofs.lemmas.List.Elements.{All-cons, All-nil}
 use Rattle.hevc_spec.specs.Units.{NalUnit, units}
@@ -21,38 +22,46 @@ abbrev pub AreSteps : Kept → List NalUnit → List (List ℕ) → Type 0
 AreSteps kept [] [] = Unit {0}
 AreSteps kept [] (piece ∷ pieces) = ⊥
 AreSteps kept (u ∷ us) [] = ⊥
-AreSteps kept (u ∷ us) (piece ∷ pieces) = IsStep kept u.bytes piece × AreSteps (kept_behind default_options kept u.bytes) us pieces
+AreSteps kept (u ∷ us) (piece ∷ pieces) = IsStep kept u.bytes piece
+    × AreSteps (kept_behind default_options kept u.bytes) us pieces
 
 -- each unit is rewritten
-rewritten : (kept : Kept) (us : List NalUnit) (pieces : List (List ℕ)) → AreSteps kept us pieces → AreRewritten kept us pieces
+rewritten : (kept : Kept) (us : List NalUnit) (pieces : List (List ℕ)) → AreSteps kept us pieces
+    → AreRewritten kept us pieces
 rewritten kept [] [] s = tt
 rewritten kept [] (piece ∷ pieces) s = absurd s
 rewritten kept (u ∷ us) [] s = absurd s
-rewritten kept (u ∷ us) (piece ∷ pieces) s = (s.0.is, rewritten (kept_behind default_options kept u.bytes) us pieces s.1)
+rewritten kept (u ∷ us) (piece ∷ pieces) s =
+    (s.0.is, rewritten (kept_behind default_options kept u.bytes) us pieces s.1)
 
 -- what is written are pieces
 all_pieces : (kept : Kept) (us : List NalUnit) (pieces : List (List ℕ)) → AreSteps kept us pieces → All IsPiece pieces
 all_pieces kept [] [] s = All-nil IsPiece
 all_pieces kept [] (piece ∷ pieces) s = absurd s
 all_pieces kept (u ∷ us) [] s = absurd s
-all_pieces kept (u ∷ us) (piece ∷ pieces) s = All-cons IsPiece piece pieces s.0.found (all_pieces (kept_behind default_options kept u.bytes) us pieces s.1)
+all_pieces kept (u ∷ us) (piece ∷ pieces) s =
+    All-cons IsPiece piece pieces s.0.found (all_pieces (kept_behind default_options kept u.bytes) us pieces s.1)
 
 -- each stands for its unit
-stand : (kept : Kept) (us : List NalUnit) (pieces : List (List ℕ)) (place : ℕ) → AreSteps kept us pieces → StandFor default_options kept us (units_of_pieces place pieces)
+stand : (kept : Kept) (us : List NalUnit) (pieces : List (List ℕ)) (place : ℕ) → AreSteps kept us pieces
+    → StandFor default_options kept us (units_of_pieces place pieces)
 stand kept [] [] place s = tt
 stand kept [] (piece ∷ pieces) place s = absurd s
 stand kept (u ∷ us) [] place s = absurd s
-stand kept (u ∷ us) (piece ∷ pieces) place s = (s.0.stands, stand (kept_behind default_options kept u.bytes) us pieces (place + 3 + length piece) s.1)
+stand kept (u ∷ us) (piece ∷ pieces) place s =
+    (s.0.stands, stand (kept_behind default_options kept u.bytes) us pieces (place + 3 + length piece) s.1)
 
 -- ---- a whole stream
 
-module _ (stream bytes : List ℕ) (pieces : List (List ℕ)) (steps : AreSteps none_kept (units stream) pieces) (parts : bytes ≡ stream_of pieces) where
+module _ (stream bytes : List ℕ) (pieces : List (List ℕ)) (steps : AreSteps none_kept (units stream) pieces)
+    (parts : bytes ≡ stream_of pieces) where
   -- so what is written means the same
   same_meanings : (options : Options) → 6 ≤ options.highest_tid → meanings options bytes ≡ meanings options stream
   same_meanings options all =
       ap (λ (b : List ℕ). meanings_behind options none_kept (units b)) parts
       ∙ ap (meanings_behind options none_kept) (pieces_found pieces (all_pieces none_kept (units stream) pieces steps))
-      ∙ same_by_default options none_kept (units stream) (units_of_pieces 0 pieces) all (stand none_kept (units stream) pieces 0 steps)
+      ∙ same_by_default options none_kept (units stream) (units_of_pieces 0 pieces) all
+      (stand none_kept (units stream) pieces 0 steps)
 
   -- and is a rewriting of the stream
   pub rewriting : IsRewriting stream bytes
@@ -81,10 +90,12 @@ pub record Left (stream old out : List ℕ) (sets : ℕ → Option PlainSps) (us
 -- streams of units follow one another
 pub stream_of-append : (us vs : List (List ℕ)) → stream_of (us ++ vs) ≡ stream_of us ++ stream_of vs
 stream_of-append [] vs = refl
-stream_of-append (u ∷ us) vs = ap (λ (x : List ℕ). started u ++ x) (stream_of-append us vs) ∙ sym (append_assoc (started u) (stream_of us) (stream_of vs))
+stream_of-append (u ∷ us) vs = ap (λ (x : List ℕ). started u ++ x) (stream_of-append us vs)
+    ∙ sym (append_assoc (started u) (stream_of us) (stream_of vs))
 
 -- before the first unit
-pub begins : (stream old : List ℕ) (sets : ℕ → Option PlainSps) → sets ≡ none_kept.sequence_sets → Left stream old old sets (units stream)
+pub begins : (stream old : List ℕ) (sets : ℕ → Option PlainSps) → sets ≡ none_kept.sequence_sets
+    → Left stream old old sets (units stream)
 begins stream old sets none = record {
   kept = none_kept;
   sets_are = none;
@@ -94,19 +105,30 @@ begins stream old sets none = record {
 }
 
 -- after one unit more
-pub takes : (stream old out new : List ℕ) (sets more : ℕ → Option PlainSps) (u : NalUnit) (us : List NalUnit) (left : Left stream old out sets (u ∷ us)) → TakesOne left.kept u.bytes out new more → Left stream old new more us
+pub takes : (stream old out new : List ℕ) (sets more : ℕ → Option PlainSps) (u : NalUnit)
+    (us : List NalUnit) (left : Left stream old out sets (u ∷ us)) → TakesOne left.kept u.bytes out new more
+    → Left stream old new more us
 takes stream old out new sets more u us left one =
-    let end : stream_of (left.done ++ one.piece ∷ []) ≡ stream_of left.done ++ started one.piece = stream_of-append left.done (one.piece ∷ []) ∙ ap (λ (x : List ℕ). stream_of left.done ++ x) (append-nil (started one.piece)) in
+    let end : stream_of (left.done ++ one.piece ∷ []) ≡ stream_of left.done ++ started one.piece =
+    stream_of-append left.done (one.piece ∷ [])
+    ∙ ap (λ (x : List ℕ). stream_of left.done ++ x) (append-nil (started one.piece)) in
     record {
       kept = kept_behind default_options left.kept u.bytes;
       sets_are = one.sets_are;
       done = left.done ++ one.piece ∷ [];
-      grown = one.grown ∙ ap (λ (x : List ℕ). x ++ started one.piece) left.grown ∙ append_assoc old (stream_of left.done) (started one.piece) ∙ ap (λ (x : List ℕ). old ++ x) (sym end);
-      rest = λ pieces steps. subst (λ (ps : List (List ℕ)). AreSteps none_kept (units stream) ps) (sym (append_assoc left.done (one.piece ∷ []) pieces)) (left.rest (one.piece ∷ pieces) (one.step, steps));
+      grown = one.grown ∙ ap (λ (x : List ℕ). x ++ started one.piece) left.grown
+          ∙ append_assoc old (stream_of left.done) (started one.piece) ∙ ap (λ (x : List ℕ). old ++ x) (sym end);
+      rest = λ pieces steps. subst (λ (ps : List (List ℕ)). AreSteps none_kept (units stream) ps)
+          (sym (append_assoc left.done (one.piece ∷ []) pieces)) (left.rest (one.piece ∷ pieces) (one.step, steps));
     }
 
 -- after the last one
-pub ends : (stream old out : List ℕ) (sets : ℕ → Option PlainSps) (us : List NalUnit) → us ≡ [] → Left stream old out sets us → (bytes : List ℕ) × (out ≡ old ++ bytes) × IsRewriting stream bytes
+pub ends : (stream old out : List ℕ) (sets : ℕ → Option PlainSps) (us : List NalUnit) → us ≡ []
+    → Left stream old out sets us → (bytes : List ℕ) × (out ≡ old ++ bytes) × IsRewriting stream bytes
 ends stream old out sets us none left =
-    let l : Left stream old out sets [] = subst (λ (us : List NalUnit). Left stream old out sets us) none left in
-    (stream_of (l.done ++ []), l.grown ∙ ap (λ (ps : List (List ℕ)). old ++ stream_of ps) (sym (append-nil l.done)), rewriting stream (stream_of (l.done ++ [])) (l.done ++ []) (l.rest [] tt) refl)
+    let l : Left stream old out sets [] = subst (λ (us : List NalUnit). Left stream old out sets us) none left in (
+      stream_of (l.done ++ []),
+      l.grown ∙ ap (λ (ps : List (List ℕ)). old ++ stream_of ps)
+          (sym (append-nil l.done)),
+      rewriting stream (stream_of (l.done ++ [])) (l.done ++ []) (l.rest [] tt) refl,
+    )

@@ -1,8 +1,12 @@
 -- What is written for one unit.
-use Rattle.std.proofs.Common.{◌≡◌, ◌≢◌, ℕ, ◌≤◌, Bool, true, false, cond, List, [], ◌∷◌, ◌++◌, refl, sym, ap, ◌∙◌, subst, inl, inr, Option, Result, Ok, Err, arith}
+use Rattle.std.proofs.Common.{◌≡◌, ◌≢◌, ℕ, ◌≤◌, Bool, true, false, cond, List, [], ◌∷◌, ◌++◌, refl}
+use Rattle.std.proofs.Common.{sym, ap, ◌∙◌, subst, inl, inr, Option, Result, Ok, Err, arith}
 use Rattle.std.specs.Prelude.{◌==◌, OnOk, fold, nat_lt, not, drop}
 use Rattle.hevc_elements.specs.declared.parse_error.ParseError.{ParseError}
-use Rattle.hevc_elements.specs.declared.parse_error.ParseError.TheVariants.{WrongNaluType, OutOfBits, OutOfRange, MissingSps, MissingPps, NoMemory}
+use Rattle.hevc_elements.specs.declared.parse_error.ParseError.TheVariants.{WrongNaluType}
+use Rattle.hevc_elements.specs.declared.parse_error.ParseError.TheVariants.{OutOfBits, OutOfRange}
+use Rattle.hevc_elements.specs.declared.parse_error.ParseError.TheVariants.{MissingSps, MissingPps}
+use Rattle.hevc_elements.specs.declared.parse_error.ParseError.TheVariants.{NoMemory}
 use Rattle.hevc_elements.specs.Sets.{RefusesSet}
 use Rattle.std.proofs.lemmas.Bool.{le-ltb}
 use Rattle.hevc_records.specs.SliceHeader.{PlainSliceSegmentHeader}
@@ -23,7 +27,10 @@ use Rattle.hevc_records.specs.Sps.{PlainSps}
 use Rattle.hevc_records.specs.Vps.{PlainVps}
 use Rattle.hevc_rewrite_laws.specs.Replaced.{is_all}
 use Rattle.hevc_rewrite_laws.proofs.AllSubLayers.{low_header}
-use Rattle.hevc_stream.specs.Contents.{Content, refused, video_set, sequence_set, picture_set, unread_picture_set, slice, end_of_sequence, end_of_bitstream, nothing, content_read, picture_set_read, slice_content, coded_content, headed_content, content}
+use Rattle.hevc_stream.specs.Contents.{Content, refused, video_set, sequence_set, picture_set}
+use Rattle.hevc_stream.specs.Contents.{unread_picture_set, slice, end_of_sequence, end_of_bitstream}
+use Rattle.hevc_stream.specs.Contents.{nothing, content_read, picture_set_read, slice_content}
+use Rattle.hevc_stream.specs.Contents.{coded_content, headed_content, content}
 use Rattle.hevc_stream.specs.Kept.{Kept, with_sequence_set, with_set}
 use Rattle.hevc_stream.specs.Options.{default_options}
 use Rattle.hevc_stream.specs.Slices.{temporal_id}
@@ -58,7 +65,8 @@ is_sequence_set (sequence_set set) = true
 is_sequence_set other = false
 
 -- a picture set changes no sequence set
-unit_sequences : (bytes : List ℕ) (kept : Kept) (c : Content) → (with_picture_set_unit bytes c kept).sequence_sets ≡ kept.sequence_sets
+unit_sequences : (bytes : List ℕ) (kept : Kept) (c : Content)
+    → (with_picture_set_unit bytes c kept).sequence_sets ≡ kept.sequence_sets
 unit_sequences bytes kept (refused cause) = refl
 unit_sequences bytes kept (video_set set) = refl
 unit_sequences bytes kept (sequence_set set) = refl
@@ -70,12 +78,15 @@ unit_sequences bytes kept end_of_bitstream = refl
 unit_sequences bytes kept nothing = refl
 
 -- nor do picture sets that waited
-waited_sequences : (waiting : List (List ℕ)) (kept : Kept) → (fold (with_waited default_options) kept waiting).sequence_sets ≡ kept.sequence_sets
+waited_sequences : (waiting : List (List ℕ)) (kept : Kept)
+    → (fold (with_waited default_options) kept waiting).sequence_sets ≡ kept.sequence_sets
 waited_sequences [] kept = refl
-waited_sequences (bytes ∷ waiting) kept = waited_sequences waiting (with_waited default_options kept bytes) ∙ unit_sequences bytes kept (content default_options kept bytes)
+waited_sequences (bytes ∷ waiting) kept = waited_sequences waiting (with_waited default_options kept bytes)
+    ∙ unit_sequences bytes kept (content default_options kept bytes)
 
 -- nor does anything but a sequence set
-content_sequences : (bytes : List ℕ) (kept : Kept) (c : Content) → is_sequence_set c ≡ false → (with_content default_options bytes c kept).sequence_sets ≡ kept.sequence_sets
+content_sequences : (bytes : List ℕ) (kept : Kept) (c : Content) → is_sequence_set c ≡ false
+    → (with_content default_options bytes c kept).sequence_sets ≡ kept.sequence_sets
 content_sequences bytes kept (refused cause) e = refl
 content_sequences bytes kept (video_set set) e = refl
 content_sequences bytes kept (sequence_set set) e = absurd cc
@@ -87,15 +98,20 @@ content_sequences bytes kept end_of_bitstream e = refl
 content_sequences bytes kept nothing e = refl
 
 -- nor does a unit without one
-pub other_sequences : (bytes : List ℕ) (kept : Kept) (c : Content) → content default_options kept bytes ≡ c → is_sequence_set c ≡ false → (kept_behind default_options kept bytes).sequence_sets ≡ kept.sequence_sets
+pub other_sequences : (bytes : List ℕ) (kept : Kept) (c : Content) → content default_options kept bytes ≡ c
+    → is_sequence_set c ≡ false → (kept_behind default_options kept bytes).sequence_sets ≡ kept.sequence_sets
 unfolding kept_behind
-other_sequences bytes kept c e other = content_sequences bytes kept (content default_options kept bytes) (ap is_sequence_set e ∙ other)
+other_sequences bytes kept c e other =
+    content_sequences bytes kept (content default_options kept bytes) (ap is_sequence_set e ∙ other)
 
 -- a sequence set is kept under its id
-pub own_sequences : (bytes : List ℕ) (kept : Kept) (set : PlainSps) → content default_options kept bytes ≡ sequence_set set → (kept_behind default_options kept bytes).sequence_sets ≡ with_set set.seq_parameter_set_id set kept.sequence_sets
+pub own_sequences : (bytes : List ℕ) (kept : Kept) (set : PlainSps)
+    → content default_options kept bytes ≡ sequence_set set
+    → (kept_behind default_options kept bytes).sequence_sets ≡ with_set set.seq_parameter_set_id set kept.sequence_sets
 unfolding kept_behind
 own_sequences bytes kept set e =
-    ap (λ (c : Content). (with_content default_options bytes c kept).sequence_sets) e ∙ waited_sequences kept.waiting (record (with_sequence_set set kept) { waiting = [] })
+    ap (λ (c : Content). (with_content default_options bytes c kept).sequence_sets) e
+    ∙ waited_sequences kept.waiting (record (with_sequence_set set kept) { waiting = [] })
 
 -- ---- what is written anew
 
@@ -112,19 +128,25 @@ read_is_all end_of_bitstream e = refl
 read_is_all nothing e = refl
 
 -- a set is written anew
-pub anew : (kept : Kept) (bytes : List ℕ) (header : UnitHeader) (c : Content) (Lines : List Line → Type 0) (Means : List ℕ → Type 0) (old new : List ℕ) (sets : ℕ → Option PlainSps)
-    → unit_header bytes ≡ Ok header → content default_options kept bytes ≡ c → is_read_set c ≡ true → (added : AddsUnit header Lines [] Means old new)
-    → ((lines : List Line) → Lines lines → set_lines kept header c lines) → ((lines : List Line) → set_lines kept header c lines → Lines lines) → content default_options kept added.bytes ≡ c
+pub anew : (kept : Kept) (bytes : List ℕ) (header : UnitHeader) (c : Content) (Lines : List Line
+    → Type 0) (Means : List ℕ → Type 0) (old new : List ℕ) (sets : ℕ → Option PlainSps)
+    → unit_header bytes ≡ Ok header → content default_options kept bytes ≡ c → is_read_set c ≡ true
+    → (added : AddsUnit header Lines [] Means old new)
+    → ((lines : List Line) → Lines lines → set_lines kept header c lines)
+    → ((lines : List Line) → set_lines kept header c lines → Lines lines) → content default_options kept added.bytes ≡ c
     → sets ≡ (kept_behind default_options kept bytes).sequence_sets → TakesOne kept bytes old new sets
 anew kept bytes header c Lines Means old new sets parsed is set added all back meant kept_are =
     let piece = added.bytes in
-    let whole = headed_piece 0 (started piece) (record { offset = 3; bytes = piece }) [] header added.found added.header_is in
+    let whole = headed_piece 0 (started piece) (record { offset = 3; bytes = piece }) [] header added.found
+    added.header_is in
     let p = added.payload in
-    let lines : IsPayload (set_lines kept header (content default_options kept bytes)) [] (payload_after 0 (drop 2 piece)) = record {
+    let lines : IsPayload (set_lines kept header (content default_options kept bytes)) []
+    (payload_after 0 (drop 2 piece)) = record {
       lines = p.lines;
       has = subst (λ (d : Content). set_lines kept header d p.lines) (sym is) (all p.lines p.has);
       chosen = p.chosen;
-      fewest = λ others has. p.fewest others (back others (subst (λ (d : Content). set_lines kept header d others) is has));
+      fewest = λ others has. p.fewest others
+          (back others (subst (λ (d : Content). set_lines kept header d others) is has));
       parts = p.parts;
     } in
     record {
@@ -132,11 +154,21 @@ anew kept bytes header c Lines Means old new sets parsed is set added all back m
       grown = added.parts;
       step = record {
         is = record {
-          anew = λ e. record { header = header; old_header = parsed; new_header = added.header_is; are = added.are; payload = lines; meant = meant ∙ sym is };
+          anew = λ e. record {
+            header = header;
+            old_header = parsed;
+            new_header = added.header_is;
+            are = added.are;
+            payload = lines;
+            meant = meant ∙ sym is;
+          };
           copied = λ e. absurd (not_both (is_read_set c) set (ap is_read_set (sym is) ∙ e));
         };
         found = whole.piece;
-        stands = inr (record { all = ap is_all is ∙ read_is_all c set; same = ap (content default_options kept) whole.kept ∙ meant ∙ sym is });
+        stands = inr (record {
+          all = ap is_all is ∙ read_is_all c set;
+          same = ap (content default_options kept) whole.kept ∙ meant ∙ sym is;
+        });
       };
       sets_are = kept_are;
     }
@@ -156,8 +188,11 @@ no_sequence end_of_bitstream e = refl
 no_sequence nothing e = refl
 
 -- a unit is copied
-pub copied : (kept : Kept) (bytes : List ℕ) (header : UnitHeader) (place : ℕ) (stream : List ℕ) (u : NalUnit) (us : List NalUnit) (old new : List ℕ) (sets : ℕ → Option PlainSps) → u.bytes ≡ bytes
-    → units_from kept_bytes place stream ≡ u ∷ us → unit_header bytes ≡ Ok header → is_read_set (content default_options kept bytes) ≡ false → new ≡ old ++ started bytes → sets ≡ kept.sequence_sets → TakesOne kept bytes old new sets
+pub copied : (kept : Kept) (bytes : List ℕ) (header : UnitHeader) (place : ℕ) (stream : List ℕ)
+    (u : NalUnit) (us : List NalUnit) (old new : List ℕ) (sets : ℕ → Option PlainSps) → u.bytes ≡ bytes
+    → units_from kept_bytes place stream ≡ u ∷ us → unit_header bytes ≡ Ok header
+    → is_read_set (content default_options kept bytes) ≡ false → new ≡ old ++ started bytes
+    → sets ≡ kept.sequence_sets → TakesOne kept bytes old new sets
 copied kept bytes header place stream u us old new sets same cut parsed other grown before =
     let whole = subst IsWholePiece same (headed_piece place stream u us header cut (ap unit_header same ∙ parsed)) in
     let c = content default_options kept bytes in
@@ -165,7 +200,10 @@ copied kept bytes header place stream u us old new sets same cut parsed other gr
       piece = bytes;
       grown = grown;
       step = record {
-        is = record { anew = λ e. absurd (not_both (is_read_set c) e other); copied = λ e. sym (headed_complete bytes header parsed) };
+        is = record {
+          anew = λ e. absurd (not_both (is_read_set c) e other);
+          copied = λ e. sym (headed_complete bytes header parsed);
+        };
         found = whole.piece;
         stands = inl whole.kept;
       };
@@ -175,43 +213,68 @@ copied kept bytes header place stream u us old new sets same cut parsed other gr
 -- ---- contents
 
 -- what is refused is no set
-refused_by : {A : Type 0} (means : A → Content) (r : Reading A) (fault : Fault) (rest : List Bool) → r ≡ refuses fault rest → is_read_set (content_read means r) ≡ false
+refused_by : {A : Type 0} (means : A → Content) (r : Reading A) (fault : Fault) (rest : List Bool)
+    → r ≡ refuses fault rest → is_read_set (content_read means r) ≡ false
 refused_by means r fault rest e = rw e refl
 
 -- units of all sub-layers are wanted
-pub wanted : (bytes : List ℕ) (header : UnitHeader) → unit_header bytes ≡ Ok header → temporal_id header ≤ default_options.highest_tid
+pub wanted : (bytes : List ℕ) (header : UnitHeader) → unit_header bytes ≡ Ok header
+    → temporal_id header ≤ default_options.highest_tid
 wanted bytes header parsed = low_header bytes header parsed
 
 module _ (kept : Kept) (bytes : List ℕ) (header : UnitHeader) (parsed : unit_header bytes ≡ Ok header) where
   -- a video set that is refused is none
-  pub video_unread : (fault : Fault) (rest : List Bool) → header.nal_unit_type ≡ 32 → read video_parameter_set (payload bytes) ≡ refuses fault rest → is_read_set (content default_options kept bytes) ≡ false
+  pub video_unread : (fault : Fault) (rest : List Bool) → header.nal_unit_type ≡ 32
+      → read video_parameter_set (payload bytes) ≡ refuses fault rest
+      → is_read_set (content default_options kept bytes) ≡ false
   video_unread fault rest typed e =
-      ap is_read_set (of_video_set default_options kept bytes header parsed (wanted bytes header parsed) typed) ∙ refused_by video_set (read video_parameter_set (payload bytes)) fault rest e
+      ap is_read_set
+      (of_video_set default_options kept bytes header parsed (wanted bytes header parsed) typed)
+      ∙ refused_by video_set (read video_parameter_set (payload bytes)) fault rest e
 
   -- so is a sequence set
-  pub sequence_unread : (fault : Fault) (rest : List Bool) → header.nal_unit_type ≡ 33 → read sequence_parameter_set (payload bytes) ≡ refuses fault rest → is_read_set (content default_options kept bytes) ≡ false
+  pub sequence_unread : (fault : Fault) (rest : List Bool) → header.nal_unit_type ≡ 33
+      → read sequence_parameter_set (payload bytes) ≡ refuses fault rest
+      → is_read_set (content default_options kept bytes) ≡ false
   sequence_unread fault rest typed e =
-      ap is_read_set (of_sequence_set default_options kept bytes header parsed (wanted bytes header parsed) typed) ∙ refused_by sequence_set (read sequence_parameter_set (payload bytes)) fault rest e
+      ap is_read_set
+      (of_sequence_set default_options kept bytes header parsed (wanted bytes header parsed) typed)
+      ∙ refused_by sequence_set (read sequence_parameter_set (payload bytes)) fault rest e
 
   -- so is a picture set
-  pub picture_unread : (fault : Fault) (rest : List Bool) → header.nal_unit_type ≡ 34 → read (picture_parameter_set (temporal_id header) kept.sequence_sets) (payload bytes) ≡ refuses fault rest → is_read_set (content default_options kept bytes) ≡ false
+  pub picture_unread : (fault : Fault) (rest : List Bool) → header.nal_unit_type ≡ 34
+      → read (picture_parameter_set (temporal_id header) kept.sequence_sets) (payload bytes)
+      ≡ refuses fault rest → is_read_set (content default_options kept bytes) ≡ false
   picture_unread fault rest typed e =
-      ap is_read_set (of_picture_set default_options kept bytes header parsed (wanted bytes header parsed) typed) ∙ ap (λ (r : Reading PlainPps). is_read_set (picture_set_read r)) e
+      ap is_read_set
+      (of_picture_set default_options kept bytes header parsed (wanted bytes header parsed) typed)
+      ∙ ap (λ (r : Reading PlainPps). is_read_set (picture_set_read r)) e
 
   -- a video set that is read is the content
-  pub video_is : (set : PlainVps) (rest : List Bool) → header.nal_unit_type ≡ 32 → read video_parameter_set (payload bytes) ≡ gives set rest → content default_options kept bytes ≡ video_set set
-  video_is set rest typed e = of_video_set default_options kept bytes header parsed (wanted bytes header parsed) typed ∙ ap (content_read video_set) e
+  pub video_is : (set : PlainVps) (rest : List Bool) → header.nal_unit_type ≡ 32
+      → read video_parameter_set (payload bytes) ≡ gives set rest → content default_options kept bytes ≡ video_set set
+  video_is set rest typed e =
+      of_video_set default_options kept bytes header parsed (wanted bytes header parsed) typed
+      ∙ ap (content_read video_set) e
 
   -- so is a sequence set
-  pub sequence_is : (set : PlainSps) (rest : List Bool) → header.nal_unit_type ≡ 33 → read sequence_parameter_set (payload bytes) ≡ gives set rest → content default_options kept bytes ≡ sequence_set set
-  sequence_is set rest typed e = of_sequence_set default_options kept bytes header parsed (wanted bytes header parsed) typed ∙ ap (content_read sequence_set) e
+  pub sequence_is : (set : PlainSps) (rest : List Bool) → header.nal_unit_type ≡ 33
+      → read sequence_parameter_set (payload bytes) ≡ gives set rest
+      → content default_options kept bytes ≡ sequence_set set
+  sequence_is set rest typed e =
+      of_sequence_set default_options kept bytes header parsed (wanted bytes header parsed) typed
+      ∙ ap (content_read sequence_set) e
 
   -- so is a picture set
-  pub picture_is : (set : PlainPps) (rest : List Bool) → header.nal_unit_type ≡ 34 → read (picture_parameter_set (temporal_id header) kept.sequence_sets) (payload bytes) ≡ gives set rest → content default_options kept bytes ≡ picture_set set
-  picture_is set rest typed e = of_picture_set default_options kept bytes header parsed (wanted bytes header parsed) typed ∙ ap picture_set_read e
+  pub picture_is : (set : PlainPps) (rest : List Bool) → header.nal_unit_type ≡ 34
+      → read (picture_parameter_set (temporal_id header) kept.sequence_sets) (payload bytes)
+      ≡ gives set rest → content default_options kept bytes ≡ picture_set set
+  picture_is set rest typed e =
+      of_picture_set default_options kept bytes header parsed (wanted bytes header parsed) typed ∙ ap picture_set_read e
 
 -- a set that is read has lines
-pub lines_of : {A : Type 0} (n : ℕ) (t : Table A) (set : A) (header : UnitHeader) (bits rest : List Bool) → header.nal_unit_type ≡ n → read t bits ≡ gives set rest → (lines : List Line) × SetLines n t set header lines
+pub lines_of : {A : Type 0} (n : ℕ) (t : Table A) (set : A) (header : UnitHeader) (bits rest : List Bool)
+    → header.nal_unit_type ≡ n → read t bits ≡ gives set rest → (lines : List Line) × SetLines n t set header lines
 lines_of n t set header bits rest typed e =
     let s = spelled_from_read t bits set rest e in
     (s.lines, record { typed = typed; has = s.has; good = s.good })
@@ -224,7 +287,8 @@ on_ok (Ok x) P Q by p = by p
 on_ok (Err e) P Q by p = tt
 
 -- a set that is refused is at some fault
-pub refuses_set : {A : Type 0} (e : ParseError) (r : Reading A) → e ≢ NoMemory → RefusesSet e r → (fault : Fault) × (rest : List Bool) × (r ≡ refuses fault rest)
+pub refuses_set : {A : Type 0} (e : ParseError) (r : Reading A) → e ≢ NoMemory → RefusesSet e r
+    → (fault : Fault) × (rest : List Bool) × (r ≡ refuses fault rest)
 refuses_set WrongNaluType r other h = absurd h
 refuses_set OutOfBits r other h = (_, h.0, h.1)
 refuses_set (OutOfRange table number) r other h = (_, h.0, h.1)
@@ -235,15 +299,23 @@ refuses_set NoMemory r other h = absurd (other refl)
 -- ---- other units
 
 -- a slice is no set
-no_set_read : (kept : Kept) (header : UnitHeader) (bytes : List ℕ) → is_read_set (coded_content kept header bytes) ≡ false
-no_set_read kept header bytes = by_tests kept.has_sequence_set (is_slice header.nal_unit_type) (header.nal_unit_type == 36) (header.nal_unit_type == 37) (of_slice_read (read (slice_segment_header header.nal_unit_type (drop 2 bytes) (active_sets kept.sequence_sets kept.picture_sets)) (payload bytes)))
+no_set_read : (kept : Kept) (header : UnitHeader) (bytes : List ℕ)
+    → is_read_set (coded_content kept header bytes) ≡ false
+no_set_read kept header bytes =
+    by_tests kept.has_sequence_set (is_slice header.nal_unit_type) (header.nal_unit_type == 36)
+    (header.nal_unit_type == 37)
+    (of_slice_read
+    (read (slice_segment_header header.nal_unit_type (drop 2 bytes)
+    (active_sets kept.sequence_sets kept.picture_sets)) (payload bytes)))
   where
     of_slice_read : (r : Reading PlainSliceSegmentHeader) → is_read_set (content_read (slice header) r) ≡ false
     of_slice_read (gives h rest) = refl
     of_slice_read (refuses fault rest) = refl
 
     by_tests : (has s t u : Bool) → is_read_set (slice_content kept header bytes) ≡ false
-        → is_read_set (cond (not has) nothing (cond s (slice_content kept header bytes) (cond t end_of_sequence (cond u end_of_bitstream nothing)))) ≡ false
+        → is_read_set
+        (cond (not has) nothing
+        (cond s (slice_content kept header bytes) (cond t end_of_sequence (cond u end_of_bitstream nothing)))) ≡ false
     by_tests false s t u e = refl
     by_tests true true t u e = e
     by_tests true false true u e = refl
@@ -251,7 +323,9 @@ no_set_read kept header bytes = by_tests kept.has_sequence_set (is_slice header.
     by_tests true false false false e = refl
 
 -- nor is a unit of another type
-pub other_type : (kept : Kept) (bytes : List ℕ) (header : UnitHeader) → unit_header bytes ≡ Ok header → header.nal_unit_type ≢ 32 → header.nal_unit_type ≢ 33 → header.nal_unit_type ≢ 34 → is_read_set (content default_options kept bytes) ≡ false
+pub other_type : (kept : Kept) (bytes : List ℕ) (header : UnitHeader) → unit_header bytes ≡ Ok header
+    → header.nal_unit_type ≢ 32 → header.nal_unit_type ≢ 33 → header.nal_unit_type ≢ 34
+    → is_read_set (content default_options kept bytes) ≡ false
 unfolding content
 other_type kept bytes header parsed video sequence picture =
     let low : nat_lt 6 (temporal_id header) ≡ false = le-ltb 6 (temporal_id header) (wanted bytes header parsed) in
@@ -263,17 +337,21 @@ other_type kept bytes header parsed video sequence picture =
 -- ---- refused units
 
 -- nor is one without a header
-refused_header : (kept : Kept) (bytes : List ℕ) (e : UnitError) → parsed_header bytes ≡ Err e → is_read_set (content default_options kept bytes) ≡ false
+refused_header : (kept : Kept) (bytes : List ℕ) (e : UnitError) → parsed_header bytes ≡ Err e
+    → is_read_set (content default_options kept bytes) ≡ false
 unfolding content
 refused_header kept bytes e parsed = by_result (unit_header bytes) parsed
   where
-    by_result : (r : Result UnitHeader HeaderFault) → answer_of r ≡ Err e → is_read_set (headed_content default_options kept bytes r) ≡ false
+    by_result : (r : Result UnitHeader HeaderFault) → answer_of r ≡ Err e
+        → is_read_set (headed_content default_options kept bytes r) ≡ false
     by_result (Ok h) f = absurd (cc f)
     by_result (Err fault) f = refl
 
 -- a unit without a header is copied
-pub refused_takes : (kept : Kept) (piece : List ℕ) (e : UnitError) (old new : List ℕ) (sets : ℕ → Option PlainSps) → IsPiece piece → parsed_header (kept_bytes piece) ≡ Err e
-    → new ≡ old ++ started (completed (kept_bytes piece)) → sets ≡ kept.sequence_sets → TakesOne kept (kept_bytes piece) old new sets
+pub refused_takes : (kept : Kept) (piece : List ℕ) (e : UnitError) (old new : List ℕ) (sets : ℕ
+    → Option PlainSps) → IsPiece piece → parsed_header (kept_bytes piece) ≡ Err e
+    → new ≡ old ++ started (completed (kept_bytes piece)) → sets ≡ kept.sequence_sets
+    → TakesOne kept (kept_bytes piece) old new sets
 refused_takes kept piece e old new sets is parsed grown before =
     let bytes = kept_bytes piece in
     let done = completed_piece piece is in

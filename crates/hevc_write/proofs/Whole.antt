@@ -11,12 +11,14 @@ pub record Whole (byte : ℕ) (bytes : List ℕ) : Type 0 where
 pub whole : (byte : ℕ) (bytes : List ℕ) → before_start_code (byte ∷ bytes) ≡ byte ∷ bytes → Whole byte bytes
 whole byte bytes e = by_test (begins_with_start_code (byte ∷ bytes)) refl e
   where
-    by_test : (t : Bool) → begins_with_start_code (byte ∷ bytes) ≡ t → cond t [] (byte ∷ before_start_code bytes) ≡ byte ∷ bytes → Whole byte bytes
+    by_test : (t : Bool) → begins_with_start_code (byte ∷ bytes) ≡ t
+        → cond t [] (byte ∷ before_start_code bytes) ≡ byte ∷ bytes → Whole byte bytes
     by_test true f g = absurd cc
     by_test false f g = record { here = f; after = cc }
 
 -- none is in what is before the first one
-none_before : (x : ℕ) (xs : List ℕ) → begins_with_start_code (x ∷ xs) ≡ false → begins_with_start_code (x ∷ before_start_code xs) ≡ false
+none_before : (x : ℕ) (xs : List ℕ) → begins_with_start_code (x ∷ xs) ≡ false
+    → begins_with_start_code (x ∷ before_start_code xs) ≡ false
 none_before x [] h = refl
 none_before x (y ∷ []) h = refl
 none_before x (y ∷ z ∷ xs) h = by_test (begins_with_start_code (y ∷ z ∷ xs)) (begins_with_start_code (z ∷ xs))
@@ -31,12 +33,15 @@ pub before_whole : (xs : List ℕ) → before_start_code (before_start_code xs) 
 before_whole [] = refl
 before_whole (x ∷ xs) = by_test (begins_with_start_code (x ∷ xs)) refl (before_whole xs)
   where
-    by_test : (t : Bool) → begins_with_start_code (x ∷ xs) ≡ t → before_start_code (before_start_code xs) ≡ before_start_code xs → before_start_code (cond t [] (x ∷ before_start_code xs)) ≡ cond t [] (x ∷ before_start_code xs)
+    by_test : (t : Bool) → begins_with_start_code (x ∷ xs) ≡ t
+        → before_start_code (before_start_code xs) ≡ before_start_code xs
+        → before_start_code (cond t [] (x ∷ before_start_code xs)) ≡ cond t [] (x ∷ before_start_code xs)
     by_test true e more = refl
     by_test false e more = rw (none_before x xs e) (ap (λ (bytes : List ℕ). x ∷ bytes) more)
 
 -- nor in first bytes of such bytes
-none_in_front : (n : ℕ) (x : ℕ) (xs : List ℕ) → begins_with_start_code (x ∷ xs) ≡ false → begins_with_start_code (x ∷ take n xs) ≡ false
+none_in_front : (n : ℕ) (x : ℕ) (xs : List ℕ) → begins_with_start_code (x ∷ xs) ≡ false
+    → begins_with_start_code (x ∷ take n xs) ≡ false
 none_in_front zero x xs h = refl
 none_in_front (suc n) x [] h = refl
 none_in_front (suc zero) x (y ∷ xs) h = refl

@@ -1,5 +1,6 @@
 -- A stream whose parameter sets are written anew.
-use Rattle.std.specs.Prelude.{◌≡◌, ◌≤◌, ◌==◌, ◌&&◌, if◌then◌else◌, ℕ, Bool, true, false, List, [], ◌∷◌, drop, Some, Ok}
+use Rattle.std.specs.Prelude.{◌≡◌, ◌≤◌, ◌==◌, ◌&&◌, if◌then◌else◌, ℕ, Bool, true, false, List, []}
+use Rattle.std.specs.Prelude.{◌∷◌, drop, Some, Ok}
 use Rattle.hevc_spec.specs.Lines.{Line}
 use Rattle.hevc_spec.specs.Payload.{payload_after}
 use Rattle.hevc_spec.specs.UnitHeader.{UnitHeader, unit_header, nal_unit_type}

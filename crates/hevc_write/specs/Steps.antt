@@ -1,5 +1,6 @@
 -- One unit of a stream that is rewritten.
-use Rattle.std.specs.Prelude.{◌≡◌, ◌⊎◌, ◌<◌, ◌≤◌, ℕ, Bool, List, [], ◌∷◌, ◌++◌, length, Option, Some, None}
+use Rattle.std.specs.Prelude.{◌≡◌, ◌⊎◌, ◌<◌, ◌≤◌, ℕ, Bool, List, [], ◌∷◌, ◌++◌, length, Option}
+use Rattle.std.specs.Prelude.{Some, None}
 use Rattle.hevc_spec.specs.Table.{Reading, Fault, gives, refuses}
 use Rattle.hevc_spec.specs.Units.{NalUnit, kept_bytes, units_from}
 use Rattle.hevc_records.specs.Sps.{PlainSps}

@@ -1,5 +1,6 @@
 //! A stream whose parameter sets are written anew.
-ghost use Rattle.std.specs.Prelude.{◌≢◌, [], ◌≡◌, ◌<◌, ◌≤◌, ◌-◌, ◌/◌, ◌%◌, ◌++◌, ◌∷◌, ℕ, List, length, Err, IfOk, OnOk, OnErr};
+ghost use Rattle.std.specs.Prelude.{◌≢◌, [], ◌≡◌, ◌<◌, ◌≤◌, ◌-◌, ◌/◌, ◌%◌, ◌++◌, ◌∷◌, ℕ, List};
+ghost use Rattle.std.specs.Prelude.{length, Err, IfOk, OnOk, OnErr};
 ghost use Rattle.hevc_spec.specs.Lines.{Line};
 ghost use Rattle.hevc_spec.specs.Payload.{payload};
 ghost use Rattle.hevc_spec.specs.Table.{read};

@@ -1,5 +1,6 @@
 //! Slice segments (7.3.6.1).
-ghost use Rattle.std.specs.Prelude.{◌≡◌, ◌==◌, ◌&&◌, ◌++◌, ◌≢◌, [], false, true, Bool, List, length, IfOk, IsTrue, OnOk, OnErr, ◌↔◌};
+ghost use Rattle.std.specs.Prelude.{◌≡◌, ◌==◌, ◌&&◌, ◌++◌, ◌≢◌, [], false, true, Bool, List};
+ghost use Rattle.std.specs.Prelude.{length, IfOk, IsTrue, OnOk, OnErr, ◌↔◌};
 ghost use Rattle.hevc_spec.specs.Table.{read, gives};
 ghost use Rattle.hevc_spec.specs.UnitTypes.{is_slice};
 ghost use Rattle.hevc_spec.specs.Units.{without_trailing_zeros};
@@ -12,7 +13,8 @@ ghost use Rattle.hevc_picture_slice.specs.Pps.{plain_pps};
 ghost use Rattle.hevc_picture_slice.specs.SliceHeader.{plain_slice_header};
 ghost use Rattle.hevc_write_units.specs.Payloads.{EndsInZero, with_trailing_bits};
 ghost use Rattle.hevc_records.specs.SetsById.{sets_by_id};
-ghost use Rattle.hevc_write_units.specs.Slices.{HasElements, IsSameButSizes, WritesSized, only_picture_set, only_sets};
+ghost use Rattle.hevc_write_units.specs.Slices.{HasElements, IsSameButSizes, WritesSized};
+ghost use Rattle.hevc_write_units.specs.Slices.{only_picture_set, only_sets};
 ghost use Rattle.hevc_write_units.specs.Trials.{IsWhole};
 
 use crate::picture_unit::alone;

@@ -22,10 +22,13 @@ module _ {A : Type 0} (t : Table A) where
   reads_back x written bits rest others writes e =
       let s = spelled_from_read t bits x rest e in
       let f = writes_formed x s.lines [] written s.has s.good writes in
-      ap (λ (b : List Bool). read t (b ++ others)) (f.2 ∙ f.1.formed.parts) ∙ read_lines t x f.1.formed.lines others f.1.formed.has f.1.formed.good
+      ap (λ (b : List Bool). read t (b ++ others)) (f.2 ∙ f.1.formed.parts)
+      ∙ read_lines t x f.1.formed.lines others f.1.formed.has f.1.formed.good
 
   -- lines that are written have the fewest flags of row 5 of table 7 set
-  pub writes_fewest : (x : A) (written : List Bool) (lines others : List Line) → WritesTable t x [] written → HasLines t x lines → AreGood lines → joined lines ≡ written → HasLines t x others → AreGood others → set_flags lines ≤ set_flags others
+  pub writes_fewest : (x : A) (written : List Bool) (lines others : List Line) → WritesTable t x [] written
+      → HasLines t x lines → AreGood lines → joined lines ≡ written → HasLines t x others → AreGood others
+      → set_flags lines ≤ set_flags others
   unfolding WritesFormed
   writes_fewest x written lines others writes has good are has_others good_others =
       let f = writes_formed x others [] written has_others good_others writes in

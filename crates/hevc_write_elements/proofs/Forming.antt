@@ -18,7 +18,8 @@ pub done_formed : {A : Type 0} (x : A) → IsFormed (done x) x []
 done_formed x = record { lines = []; has = (refl, refl); good = tt; chosen = tt; parts = refl }
 
 -- the bits of two parts follow one another
-pub part_formed : {A B : Type 0} {t : Table A} {k : A → Table B} {a : A} {x : B} {first others : List Bool} → IsFormed t a first → IsFormed (k a) x others → IsFormed (part t k) x (first ++ others)
+pub part_formed : {A B : Type 0} {t : Table A} {k : A → Table B} {a : A} {x : B} {first others : List Bool}
+    → IsFormed t a first → IsFormed (k a) x others → IsFormed (part t k) x (first ++ others)
 part_formed {a = a} f g = record {
   lines = f.lines ++ g.lines;
   has = (a, f.lines, g.lines, f.has, g.has, refl);
@@ -28,9 +29,15 @@ part_formed {a = a} f g = record {
 }
 
 -- the bits of a row spell its value
-pub element_formed : {A : Type 0} (r : Row) (form : Form) (allowed : ℕ → Bool) (value : ℕ → A) (v : ℕ) → allowed v ≡ true → CanSpell form v → is_chosen r form v ≡ true → IsFormed (element r form allowed value) (value v) (spelled form v)
+pub element_formed : {A : Type 0} (r : Row) (form : Form) (allowed : ℕ → Bool) (value : ℕ → A) (v : ℕ)
+    → allowed v ≡ true → CanSpell form v → is_chosen r form v ≡ true
+    → IsFormed (element r form allowed value) (value v) (spelled form v)
 element_formed r form allowed value v good fits chosen =
-    let l : Line = record { head = record { row = r; form = form; allowed = allowed }; value = v; bits = spelled form v } in
+    let l : Line = record {
+      head = record { row = r; form = form; allowed = allowed };
+      value = v;
+      bits = spelled form v;
+    } in
     record {
       lines = l ∷ [];
       has = (v, spelled form v, refl, refl);
@@ -40,7 +47,8 @@ element_formed r form allowed value v good fits chosen =
     }
 
 -- the bit of a flag is the flag
-pub flag_formed : (r : Row) (b : Bool) → is_chosen r (u 1) (if b then 1 else 0) ≡ true → IsFormed (flag_row r) b (b ∷ [])
+pub flag_formed : (r : Row) (b : Bool) → is_chosen r (u 1) (if b then 1 else 0) ≡ true
+    → IsFormed (flag_row r) b (b ∷ [])
 unfolding flag_row
 flag_formed r true chosen = element_formed r (u 1) (λ _. true) (λ v. v == 1) 1 refl (omega arith) chosen
 flag_formed r false chosen = element_formed r (u 1) (λ _. true) (λ v. v == 1) 0 refl (omega arith) chosen

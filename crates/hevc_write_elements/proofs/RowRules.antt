@@ -1,5 +1,6 @@
 -- The rows of a table, filled in.
-use Rattle.std.proofs.Common.{◌≡◌, ℕ, zero, suc, ◌+◌, ◌*◌, ◌/◌, ◌%◌, ◌^◌, ◌<◌, Bool, true, false, eqb, List, [], ◌∷◌, ◌++◌, refl, sym, ap, subst, ◌∙◌, arith, pow_pos}
+use Rattle.std.proofs.Common.{◌≡◌, ℕ, zero, suc, ◌+◌, ◌*◌, ◌/◌, ◌%◌, ◌^◌, ◌<◌, Bool, true, false}
+use Rattle.std.proofs.Common.{eqb, List, [], ◌∷◌, ◌++◌, refl, sym, ap, subst, ◌∙◌, arith, pow_pos}
 use Rattle.std.specs.Prelude.{ℤ, pos, neg_ℤ, if◌then◌else◌, replicate, None}
 use Rattle.std.specs.Int.{bit_at}
 use Rattle.std.proofs.lemmas.List.{append-nil}
@@ -51,9 +52,11 @@ any_chosen r v kept = rw kept refl
 
 module _ (r : Row) {w old new : List Bool} where
   -- a flag
-  pub flag_written : IsKept r → {value : Bool} {Q : Bool → List Bool → Type 0} → WritesFlag value old new → ((v : Bool) (all : List Bool) → (v ≡ value → w ≡ old → all ≡ new) → Q v all) → EachFilling (flag_row r) w Q
+  pub flag_written : IsKept r → {value : Bool} {Q : Bool → List Bool → Type 0} → WritesFlag value old new
+      → ((v : Bool) (all : List Bool) → (v ≡ value → w ≡ old → all ≡ new) → Q v all) → EachFilling (flag_row r) w Q
   unfolding flag_row is_chosen
-  flag_written kept {value = value} {Q = Q} writes h = element_filled r (u 1) (λ _. true) (λ v. eqb v 1) w Q (λ v a s. (v, refl, a, s, any_chosen r v kept, by_value v s, as_many r v))
+  flag_written kept {value = value} {Q = Q} writes h = element_filled r (u 1) (λ _. true) (λ v. eqb v 1) w Q
+      (λ v a s. (v, refl, a, s, any_chosen r v kept, by_value v s, as_many r v))
     where
       same : (b : Bool) → b ≡ value → w ≡ old → w ++ b ∷ [] ≡ new
       same b is at = rw (is, at) (sym writes)
@@ -64,7 +67,8 @@ module _ (r : Row) {w old new : List Bool} where
       by_value (suc (suc v)) s = absurd (omega arith)
 
   -- a flag that must not be set
-  pub zero_written : IsKept r → {Q : Bool → List Bool → Type 0} → WritesFlag false old new → ((all : List Bool) → (w ≡ old → all ≡ new) → Q false all) → EachFilling (zero_row r) w Q
+  pub zero_written : IsKept r → {Q : Bool → List Bool → Type 0} → WritesFlag false old new
+      → ((all : List Bool) → (w ≡ old → all ≡ new) → Q false all) → EachFilling (zero_row r) w Q
   unfolding zero_row is_chosen
   zero_written kept {Q = Q} writes h = element_filled r (u 1) (λ v. eqb v 0) (λ v. eqb v 1) w Q (λ v a s. (
     v,
@@ -79,74 +83,113 @@ module _ (r : Row) {w old new : List Bool} where
 
   -- a number of n bits
   pub bits_written : IsKept r → (n min max : ℕ) {value : ℕ} {Q : ℕ → List Bool → Type 0} → WritesBits n value old new
-      → ((v : ℕ) → in_range min max v ≡ true → (all : List Bool) → (v ≡ value → w ≡ old → all ≡ new) → Q v all) → EachFilling (bits_row r n min max) w Q
+      → ((v : ℕ) → in_range min max v ≡ true → (all : List Bool) → (v ≡ value → w ≡ old → all ≡ new)
+      → Q v all) → EachFilling (bits_row r n min max) w Q
   unfolding bits_row is_chosen
-  bits_written kept n min max {Q = Q} writes h = element_filled r (u n) (in_range min max) (λ v. v) w Q (λ v a s. (v, refl, a, s, any_chosen r v kept, h v a _ (λ is at. rw (is, at) (sym writes)), as_many r v))
+  bits_written kept n min max {Q = Q} writes h = element_filled r (u n) (in_range min max) (λ v. v) w Q
+      (λ v a s. (v, refl, a, s, any_chosen r v kept, h v a _ (λ is at. rw (is, at) (sym writes)), as_many r v))
 
   -- a number of which some values are allowed
-  pub number_written : IsKept r → (n : ℕ) (allowed : ℕ → Bool) {value : ℕ} {Q : ℕ → List Bool → Type 0} → WritesBits n value old new
-      → ((v : ℕ) (all : List Bool) → (v ≡ value → w ≡ old → all ≡ new) → Q v all) → EachFilling (element r (u n) allowed (λ v. v)) w Q
+  pub number_written : IsKept r → (n : ℕ) (allowed : ℕ → Bool) {value : ℕ} {Q : ℕ → List Bool → Type 0}
+      → WritesBits n value old new
+      → ((v : ℕ) (all : List Bool) → (v ≡ value → w ≡ old → all ≡ new) → Q v all)
+      → EachFilling (element r (u n) allowed (λ v. v)) w Q
   unfolding is_chosen
-  number_written kept n allowed {Q = Q} writes h = element_filled r (u n) allowed (λ v. v) w Q (λ v a s. (v, refl, a, s, any_chosen r v kept, h v _ (λ is at. rw (is, at) (sym writes)), as_many r v))
+  number_written kept n allowed {Q = Q} writes h = element_filled r (u n) allowed (λ v. v) w Q
+      (λ v a s. (v, refl, a, s, any_chosen r v kept, h v _ (λ is at. rw (is, at) (sym writes)), as_many r v))
 
   -- an Exp-Golomb number
   pub ue_written : IsKept r → (min max : ℕ) {value : ℕ} {Q : ℕ → List Bool → Type 0} → WritesUe value old new
-      → ((v : ℕ) → in_range min max v ≡ true → (all : List Bool) → (v ≡ value → w ≡ old → all ≡ new) → Q v all) → EachFilling (ue_row r min max) w Q
+      → ((v : ℕ) → in_range min max v ≡ true → (all : List Bool) → (v ≡ value → w ≡ old → all ≡ new)
+      → Q v all) → EachFilling (ue_row r min max) w Q
   unfolding ue_row is_chosen
-  ue_written kept min max {value = value} {Q = Q} writes h = element_filled r ue (in_range min max) (λ v. v) w Q (λ v a s. (
-    v,
-    refl,
-    a,
-    s,
-    any_chosen r v kept,
-    h v a _ (λ is at. ap (λ (k : ℕ). w ++ spelled ue k) is ∙ ap (λ (b : List Bool). b ++ spelled ue value) at ∙ sym (writes (subst (CanSpell ue) is s))),
-    as_many r v,
-  ))
+  ue_written kept min max {value = value} {Q = Q} writes h = element_filled r ue (in_range min max)
+      (λ v. v) w Q (λ v a s. (
+        v,
+        refl,
+        a,
+        s,
+        any_chosen r v kept,
+        h v a _ (λ is at. ap (λ (k : ℕ). w ++ spelled ue k) is
+            ∙ ap (λ (b : List Bool). b ++ spelled ue value) at ∙ sym (writes (subst (CanSpell ue) is s))),
+        as_many r v,
+      ))
 
   -- a signed one
   pub se_written : IsKept r → (min max : ℤ) {value : ℤ} {Q : ℤ → List Bool → Type 0} → WritesSe value old new
       → ((z : ℤ) → (all : List Bool) → (z ≡ value → w ≡ old → all ≡ new) → Q z all) → EachFilling (se_row r min max) w Q
   unfolding se_row is_chosen
-  se_written kept min max {value = value} {Q = Q} writes h = element_filled r se (in_signed_range min max) signed w Q (λ v a s. (
-    v,
-    refl,
-    a,
-    s,
-    any_chosen r v kept,
-    h (signed v) _ (λ is at.
-        let code : v ≡ code_number value = sym (code_back v) ∙ ap code_number is in
-        ap (λ (k : ℕ). w ++ spelled se k) code ∙ ap (λ (b : List Bool). b ++ spelled se (code_number value)) at ∙ sym (writes (subst (CanSpell se) code s))),
-    as_many r v,
-  ))
+  se_written kept min max {value = value} {Q = Q} writes h =
+      element_filled r se (in_signed_range min max) signed w Q (λ v a s. (
+        v,
+        refl,
+        a,
+        s,
+        any_chosen r v kept,
+        h (signed v) _ (λ is at.
+            let code : v ≡ code_number value = sym (code_back v) ∙ ap code_number is in
+            ap (λ (k : ℕ). w ++ spelled se k) code
+            ∙ ap (λ (b : List Bool). b ++ spelled se (code_number value)) at
+            ∙ sym (writes (subst (CanSpell se) code s))),
+        as_many r v,
+      ))
 
   -- zeros that are not kept
-  pub zeros_written : (n : ℕ) {Q : ℕ → List Bool → Type 0} → skipped r n ≡ 0 → WritesZeros n old new → ((all : List Bool) → (w ≡ old → all ≡ new) → Q 0 all) → EachFilling (skip_row r n) w Q
+  pub zeros_written : (n : ℕ) {Q : ℕ → List Bool → Type 0} → skipped r n ≡ 0 → WritesZeros n old new
+      → ((all : List Bool) → (w ≡ old → all ≡ new) → Q 0 all) → EachFilling (skip_row r n) w Q
   unfolding skip_row is_chosen
-  zeros_written n {Q = Q} none writes h = element_filled r (skip n) (λ _. true) (λ _. 0) w Q (λ v a s.
-      (0, refl, refl, pow_pos n, rw none refl, h _ (λ at. rw (zeros_low n, at) (sym writes)), none_more r 0 v (zero_counts_none r)))
+  zeros_written n {Q = Q} none writes h = element_filled r (skip n) (λ _. true) (λ _. 0) w Q (λ v a s. (
+    0,
+    refl,
+    refl,
+    pow_pos n,
+    rw none refl,
+    h _ (λ at. rw (zeros_low n, at) (sym writes)),
+    none_more r 0 v (zero_counts_none r),
+  ))
 
   -- a number that is not kept
-  pub skip_written : (n : ℕ) {Q : ℕ → List Bool → Type 0} → skipped r n < 2 ^ n → WritesBits n (skipped r n) old new → ((all : List Bool) → (w ≡ old → all ≡ new) → Q 0 all) → EachFilling (skip_row r n) w Q
+  pub skip_written : (n : ℕ) {Q : ℕ → List Bool → Type 0} → skipped r n < 2 ^ n
+      → WritesBits n (skipped r n) old new → ((all : List Bool) → (w ≡ old → all ≡ new) → Q 0 all)
+      → EachFilling (skip_row r n) w Q
   unfolding skip_row is_chosen
-  skip_written n {Q = Q} fits writes h = element_filled r (skip n) (λ _. true) (λ _. 0) w Q (λ v a s.
-      (skipped r n, refl, refl, fits, eqb-same (skipped r n), h _ (λ at. rw at (sym writes)), none_more r (skipped r n) v (skipped_counts_none r n)))
+  skip_written n {Q = Q} fits writes h = element_filled r (skip n) (λ _. true) (λ _. 0) w Q (λ v a s. (
+    skipped r n,
+    refl,
+    refl,
+    fits,
+    eqb-same (skipped r n),
+    h _ (λ at. rw at (sym writes)),
+    none_more r (skipped r n) v (skipped_counts_none r n),
+  ))
 
 -- a condition
-pub check_held : (r : Row) (holds : Bool) {w : List Bool} {Q : ℕ → List Bool → Type 0} → (holds ≡ true → Q 0 w) → EachFilling (check_row r holds) w Q
+pub check_held : (r : Row) (holds : Bool) {w : List Bool} {Q : ℕ → List Bool → Type 0}
+    → (holds ≡ true → Q 0 w) → EachFilling (check_row r holds) w Q
 unfolding check_row is_chosen
-check_held r holds {w = w} {Q = Q} h = element_filled r check (λ _. holds) (λ v. v) w Q (λ v a s.
-    (v, refl, a, s, refl, subst (λ (k : ℕ). Q k (w ++ [])) (sym s) (subst (λ (all : List Bool). Q 0 all) (sym (append-nil w)) (h a)), as_many r v))
+check_held r holds {w = w} {Q = Q} h = element_filled r check (λ _. holds) (λ v. v) w Q (λ v a s. (
+  v,
+  refl,
+  a,
+  s,
+  refl,
+  subst (λ (k : ℕ). Q k (w ++ [])) (sym s) (subst (λ (all : List Bool). Q 0 all) (sym (append-nil w)) (h a)),
+  as_many r v,
+))
 
 -- ---- rows that are present only under a condition
 
 -- a part under a condition is filled, or is absent
-pub when_filled : {A : Type 0} {t : Table A} {w : List Bool} {Q : A → List Bool → Type 0} {c : Bool} {absent : A} → (c ≡ true → EachFilling t w Q) → (c ≡ false → Q absent w) → EachFilling (when c absent t) w Q
+pub when_filled : {A : Type 0} {t : Table A} {w : List Bool} {Q : A → List Bool
+    → Type 0} {c : Bool} {absent : A} → (c ≡ true → EachFilling t w Q) → (c ≡ false → Q absent w)
+    → EachFilling (when c absent t) w Q
 unfolding when
 when_filled {c = true} there not_there = there refl
 when_filled {c = false} there not_there = done_filled (not_there refl)
 
 -- one of two parts is filled
-pub either_filled : {A : Type 0} {t s : Table A} {w : List Bool} {Q : A → List Bool → Type 0} {c : Bool} → (c ≡ true → EachFilling t w Q) → (c ≡ false → EachFilling s w Q) → EachFilling (either c t s) w Q
+pub either_filled : {A : Type 0} {t s : Table A} {w : List Bool} {Q : A → List Bool → Type 0} {c : Bool}
+    → (c ≡ true → EachFilling t w Q) → (c ≡ false → EachFilling s w Q) → EachFilling (either c t s) w Q
 unfolding either
 either_filled {c = true} first second = first refl
 either_filled {c = false} first second = second refl

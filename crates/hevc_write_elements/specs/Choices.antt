@@ -1,5 +1,6 @@
 -- What is written for elements that no record keeps.
-use Rattle.std.specs.Prelude.{◌≡◌, ℕ, ◌-◌, ◌+◌, ◌≤◌, ◌^◌, ◌==◌, ◌&&◌, Bool, true, if◌then◌else◌, List, [], ◌∷◌, Option, Some, None}
+use Rattle.std.specs.Prelude.{◌≡◌, ℕ, ◌-◌, ◌+◌, ◌≤◌, ◌^◌, ◌==◌, ◌&&◌, Bool, true, if◌then◌else◌}
+use Rattle.std.specs.Prelude.{List, [], ◌∷◌, Option, Some, None}
 use Rattle.hevc_spec.specs.Lines.{Line, HasLines, AreGood, joined}
 use Rattle.hevc_spec.specs.Table.{Table}
 use Rattle.hevc_spec.specs.declared.Row.{Row}

@@ -7,7 +7,8 @@
 -- alone, where anything follows; P_with_inputs_of its elements, and those before it that it goes
 -- by. P_rows is a part that no table has as it is. same_P says that the first ones of a list are
 -- the same.
-use Rattle.std.specs.Prelude.{◌≡◌, ℕ, ℤ, ◌+◌, ◌<◌, Bool, true, false, List, [], ◌∷◌, ◌++◌, length, take, replicate, slice_index_or}
+use Rattle.std.specs.Prelude.{◌≡◌, ℕ, ℤ, ◌+◌, ◌<◌, Bool, true, false, List, [], ◌∷◌, ◌++◌, length}
+use Rattle.std.specs.Prelude.{take, replicate, slice_index_or}
 use Rattle.hevc_spec.specs.Bits.{u, ue, se}
 use Rattle.hevc_spec.specs.Table.{Table}
 use Rattle.hevc_spec.specs.Rows.{repeat}

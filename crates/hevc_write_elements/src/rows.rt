@@ -1,7 +1,9 @@
-//! The elements of tables, written. A number that its form has no bits for is written as some other: no table gives it. A writer
-//! refuses only where an allocation fails; some first bits of an element may then be written.
+//! The elements of tables, written. A number that its form has no bits for is written as some
+//! other: no table gives it. A writer refuses only where an allocation fails; some first bits of an
+//! element may then be written.
 ghost use Rattle.std.specs.Prelude.{◌≤◌, pos, OnOk};
-ghost use Rattle.hevc_write_elements.specs.Filling.{WritesBits, WritesFlag, WritesIf, WritesSe, WritesUe, WritesZeros};
+ghost use Rattle.hevc_write_elements.specs.Filling.{WritesBits, WritesFlag, WritesIf, WritesSe};
+ghost use Rattle.hevc_write_elements.specs.Filling.{WritesUe, WritesZeros};
 
 use hevc_bit_writer::BitWriter;
 use std::alloc::AllocError;

@@ -6,7 +6,9 @@ use Rattle.hevc_tables.specs.SpsSccExtensionTable as scc
 use Rattle.hevc_tables.specs.SpsSccExtensionTable.{SampleFormat, sps_scc_extension}
 use Rattle.hevc_tables.specs.PpsRangeExtensionTable.{pps_range_extension, offset_lists}
 use Rattle.hevc_tables.specs.PpsSccExtensionTable.{pps_scc_extension, colour_transform, palettes}
-use Rattle.hevc_write_elements.proofs.Steps.{IsFillable, then_filled, done_filled, filled, flag_fillable, bits_fillable, ue_fillable, when_fillable, when_kept}
+use Rattle.hevc_write_elements.proofs.Steps.{IsFillable, then_filled, done_filled, filled}
+use Rattle.hevc_write_elements.proofs.Steps.{flag_fillable, bits_fillable, ue_fillable}
+use Rattle.hevc_write_elements.proofs.Steps.{when_fillable, when_kept}
 use Rattle.hevc_write_extensions.specs.SpsSccExtensionParts as sps_own
 use Rattle.hevc_write_extensions.specs.PpsRangeExtensionParts as range_own
 use Rattle.hevc_write_extensions.specs.PpsSccExtensionParts as pps_own

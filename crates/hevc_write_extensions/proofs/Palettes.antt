@@ -1,5 +1,6 @@
 -- First palette predictors (tables 10 and 13): lists of a record, one a component, that are set element by element.
-use Rattle.std.proofs.Common.{◌≡◌, ℕ, zero, suc, ◌+◌, ◌<◌, Bool, List, [], ◌∷◌, length, get_or, set, refl, sym, ap, subst, ◌∙◌, arith, inl, inr}
+use Rattle.std.proofs.Common.{◌≡◌, ℕ, zero, suc, ◌+◌, ◌<◌, Bool, List, [], ◌∷◌, length, get_or, set}
+use Rattle.std.proofs.Common.{refl, sym, ap, subst, ◌∙◌, arith, inl, inr}
 use Rattle.std.specs.Prelude.{slice_get, unwrap_or, ◌⊎◌}
 use Rattle.std.proofs.lemmas.List.{get_or-set_same, set-get_or}
 use Rattle.std.proofs.lemmas.Option.{unwrap_or-slice_get}
@@ -39,15 +40,19 @@ within_or_not (x ∷ l) zero a = inl refl
 within_or_not (x ∷ l) (suc c) a = within_or_not l c a
 
 -- one element more in the list of a component
-one_less_at : (l : List (List ℕ)) (c i v : ℕ) (ys : List ℕ) → i < length ys → SameBelow (i + 1) (list_at (set l c (set (list_at l c) i v)) c) ys → SameBelow i (list_at l c) ys × (v ≡ get_or ys i 0)
+one_less_at : (l : List (List ℕ)) (c i v : ℕ) (ys : List ℕ) → i < length ys
+    → SameBelow (i + 1) (list_at (set l c (set (list_at l c) i v)) c) ys
+    → SameBelow i (list_at l c) ys × (v ≡ get_or ys i 0)
 one_less_at l c i v ys lt h =
     elim (within_or_not l c (set (list_at l c) i v)) [
       | inl e ↦ one_less i (list_at l c) ys v 0 lt (subst (λ (xs : List ℕ). SameBelow (i + 1) xs ys) e h)
       | inr e ↦ let none : length ys ≡ 0 = sym h.long ∙ ap length e in absurd (omega arith)
     ]
 
-module _ {A : Type 0} (get : A → List (List ℕ)) (put : List (List ℕ) → A → A) (gets : (l : List (List ℕ)) (a : A) → get (put l a) ≡ l)
-    (again : (l m : List (List ℕ)) (a : A) → put l (put m a) ≡ put l a) (whole : (a : A) → put (get a) a ≡ a) (r : Row) (kept : IsKept r) (depth min max c : ℕ) where
+module _ {A : Type 0} (get : A → List (List ℕ)) (put : List (List ℕ) → A
+    → A) (gets : (l : List (List ℕ)) (a : A) → get (put l a) ≡ l)
+    (again : (l m : List (List ℕ)) (a : A) → put l (put m a) ≡ put l a) (whole : (a : A)
+    → put (get a) a ≡ a) (r : Row) (kept : IsKept r) (depth min max c : ℕ) where
   -- row r of predictor i of the component
   abbrev body : ℕ → A → Table A
   body i y = part (bits_row r depth min max) (λ n. done (put (set (get y) c (set (list_at (get y) c) i n)) y))
@@ -62,16 +67,20 @@ module _ {A : Type 0} (get : A → List (List ℕ)) (put : List (List ℕ) → A
   pub predictor_keeps : (i : ℕ) → Keeps (body i) own_list
   predictor_keeps i = record {
     same = λ y. ap (λ (l : List (List ℕ)). put l y) (set_same (get y) c) ∙ whole y;
-    last = λ x y z. again _ _ x ∙ ap (λ (l : List (List ℕ)). put (set l c (list_at (get z) c)) x) (gets _ x) ∙ ap (λ (l : List (List ℕ)). put l x) (set_set (get x) c (list_at (get y) c) (list_at (get z) c));
+    last = λ x y z. again _ _ x ∙ ap (λ (l : List (List ℕ)). put (set l c (list_at (get z) c)) x) (gets _ x)
+        ∙ ap (λ (l : List (List ℕ)). put l x) (set_set (get x) c (list_at (get y) c) (list_at (get z) c));
     kept = λ y w. bits_then r kept {old = []} depth min max {value = 0} refl (λ v _ b _. done_filled (
-        ap (λ (l : List (List ℕ)). put (set (get y) c (list_at l c)) y) (gets _ y) ∙ ap (λ (l : List (List ℕ)). put l y) (set_back (get y) c (set (list_at (get y) c) i v))));
+        ap (λ (l : List (List ℕ)). put (set (get y) c (list_at l c)) y) (gets _ y)
+        ∙ ap (λ (l : List (List ℕ)). put l y) (set_back (get y) c (set (list_at (get y) c) i v))));
   }
 
   -- one predictor is written
-  pub predictor_written : (x : A) (i : ℕ) {old new : List Bool} → i < length (list_at (get x) c) → WritesBits depth (get_or (list_at (get x) c) i 0) old new → WritesTurn body (agrees x) i old new
+  pub predictor_written : (x : A) (i : ℕ) {old new : List Bool} → i < length (list_at (get x) c)
+      → WritesBits depth (get_or (list_at (get x) c) i 0) old new → WritesTurn body (agrees x) i old new
   predictor_written x i lt writes = record {
     written = λ y w. bits_then r kept depth min max writes (λ v _ b h. done_filled (λ a.
-        let p = one_less_at (get y) c i v (list_at (get x) c) lt (subst (λ (l : List (List ℕ)). SameBelow (i + 1) (list_at l c) (list_at (get x) c)) (gets _ y) a) in
+        let p = one_less_at (get y) c i v (list_at (get x) c) lt
+        (subst (λ (l : List (List ℕ)). SameBelow (i + 1) (list_at l c) (list_at (get x) c)) (gets _ y) a) in
         (p.0, λ at. h p.1 at)));
   }
 
@@ -80,10 +89,13 @@ module _ {A : Type 0} (get : A → List (List ℕ)) (put : List (List ℕ) → A
   list_keeps n = turns_keep body own_list predictor_keeps n
 
   -- the whole of it is written once all its turns are
-  pub list_written : (x : A) (n : ℕ) {old new : List Bool} → c < length (get x) → WritesTurns body (agrees x) n old new → Writes (repeat body 0 n) own_list x old new
+  pub list_written : (x : A) (n : ℕ) {old new : List Bool} → c < length (get x)
+      → WritesTurns body (agrees x) n old new → Writes (repeat body 0 n) own_list x old new
   list_written x n lt h = all_turns body (agrees x) (λ z e.
       let l : set (get x) c (list_at (get z) c) ≡ get x = sym (gets _ x) ∙ ap get e in
-      let there : list_at (set (get x) c (list_at (get z) c)) c ≡ list_at (get z) c = unwrap_or-slice_get (set (get x) c (list_at (get z) c)) c [] ∙ get_or-set_same (get x) c (list_at (get z) c) [] lt in
+      let there : list_at (set (get x) c (list_at (get z) c)) c ≡ list_at (get z) c =
+      unwrap_or-slice_get (set (get x) c (list_at (get z) c)) c []
+      ∙ get_or-set_same (get x) c (list_at (get z) c) [] lt in
       all_same n (list_at (get z) c) (list_at (get x) c) (sym there ∙ ap (λ (m : List (List ℕ)). list_at m c) l)) h
 
   -- a part that sets the list of this component alone
@@ -98,8 +110,13 @@ module _ {A : Type 0} (get : A → List (List ℕ)) (put : List (List ℕ) → A
     }
 
     pub lists_turn_written : (x : A) {old new : List Bool} → c < length (get x) → Writes p own_list x old new
-        → (y : A) (w : List Bool) → Rattle.hevc_write_elements.specs.Filling.EachFilling (p y) w (λ z all. SameBelow (c + 1) (get z) (get x) → SameBelow c (get y) (get x) × (w ≡ old → all ≡ new))
+        → (y : A) (w : List Bool) → Rattle.hevc_write_elements.specs.Filling.EachFilling (p y) w
+        (λ z all. SameBelow (c + 1) (get z) (get x) → SameBelow c (get y) (get x) × (w ≡ old → all ≡ new))
     lists_turn_written x lt writes y w = weakened (beside (keeps.kept y w) (writes.written y w)) (λ z all h a.
         let l : get z ≡ set (get y) c (list_at (get z) c) = sym (ap get h.0) ∙ gets _ y in
-        let q = one_less c (get y) (get x) (list_at (get z) c) [] lt (subst (λ (m : List (List ℕ)). SameBelow (c + 1) m (get x)) l a) in
-        (q.0, h.1 (ap (λ (m : List ℕ). put (set (get x) c m) x) q.1 ∙ ap (λ (m : List (List ℕ)). put m x) (set-get_or (get x) c []) ∙ whole x)))
+        let q = one_less c (get y) (get x) (list_at (get z) c) [] lt
+        (subst (λ (m : List (List ℕ)). SameBelow (c + 1) m (get x)) l a) in (
+          q.0,
+          h.1 (ap (λ (m : List ℕ). put (set (get x) c m) x) q.1
+              ∙ ap (λ (m : List (List ℕ)). put m x) (set-get_or (get x) c []) ∙ whole x),
+        ))

@@ -10,7 +10,11 @@ use Rattle.hevc_write_extensions.specs.PpsRangeExtensionParts as own
 -- sets no elements but those of row 5
 pub offset_pair_keeps : (i : ℕ) → Keeps (offset_pair i) own.offset_pairs_of
 unfolding offset_pair
-offset_pair_keeps i = record { same = λ y. refl; last = λ x y z. refl; kept = λ y w. search kept_rows depth 40 fits 4000 }
+offset_pair_keeps i = record {
+  same = λ y. refl;
+  last = λ x y z. refl;
+  kept = λ y w. search kept_rows depth 40 fits 4000;
+}
 
 -- sets no elements but those of row 5
 pub offset_pairs_keep : (n : ℕ) → Keeps (offset_pairs n) own.offset_pairs_of
@@ -20,9 +24,19 @@ offset_pairs_keep n = turns_keep offset_pair own.offset_pairs_of offset_pair_kee
 -- sets no elements but those of rows 3 to 5
 pub offset_lists_keep : Keeps offset_lists own.offset_lists_of
 unfolding offset_lists
-offset_lists_keep = record { same = λ y. refl; last = λ x y z. refl; kept = λ y w. search (kept_rows, λ (n : ℕ). part_kept (offset_pairs n) own.offset_pairs_of (offset_pairs_keep n)) depth 40 fits 4000 }
+offset_lists_keep = record {
+  same = λ y. refl;
+  last = λ x y z. refl;
+  kept = λ y w. search
+      (kept_rows, λ (n : ℕ). part_kept (offset_pairs n) own.offset_pairs_of (offset_pairs_keep n)) depth 40 fits 4000;
+}
 
 -- the whole of it is written once all its turns are
-pub offset_pairs_written : (x : PlainPpsRangeExtension) (n count : ℕ) (old new : List Bool) → WritesTurns offset_pair (own.same_pairs x) n old new → n ≡ count → Writes (offset_pairs count) own.offset_pairs_of x old new
+pub offset_pairs_written : (x : PlainPpsRangeExtension) (n count : ℕ) (old new : List Bool)
+    → WritesTurns offset_pair (own.same_pairs x) n old new → n ≡ count
+    → Writes (offset_pairs count) own.offset_pairs_of x old new
 unfolding offset_pairs
-offset_pairs_written x n count old new h e = subst (λ (k : ℕ). Writes (offset_pairs k) own.offset_pairs_of x old new) e (all_turns offset_pair (own.same_pairs x) (λ z e. (all_same _ _ _ (by e (λ r. r.cb_qp_offset_list)), all_same _ _ _ (by e (λ r. r.cr_qp_offset_list)))) h)
+offset_pairs_written x n count old new h e =
+    subst (λ (k : ℕ). Writes (offset_pairs k) own.offset_pairs_of x old new) e
+    (all_turns offset_pair (own.same_pairs x)
+    (λ z e. (all_same _ _ _ (by e (λ r. r.cb_qp_offset_list)), all_same _ _ _ (by e (λ r. r.cr_qp_offset_list)))) h)

@@ -3,7 +3,8 @@ ghost use Rattle.std.specs.Prelude.{◌≤◌, ◌<◌, OnOk};
 ghost use Rattle.hevc_records.specs.Sps.{PlainSps};
 ghost use Rattle.hevc_tables.specs.PpsRangeExtensionTable as table;
 ghost use Rattle.hevc_set_parts.specs.PpsRangeExtension.{plain_pps_range_extension};
-ghost use Rattle.hevc_write_extensions.specs.PpsRangeExtensionParts.{offset_lists_of, offset_pairs_of, same_pairs};
+ghost use Rattle.hevc_write_extensions.specs.PpsRangeExtensionParts.{offset_lists_of};
+ghost use Rattle.hevc_write_extensions.specs.PpsRangeExtensionParts.{offset_pairs_of, same_pairs};
 ghost use Rattle.hevc_write_elements.specs.Filling.{Writes, WritesIf, WritesTable, WritesTurn};
 
 use hevc_bit_writer::BitWriter;

@@ -1,5 +1,6 @@
 //! The screen content coding extension (7.3.2.3.3, table 13).
-ghost use Rattle.std.specs.Prelude.{◌≡◌, ◌≤◌, ◌<◌, ◌&&◌, ◌==◌, not, nat_le, length, slice_index, IsTrue, OnOk};
+ghost use Rattle.std.specs.Prelude.{◌≡◌, ◌≤◌, ◌<◌, ◌&&◌, ◌==◌, not, nat_le, length, slice_index};
+ghost use Rattle.std.specs.Prelude.{IsTrue, OnOk};
 ghost use Rattle.hevc_tables.specs.PpsSccExtensionTable as table;
 ghost use Rattle.hevc_tables.specs.PpsTable.{max_palette_predictors as most_predictors};
 ghost use Rattle.hevc_tables.specs.SpsTable.{sample_format};

@@ -1,5 +1,7 @@
 -- Which matrices table 6 gives.
-use Rattle.std.proofs.Common.{◌≡◌, ℕ, zero, suc, ◌+◌, ◌-◌, ◌*◌, ◌/◌, ◌<◌, ◌≤◌, Bool, true, false, List, [], ◌∷◌, length, set, get_or, replicate, refl, sym, subst, ◌∙◌, arith}
+use Rattle.std.proofs.Common.{◌≡◌, ℕ, zero, suc, ◌+◌, ◌-◌, ◌*◌, ◌/◌, ◌<◌, ◌≤◌, Bool, true, false}
+use Rattle.std.proofs.Common.{List, [], ◌∷◌, length, set, get_or, replicate, refl, sym, subst, ◌∙◌}
+use Rattle.std.proofs.Common.{arith}
 use Rattle.std.specs.Prelude.{ℤ, pos, negsuc, ◌+ℤ◌, ◌≤ℤ◌, ◌==◌, unsigned_abs, slice_get, unwrap_or, if◌then◌else◌}
 use Rattle.std.proofs.lemmas.Int.{ints}
 use Rattle.std.proofs.lemmas.List.{length-set, length-replicate}
@@ -10,8 +12,15 @@ use Rattle.hevc_spec.specs.Bits.{signed, in_signed_range}
 use Rattle.hevc_spec.specs.Table.{done, part}
 use Rattle.hevc_spec.specs.Rows.{row}
 use Rattle.hevc_records.specs.DefaultScalingLists.{flat_list, default_lists_8x8}
-use Rattle.hevc_tables.specs.ScalingListTable.{Size, size_4x4, size_8x8, size_16x16, size_32x32, coef_num, has_dc_coef, matrix_step, has_matrix, Coefs, sum_modulo_256, next_entry, coefs, Matrices, no_matrices, list_of, with_matrix, with_default, with_copy, ref_matrix, coded_matrix, predicted_matrix, matrix, next_matrix, matrices}
-use Rattle.hevc_write_elements.proofs.Given.{EachGiven, done_given, then_given, flag_given, ue_given, se_given, when_given, either_given, turns_given}
+use Rattle.hevc_tables.specs.ScalingListTable.{Size, size_4x4, size_8x8, size_16x16, size_32x32}
+use Rattle.hevc_tables.specs.ScalingListTable.{coef_num, has_dc_coef, matrix_step, has_matrix}
+use Rattle.hevc_tables.specs.ScalingListTable.{Coefs, sum_modulo_256, next_entry, coefs, Matrices}
+use Rattle.hevc_tables.specs.ScalingListTable.{no_matrices, list_of, with_matrix, with_default}
+use Rattle.hevc_tables.specs.ScalingListTable.{with_copy, ref_matrix, coded_matrix}
+use Rattle.hevc_tables.specs.ScalingListTable.{predicted_matrix, matrix, next_matrix, matrices}
+use Rattle.hevc_write_elements.proofs.Given.{EachGiven, done_given, then_given, flag_given}
+use Rattle.hevc_write_elements.proofs.Given.{ue_given, se_given, when_given, either_given}
+use Rattle.hevc_write_elements.proofs.Given.{turns_given}
 
 -- ---- shapes
 
@@ -59,12 +68,15 @@ zeros_list : (size : Size) → IsList size (replicate (coef_num size) 0)
 zeros_list size = record { long = length-replicate (coef_num size) 0; bytes = zeros_bytes (coef_num size) }
 
 -- where nothing was read the lists have their shape
-none_shaped : (size : Size) (n i : ℕ) → AreShaped size i (replicate n (pos 0)) (replicate n (replicate (coef_num size) 0))
+none_shaped : (size : Size) (n i : ℕ)
+    → AreShaped size i (replicate n (pos 0)) (replicate n (replicate (coef_num size) 0))
 none_shaped size zero i = tt
-none_shaped size (suc n) i = (record { dc = zero_dc; entries = zeros_list size; lacking = λ _. (refl, refl) }, none_shaped size n (i + 1))
+none_shaped size (suc n) i =
+    (record { dc = zero_dc; entries = zeros_list size; lacking = λ _. (refl, refl) }, none_shaped size n (i + 1))
 
 -- they have it where a matrix is set
-set_shaped : (size : Size) (s i : ℕ) (ds : List ℤ) (ls : List (List ℕ)) (d : ℤ) (l : List ℕ) → IsOne size (s + i) d l → AreShaped size s ds ls → AreShaped size s (set ds i d) (set ls i l)
+set_shaped : (size : Size) (s i : ℕ) (ds : List ℤ) (ls : List (List ℕ)) (d : ℤ) (l : List ℕ)
+    → IsOne size (s + i) d l → AreShaped size s ds ls → AreShaped size s (set ds i d) (set ls i l)
 set_shaped size s i [] [] d l one h = tt
 set_shaped size s i [] (k ∷ ls) d l one h = absurd h
 set_shaped size s i (c ∷ ds) [] d l one h = absurd h
@@ -76,7 +88,8 @@ set_shaped size s (suc i) (c ∷ ds) (k ∷ ls) d l one h =
     (h.0, set_shaped size (s + 1) i ds ls d l (subst (λ (j : ℕ). IsOne size j d l) here one) h.1)
 
 -- each matrix of them has its own
-at_shaped : (size : Size) (s i : ℕ) (ds : List ℤ) (ls : List (List ℕ)) → i < length ds → AreShaped size s ds ls → IsDc (unwrap_or (slice_get ds i) (pos 0)) × IsList size (list_of ls i)
+at_shaped : (size : Size) (s i : ℕ) (ds : List ℤ) (ls : List (List ℕ)) → i < length ds
+    → AreShaped size s ds ls → IsDc (unwrap_or (slice_get ds i) (pos 0)) × IsList size (list_of ls i)
 at_shaped size s i [] [] lt h = absurd (omega arith)
 at_shaped size s i [] (k ∷ ls) lt h = absurd h
 at_shaped size s i (c ∷ ds) [] lt h = absurd h
@@ -93,30 +106,50 @@ sum_byte n delta = omega arith
 coefs_given : (count start : ℕ) → EachGiven (coefs count start) (λ c. (length c.entries ≡ count) × AllBytes c.entries)
 unfolding coefs next_entry
 coefs_given count start = turns_given next_entry (λ (c : Coefs). (length c.entries ≡ count) × AllBytes c.entries) count
-    (λ i c lt h. then_given (se_given (row 6 4) (negsuc 127) (pos 127) (λ v ok. done_given (length-set c.entries i _ ∙ h.0, set_bytes c.entries i _ (sum_byte c.next_coef (signed v)) h.1))))
+    (λ i c lt h. then_given (se_given (row 6 4) (negsuc 127) (pos 127)
+    (λ v ok. done_given (
+      length-set c.entries i _ ∙ h.0,
+      set_bytes c.entries i _ (sum_byte c.next_coef (signed v)) h.1,
+    ))))
     (record { next_coef = start; entries = replicate count 0 }) (length-replicate count 0, zeros_bytes count)
 
 -- a first entry that is allowed is one
 dc_range : (v : ℕ) → in_signed_range (negsuc 6) (pos 247) v ≡ true → IsDc (signed v)
-dc_range v ok = record { least = grind (arith, common_steps, nat_tests, ok); most = grind (arith, common_steps, nat_tests, ok) }
+dc_range v ok = record {
+  least = grind (arith, common_steps, nat_tests, ok);
+  most = grind (arith, common_steps, nat_tests, ok);
+}
 
 module _ (size : Size) where
   abbrev pub Shaped : Matrices → Type 0
   Shaped m = (length m.dc_coef_minus8 ≡ 6) × AreShaped size 0 m.dc_coef_minus8 m.entries
 
   -- lists with a matrix more have their shape
-  with_shaped : (m : Matrices) (i : ℕ) (d : ℤ) (l : List ℕ) → has_matrix size i ≡ true → IsDc d → IsList size l → Shaped m → Shaped (with_matrix m i d l)
+  with_shaped : (m : Matrices) (i : ℕ) (d : ℤ) (l : List ℕ) → has_matrix size i ≡ true → IsDc d
+      → IsList size l → Shaped m → Shaped (with_matrix m i d l)
   unfolding with_matrix
   with_shaped m i d l there dc entries h =
-      let here : 0 + i ≡ i = omega arith in
-      (length-set m.dc_coef_minus8 i d ∙ h.0, set_shaped size 0 i m.dc_coef_minus8 m.entries d l (subst (λ (j : ℕ). IsOne size j d l) (sym here) (record { dc = dc; entries = entries; lacking = λ none. absurd (true≢false (sym there ∙ none)) })) h.1)
+      let here : 0 + i ≡ i = omega arith in (
+        length-set m.dc_coef_minus8 i d ∙ h.0,
+        set_shaped size 0 i m.dc_coef_minus8 m.entries d l
+            (subst (λ (j : ℕ). IsOne size j d l) (sym here) (record {
+              dc = dc;
+              entries = entries;
+              lacking = λ none. absurd (true≢false (sym there ∙ none));
+            })) h.1,
+      )
 
   -- so do those with a matrix that was read
   coded_given : (i : ℕ) (m : Matrices) → has_matrix size i ≡ true → Shaped m → EachGiven (coded_matrix size i m) Shaped
   unfolding coded_matrix
-  coded_given i m there h = then_given (when_given (λ _. se_given (row 6 3) (negsuc 6) (pos 247) (λ v ok. entries (signed v) (dc_range v ok))) (λ _. entries (pos 0) zero_dc))
+  coded_given i m there h =
+      then_given (when_given
+      (λ _. se_given (row 6 3) (negsuc 6) (pos 247) (λ v ok. entries (signed v) (dc_range v ok)))
+      (λ _. entries (pos 0) zero_dc))
     where
-      entries : (d : ℤ) → IsDc d → EachGiven (part (coefs (coef_num size) (unsigned_abs (d +ℤ pos 8))) (λ c. done (with_matrix m i d c.entries))) Shaped
+      entries : (d : ℤ) → IsDc d
+          → EachGiven (part (coefs (coef_num size) (unsigned_abs (d +ℤ pos 8)))
+          (λ c. done (with_matrix m i d c.entries))) Shaped
       entries d dc = then_given (record {
         all = λ c lines has good.
             let e = (coefs_given (coef_num size) (unsigned_abs (d +ℤ pos 8))).all c lines has good in
@@ -124,14 +157,17 @@ module _ (size : Size) where
       })
 
   module _ (defaults : List (List ℕ)) (are : (i : ℕ) → i < 6 → IsList size (list_of defaults i)) where
-    predicted_given : (i : ℕ) (m : Matrices) → i < 6 → has_matrix size i ≡ true → Shaped m → EachGiven (predicted_matrix size defaults i m) Shaped
+    predicted_given : (i : ℕ) (m : Matrices) → i < 6 → has_matrix size i ≡ true → Shaped m
+        → EachGiven (predicted_matrix size defaults i m) Shaped
     unfolding predicted_matrix
-    predicted_given i m lt there h = then_given (ue_given (row 6 2) 0 (i / matrix_step size) (λ delta. done_given (by_test delta (delta == 0))))
+    predicted_given i m lt there h =
+        then_given (ue_given (row 6 2) 0 (i / matrix_step size) (λ delta. done_given (by_test delta (delta == 0))))
       where
         eight : IsDc (pos 8)
         eight = record { least = grind arith; most = grind arith }
 
-        by_test : (delta : ℕ) (t : Bool) → Shaped (if t then with_default defaults i m else with_copy (ref_matrix size i delta) i m)
+        by_test : (delta : ℕ) (t : Bool)
+            → Shaped (if t then with_default defaults i m else with_copy (ref_matrix size i delta) i m)
         by_test delta true = with_shaped m i (pos 8) (list_of defaults i) there eight (are i lt) h
         by_test delta false =
             let r = at_shaped size 0 (ref_matrix size i delta) m.dc_coef_minus8 m.entries (omega (arith, h.0)) h.1 in
@@ -140,5 +176,8 @@ module _ (size : Size) where
     pub matrices_given : EachGiven (matrices size defaults) Shaped
     unfolding matrices next_matrix matrix
     matrices_given = turns_given (next_matrix size defaults) Shaped 6
-        (λ i m lt h. when_given (λ there. then_given (flag_given (row 6 1) (λ b. either_given b (coded_given i m there h) (predicted_given i m lt there h)))) (λ _. h))
+        (λ i m lt h. when_given
+        (λ there. then_given
+        (flag_given (row 6 1)
+        (λ b. either_given b (coded_given i m there h) (predicted_given i m lt there h)))) (λ _. h))
         (no_matrices size) (refl, none_shaped size 6 0)

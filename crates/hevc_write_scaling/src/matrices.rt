@@ -7,8 +7,8 @@ ghost use Rattle.hevc_write_scaling.specs.Matrices as own;
 use hevc_bit_writer::BitWriter;
 use std::alloc::AllocError;
 
-/// Rows 1, 3 and 4 of table 6, for the matrices of a size, of which every so many are there; their first entries, less 8, are written
-/// where the size has numbers for them.
+/// Rows 1, 3 and 4 of table 6, for the matrices of a size, of which every so many are there; their
+/// first entries, less 8, are written where the size has numbers for them.
 pub(crate) fn write_matrices<const N: usize>(
     w: &mut BitWriter,
     has_dc: bool,

@@ -1,5 +1,6 @@
 -- Numbers of the highest sub-layer, which hold for all: in video sets and in sequence sets.
-use Rattle.std.proofs.Common.{◌≡◌, ℕ, zero, suc, ◌+◌, ◌-◌, List, ◌++◌, get_or, replicate, sym, ap, ap₂, ◌∙◌, refl, arith}
+use Rattle.std.proofs.Common.{◌≡◌, ℕ, zero, suc, ◌+◌, ◌-◌, List, ◌++◌, get_or, replicate, sym, ap}
+use Rattle.std.proofs.Common.{ap₂, ◌∙◌, refl, arith}
 use Rattle.hevc_tables.specs.VpsTable.{up_to_highest}
 
 -- the number of the highest sub-layer

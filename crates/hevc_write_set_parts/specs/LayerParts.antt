@@ -2,7 +2,8 @@
 use Rattle.std.specs.Prelude.{ℕ}
 use Rattle.hevc_spec.specs.Table.{Table}
 use Rattle.hevc_spec.specs.Rows.{either}
-use Rattle.hevc_tables.specs.ProfileTierLevelTable.{LayerProfile, Scope, layer_conforms_to, main_10_flags, reserved_bits}
+use Rattle.hevc_tables.specs.ProfileTierLevelTable.{LayerProfile, Scope, layer_conforms_to}
+use Rattle.hevc_tables.specs.ProfileTierLevelTable.{main_10_flags, reserved_bits}
 use Rattle.hevc_write_elements.specs.Filling.{SameBelow}
 
 -- row 4

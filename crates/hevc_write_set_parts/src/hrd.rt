@@ -11,7 +11,8 @@ use hevc_bit_writer::BitWriter;
 use hevc_video_set::HrdParams;
 use std::alloc::AllocError;
 
-/// Table 3, for sub-layers from 0 to `max_sub_layers_minus1`, with what they have in common where `common`.
+/// Table 3, for sub-layers from 0 to `max_sub_layers_minus1`, with what they have in common where
+/// `common`.
 #[tactic(auto, using(crate::proofs::HrdKeeps::hrd_written))]
 pub fn write_hrd_parameters(
     w: &mut BitWriter,

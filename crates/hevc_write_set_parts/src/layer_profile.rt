@@ -5,8 +5,8 @@ ghost use Rattle.hevc_write_set_parts.specs.LayerProfile.{general_profile, plain
 
 use hevc_set_parts::ProfileTierLevel;
 
-/// The profile of the whole stream, or of a sub-layer. Fields have the names of their syntax elements, without `general_` and
-/// `sub_layer_`.
+/// The profile of the whole stream, or of a sub-layer. Fields have the names of their syntax
+/// elements, without `general_` and `sub_layer_`.
 #[derive(Clone, Copy)]
 pub(crate) struct LayerProfile {
     pub profile_space: u8,

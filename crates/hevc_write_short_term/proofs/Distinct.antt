@@ -39,7 +39,8 @@ distinct_after (d ∷ ds) above rises = (
 )
 
 -- so are falling ones below 0, with others above
-distinct_before : (ds rest : List ℤ) → AllBelow (pos 0) ds → Falls ds → AllAbove (negsuc 0) rest → Distinct rest → Distinct (ds ++ rest)
+distinct_before : (ds rest : List ℤ) → AllBelow (pos 0) ds → Falls ds → AllAbove (negsuc 0) rest
+    → Distinct rest → Distinct (ds ++ rest)
 distinct_before [] rest below falls above apart = apart
 distinct_before (d ∷ ds) rest below falls above apart = (
   (λ i. elim (in_append d ds rest i) [
@@ -52,7 +53,8 @@ distinct_before (d ∷ ds) rest below falls above apart = (
     between : negsuc 0 <ℤ d → d <ℤ pos 0 → ⊥
     between low high = omega (arith, ints, low, high)
 
-module _ (s : ShortTermRefPicSet) (long_before : length s.delta_poc_s0 ≡ 16) (long_after : length s.delta_poc_s1 ≡ 16) where
+module _ (s : ShortTermRefPicSet) (long_before : length s.delta_poc_s0 ≡ 16)
+    (long_after : length s.delta_poc_s1 ≡ 16) where
   -- the differences of a set are distinct, with that of its own picture
   pub apart : Distinct (differences (plain_short_term_ref_pic_set s) ++ pos 0 ∷ [])
   unfolding differences
@@ -61,14 +63,19 @@ module _ (s : ShortTermRefPicSet) (long_before : length s.delta_poc_s0 ≡ 16) (
       let after = rises_from s.num_positive_pics s.delta_poc_s1 (omega arith) s.positives in
       let low : negsuc 0 <ℤ pos 0 = grind arith in
       let down : negsuc 0 ≤ℤ pos 0 = grind arith in
-      let above = AllAbove-append (negsuc 0) (take s.num_positive_pics s.delta_poc_s1) (pos 0 ∷ []) (AllAbove-weaken (pos 0) (negsuc 0) _ down after.0) (low, tt) in
-      subst Distinct (sym (append_assoc (take s.num_negative_pics s.delta_poc_s0) (take s.num_positive_pics s.delta_poc_s1) (pos 0 ∷ [])))
+      let above = AllAbove-append (negsuc 0) (take s.num_positive_pics s.delta_poc_s1) (pos 0 ∷ [])
+      (AllAbove-weaken (pos 0) (negsuc 0) _ down after.0) (low, tt) in
+      subst Distinct
+      (sym (append_assoc (take s.num_negative_pics s.delta_poc_s0) (take s.num_positive_pics s.delta_poc_s1)
+      (pos 0 ∷ [])))
       (distinct_before _ _ before.0 before.1 above (distinct_after _ after.0 after.1))
 
   -- there are as many as the set counts, and one
   pub many : length (differences (plain_short_term_ref_pic_set s) ++ pos 0 ∷ []) ≡ s.num_delta_pocs + 1
   unfolding differences
   many =
-      let before : length (take s.num_negative_pics s.delta_poc_s0) ≡ s.num_negative_pics = length-take-le _ _ (omega arith) in
-      let after : length (take s.num_positive_pics s.delta_poc_s1) ≡ s.num_positive_pics = length-take-le _ _ (omega arith) in
+      let before : length (take s.num_negative_pics s.delta_poc_s0) ≡ s.num_negative_pics =
+      length-take-le _ _ (omega arith) in
+      let after : length (take s.num_positive_pics s.delta_poc_s1) ≡ s.num_positive_pics =
+      length-take-le _ _ (omega arith) in
       rw (length-append, length-append) (omega (arith, before, after, s.sum))

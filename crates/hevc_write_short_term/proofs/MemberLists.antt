@@ -1,18 +1,24 @@
 -- Lists of members, and of their flags.
-use Rattle.std.proofs.Common.{◌≡◌, ℕ, zero, suc, ◌+◌, ◌<◌, Bool, false, List, [], ◌∷◌, ◌++◌, length, get_or, drop, take, refl, sym, ap, ap₂, ◌∙◌, append_assoc}
+use Rattle.std.proofs.Common.{◌≡◌, ℕ, zero, suc, ◌+◌, ◌<◌, Bool, false, List, [], ◌∷◌, ◌++◌, length}
+use Rattle.std.proofs.Common.{get_or, drop, take, refl, sym, ap, ap₂, ◌∙◌, append_assoc}
 use Rattle.std.specs.Prelude.{ℤ, pos, ◌+ℤ◌, replicate, if◌then◌else◌}
 use Rattle.std.proofs.lemmas.List.{length-map, drop_more}
 use Rattle.hevc_records.specs.ShortTermRefPicSet.{PlainShortTermRefPicSet}
 use Rattle.hevc_tables.specs.declared.member_flags.MemberFlags.{MemberFlags}
 use Rattle.hevc_tables.specs.declared.short_term_member.ShortTermMember.{ShortTermMember}
 use Rattle.hevc_tables.specs.ShortTermTable.{deltas, used, array_of, with_members}
-use Rattle.hevc_write_short_term.specs.Members.{members_from, members_of, before_of, after_of, use_of, flags_of, chosen_flags, flag_bits, WritesFlags}
+use Rattle.hevc_write_short_term.specs.Members.{members_from, members_of, before_of, after_of}
+use Rattle.hevc_write_short_term.specs.Members.{use_of, flags_of, chosen_flags, flag_bits}
+use Rattle.hevc_write_short_term.specs.Members.{WritesFlags}
 
 -- ---- members from lists
 
 -- the first member of what is left
 pub from_drop : (i : ℕ) (ds : List ℤ) (us : List Bool) → i < length ds → i < length us
-    → members_from (drop i ds) (drop i us) ≡ record { delta_poc = get_or ds i (pos 0); used_by_curr_pic = get_or us i false } ∷ members_from (drop (i + 1) ds) (drop (i + 1) us)
+    → members_from (drop i ds) (drop i us) ≡ record {
+      delta_poc = get_or ds i (pos 0);
+      used_by_curr_pic = get_or us i false;
+    } ∷ members_from (drop (i + 1) ds) (drop (i + 1) us)
 from_drop i ds us lt lu = rw (drop_more ds i (pos 0) lt, drop_more us i false lu) refl
 
 -- the first items of an array are those that it begins with
@@ -30,10 +36,13 @@ from_members [] = refl
 from_members (m ∷ ms) = ap (λ ns. m ∷ ns) (from_members ms)
 
 -- also where these are in arrays
-from_arrays : (ms : List ShortTermMember) → members_from (take (length ms) (array_of (pos 0) (deltas ms))) (take (length ms) (array_of false (used ms))) ≡ ms
+from_arrays : (ms : List ShortTermMember)
+    → members_from (take (length ms) (array_of (pos 0) (deltas ms))) (take (length ms) (array_of false (used ms))) ≡ ms
 from_arrays ms =
-    let d : take (length ms) (array_of (pos 0) (deltas ms)) ≡ deltas ms = rw (sym (length-map ms (λ m. m.delta_poc))) (first_of (pos 0) (deltas ms) _) in
-    let u : take (length ms) (array_of false (used ms)) ≡ used ms = rw (sym (length-map ms (λ m. m.used_by_curr_pic))) (first_of false (used ms) _) in
+    let d : take (length ms) (array_of (pos 0) (deltas ms)) ≡ deltas ms =
+    rw (sym (length-map ms (λ m. m.delta_poc))) (first_of (pos 0) (deltas ms) _) in
+    let u : take (length ms) (array_of false (used ms)) ≡ used ms =
+    rw (sym (length-map ms (λ m. m.used_by_curr_pic))) (first_of false (used ms) _) in
     ap₂ members_from d u ∙ from_members ms
 
 module _ (set : PlainShortTermRefPicSet) (before after : List ShortTermMember) where
@@ -56,32 +65,43 @@ module _ (set : PlainShortTermRefPicSet) (before after : List ShortTermMember) w
 -- bits of flags follow one another
 pub bits_append : (fs gs : List MemberFlags) → flag_bits (fs ++ gs) ≡ flag_bits fs ++ flag_bits gs
 bits_append [] gs = refl
-bits_append (f ∷ fs) gs = ap (λ bs. f.used_by_curr_pic_flag ∷ (if f.used_by_curr_pic_flag then [] else f.use_delta_flag ∷ []) ++ bs) (bits_append fs gs)
-    ∙ ap (λ bs. f.used_by_curr_pic_flag ∷ bs) (sym (append_assoc (if f.used_by_curr_pic_flag then [] else f.use_delta_flag ∷ []) (flag_bits fs) (flag_bits gs)))
+bits_append (f ∷ fs) gs =
+    ap (λ bs. f.used_by_curr_pic_flag ∷ (if f.used_by_curr_pic_flag then [] else f.use_delta_flag ∷ [])
+    ++ bs) (bits_append fs gs)
+    ∙ ap (λ bs. f.used_by_curr_pic_flag ∷ bs)
+    (sym (append_assoc (if f.used_by_curr_pic_flag then [] else f.use_delta_flag ∷ []) (flag_bits fs) (flag_bits gs)))
 
 -- so do chosen flags
-pub chosen-append : (shift : ℤ) (ds es : List ℤ) (ms : List ShortTermMember) → chosen_flags shift (ds ++ es) ms ≡ chosen_flags shift ds ms ++ chosen_flags shift es ms
+pub chosen-append : (shift : ℤ) (ds es : List ℤ) (ms : List ShortTermMember)
+    → chosen_flags shift (ds ++ es) ms ≡ chosen_flags shift ds ms ++ chosen_flags shift es ms
 chosen-append shift [] es ms = refl
 chosen-append shift (d ∷ ds) es ms = ap (λ fs. flags_of (use_of (d +ℤ shift) ms) ∷ fs) (chosen-append shift ds es ms)
 
 -- each difference has its flags
-pub chosen-length : (shift : ℤ) (ds : List ℤ) (ms : List ShortTermMember) → length (chosen_flags shift ds ms) ≡ length ds
+pub chosen-length : (shift : ℤ) (ds : List ℤ) (ms : List ShortTermMember)
+    → length (chosen_flags shift ds ms) ≡ length ds
 chosen-length shift [] ms = refl
 chosen-length shift (d ∷ ds) ms = ap suc (chosen-length shift ds ms)
 
 -- the first flags of those that are left
 chosen-drop : (shift : ℤ) (ds : List ℤ) (ms : List ShortTermMember) (i : ℕ) → i < length ds
-    → chosen_flags shift (drop i ds) ms ≡ flags_of (use_of (get_or ds i (pos 0) +ℤ shift) ms) ∷ chosen_flags shift (drop (i + 1) ds) ms
+    → chosen_flags shift (drop i ds) ms ≡ flags_of (use_of (get_or ds i (pos 0) +ℤ shift) ms)
+    ∷ chosen_flags shift (drop (i + 1) ds) ms
 chosen-drop shift ds ms i lt = rw (drop_more ds i (pos 0) lt) refl
 
 -- flags for one list of differences after another
-pub three_written : (shift : ℤ) (first second third : List ℤ) (ms : List ShortTermMember) (old a b new : List Bool) → WritesFlags (chosen_flags shift first ms) old a → WritesFlags (chosen_flags shift second ms) a b → WritesFlags (chosen_flags shift third ms) b new
+pub three_written : (shift : ℤ) (first second third : List ℤ) (ms : List ShortTermMember)
+    (old a b new : List Bool) → WritesFlags (chosen_flags shift first ms) old a
+    → WritesFlags (chosen_flags shift second ms) a b → WritesFlags (chosen_flags shift third ms) b new
     → WritesFlags (chosen_flags shift ((first ++ second) ++ third) ms) old new
 three_written shift first second third ms old a b new p q r =
     let f = flag_bits (chosen_flags shift first ms) in
     let s = flag_bits (chosen_flags shift second ms) in
     let t = flag_bits (chosen_flags shift third ms) in
     let all : flag_bits (chosen_flags shift ((first ++ second) ++ third) ms) ≡ (f ++ s) ++ t =
-    ap flag_bits (chosen-append shift (first ++ second) third ms ∙ ap (λ fs. fs ++ chosen_flags shift third ms) (chosen-append shift first second ms))
-    ∙ bits_append (chosen_flags shift first ms ++ chosen_flags shift second ms) (chosen_flags shift third ms) ∙ ap (λ bs. bs ++ t) (bits_append (chosen_flags shift first ms) (chosen_flags shift second ms)) in
+    ap flag_bits (chosen-append shift (first ++ second) third ms
+    ∙ ap (λ fs. fs ++ chosen_flags shift third ms) (chosen-append shift first second ms))
+    ∙ bits_append (chosen_flags shift first ms ++ chosen_flags shift second ms)
+    (chosen_flags shift third ms)
+    ∙ ap (λ bs. bs ++ t) (bits_append (chosen_flags shift first ms) (chosen_flags shift second ms)) in
     rw (r, q, p, all) (ap (λ bs. bs ++ t) (append_assoc old f s) ∙ append_assoc old (f ++ s) t)

@@ -12,9 +12,11 @@ use hevc_set_parts::ShortTermRefPicSet;
 use hevc_write_elements::rows::flag_if;
 use std::alloc::AllocError;
 
-/// Table 7, for number `st_rps_idx` of `count` sets of a sequence set or for one after them; `sets` are those before it.
+/// Table 7, for number `st_rps_idx` of `count` sets of a sequence set or for one after them; `sets`
+/// are those before it.
 ///
-/// Row 5 of a predicted set is as the set says: used and kept where the sum is a member of it, and both flags 0 where it isn't.
+/// Row 5 of a predicted set is as the set says: used and kept where the sum is a member of it, and
+/// both flags 0 where it isn't.
 pub fn write_short_term_ref_pic_set(
     w: &mut BitWriter,
     sets: &[ShortTermRefPicSet],

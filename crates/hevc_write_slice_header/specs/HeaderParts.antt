@@ -1,5 +1,6 @@
 -- The elements that each part of table 14 sets: those of one record, put into another.
-use Rattle.std.specs.Prelude.{◌≡◌, ℕ, ◌+◌, ◌-◌, ◌^◌, ◌<◌, nat_lt, not, Bool, false, List, length, slice_index, slice_index_or, Option}
+use Rattle.std.specs.Prelude.{◌≡◌, ℕ, ◌+◌, ◌-◌, ◌^◌, ◌<◌, nat_lt, not, Bool, false, List, length}
+use Rattle.std.specs.Prelude.{slice_index, slice_index_or, Option}
 use Rattle.hevc_spec.specs.Table.{Table, done, ◌>>=◌}
 use Rattle.hevc_spec.specs.Rows.{row, flag_row, bits_row, when, either}
 use Rattle.hevc_spec.specs.UnitTypes.{is_idr}
@@ -10,7 +11,8 @@ use Rattle.hevc_tables.specs.MathFunctions.{ceil_log2}
 use Rattle.hevc_tables.specs.PpsTable.{named}
 use Rattle.hevc_tables.specs.ShortTermTable.{short_term_ref_pic_set}
 use Rattle.hevc_tables.specs.SliceHeaderTable as table
-use Rattle.hevc_tables.specs.SliceHeaderTable.{ActiveSets, lsb_bits, cycles_before, short_term_flag, with_defaults}
+use Rattle.hevc_tables.specs.SliceHeaderTable.{ActiveSets, lsb_bits, cycles_before, short_term_flag}
+use Rattle.hevc_tables.specs.SliceHeaderTable.{with_defaults}
 use Rattle.hevc_tables.specs.SliceTypes.{is_i}
 use Rattle.hevc_tables.specs.SpsTable.{highest_buffering}
 use Rattle.hevc_write_elements.specs.Filling.{SameBelow, WritesBits, WritesFlag, WritesIf, WritesUe}

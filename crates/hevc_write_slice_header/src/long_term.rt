@@ -1,10 +1,13 @@
 //! Long-term pictures (7.3.6.1, rows 14 to 20 of table 14).
-ghost use Rattle.std.specs.Prelude.{◌≡◌, ◌<◌, ◌≤◌, ◌+◌, ◌-◌, ◌^◌, ◌==◌, ◌||◌, nat_lt, if◌then◌else◌, ℕ, false, length, slice_index, slice_index_or, OnOk};
+ghost use Rattle.std.specs.Prelude.{◌≡◌, ◌<◌, ◌≤◌, ◌+◌, ◌-◌, ◌^◌, ◌==◌, ◌||◌, nat_lt};
+ghost use Rattle.std.specs.Prelude.{if◌then◌else◌, ℕ, false, length, slice_index, slice_index_or};
+ghost use Rattle.std.specs.Prelude.{OnOk};
 ghost use Rattle.hevc_tables.specs.SliceHeaderTable as table;
 ghost use Rattle.hevc_sequence_set.specs.Sps.{plain_sps};
 ghost use Rattle.hevc_picture_slice.specs.SliceHeader.{plain_slice_header};
 ghost use Rattle.hevc_write_slice_header.specs.HeaderParts as own;
-ghost use Rattle.hevc_write_elements.specs.Filling.{Writes, WritesEither, WritesFlag, WritesIf, WritesTurn};
+ghost use Rattle.hevc_write_elements.specs.Filling.{Writes, WritesEither, WritesFlag, WritesIf};
+ghost use Rattle.hevc_write_elements.specs.Filling.{WritesTurn};
 
 use crate::rows::{index_if, order_count_bits};
 use hevc_bit_writer::BitWriter;

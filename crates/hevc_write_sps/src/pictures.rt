@@ -3,7 +3,8 @@ ghost use Rattle.std.specs.Prelude.{◌≤◌, ◌<◌, ℕ, false, length, slic
 ghost use Rattle.hevc_tables.specs.SpsTable as table;
 ghost use Rattle.hevc_sequence_set.specs.Sps.{plain_sps};
 ghost use Rattle.hevc_write_sps.specs.SpsParts as own;
-ghost use Rattle.hevc_write_elements.specs.Filling.{Writes, WritesBits, WritesFlag, WritesTable, WritesTurn};
+ghost use Rattle.hevc_write_elements.specs.Filling.{Writes, WritesBits, WritesFlag, WritesTable};
+ghost use Rattle.hevc_write_elements.specs.Filling.{WritesTurn};
 
 use hevc_bit_writer::BitWriter;
 use hevc_sequence_set::Sps;

@@ -1,4 +1,5 @@
-//! What tests expect, checked here once and not at each place; an assertion that later lines rest on is an `assert!`.
+//! What tests expect, checked here once and not at each place; an assertion that later lines rest
+//! on is an `assert!`.
 ghost use Rattle.std.specs.Prelude.{◌<◌, ◌≡◌, Ok, length};
 
 use std::fmt::Debug;

@@ -56,7 +56,8 @@ fn neighbours() -> ShortTermRefPicSet {
 #[test]
 fn a_shift_onto_the_picture_is_no_member(rt: HostRuntime) {
     let rt = &rt;
-    // 1 | 0 | 1 | 1 1 1: the member that is shifted onto the picture itself is used, which means nothing.
+    // 1 | 0 | 1 | 1 1 1: the member that is shifted onto the picture itself is used, which means
+    // nothing.
     let mut r = ElementReader::new(&[0xbc]);
     let mut w = BitWriter::new(rt.alloc());
     let set = ok(rt, read_short_term_set(&mut r, &[neighbours()], 2, 16, 1));

@@ -4,7 +4,8 @@ use hevc_bit_writer::{BitWriter, append_unit};
 use std::alloc::Global;
 use std::process::Abort;
 
-/// The bits that were written, a one and zeros up to a whole byte, and 03 bytes among them, are these bytes.
+/// The bits that were written, a one and zeros up to a whole byte, and 03 bytes among them, are
+/// these bytes.
 pub fn assert_written(rt: &impl Abort, alloc: Global, w: &mut BitWriter, want: &[u8]) {
     ok(rt, w.write_trailing_bits());
     expect(rt, w.is_whole());
@@ -18,7 +19,8 @@ pub fn assert_written(rt: &impl Abort, alloc: Global, w: &mut BitWriter, want: &
     expect(rt, unit == expected);
 }
 
-/// The bits that were written, with a one and zeros up to a whole byte, are the payload of this unit.
+/// The bits that were written, with a one and zeros up to a whole byte, are the payload of this
+/// unit.
 pub fn assert_unit(rt: &impl Abort, alloc: Global, w: &mut BitWriter, stream: &[u8]) {
     assert!(rt; stream.len() > 4);
     ok(rt, w.write_trailing_bits());

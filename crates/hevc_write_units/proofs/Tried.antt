@@ -28,7 +28,15 @@ module _ {A : Type 0} (t : Table A) (x : A) (bits : List Bool) (written : Writes
       let f = writes_formed t x s.lines [] written.front s.has s.good written.written in
       let formed = f.1.formed in
       let are = f.2 ∙ formed.parts in
-      record { lines = formed.lines; has = formed.has; good = formed.good; chosen = formed.chosen; fewest = λ others has good. writes_fewest t x written.front formed.lines others written.written formed.has formed.good (sym are) has good; parts = written.whole ∙ ap with_trailing_bits are }
+      record {
+        lines = formed.lines;
+        has = formed.has;
+        good = formed.good;
+        chosen = formed.chosen;
+        fewest = λ others has good. writes_fewest t x written.front formed.lines others written.written
+            formed.has formed.good (sym are) has good;
+        parts = written.whole ∙ ap with_trailing_bits are;
+      }
 
   -- lines of a record are read as it
   pub read_again : (lines : List Line) → HasLines t x lines → AreGood lines → IsReadAs t x bits

@@ -6,7 +6,8 @@ use Rattle.hevc_spec.specs.UnitHeader.{UnitHeader, unit_header}
 use Rattle.hevc_spec.specs.Units.{units, before_start_code}
 use Rattle.hevc_bit_writer.specs.WrittenUnits.{escaped, started}
 use Rattle.hevc_write_units.specs.declared.error.WriteError.{WriteError}
-use Rattle.hevc_write_units.specs.declared.error.WriteError.TheVariants.{NotFormed, ZeroEnd, NoMemory}
+use Rattle.hevc_write_units.specs.declared.error.WriteError.TheVariants.{NotFormed, ZeroEnd}
+use Rattle.hevc_write_units.specs.declared.error.WriteError.TheVariants.{NoMemory}
 use Rattle.hevc_write_units.specs.Payloads.{IsPayload, EndsInZero}
 
 -- The two bytes are those of the header (7.3.1.2), with forbidden_zero_bit 0.

@@ -1,5 +1,6 @@
 -- The lines of slice segments in units, and what such units mean.
-use Rattle.std.specs.Prelude.{◌≡◌, ◌≤◌, ◌==◌, if◌then◌else◌, ℕ, Bool, true, List, ◌++◌, Option, Some, None}
+use Rattle.std.specs.Prelude.{◌≡◌, ◌≤◌, ◌==◌, if◌then◌else◌, ℕ, Bool, true, List, ◌++◌, Option}
+use Rattle.std.specs.Prelude.{Some, None}
 use Rattle.hevc_spec.specs.Lines.{Line, HasLines, AreGood}
 use Rattle.hevc_spec.specs.Table.{Table}
 use Rattle.hevc_spec.specs.UnitHeader.{UnitHeader}

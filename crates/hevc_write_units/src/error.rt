@@ -10,7 +10,8 @@ pub enum WriteError {
     /// The value can't be read from a unit of this header, whatever its payload is.
     #[error("no unit of this header is read as the value")]
     NotFormed,
-    /// The bytes after the slice header end in 00, which would be taken for zeros after the unit (B.2).
+    /// The bytes after the slice header end in 00, which would be taken for zeros after the unit
+    /// (B.2).
     #[error("the bytes after the slice header end in 00")]
     ZeroEnd,
     #[error("no memory")]

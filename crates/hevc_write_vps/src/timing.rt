@@ -1,6 +1,7 @@
 //! The clock, and the parameters of hypothetical reference decoders (7.3.2.1, rows 17 to 24 of
 //! table 1).
-ghost use Rattle.std.specs.Prelude.{◌≡◌, ◌<◌, false, true, ◌==◌, if◌then◌else◌, length, slice_index_or, OnOk};
+ghost use Rattle.std.specs.Prelude.{◌≡◌, ◌<◌, false, true, ◌==◌, if◌then◌else◌, length};
+ghost use Rattle.std.specs.Prelude.{slice_index_or, OnOk};
 ghost use Rattle.hevc_tables.specs.VpsTable as table;
 ghost use Rattle.hevc_video_set.specs.Vps.{plain_vps};
 ghost use Rattle.hevc_write_vps.specs.VpsParts as own;

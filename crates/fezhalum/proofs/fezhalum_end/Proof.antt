@@ -1,5 +1,14 @@
 -- `fezhalum_end` takes what lies at the pointer and ends it; the room is left.
-use Rattle.fezhalum.proofs.Steps.{[], ◌∷◌, ◌≡◌, ℕ, length, refl, w64, proved, full_share, id⊢, ftrue, fat, Val, fact, tables, ‵, raw, ◌⊛◌, some, later, prop, ◌$◌, ◌∵◌, !, qed, done, move, keep, drop, use1, split, join, fpack, pick, await, regoal, suffices, group, enter, of_opd, load, look, stop, no_more, and_then, returns, alloc_all, pass_all, free_all, look_at, get, through, sets, lands_as, yes, Is, shows, part_out, usize, uint_Lawful, Ptr, RawPtr, block_ptr, lies_at, room_at, in_a_block, rawptr_vals, rawptr_Tells, plain, nothing, heard, peeks, calls_at, lasts, on_entry, triple_of, framed, Stays, walk_of, stay_dropped, Goes-dropped, ends_at, WpFn}
+use Rattle.fezhalum.proofs.Steps.{[], ◌∷◌, ◌≡◌, ℕ, length, refl, w64, proved, full_share, id⊢}
+use Rattle.fezhalum.proofs.Steps.{ftrue, fat, Val, fact, tables, ‵, raw, ◌⊛◌, some, later, prop}
+use Rattle.fezhalum.proofs.Steps.{◌$◌, ◌∵◌, !, qed, done, move, keep, drop, use1, split, join}
+use Rattle.fezhalum.proofs.Steps.{fpack, pick, await, regoal, suffices, group, enter, of_opd, load}
+use Rattle.fezhalum.proofs.Steps.{look, stop, no_more, and_then, returns, alloc_all, pass_all}
+use Rattle.fezhalum.proofs.Steps.{free_all, look_at, get, through, sets, lands_as, yes, Is, shows}
+use Rattle.fezhalum.proofs.Steps.{part_out, usize, uint_Lawful, Ptr, RawPtr, block_ptr, lies_at}
+use Rattle.fezhalum.proofs.Steps.{room_at, in_a_block, rawptr_vals, rawptr_Tells, plain, nothing}
+use Rattle.fezhalum.proofs.Steps.{heard, peeks, calls_at, lasts, on_entry, triple_of, framed, Stays}
+use Rattle.fezhalum.proofs.Steps.{walk_of, stay_dropped, Goes-dropped, ends_at, WpFn}
 use mir.Syntax.{Ty}
 use denote.Memory.{lone}
 use denote.Triple.Clauses.{Lasts}
@@ -25,7 +34,8 @@ fezhalum_end_spec 𝓤 𝓛 𝓜 𝓡 wired =
     qed 𝓛 (raw (on_entry 𝓛 f.signature κs qs a (y a.0).0.4) ∷ ‵ (lies_at R full_share a.0 x) ∷ []) ∵ drop ! $
     in_a_block ! a.0 (λ p. lies_at R full_share p x) (id⊢ 𝓤 _) (λ b o e.
     regoal ! (λ p. prop (WpFn 𝓤 𝓛.H 𝓣.C 𝓣.Λ code.function (rawptr_vals p) (W.post (y p)))) e refl $
-    use1 𝓛 (some (λ (v : Val). ‵ (fat full_share τ b o v) ⊛ ‵ (R.own_val x (v ∷ [])))) (part_out 𝓛 R refl full_share x b o) $ pick ! (λ v. split ! $ move ! (1 ∷ []) $
+    use1 𝓛 (some (λ (v : Val). ‵ (fat full_share τ b o v) ⊛ ‵ (R.own_val x (v ∷ []))))
+    (part_out 𝓛 R refl full_share x b o) $ pick ! (λ v. split ! $ move ! (1 ∷ []) $
     peeks ! R (Is R) (shows 𝓛 R) x (v ∷ []) (λ is. let typed = ((the_row_laws.lawful 𝓛).typed x (v ∷ []) is).0 in
     enter ! _ _ _ _ _ $ alloc_all ! (λ l. pass_all ! refl ((tt, tt), tt) $
     -- [what the value owns; its cell; the locals]
@@ -33,13 +43,18 @@ fezhalum_end_spec 𝓤 𝓛 𝓜 𝓡 wired =
     sets ! (of_opd ! (load ! (through ! refl (stop !)) (look ! 1 refl))) refl typed $
     let G = triple_of 𝓛 g.signature (g.spec 𝓛 𝓜.mem 𝓡.returns) in
     let z : G.Ghost = ((tt, tt, tt, (x, tt), (v ∷ [], tt)), tt) in
-    nothing ! $ move ! (1 ∷ 0 ∷ []) $ join ! $ nothing ! $ join ! $ nothing ! $ move ! (1 ∷ 0 ∷ []) $ join ! $ use1 𝓛 (raw (G.pre z)) (id⊢ 𝓤 _) $
-    calls_at ! (framed 𝓤 𝓛.H 𝓜 𝓣) G (met 𝓤 𝓛 𝓜 𝓡 (code.calls-fezhalum::end_in 𝓡.env wired)) z (and_then ! (get ! refl) (no_more !)) (λ u.
+    nothing ! $ move ! (1 ∷ 0 ∷ []) $ join ! $ nothing ! $ join ! $ nothing ! $ move !
+    (1 ∷ 0 ∷ []) $ join ! $ use1 𝓛 (raw (G.pre z)) (id⊢ 𝓤 _) $
+    calls_at ! (framed 𝓤 𝓛.H 𝓜 𝓣) G (met 𝓤 𝓛 𝓜 𝓡 (code.calls-fezhalum::end_in 𝓡.env wired)) z
+    (and_then ! (get ! refl) (no_more !)) (λ u.
     use1 𝓛 (later (some (λ (r : ℕ). (‵ ftrue ⊛ ‵ (usize.own_val r (u ∷ []))) ⊛
-    some (λ (ws : Lasts g.ended z.0.0 z.0.3). ‵ (lasts g.ended z.0.0 z.0.3 ws) ⊛ raw (fact 𝓤 (r ≡ length (view_in x).backend.waiting)))))) (id⊢ 𝓤 _) $
-    await ! tt $ pick ! (λ r. split ! $ split ! $ drop ! $ move ! (1 ∷ []) $ pick ! (λ ws. split ! $ drop ! $ heard ! _ (λ told.
+    some (λ (ws : Lasts g.ended z.0.0 z.0.3). ‵ (lasts g.ended z.0.0 z.0.3 ws) ⊛ raw
+    (fact 𝓤 (r ≡ length (view_in x).backend.waiting)))))) (id⊢ 𝓤 _) $
+    await ! tt $ pick !
+    (λ r. split ! $ split ! $ drop ! $ move ! (1 ∷ []) $ pick ! (λ ws. split ! $ drop ! $ heard ! _ (λ told.
     -- [the result; the cell; the locals]
-    peeks ! usize (Is usize) (shows 𝓛 usize) r (u ∷ []) (λ is. lands_as ! refl refl ((uint_Lawful 𝓛 w64).typed r _ is).0 $
+    peeks ! usize (Is usize) (shows 𝓛 usize) r (u ∷ [])
+    (λ is. lands_as ! refl refl ((uint_Lawful 𝓛 w64).typed r _ is).0 $
     returns ! (look_at ! 0 refl) $ free_all ! refl $ keep ! (1 ∷ 0 ∷ []) $
     use1 𝓛 (‵ (room_at R (block_ptr b o))) (𝓛.laws.at_room τ b o v) $
     fpack ! (r ≡ length (view_in x).backend.waiting) (λ _. room_at R (block_ptr b o)) told $ move ! (1 ∷ 0 ∷ []) $

@@ -9,11 +9,15 @@ use Rattle.hevc_walk_examples.proofs.Small.{not_few}
 use Rattle.hevc_decoder_examples.proofs.wrong_outputs.Goals as goal
 
 pub returns-clause-discarded : goal.returns-clause-discarded
-unfolding head order_count_in_range nearest due_outputs needs_additional_bumping needs_bumping with_stored reference_set with_marks ref_pic_list0 ref_pic_list1 finish store_picture change_format begin_picture make_room start_decoding
+unfolding head order_count_in_range nearest due_outputs needs_additional_bumping needs_bumping with_stored
+    reference_set with_marks ref_pic_list0 ref_pic_list1 finish store_picture change_format begin_picture
+    make_room start_decoding
 returns-clause-discarded c = λ h. absurd (cc (h 1))
 
 pub returns-clause-missing : goal.returns-clause-missing
-unfolding head order_count_in_range nearest due_outputs needs_additional_bumping needs_bumping with_stored reference_set with_marks ref_pic_list0 ref_pic_list1 finish store_picture change_format begin_picture make_room start_decoding
+unfolding head order_count_in_range nearest due_outputs needs_additional_bumping needs_bumping with_stored
+    reference_set with_marks ref_pic_list0 ref_pic_list1 finish store_picture change_format begin_picture
+    make_room start_decoding
 returns-clause-missing c = λ h. absurd (cc (h 2))
 
 pub returns-clause-twice : goal.returns-clause-twice

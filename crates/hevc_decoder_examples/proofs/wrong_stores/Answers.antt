@@ -9,5 +9,7 @@ use Rattle.hevc_walk_examples.proofs.Small.{not_few}
 use Rattle.hevc_decoder_examples.proofs.wrong_stores.Goals as goal
 
 pub returns : goal.returns
-unfolding head order_count_in_range nearest due_outputs needs_additional_bumping needs_bumping with_stored reference_set with_marks ref_pic_list0 ref_pic_list1 finish store_picture change_format begin_picture make_room start_decoding
+unfolding head order_count_in_range nearest due_outputs needs_additional_bumping needs_bumping with_stored
+    reference_set with_marks ref_pic_list0 ref_pic_list1 finish store_picture change_format begin_picture
+    make_room start_decoding
 returns c = λ few. not_few _ _ refl (few.0 refl)

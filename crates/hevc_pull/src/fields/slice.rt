@@ -6,7 +6,8 @@ ghost use Rattle.hevc_pull.specs.Fields.Slice.{fields_of_slice, slice_flags};
 use hevc_events::flag_bits;
 use hevc_picture_slice::SliceHeader;
 
-/// The elements of a slice segment header (7.3.6.1), by their names in H.265: those of a dependent slice segment are its own alone.
+/// The elements of a slice segment header (7.3.6.1), by their names in H.265: those of a dependent
+/// slice segment are its own alone.
 #[repr(C)]
 #[derive(Clone, Copy)]
 pub struct SliceFields {
@@ -38,7 +39,8 @@ pub struct SliceFields {
     pub num_entry_point_offsets: u32,
     /// NumPicTotalCurr (7-55).
     pub num_pic_total_curr: u32,
-    /// The bits of the header, and of its own short-term set; without emulation prevention bytes, whose number is the third.
+    /// The bits of the header, and of its own short-term set; without emulation prevention bytes,
+    /// whose number is the third.
     pub header_bit_size: u32,
     pub st_rps_bits: u32,
     pub n_emulation_prevention_bytes: u32,

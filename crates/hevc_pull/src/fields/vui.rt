@@ -6,7 +6,8 @@ ghost use Rattle.hevc_pull.specs.Fields.Vui.{fields_of_vui, vui_flags};
 use hevc_events::flag_bits;
 use hevc_video_set::VuiParams;
 
-/// Video usability information (E.2.1), by the names of H.265. What is absent has the value that H.265 infers, or 0.
+/// Video usability information (E.2.1), by the names of H.265. What is absent has the value that
+/// H.265 infers, or 0.
 #[repr(C)]
 #[derive(Clone, Copy)]
 pub struct VuiFields {

@@ -14,8 +14,9 @@ use hevc_slice_header::read_slice_header;
 use std::alloc::Global;
 use std::process::Abort;
 
-/// A sequence set of 16 by 16 samples, 4:4:4 with planes coded apart, coding blocks of 16 and transform blocks of 8, with
-/// adaptive offsets; of the extensions it has the range extension alone, with offsets of high precision.
+/// A sequence set of 16 by 16 samples, 4:4:4 with planes coded apart, coding blocks of 16 and
+/// transform blocks of 8, with adaptive offsets; of the extensions it has the range extension
+/// alone, with offsets of high precision.
 const APART: Unit = Unit {
     header: [0x42, 0x01],
     parts: &[

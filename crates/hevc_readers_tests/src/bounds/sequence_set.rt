@@ -1,4 +1,5 @@
-//! A sequence set of two sub-layers with all that can be present: 128 by 96 samples, 4:4:4 of 12 bits of luma and 10 of chroma.
+//! A sequence set of two sub-layers with all that can be present: 128 by 96 samples, 4:4:4 of 12
+//! bits of luma and 10 of chroma.
 use super::Form::{U, Ue};
 use super::Line::{Bits, Bounded, Checked};
 use super::parts::{PROFILE, SCALING, TIMING};

@@ -26,7 +26,8 @@ const TOLD: &[u8] = &[
     0x00, 0x00, 0x01, 0x44, 0x01, 0xc0, 0x71, 0x84, 0xe9, 0x21, 0x20,
 ];
 
-/// Both extensions: two pairs of chroma offsets, the colour transform, and two palette predictors of each component.
+/// Both extensions: two pairs of chroma offsets, the colour transform, and two palette predictors
+/// of each component.
 const EXTENDED: &[u8] = &[
     0x00, 0x00, 0x01, 0x44, 0x01, 0xc0, 0x75, 0x80, 0x16, 0x43, 0xa4, 0x71, 0x01, 0x80, 0xcb, 0xf1,
     0xe0, 0x88, 0x3d, 0x62, 0xff, 0xfc, 0x01, 0x7f, 0xc0, 0x41, 0xc2, 0x60,
@@ -81,7 +82,8 @@ const FILTERED: &[u8] = &[
     0x00, 0x00, 0x01, 0x44, 0x01, 0xc0, 0x71, 0x81, 0xc3, 0x46, 0x2a, 0x80,
 ];
 
-/// A sequence set of ten blocks of 8x8 luma samples side by side, of 12 bits of luma, with up to six palette predictors.
+/// A sequence set of ten blocks of 8x8 luma samples side by side, of 12 bits of luma, with up to
+/// six palette predictors.
 fn ten_blocks(alloc: Global) -> Sps {
     let mut sps = Sps::new(alloc);
     sps.pic_width_in_luma_samples = 80;

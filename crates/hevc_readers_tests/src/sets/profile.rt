@@ -4,7 +4,8 @@ use hevc_elements::ElementReader;
 use hevc_readers::{ParseError, read_profile_tier_level};
 use hevc_set_parts::{Level, ProfileTierLevel};
 
-/// A stream of the range extensions' profile with a sub-layer of the Main 10 profile below its highest; a byte more comes after it:
+/// A stream of the range extensions' profile with a sub-layer of the Main 10 profile below its
+/// highest; a byte more comes after it:
 ///
 /// - rows 1 to 5: 00 1 00100 00001000000000000000000000000000 1011
 /// - rows 6 to 15: 110100101, 34 ones, 1; row 27: 01111011; row 28: 1 1; row 29: 14 ones
@@ -14,7 +15,8 @@ const RANGE_EXTENSIONS: &[u8] = &[
     0x60, 0x00, 0x00, 0x03, 0x00, 0x5f, 0xff, 0xff, 0xff, 0xff, 0xff, 0x5d, 0x80,
 ];
 
-/// A stream with two sub-layers below its highest, of which one has a level alone and one a profile alone:
+/// A stream with two sub-layers below its highest, of which one has a level alone and one a profile
+/// alone:
 ///
 /// - rows 1 to 5: 11 0 00110, 32 zeros, 0010; rows 6 to 15: 000000010, 34 zeros, 1; row 27: 10111010
 /// - row 28: 0 1 and 1 0; row 29: 12 zeros; row 31 of sub-layer 0: 00011110

@@ -4,12 +4,14 @@ use hevc_elements::ElementReader;
 use hevc_readers::{ParseError, default_scaling_lists, read_scaling_list_data};
 use hevc_set_parts::ScalingLists;
 
-/// Each kind of matrix at each size. `1 x y ..` is a matrix with coded entries and its differences, `0 d` one that is copied:
+/// Each kind of matrix at each size. `1 x y ..` is a matrix with coded entries and its differences,
+/// `0 d` one that is copied:
 ///
 /// - 4x4: 0 1 (d = 0) | 1, 000010011 (-9), 00100 (2), 14 times 1 (0) | 0 010 (d = 1) | 0 00100 (d = 3) | 0 1 | 0 00101 (d = 4)
 /// - 8x8: 0 1 | 1, twice 000000011111110 (127), 61 times 1 (0), 0001101 (-6) | 0 011 (d = 2) | 0 1 | 0 010 (d = 1) | 0 00110 (d = 5)
 /// - 16x16: 1, 00000000111101110 (247), 010 (1), 011 (-1), 62 times 1 (0) | 0 010 (d = 1) | 0 1
-///   | 1, 0001111 (-7), 00000000100000001 (-128), 62 times 1 (0), 000000011111110 (127) | 0 010 (d = 1) | 0 1
+///   | 1, 0001111 (-7), 00000000100000001 (-128), 62 times 1 (0), 000000011111110 (127) | 0 010 (d
+/// = 1) | 0 1
 /// - 32x32: 1, 000011000 (12), 00000101001 (-20), 011 (-1), 00100 (2), 61 times 1 (0) | 0 010 (d = 1)
 const EACH_KIND: &[u8] = &[
     0x61, 0x32, 0x7f, 0xfe, 0x42, 0x22, 0xb0, 0x1f, 0xc0, 0x3f, 0xbf, 0xff, 0xff, 0xff, 0xff, 0xff,

@@ -4,7 +4,8 @@ use hevc_elements::ElementReader;
 use hevc_readers::{ParseError, read_vui_parameters};
 use hevc_video_set::{HrdParams, VuiParams};
 
-/// A structure with every group of elements, a 03 that is dropped in num_units_in_tick, and both kinds of schedules:
+/// A structure with every group of elements, a 03 that is dropped in num_units_in_tick, and both
+/// kinds of schedules:
 ///
 /// - rows 1 to 3: 1 11111111 0001000000000001 0000000100000010; rows 4 and 5: 1 1
 /// - rows 6 to 9: 1 | 010 1 1 | 00001001 00010000 00001010; rows 10 to 12: 1 011 00100

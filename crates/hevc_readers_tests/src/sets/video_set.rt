@@ -10,8 +10,8 @@ use hevc_video_set::{HrdParams, Vps};
 use std::alloc::Global;
 use std::process::Abort;
 
-/// Rows 1 to 25 of table 1: two sub-layers of their own numbers, three layer sets of two layers, a clock, and three structures of
-/// timing, of which the second has the common elements of the first.
+/// Rows 1 to 25 of table 1: two sub-layers of their own numbers, three layer sets of two layers, a
+/// clock, and three structures of timing, of which the second has the common elements of the first.
 const TIMED: &[u8] = &[
     0x00, 0x00, 0x01, 0x40, 0x01, 0x3c, 0x03, 0xff, 0xff, 0x01, 0x60, 0x00, 0x00, 0x03, 0x00, 0x90,
     0x00, 0x00, 0x03, 0x00, 0x00, 0x03, 0x00, 0x3c, 0x00, 0x00, 0xbc, 0xac, 0xc0, 0xbb, 0x80, 0x00,

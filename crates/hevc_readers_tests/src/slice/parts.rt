@@ -16,7 +16,8 @@ fn with_chroma(alloc: Global) -> Sps {
     sps
 }
 
-/// The refusal of a weight table of a B slice of one place in each list, and the bits that are left.
+/// The refusal of a weight table of a B slice of one place in each list, and the bits that are
+/// left.
 fn refusal(alloc: Global, bytes: &[u8]) -> (Option<ParseError>, usize)
     requires { length bytes.now < 1000 }
 {

@@ -4,8 +4,8 @@ ghost use Rattle.std.specs.Prelude.{◌<◌, length};
 use crate::expect::{expect, expect_eq, ok};
 use crate::streams::{NO_SET, P_SLICE, PICTURE_SET};
 use hevc_bits::{Nalu, NaluHeader};
-use hevc_elements::ElementReader;
 use hevc_boxed::Boxed;
+use hevc_elements::ElementReader;
 use hevc_parser::{ParseError, parse_pred_weight_table};
 use hevc_picture_slice::{Pps, SliceHeader};
 use hevc_sequence_set::Sps;
@@ -37,7 +37,8 @@ const BI_PREDICTED: &[u8] = &[
     0x19, 0xe0, 0x80,
 ];
 
-/// A P slice with two long-term pictures of its own and one of the sequence set's, an ordered list and weights:
+/// A P slice with two long-term pictures of its own and one of the sequence set's, an ordered list
+/// and weights:
 ///
 /// - rows 1 to 11: 1 | 1 | 010 | 1001 | 0; row 12: 011 010, 1 1, 011 0, 010 1
 /// - rows 14 and 15: 010 011; rows 16 to 20: 0 1 00110, 0111 1 1 010, 1100 0 1 00100; row 21: 1
@@ -89,7 +90,8 @@ const MANY_ENTRY_POINTS: &[u8] = &[
     0xaa, 0xaa, 0xaa, 0xaa, 0xaa, 0xaa, 0xaa, 0xaa, 0xd3, 0x40, 0x80,
 ];
 
-/// A sequence set of 16 blocks of 8x8 luma samples, one over another, with chroma and two long-term pictures.
+/// A sequence set of 16 blocks of 8x8 luma samples, one over another, with chroma and two long-term
+/// pictures.
 fn sequence_set(alloc: Global) -> Sps {
     let mut sps = Sps::new(alloc);
     sps.pic_height_in_luma_samples = 128;

@@ -13,5 +13,7 @@ pub returns-clause-meant : goal.returns-clause-meant
 returns-clause-meant c = computed.ended_within
 
 pub returns-clause-calls : goal.returns-clause-calls
-unfolding head order_count_in_range nearest due_outputs needs_additional_bumping needs_bumping with_stored reference_set with_marks ref_pic_list0 ref_pic_list1 finish store_picture change_format begin_picture make_room start_decoding
+unfolding head order_count_in_range nearest due_outputs needs_additional_bumping needs_bumping with_stored
+    reference_set with_marks ref_pic_list0 ref_pic_list1 finish store_picture change_format begin_picture
+    make_room start_decoding
 returns-clause-calls c = ap calls computed.ended_within

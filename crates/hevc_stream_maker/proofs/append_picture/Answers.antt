@@ -9,4 +9,5 @@ pub returns : goal.returns
 unfolding picture_unit
 returns c =
     let payload = c.as_bytes.ensures ∙ ap packed c.in_ok-write_slice.ensures.bits in
-    subst (λ x. OnOk c.append_unit.result (c.append_unit.new.stream.items ≡ c.args.stream.now.items ++ started (2 ∷ 1 ∷ escaped x))) payload c.append_unit.ensures.ok
+    subst (λ x. OnOk c.append_unit.result (c.append_unit.new.stream.items ≡ c.args.stream.now.items
+    ++ started (2 ∷ 1 ∷ escaped x))) payload c.append_unit.ensures.ok

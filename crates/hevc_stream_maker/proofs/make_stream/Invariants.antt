@@ -6,4 +6,6 @@ use Rattle.hevc_stream_maker.proofs.make_stream.Given as goal
 
 -- the pictures up to here
 abbrev pub invariant-loop-number : goal.invariant-loop-number
-invariant-loop-number l = l.stream.items ≡ stream_of (sequence_set ∷ picture_set ∷ first_picture ∷ map picture_unit (range_with_len 0 l.number))
+invariant-loop-number l =
+    l.stream.items ≡ stream_of
+    (sequence_set ∷ picture_set ∷ first_picture ∷ map picture_unit (range_with_len 0 l.number))

@@ -8,17 +8,25 @@ use Rattle.hevc_walk.specs.Walk.{finish, store_picture, change_format, begin_pic
 use Rattle.hevc_walk_examples.proofs.full_buffer.Goals as goal
 
 pub returns-clause-nothing_yet : goal.returns-clause-nothing_yet
-unfolding head order_count_in_range nearest due_outputs needs_additional_bumping needs_bumping with_stored reference_set with_marks ref_pic_list0 ref_pic_list1 finish store_picture change_format begin_picture make_room start_decoding
+unfolding head order_count_in_range nearest due_outputs needs_additional_bumping needs_bumping with_stored
+    reference_set with_marks ref_pic_list0 ref_pic_list1 finish store_picture change_format begin_picture
+    make_room start_decoding
 returns-clause-nothing_yet c = refl
 
 pub returns-clause-last_calls : goal.returns-clause-last_calls
-unfolding head order_count_in_range nearest due_outputs needs_additional_bumping needs_bumping with_stored reference_set with_marks ref_pic_list0 ref_pic_list1 finish store_picture change_format begin_picture make_room start_decoding
+unfolding head order_count_in_range nearest due_outputs needs_additional_bumping needs_bumping with_stored
+    reference_set with_marks ref_pic_list0 ref_pic_list1 finish store_picture change_format begin_picture
+    make_room start_decoding
 returns-clause-last_calls c = refl
 
 pub returns-clause-verdict : goal.returns-clause-verdict
-unfolding head order_count_in_range nearest due_outputs needs_additional_bumping needs_bumping with_stored reference_set with_marks ref_pic_list0 ref_pic_list1 finish store_picture change_format begin_picture make_room start_decoding
+unfolding head order_count_in_range nearest due_outputs needs_additional_bumping needs_bumping with_stored
+    reference_set with_marks ref_pic_list0 ref_pic_list1 finish store_picture change_format begin_picture
+    make_room start_decoding
 returns-clause-verdict c = refl
 
 pub returns-clause-before_refusal : goal.returns-clause-before_refusal
-unfolding head order_count_in_range nearest due_outputs needs_additional_bumping needs_bumping with_stored reference_set with_marks ref_pic_list0 ref_pic_list1 finish store_picture change_format begin_picture make_room start_decoding
+unfolding head order_count_in_range nearest due_outputs needs_additional_bumping needs_bumping with_stored
+    reference_set with_marks ref_pic_list0 ref_pic_list1 finish store_picture change_format begin_picture
+    make_room start_decoding
 returns-clause-before_refusal c = refl

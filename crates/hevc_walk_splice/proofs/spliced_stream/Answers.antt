@@ -9,13 +9,21 @@ pub returns-clause-verdict : goal.returns-clause-verdict
 returns-clause-verdict c us sets p m real ok point all = (spliced-whole us sets p m real ok point all).ok
 
 pub returns-clause-calls : goal.returns-clause-calls
-returns-clause-calls c us sets p m real ok point all = calls-less p.number p.unit (length sets) (events us) (events (spliced sets p us)) (spliced-whole us sets p m real ok point all).events
+returns-clause-calls c us sets p m real ok point all =
+    calls-less p.number p.unit (length sets) (events us) (events (spliced sets p us))
+    (spliced-whole us sets p m real ok point all).events
 
 pub returns-clause-outputs : goal.returns-clause-outputs
-returns-clause-outputs c us sets p m real ok point all = outputs-less p.number p.unit (length sets) (events us) (events (spliced sets p us)) (spliced-whole us sets p m real ok point all).events
+returns-clause-outputs c us sets p m real ok point all =
+    outputs-less p.number p.unit (length sets) (events us) (events (spliced sets p us))
+    (spliced-whole us sets p m real ok point all).events
 
 pub returns-clause-whole_calls : goal.returns-clause-whole_calls
-returns-clause-whole_calls c us sets p m real ok point all = calls-more p.number p.unit (length sets) (events us) (events (spliced sets p us)) (spliced-whole us sets p m real ok point all).events
+returns-clause-whole_calls c us sets p m real ok point all =
+    calls-more p.number p.unit (length sets) (events us) (events (spliced sets p us))
+    (spliced-whole us sets p m real ok point all).events
 
 pub returns-clause-whole_outputs : goal.returns-clause-whole_outputs
-returns-clause-whole_outputs c us sets p m real ok point all = outputs-more p.number p.unit (length sets) (events us) (events (spliced sets p us)) (spliced-whole us sets p m real ok point all).events
+returns-clause-whole_outputs c us sets p m real ok point all =
+    outputs-more p.number p.unit (length sets) (events us) (events (spliced sets p us))
+    (spliced-whole us sets p m real ok point all).events

@@ -8,9 +8,13 @@ use Rattle.hevc_walk.specs.Walk.{finish, store_picture, change_format, begin_pic
 use Rattle.hevc_walk_splice.proofs.temporal_id_matters.Goals as goal
 
 pub returns-clause-whole : goal.returns-clause-whole
-unfolding head order_count_in_range nearest due_outputs needs_additional_bumping needs_bumping with_stored reference_set with_marks ref_pic_list0 ref_pic_list1 finish store_picture change_format begin_picture make_room start_decoding
+unfolding head order_count_in_range nearest due_outputs needs_additional_bumping needs_bumping with_stored
+    reference_set with_marks ref_pic_list0 ref_pic_list1 finish store_picture change_format begin_picture
+    make_room start_decoding
 returns-clause-whole c = refl
 
 pub returns-clause-spliced : goal.returns-clause-spliced
-unfolding head order_count_in_range nearest due_outputs needs_additional_bumping needs_bumping with_stored reference_set with_marks ref_pic_list0 ref_pic_list1 finish store_picture change_format begin_picture make_room start_decoding
+unfolding head order_count_in_range nearest due_outputs needs_additional_bumping needs_bumping with_stored
+    reference_set with_marks ref_pic_list0 ref_pic_list1 finish store_picture change_format begin_picture
+    make_room start_decoding
 returns-clause-spliced c = refl

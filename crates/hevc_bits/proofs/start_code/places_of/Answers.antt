@@ -4,4 +4,6 @@ use Rattle.hevc_bits.proofs.Blocks.{bit_of_places}
 use Rattle.hevc_bits.proofs.start_code.places_of.Goals as goal
 
 pub returns : goal.returns
-returns c k = bit_of_places c.args.byte c.args.block _ c.fits-block.0 (bitmask_splat w8 eqb c.args.block 64 c.args.byte c.fits-block.0 (omega arith)) k
+returns c k =
+    bit_of_places c.args.byte c.args.block _ c.fits-block.0
+    (bitmask_splat w8 eqb c.args.block 64 c.args.byte c.fits-block.0 (omega arith)) k

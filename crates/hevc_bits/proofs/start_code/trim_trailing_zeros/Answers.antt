@@ -3,7 +3,8 @@ use Rattle.std.proofs.Math.ListN.{length-take}
 use Rattle.hevc_spec.specs.Units.{without_trailing_zeros}
 use Rattle.hevc_bits.proofs.Trimming.{trims, trimmed, trimmed_all, take-length}
 use Rattle.hevc_bits.proofs.start_code.trim_trailing_zeros.Goals as goal
-use Rattle.hevc_bits.proofs.start_code.trim_trailing_zeros.Goals.{then-loop-len-test+else-bytes-len-eq0, else-loop-len-test}
+use Rattle.hevc_bits.proofs.start_code.trim_trailing_zeros.Goals.{then-loop-len-test+else-bytes-len-eq0}
+use Rattle.hevc_bits.proofs.start_code.trim_trailing_zeros.Goals.{else-loop-len-test}
 
 pub loop-len-preserved : goal.loop-len-preserved
 loop-len-preserved c =

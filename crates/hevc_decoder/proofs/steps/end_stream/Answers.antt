@@ -7,6 +7,9 @@ returns g c = record {
   leaves = c.finish.ensures.leaves;
   options = c.finish.ensures.options;
   decodes =
-      decodes_end g.B.StatelessH265DecoderBackend.log g.B.StatelessH265DecoderBackend.handed g.B.StatelessH265DecoderBackend.frames g.B.StatelessH265DecoderBackend.counts g.B.StatelessH265DecoderBackend.is_faultless
-      c.args.unit c.args.decoder.now c.finish.new.decoder c.finish.result c.args.shown.now.items c.finish.new.shown.items c.finish.ensures.blames c.finish.ensures.ends;
+      decodes_end g.B.StatelessH265DecoderBackend.log g.B.StatelessH265DecoderBackend.handed
+      g.B.StatelessH265DecoderBackend.frames g.B.StatelessH265DecoderBackend.counts
+      g.B.StatelessH265DecoderBackend.is_faultless
+      c.args.unit c.args.decoder.now c.finish.new.decoder c.finish.result c.args.shown.now.items
+      c.finish.new.shown.items c.finish.ensures.blames c.finish.ensures.ends;
 }

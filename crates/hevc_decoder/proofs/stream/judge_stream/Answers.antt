@@ -14,5 +14,11 @@ returns g c =
     let stream = c.args.stream.now in
     let out = c.judge_units-result.ensures o c.args.backend (c.begin_stream-decoder.ensures.stands stream) in
     record {
-      decodes = (out.shown, subst (λ (b : g.row.B.Denot). Decodes o stream (told logs handeds counts is_faultless c.args.backend []) (told logs handeds counts is_faultless b out.shown) c.judge_units-result.result) (sym c.into_backend.ensures) out.decodes);
+      decodes = (
+        out.shown,
+        subst (λ (b : g.row.B.Denot). Decodes o stream
+            (told logs handeds counts is_faultless c.args.backend [])
+            (told logs handeds counts is_faultless b out.shown) c.judge_units-result.result)
+            (sym c.into_backend.ensures) out.decodes,
+      );
     }

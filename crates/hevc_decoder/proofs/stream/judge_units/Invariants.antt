@@ -12,8 +12,14 @@ invariant-loop-shown g l = record {
   within : l.position ≤ length l.stream;
   few : l.unit ≤ l.position;
   empty : (view_of l.decoder).queue ≡ [];
-  along : (o : Options) (backend : g.row.B.Denot) → StandsIn g.B.StatelessH265DecoderBackend.log g.B.StatelessH265DecoderBackend.handed g.B.StatelessH265DecoderBackend.frames g.B.StatelessH265DecoderBackend.counts g.B.StatelessH265DecoderBackend.is_faultless o l.stream 0 (units l.stream) backend [] l.fn.decoder
-      → Along g.B.StatelessH265DecoderBackend.log g.B.StatelessH265DecoderBackend.handed g.B.StatelessH265DecoderBackend.frames g.B.StatelessH265DecoderBackend.counts g.B.StatelessH265DecoderBackend.is_faultless o l.stream l.unit (units_from kept_bytes l.position l.stream) backend l.decoder;
+  along : (o : Options) (backend : g.row.B.Denot)
+      → StandsIn g.B.StatelessH265DecoderBackend.log g.B.StatelessH265DecoderBackend.handed
+      g.B.StatelessH265DecoderBackend.frames g.B.StatelessH265DecoderBackend.counts
+      g.B.StatelessH265DecoderBackend.is_faultless o l.stream 0 (units l.stream) backend [] l.fn.decoder
+      → Along g.B.StatelessH265DecoderBackend.log g.B.StatelessH265DecoderBackend.handed
+      g.B.StatelessH265DecoderBackend.frames g.B.StatelessH265DecoderBackend.counts
+      g.B.StatelessH265DecoderBackend.is_faultless o l.stream l.unit
+      (units_from kept_bytes l.position l.stream) backend l.decoder;
 }
 
 abbrev pub decreases-loop-shown : goal.decreases-loop-shown

@@ -10,9 +10,14 @@ use Rattle.hevc_decoder.proofs.units.take_last.Goals as goal
 
 pub returns-in_err-unit-clause-ends : goal.returns-in_err-unit-clause-ends
 returns-in_err-unit-clause-ends g c begin all x =
-    let before = scene g.B.StatelessH265DecoderBackend.log g.B.StatelessH265DecoderBackend.handed g.B.StatelessH265DecoderBackend.frames c.args.decoder.now c.args.shown.now.items in
+    let before =
+    scene g.B.StatelessH265DecoderBackend.log g.B.StatelessH265DecoderBackend.handed
+    g.B.StatelessH265DecoderBackend.frames c.args.decoder.now c.args.shown.now.items in
     let p = err_from_is_err_and c.from_residual.result c.from_residual.ensures.1 in
-    rw (p.1, p.2) (c.in_err-unit.ensures.takes begin all [] (subst (λ us. Reached (set_for c.args.decoder.now) all c.args.first begin before us) (sym (append-nil (units c.args.piece.now))) x))
+    rw (p.1, p.2)
+    (c.in_err-unit.ensures.takes begin all []
+    (subst (λ us. Reached (set_for c.args.decoder.now) all c.args.first begin before us)
+    (sym (append-nil (units c.args.piece.now))) x))
 
 pub returns-clause-ends : goal.returns-clause-ends
 returns-clause-ends g c begin all x =
@@ -21,6 +26,14 @@ returns-clause-ends g c begin all x =
     let framed = g.B.StatelessH265DecoderBackend.frames in
     let before = scene logs handeds framed c.args.decoder.now c.args.shown.now.items in
     let mid = scene logs handeds framed c.take_piece.new.decoder c.take_piece.new.shown.items in
-    let there : Reached (set_for c.args.decoder.now) all c.in_ok-unit.unit begin mid [] = c.in_ok-unit.ensures.takes begin all [] (subst (λ us. Reached (set_for c.args.decoder.now) all c.args.first begin before us) (sym (append-nil (units c.args.piece.now))) x) in
-    let ended : EndsRun c.finish.result (set_for c.args.decoder.now) c.in_ok-unit.unit [] mid (scene logs handeds framed c.finish.new.decoder c.finish.new.shown.items) = subst (λ (o : Options). EndsRun c.finish.result o c.in_ok-unit.unit [] mid (scene logs handeds framed c.finish.new.decoder c.finish.new.shown.items)) c.take_piece.ensures.options (ended_here (set_for c.take_piece.new.decoder) c.in_ok-unit.unit c.finish.result mid (scene logs handeds framed c.finish.new.decoder c.finish.new.shown.items) c.finish.ensures.ends) in
+    let there : Reached (set_for c.args.decoder.now) all c.in_ok-unit.unit begin mid [] =
+    c.in_ok-unit.ensures.takes begin all []
+    (subst (λ us. Reached (set_for c.args.decoder.now) all c.args.first begin before us)
+    (sym (append-nil (units c.args.piece.now))) x) in
+    let ended : EndsRun c.finish.result (set_for c.args.decoder.now) c.in_ok-unit.unit [] mid
+    (scene logs handeds framed c.finish.new.decoder c.finish.new.shown.items) =
+    subst (λ (o : Options). EndsRun c.finish.result o c.in_ok-unit.unit [] mid
+    (scene logs handeds framed c.finish.new.decoder c.finish.new.shown.items)) c.take_piece.ensures.options
+    (ended_here (set_for c.take_piece.new.decoder) c.in_ok-unit.unit c.finish.result mid
+    (scene logs handeds framed c.finish.new.decoder c.finish.new.shown.items) c.finish.ensures.ends) in
     ended begin all there

@@ -17,7 +17,8 @@ returns-in-TruncatedNalu g c =
     let backend = (view_of c.args.decoder.now).backend in
     let e = c.in-Err.error in
     let piece = c.args.piece.now in
-    let now = scene g.B.StatelessH265DecoderBackend.log g.B.StatelessH265DecoderBackend.handed g.B.StatelessH265DecoderBackend.frames c.args.decoder.now c.args.shown.now.items in
+    let now = scene g.B.StatelessH265DecoderBackend.log g.B.StatelessH265DecoderBackend.handed
+    g.B.StatelessH265DecoderBackend.frames c.args.decoder.now c.args.shown.now.items in
     let z = c.in-Err.ensures.refused (search rules) in
     record {
       empty = c.requires.empty;
@@ -26,11 +27,15 @@ returns-in-TruncatedNalu g c =
       stays = refl;
       within = c.requires.within;
       blames = record {
-        cause = subst (λ (x : DecodeError). CountsError (counts backend) (counts backend) x) (sym c.into-error.ensures) (counts_none e (counts backend) (counts backend) refl);
+        cause = subst (λ (x : DecodeError). CountsError (counts backend) (counts backend) x)
+            (sym c.into-error.ensures) (counts_none e (counts backend) (counts backend) refl);
         faultless = λ h. (h, subst (λ (x : DecodeError). ¬ IsOfBackend x) (sym c.into-error.ensures) (blames_none e));
       };
-      takes = header_next (set_for c.args.decoder.now) c.args.unit z.0 (units_from kept_bytes c.args.position.now piece) z.1 (units_from kept_bytes c.args.position.now piece) now e c.into-error.result z.2 z.3 c.into-error.ensures;
-      leaves = leaves_refused (set_for c.args.decoder.now) c.args.unit z.0 (units_from kept_bytes c.args.position.now piece) z.1 now now (Err c.into-error.result) e z.2 z.3 refl;
+      takes = header_next (set_for c.args.decoder.now) c.args.unit z.0
+          (units_from kept_bytes c.args.position.now piece) z.1
+          (units_from kept_bytes c.args.position.now piece) now e c.into-error.result z.2 z.3 c.into-error.ensures;
+      leaves = leaves_refused (set_for c.args.decoder.now) c.args.unit z.0
+          (units_from kept_bytes c.args.position.now piece) z.1 now now (Err c.into-error.result) e z.2 z.3 refl;
       options = refl;
     }
 
@@ -41,9 +46,12 @@ returns-in-Err-take_unit-clause-takes g c =
     let framed = g.B.StatelessH265DecoderBackend.frames in
     let nalu = c.in-Ok.nalu in
     let piece = c.args.piece.now in
-    refused_next {T = Unit {0}} (set_for c.args.decoder.now) c.args.unit (unit_of nalu) nalu.header (units_from kept_bytes c.args.position.now piece) (units_from kept_bytes (nalu.offset + nalu.size) piece)
-    (scene logs handeds framed c.args.decoder.now c.args.shown.now.items) (scene logs handeds framed c.take_unit.new.decoder c.take_unit.new.shown.items)
-    c.in-Ok.ensures.first (header_is (unit_header (bytes_of nalu)) nalu.header c.in-Ok.ensures.header) (omega (arith, c.requires.few)) c.in-Err-take_unit.error c.in-Err-take_unit.ensures.gives
+    refused_next {T = Unit {0}} (set_for c.args.decoder.now) c.args.unit (unit_of nalu) nalu.header
+    (units_from kept_bytes c.args.position.now piece) (units_from kept_bytes (nalu.offset + nalu.size) piece)
+    (scene logs handeds framed c.args.decoder.now c.args.shown.now.items)
+    (scene logs handeds framed c.take_unit.new.decoder c.take_unit.new.shown.items)
+    c.in-Ok.ensures.first (header_is (unit_header (bytes_of nalu)) nalu.header c.in-Ok.ensures.header)
+    (omega (arith, c.requires.few)) c.in-Err-take_unit.error c.in-Err-take_unit.ensures.gives
     (units_from kept_bytes c.args.position.now piece)
 
 pub returns-clause-takes : goal.returns-clause-takes
@@ -56,9 +64,12 @@ returns-clause-takes g c =
     let old = scene logs handeds framed c.args.decoder.now c.args.shown.now.items in
     let new = scene logs handeds framed c.take_unit.new.decoder c.take_unit.new.shown.items in
     rw (c.offset.ensures.value, c.size.ensures.value)
-    (taken_next (set_for c.args.decoder.now) c.args.unit (unit_of nalu) nalu.header (units_from kept_bytes c.args.position.now piece) (units_from kept_bytes (nalu.offset + nalu.size) piece) old new
-    c.in-Ok.ensures.first (header_is (unit_header (bytes_of nalu)) nalu.header c.in-Ok.ensures.header) (omega (arith, c.requires.few)) c.in_default.field-0 nalu
-    (subst (λ (r : Result (Unit {0}) DecodeError). GivesWhole r c.args.unit (set_for c.args.decoder.now) nalu.header (bytes_of nalu) old new) c.in_default.is c.take_unit.ensures.gives)
+    (taken_next (set_for c.args.decoder.now) c.args.unit (unit_of nalu) nalu.header
+    (units_from kept_bytes c.args.position.now piece) (units_from kept_bytes (nalu.offset + nalu.size) piece) old new
+    c.in-Ok.ensures.first (header_is (unit_header (bytes_of nalu)) nalu.header c.in-Ok.ensures.header)
+    (omega (arith, c.requires.few)) c.in_default.field-0 nalu
+    (subst (λ (r : Result (Unit {0}) DecodeError). GivesWhole r c.args.unit
+    (set_for c.args.decoder.now) nalu.header (bytes_of nalu) old new) c.in_default.is c.take_unit.ensures.gives)
     c.in_default.ensures.empty)
 
 pub returns-in-Err-take_unit-clause-leaves : goal.returns-in-Err-take_unit-clause-leaves
@@ -68,9 +79,12 @@ returns-in-Err-take_unit-clause-leaves g c =
     let framed = g.B.StatelessH265DecoderBackend.frames in
     let nalu = c.in-Ok.nalu in
     let piece = c.args.piece.now in
-    leaves_given (set_for c.args.decoder.now) c.args.unit (unit_of nalu) (units_from kept_bytes c.args.position.now piece) (units_from kept_bytes (nalu.offset + nalu.size) piece)
-    (scene logs handeds framed c.args.decoder.now c.args.shown.now.items) (scene logs handeds framed c.take_unit.new.decoder c.take_unit.new.shown.items) (Err c.in-Err-take_unit.error)
-    nalu.header c.in-Ok.ensures.first (header_is (unit_header (bytes_of nalu)) nalu.header c.in-Ok.ensures.header) c.in-Err-take_unit.ensures.gives
+    leaves_given (set_for c.args.decoder.now) c.args.unit (unit_of nalu)
+    (units_from kept_bytes c.args.position.now piece) (units_from kept_bytes (nalu.offset + nalu.size) piece)
+    (scene logs handeds framed c.args.decoder.now c.args.shown.now.items)
+    (scene logs handeds framed c.take_unit.new.decoder c.take_unit.new.shown.items) (Err c.in-Err-take_unit.error)
+    nalu.header c.in-Ok.ensures.first
+    (header_is (unit_header (bytes_of nalu)) nalu.header c.in-Ok.ensures.header) c.in-Err-take_unit.ensures.gives
 
 pub returns-clause-leaves : goal.returns-clause-leaves
 returns-clause-leaves g c =
@@ -81,6 +95,9 @@ returns-clause-leaves g c =
     let piece = c.args.piece.now in
     let old = scene logs handeds framed c.args.decoder.now c.args.shown.now.items in
     let new = scene logs handeds framed c.take_unit.new.decoder c.take_unit.new.shown.items in
-    leaves_given (set_for c.args.decoder.now) c.args.unit (unit_of nalu) (units_from kept_bytes c.args.position.now piece) (units_from kept_bytes (nalu.offset + nalu.size) piece) old new (Ok tt)
+    leaves_given (set_for c.args.decoder.now) c.args.unit (unit_of nalu)
+    (units_from kept_bytes c.args.position.now piece)
+    (units_from kept_bytes (nalu.offset + nalu.size) piece) old new (Ok tt)
     nalu.header c.in-Ok.ensures.first (header_is (unit_header (bytes_of nalu)) nalu.header c.in-Ok.ensures.header)
-    (subst (λ (r : Result (Unit {0}) DecodeError). GivesWhole r c.args.unit (set_for c.args.decoder.now) nalu.header (bytes_of nalu) old new) c.in_default.is c.take_unit.ensures.gives)
+    (subst (λ (r : Result (Unit {0}) DecodeError). GivesWhole r c.args.unit
+    (set_for c.args.decoder.now) nalu.header (bytes_of nalu) old new) c.in_default.is c.take_unit.ensures.gives)

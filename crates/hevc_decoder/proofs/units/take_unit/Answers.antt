@@ -19,7 +19,14 @@ returns-clause-gives g c =
     inr (record {
       mid = mid;
       emptied = c.give-taken.ensures.empty;
-      opens = opens c.give-taken.result c.args.unit (set_for c.args.decoder.now) c.args.nalu.now.header bytes old mid (sym c.opens_negotiation.ensures ∙ c.if-not-opens_negotiation.false) c.give-taken.ensures.gives;
-      again = subst (λ (s : Scene g.row.B.Denot g.row.B-Handle.Denot). Gives c.give.result c.args.unit (set_for c.args.decoder.now) c.args.nalu.now.header bytes s new) (accepted_scene logs handeds framed c.give-taken.new.decoder c.accept_format.new.self c.give-taken.new.shown.items c.accept_format.ensures.view c.accept_format.ensures.kept)
-          (subst (λ (o : Options). Gives c.give.result c.args.unit o c.args.nalu.now.header bytes (scene logs handeds framed c.accept_format.new.self c.give-taken.new.shown.items) new) (c.accept_format.ensures.options ∙ c.give-taken.ensures.options) c.give.ensures.gives);
+      opens = opens c.give-taken.result c.args.unit (set_for c.args.decoder.now) c.args.nalu.now.header
+          bytes old mid (sym c.opens_negotiation.ensures ∙ c.if-not-opens_negotiation.false) c.give-taken.ensures.gives;
+      again = subst
+          (λ (s : Scene g.row.B.Denot g.row.B-Handle.Denot). Gives c.give.result c.args.unit
+          (set_for c.args.decoder.now) c.args.nalu.now.header bytes s new)
+          (accepted_scene logs handeds framed c.give-taken.new.decoder c.accept_format.new.self
+          c.give-taken.new.shown.items c.accept_format.ensures.view c.accept_format.ensures.kept)
+          (subst (λ (o : Options). Gives c.give.result c.args.unit o c.args.nalu.now.header bytes
+          (scene logs handeds framed c.accept_format.new.self c.give-taken.new.shown.items) new)
+          (c.accept_format.ensures.options ∙ c.give-taken.ensures.options) c.give.ensures.gives);
     })

@@ -16,7 +16,12 @@ unfolding units_from
 returns-clause-none c now read = inl (record {
   few = omega arith;
   found = Err NoNal;
-  is_first = record { first = tt; header = tt; none = ((λ is. refl), (λ is. refl)); refused = λ other. absurd (other refl) };
+  is_first = record {
+    first = tt;
+    header = tt;
+    none = ((λ is. refl), (λ is. refl));
+    refused = λ other. absurd (other refl);
+  };
   reads = (refl, refl, refl);
 })
 
@@ -34,7 +39,8 @@ no_unit u is = absurd (cc is.first)
 pub returns-clause-some : goal.returns-clause-some
 returns-clause-some c before now old new (inl r) = by r.found r.is_first r.reads
   where
-    by : (found : Result (FoundUnit UnitHeader) UnitError) → IsFirstFrom 0 [] found → ReadsFound found (kept_by before) (kept_by now) old new 0 → ⊥
+    by : (found : Result (FoundUnit UnitHeader) UnitError) → IsFirstFrom 0 [] found
+        → ReadsFound found (kept_by before) (kept_by now) old new 0 → ⊥
     by (Ok u) first reads = no_unit u first
     by (Err error) first reads = status_1 error reads.0
 returns-clause-some c before now old new (inr r) = absurd (cc r.1)

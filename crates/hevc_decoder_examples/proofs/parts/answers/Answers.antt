@@ -9,5 +9,7 @@ use Rattle.hevc_walk_examples.proofs.Small.{few}
 use Rattle.hevc_decoder_examples.proofs.parts.answers.Goals as goal
 
 pub returns-clause-few : goal.returns-clause-few
-unfolding head order_count_in_range nearest due_outputs needs_additional_bumping needs_bumping with_stored reference_set with_marks ref_pic_list0 ref_pic_list1 finish store_picture change_format begin_picture make_room start_decoding
+unfolding head order_count_in_range nearest due_outputs needs_additional_bumping needs_bumping with_stored
+    reference_set with_marks ref_pic_list0 ref_pic_list1 finish store_picture change_format begin_picture
+    make_room start_decoding
 returns-clause-few c = ((λ s. few _ _ refl), ((λ s. few _ _ refl), ((λ s. few _ _ refl), tt)))

@@ -14,15 +14,26 @@ use Rattle.hevc_decoder.specs.Headline.{all_asked}
 use Rattle.hevc_decoder_examples.proofs.parts.cuts.Goals as goal
 
 pub returns-clause-empty : goal.returns-clause-empty
-unfolding head order_count_in_range nearest due_outputs needs_additional_bumping needs_bumping with_stored reference_set with_marks ref_pic_list0 ref_pic_list1 finish store_picture change_format begin_picture make_room start_decoding
-returns-clause-empty c = record { done = []; rest = []; whole = refl; made = ([], refl, refl); given = ([], refl, refl); ends = (refl, refl) }
+unfolding head order_count_in_range nearest due_outputs needs_additional_bumping needs_bumping with_stored
+    reference_set with_marks ref_pic_list0 ref_pic_list1 finish store_picture change_format begin_picture
+    make_room start_decoding
+returns-clause-empty c = record {
+  done = [];
+  rest = [];
+  whole = refl;
+  made = ([], refl, refl);
+  given = ([], refl, refl);
+  ends = (refl, refl);
+}
 
 none : (l : List (Call ℕ)) → Some [] ≡ Some ([] ++ l) → l ≡ []
 none [] is = refl
 none (x ∷ l) is = absurd (cc is)
 
 some : [] ≡ all_asked (calls_in (events plain)) → ⊥
-unfolding head order_count_in_range nearest due_outputs needs_additional_bumping needs_bumping with_stored reference_set with_marks ref_pic_list0 ref_pic_list1 finish store_picture change_format begin_picture make_room start_decoding
+unfolding head order_count_in_range nearest due_outputs needs_additional_bumping needs_bumping with_stored
+    reference_set with_marks ref_pic_list0 ref_pic_list1 finish store_picture change_format begin_picture
+    make_room start_decoding
 some is = cc is
 
 pub returns-clause-early : goal.returns-clause-early

@@ -12,11 +12,15 @@ use Rattle.hevc_walk_examples.proofs.Small.{few}
 use Rattle.hevc_decoder_examples.proofs.parts.frames.Goals as goal
 
 pub returns-clause-wanted : goal.returns-clause-wanted
-unfolding head order_count_in_range nearest due_outputs needs_additional_bumping needs_bumping with_stored reference_set with_marks ref_pic_list0 ref_pic_list1 finish store_picture change_format begin_picture make_room start_decoding
+unfolding head order_count_in_range nearest due_outputs needs_additional_bumping needs_bumping with_stored
+    reference_set with_marks ref_pic_list0 ref_pic_list1 finish store_picture change_format begin_picture
+    make_room start_decoding
 returns-clause-wanted c = record { picture = _; coded = (2, few _ _ refl, refl); first = refl }
 
 units_of : (p : Picture) (k : ℕ) → k < length (pictures plain) → (slice_index_or (pictures plain) k p).unit ≡ 1 → ⊥
-unfolding head order_count_in_range nearest due_outputs needs_additional_bumping needs_bumping with_stored reference_set with_marks ref_pic_list0 ref_pic_list1 finish store_picture change_format begin_picture make_room start_decoding
+unfolding head order_count_in_range nearest due_outputs needs_additional_bumping needs_bumping with_stored
+    reference_set with_marks ref_pic_list0 ref_pic_list1 finish store_picture change_format begin_picture
+    make_room start_decoding
 units_of p zero below is = cc is
 units_of p (suc zero) below is = cc is
 units_of p (suc (suc zero)) below is = cc is

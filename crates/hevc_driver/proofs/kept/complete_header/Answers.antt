@@ -8,7 +8,10 @@ use Rattle.hevc_driver.proofs.kept.complete_header.Goals as goal
 
 pub returns-clause-whole : goal.returns-clause-whole
 returns-clause-whole c o pps =
-    let flag : c.args.slice.now.header.dependent_slice_segment_flag ≡ true = ap (λ (h : SliceHeader). h.dependent_slice_segment_flag) (sym c.header.ensures) ∙ c.if-not-header.false in
+    let flag : c.args.slice.now.header.dependent_slice_segment_flag ≡ true =
+    ap (λ (h : SliceHeader). h.dependent_slice_segment_flag) (sym c.header.ensures) ∙ c.if-not-header.false in
     let fits = sym c.completes.ensures ∙ c.if-not-completes.false in
-    ap (λ (k : Option SliceHeader). whole_slice (option_map kept_of k) (slice_of o c.args.slice.now c.args.sps.now pps)) c.in-Some.is
-    ∙ completes_as o c.args.slice.now (record c.args.slice.now { header = c.complete.new.self }) c.args.sps.now pps c.in-Some.header flag (rw c.header-2.ensures at fits) c.complete.ensures refl
+    ap (λ (k : Option SliceHeader). whole_slice (option_map kept_of k)
+    (slice_of o c.args.slice.now c.args.sps.now pps)) c.in-Some.is
+    ∙ completes_as o c.args.slice.now (record c.args.slice.now { header = c.complete.new.self })
+    c.args.sps.now pps c.in-Some.header flag (rw c.header-2.ensures at fits) c.complete.ensures refl

@@ -8,6 +8,7 @@ use Rattle.hevc_hrd.proofs.schedules.read_schedules.Given as goal
 
 abbrev pub invariant-loop-i : goal.invariant-loop-i
 invariant-loop-i l = record {
-  same : scanned (repeat (schedule l.by_units) l.i (l.count - l.i) (plain_sublayer_hrd_parameters l.hrd)) l.r ≡ scanned (sub_layer_hrd_parameters l.by_units l.cpb_cnt_minus1) l.fn.r;
+  same : scanned (repeat (schedule l.by_units) l.i (l.count - l.i) (plain_sublayer_hrd_parameters l.hrd))
+      l.r ≡ scanned (sub_layer_hrd_parameters l.by_units l.cpb_cnt_minus1) l.fn.r;
   ahead : IsAhead l.fn.r.place l.r.place;
 }

@@ -12,8 +12,16 @@ returns-then-count-limit-clause-too_long g c =
     λ _. (
       take c.loop-input.filled c.loop-input.input.items ++ take c.in_ok-count.count c.read.new.buf,
       Consumes-trans _ _ _ _ _ c.loop-input.invariant.given c.in_ok-count.ensures.bytes.0,
-      simp (length-append, length-take) (omega (arith, c.loop-input.invariant.there, c.loop-input.input.ok.0, c.in_ok-count.ensures.bound, c.if-count-limit.true)),
-      simp (length-append, length-take) (omega (arith, c.loop-input.invariant.within, c.loop-input.input.ok.0, c.in_ok-count.ensures.bound, room)),
+      simp (length-append, length-take)
+          (omega (
+            arith,
+            c.loop-input.invariant.there,
+            c.loop-input.input.ok.0,
+            c.in_ok-count.ensures.bound,
+            c.if-count-limit.true,
+          )),
+      simp (length-append, length-take)
+          (omega (arith, c.loop-input.invariant.within, c.loop-input.input.ok.0, c.in_ok-count.ensures.bound, room)),
     )
 
 pub loop-input-preserved : goal.loop-input-preserved
@@ -23,11 +31,14 @@ loop-input-preserved g c =
     let items = c.loop-input.input.items in
     let read = c.deref_mut.result.now in
     let kept : take at read ≡ take at items =
-    ap (take at) (c.deref_mut.ensures.value ∙ c.in_ok-resize.ensures.items) ∙ still_there items _ at 65536 (omega (arith, c.loop-input.invariant.there, c.loop-input.input.ok.0)) in
-    let whole = read_behind read c.read.new.buf _ _ c.resize.new.self.len at n (search rules) (search rules) c.in_ok-count.ensures.bound.0 in
+    ap (take at) (c.deref_mut.ensures.value ∙ c.in_ok-resize.ensures.items)
+    ∙ still_there items _ at 65536 (omega (arith, c.loop-input.invariant.there, c.loop-input.input.ok.0)) in
+    let whole = read_behind read c.read.new.buf _ _ c.resize.new.self.len at n (search rules)
+    (search rules) c.in_ok-count.ensures.bound.0 in
     record {
       within = search rules;
       there = search rules;
-      given = subst (Consumes _ _) (sym (whole ∙ ap (λ l. l ++ take n c.read.new.buf) kept)) (Consumes-trans _ _ _ _ _ c.loop-input.invariant.given c.in_ok-count.ensures.bytes.0);
+      given = subst (Consumes _ _) (sym (whole ∙ ap (λ l. l ++ take n c.read.new.buf) kept))
+          (Consumes-trans _ _ _ _ _ c.loop-input.invariant.given c.in_ok-count.ensures.bytes.0);
       later = search rules;
     }

@@ -16,6 +16,7 @@ loop-number-preserved g c =
       search (rules, All-append (λ word. length {A = ℕ} word ≤ 2097152)),
       omega (arith, longer, length-append before (word ∷ []), so_far.1),
       told_both (g.W.Words.told c.args.line.now) _ _ _
-          (λ told first found. pushed ∙ ap (λ (ws : List (List ℕ)). ws ++ word ∷ []) first ∙ take_more number told word (sym c.in-Some.is ∙ found) ∙ ap (λ (n : ℕ). take n told) (suc-eq-add-one number))
+          (λ told first found. pushed ∙ ap (λ (ws : List (List ℕ)). ws ++ word ∷ []) first
+          ∙ take_more number told word (sym c.in-Some.is ∙ found) ∙ ap (λ (n : ℕ). take n told) (suc-eq-add-one number))
           so_far.2 c.in_ok-word.ensures.found,
     )

@@ -10,15 +10,22 @@ loop-doublings-init g c = told_all (g.W.Words.told c.args.line.now) _ (λ words.
 
 pub loop-doublings-preserved : goal.loop-doublings-preserved
 loop-doublings-preserved g c =
-    let tried : 32 * 2 ^ (c.loop-doublings.doublings + 1) ≡ length c.word.new.room = sym (c.word.auto.room ∙ c.deref_mut.ensures.len ∙ c.in_ok-bytes.ensures.len ∙ doubled c.loop-doublings.doublings c.loop-doublings-test.true) in
+    let tried : 32 * 2 ^ (c.loop-doublings.doublings + 1) ≡ length c.word.new.room =
+    sym (c.word.auto.room ∙ c.deref_mut.ensures.len ∙ c.in_ok-bytes.ensures.len
+    ∙ doubled c.loop-doublings.doublings c.loop-doublings-test.true) in
     told_by (g.W.Words.told c.args.line.now) _ _
-    (λ words h. inr (longer_than (slice_get words c.args.number) c.word.new.room (32 * 2 ^ (c.loop-doublings.doublings + 1)) (subst (λ (e : FillError). HandsOver (slice_get words c.args.number) (Err e) c.word.new.room) c.in-Err-TooLong.field-0-is h) tried))
+    (λ words h. inr
+    (longer_than (slice_get words c.args.number) c.word.new.room (32 * 2 ^ (c.loop-doublings.doublings + 1))
+    (subst (λ (e : FillError). HandsOver (slice_get words c.args.number) (Err e) c.word.new.room)
+    c.in-Err-TooLong.field-0-is h) tried))
     c.in-Err-TooLong.ensures.word
 
 pub returns-clause-refused : goal.returns-clause-refused
 returns-clause-refused g c is =
-    let d : c.loop-doublings.doublings ≡ 16 = omega (arith, c.loop-doublings-test.false, c.loop-doublings.auto.doublings-end) in
+    let d : c.loop-doublings.doublings ≡ 16 =
+    omega (arith, c.loop-doublings-test.false, c.loop-doublings.auto.doublings-end) in
     told_by (g.W.Words.told c.args.line.now) _ _
     (λ words h. ⊎_elim (λ (none : c.loop-doublings.doublings ≡ 0). absurd (omega (arith, d, none)))
-    (λ longer. subst (λ (n : ℕ). IsSomeAnd (slice_get words c.args.number) (λ word. 32 * 2 ^ n < length word)) d longer) h)
+    (λ longer. subst
+    (λ (n : ℕ). IsSomeAnd (slice_get words c.args.number) (λ word. 32 * 2 ^ n < length word)) d longer) h)
     c.loop-doublings.invariant

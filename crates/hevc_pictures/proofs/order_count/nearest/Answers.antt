@@ -4,7 +4,9 @@ use Rattle.std.proofs.lemmas.Int.{ints, to_z-of_z}
 use Rattle.hevc_walk.specs.OrderCounts.{centred_difference, nearest}
 use Rattle.hevc_pictures.proofs.order_count.nearest.Goals as goal
 
-nearest_by : (m n : ℕ) (earlier lsb modulus d r sum : ℤ) → modulus ≡ pos m → lsb ≡ pos n → d ≡ int_rem_euclid (lsb -ℤ earlier) modulus → r ≡ centred_difference m d → sum ≡ earlier +ℤ r → sum ≡ nearest m earlier n
+nearest_by : (m n : ℕ) (earlier lsb modulus d r sum : ℤ) → modulus ≡ pos m → lsb ≡ pos n
+    → d ≡ int_rem_euclid (lsb -ℤ earlier) modulus → r ≡ centred_difference m d → sum ≡ earlier +ℤ r
+    → sum ≡ nearest m earlier n
 unfolding nearest
 nearest_by m n earlier lsb modulus d r sum is_m is_n is_d is_r is_sum =
     is_sum
@@ -21,4 +23,5 @@ returns-clause-value c m n is_m is_n =
     let d : FitsSigned w64 c.difference.result = record { sfits = c.difference.type_inv } in
     let is_d = simp to_z-of_z at c.difference.ensures.value in
     let is_r = simp to_z-of_z at (c.centred_difference.ensures.value m (to_z-of_z w32 c.args.modulus modulus ∙ is_m)) in
-    nearest_by m n c.args.earlier c.args.lsb c.args.modulus c.difference.result c.centred_difference.result _ is_m is_n is_d is_r (omega (arith, ints))
+    nearest_by m n c.args.earlier c.args.lsb c.args.modulus c.difference.result c.centred_difference.result
+    _ is_m is_n is_d is_r (omega (arith, ints))

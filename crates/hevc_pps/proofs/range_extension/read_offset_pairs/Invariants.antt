@@ -8,6 +8,7 @@ use Rattle.hevc_pps.proofs.range_extension.read_offset_pairs.Given as goal
 
 abbrev pub invariant-loop-i : goal.invariant-loop-i
 invariant-loop-i l = record {
-  same : scanned (repeat offset_pair l.i (l.count - l.i) (plain_pps_range_extension l.x)) l.r ≡ scanned (offset_pairs l.count (plain_pps_range_extension l.fn.x)) l.fn.r;
+  same : scanned (repeat offset_pair l.i (l.count - l.i) (plain_pps_range_extension l.x)) l.r ≡ scanned
+      (offset_pairs l.count (plain_pps_range_extension l.fn.x)) l.fn.r;
   ahead : IsAhead l.fn.r.place l.r.place;
 }

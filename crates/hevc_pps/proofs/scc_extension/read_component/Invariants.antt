@@ -10,6 +10,9 @@ use Rattle.hevc_pps.proofs.scc_extension.read_component.Given as goal
 
 abbrev pub invariant-loop-i : goal.invariant-loop-i
 invariant-loop-i l = record {
-  same : scanned (repeat (predictor (sample_format (plain_sps l.fn.sps)) l.component) l.i (l.count - l.i) (plain_pps_scc_extension l.x)) l.r ≡ scanned (component_predictors (sample_format (plain_sps l.fn.sps)) l.count l.component (plain_pps_scc_extension l.fn.x)) l.fn.r;
+  same : scanned (repeat (predictor (sample_format (plain_sps l.fn.sps)) l.component) l.i (l.count - l.i)
+      (plain_pps_scc_extension l.x)) l.r ≡ scanned
+      (component_predictors (sample_format (plain_sps l.fn.sps)) l.count l.component
+      (plain_pps_scc_extension l.fn.x)) l.fn.r;
   ahead : IsAhead l.fn.r.place l.r.place;
 }

@@ -10,6 +10,8 @@ use Rattle.hevc_pps.proofs.scc_extension.read_predictors.Given as goal
 
 abbrev pub invariant-loop-component : goal.invariant-loop-component
 invariant-loop-component l = record {
-  same : scanned (repeat (component_predictors (sample_format (plain_sps l.fn.sps)) l.count) l.component (l.num_components - l.component) (plain_pps_scc_extension l.x)) l.r ≡ scanned (predictors (sample_format (plain_sps l.fn.sps)) (plain_pps_scc_extension l.fn.x)) l.fn.r;
+  same : scanned (repeat (component_predictors (sample_format (plain_sps l.fn.sps)) l.count) l.component
+      (l.num_components - l.component) (plain_pps_scc_extension l.x)) l.r ≡ scanned
+      (predictors (sample_format (plain_sps l.fn.sps)) (plain_pps_scc_extension l.fn.x)) l.fn.r;
   ahead : IsAhead l.fn.r.place l.r.place;
 }

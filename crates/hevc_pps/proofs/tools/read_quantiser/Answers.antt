@@ -14,40 +14,69 @@ pub returns-in_err-transform_skip-clause-fills : goal.returns-in_err-transform_s
 unfolding quantiser
 returns-in_err-transform_skip-clause-fills c = record {
   reads = search rules;
-  moves = ahead_then _ _ _ (ahead_then _ _ _ c.in_ok-init_qp.ensures.read.moves c.in_ok-constrained_intra.ensures.read.moves) c.in_err-transform_skip.ensures.read.moves;
+  moves = ahead_then _ _ _
+      (ahead_then _ _ _ c.in_ok-init_qp.ensures.read.moves c.in_ok-constrained_intra.ensures.read.moves)
+      c.in_err-transform_skip.ensures.read.moves;
 }
 
 pub returns-in_err-changes-clause-fills : goal.returns-in_err-changes-clause-fills
 unfolding quantiser
 returns-in_err-changes-clause-fills c = record {
   reads = search rules;
-  moves = ahead_then _ _ _ (ahead_then _ _ _ (ahead_then _ _ _ c.in_ok-init_qp.ensures.read.moves c.in_ok-constrained_intra.ensures.read.moves) c.in_ok-transform_skip.ensures.read.moves) c.in_err-changes.ensures.read.moves;
+  moves = ahead_then _ _ _
+      (ahead_then _ _ _
+      (ahead_then _ _ _ c.in_ok-init_qp.ensures.read.moves c.in_ok-constrained_intra.ensures.read.moves)
+      c.in_ok-transform_skip.ensures.read.moves) c.in_err-changes.ensures.read.moves;
 }
 
 pub returns-in_err-depth-clause-fills : goal.returns-in_err-depth-clause-fills
 unfolding quantiser
 returns-in_err-depth-clause-fills c = record {
   reads = search rules;
-  moves = ahead_then _ _ _ (ahead_then _ _ _ (ahead_then _ _ _ (ahead_then _ _ _ c.in_ok-init_qp.ensures.read.moves c.in_ok-constrained_intra.ensures.read.moves) c.in_ok-transform_skip.ensures.read.moves) c.in_ok-changes.ensures.read.moves) c.in_err-depth.ensures.read.moves;
+  moves = ahead_then _ _ _
+      (ahead_then _ _ _
+      (ahead_then _ _ _
+      (ahead_then _ _ _ c.in_ok-init_qp.ensures.read.moves c.in_ok-constrained_intra.ensures.read.moves)
+      c.in_ok-transform_skip.ensures.read.moves) c.in_ok-changes.ensures.read.moves) c.in_err-depth.ensures.read.moves;
 }
 
 pub returns-in_err-cb-clause-fills : goal.returns-in_err-cb-clause-fills
 unfolding quantiser
 returns-in_err-cb-clause-fills c = record {
   reads = search rules;
-  moves = ahead_then _ _ _ (ahead_then _ _ _ (ahead_then _ _ _ (ahead_then _ _ _ (ahead_then _ _ _ c.in_ok-init_qp.ensures.read.moves c.in_ok-constrained_intra.ensures.read.moves) c.in_ok-transform_skip.ensures.read.moves) c.in_ok-changes.ensures.read.moves) c.in_ok-depth.ensures.read.moves) c.in_err-cb.ensures.read.moves;
+  moves = ahead_then _ _ _
+      (ahead_then _ _ _
+      (ahead_then _ _ _
+      (ahead_then _ _ _
+      (ahead_then _ _ _ c.in_ok-init_qp.ensures.read.moves c.in_ok-constrained_intra.ensures.read.moves)
+      c.in_ok-transform_skip.ensures.read.moves) c.in_ok-changes.ensures.read.moves)
+      c.in_ok-depth.ensures.read.moves) c.in_err-cb.ensures.read.moves;
 }
 
 pub returns-in_err-cr-clause-fills : goal.returns-in_err-cr-clause-fills
 unfolding quantiser
 returns-in_err-cr-clause-fills c = record {
   reads = search rules;
-  moves = ahead_then _ _ _ (ahead_then _ _ _ (ahead_then _ _ _ (ahead_then _ _ _ (ahead_then _ _ _ (ahead_then _ _ _ c.in_ok-init_qp.ensures.read.moves c.in_ok-constrained_intra.ensures.read.moves) c.in_ok-transform_skip.ensures.read.moves) c.in_ok-changes.ensures.read.moves) c.in_ok-depth.ensures.read.moves) c.in_ok-cb.ensures.read.moves) c.in_err-cr.ensures.read.moves;
+  moves = ahead_then _ _ _
+      (ahead_then _ _ _
+      (ahead_then _ _ _
+      (ahead_then _ _ _
+      (ahead_then _ _ _
+      (ahead_then _ _ _ c.in_ok-init_qp.ensures.read.moves c.in_ok-constrained_intra.ensures.read.moves)
+      c.in_ok-transform_skip.ensures.read.moves) c.in_ok-changes.ensures.read.moves)
+      c.in_ok-depth.ensures.read.moves) c.in_ok-cb.ensures.read.moves) c.in_err-cr.ensures.read.moves;
 }
 
 pub returns-clause-fills : goal.returns-clause-fills
 unfolding quantiser
 returns-clause-fills c = record {
   reads = search rules;
-  moves = ahead_then _ _ _ (ahead_then _ _ _ (ahead_then _ _ _ (ahead_then _ _ _ (ahead_then _ _ _ (ahead_then _ _ _ c.in_ok-init_qp.ensures.read.moves c.in_ok-constrained_intra.ensures.read.moves) c.in_ok-transform_skip.ensures.read.moves) c.in_ok-changes.ensures.read.moves) c.in_ok-depth.ensures.read.moves) c.in_ok-cb.ensures.read.moves) c.in_ok-cr.ensures.read.moves;
+  moves = ahead_then _ _ _
+      (ahead_then _ _ _
+      (ahead_then _ _ _
+      (ahead_then _ _ _
+      (ahead_then _ _ _
+      (ahead_then _ _ _ c.in_ok-init_qp.ensures.read.moves c.in_ok-constrained_intra.ensures.read.moves)
+      c.in_ok-transform_skip.ensures.read.moves) c.in_ok-changes.ensures.read.moves)
+      c.in_ok-depth.ensures.read.moves) c.in_ok-cb.ensures.read.moves) c.in_ok-cr.ensures.read.moves;
 }

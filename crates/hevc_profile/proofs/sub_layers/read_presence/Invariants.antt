@@ -8,6 +8,7 @@ use Rattle.hevc_profile.proofs.sub_layers.read_presence.Given as goal
 
 abbrev pub invariant-loop-i : goal.invariant-loop-i
 invariant-loop-i l = record {
-  same : scanned (repeat next_presence l.i (l.count - l.i) (plain_profile_tier_level l.all)) l.r ≡ scanned (presence l.max_sub_layers_minus1 (plain_profile_tier_level l.fn.all)) l.fn.r;
+  same : scanned (repeat next_presence l.i (l.count - l.i) (plain_profile_tier_level l.all)) l.r ≡ scanned
+      (presence l.max_sub_layers_minus1 (plain_profile_tier_level l.fn.all)) l.fn.r;
   ahead : IsAhead l.fn.r.place l.r.place;
 }

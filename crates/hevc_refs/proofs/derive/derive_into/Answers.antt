@@ -13,19 +13,24 @@ use Rattle.hevc_refs.proofs.derive.derive_into.Goals as goal
 
 pub returns-clause-derives : goal.returns-clause-derives
 returns-clause-derives g c p first is_head has =
-    let has_members = subst (λ (x : ℤ). HasMembers first c.args.header.now c.args.set.now x) (sym (to_z-of_z w32 c.args.max_pic_order_cnt_lsb c.ranges.max_pic_order_cnt_lsb)) has in
+    let has_members =
+    subst (λ (x : ℤ). HasMembers first c.args.header.now c.args.set.now x)
+    (sym (to_z-of_z w32 c.args.max_pic_order_cnt_lsb c.ranges.max_pic_order_cnt_lsb)) has in
     let derived = c.derive.ensures.derives p first is_head has_members in
     let old = buffer_of c.args.dpb.now in
     record {
       derives = derived;
       members = record {
         named = λ n h. ap (has_reference n) derived.marks
-          ∙ each_marked p first old n (sym (ap (λ (s : RefPicSet). names n (all_members s)) derived.set) ∙ h);
+            ∙ each_marked p first old n (sym (ap (λ (s : RefPicSet). names n (all_members s)) derived.set) ∙ h);
         exactly =
-          subst (λ (b : Buffer). All (λ e. is_reference e.mark ≡ names e.number (all_members (plain_set c.derive.new.out))) b) (sym derived.marks)
-          (subst (λ (s : RefPicSet). All (λ e. is_reference e.mark ≡ names e.number (all_members s)) (with_marks p first old)) (sym derived.set)
-          (exactly_marked p first old (plain_distinct (stored_entries c.args.dpb.now) c.args.dpb.now.distinct)));
+            subst (λ (b : Buffer). All
+            (λ e. is_reference e.mark ≡ names e.number (all_members (plain_set c.derive.new.out))) b)
+            (sym derived.marks)
+            (subst (λ (s : RefPicSet). All (λ e. is_reference e.mark ≡ names e.number (all_members s))
+            (with_marks p first old)) (sym derived.set)
+            (exactly_marked p first old (plain_distinct (stored_entries c.args.dpb.now) c.args.dpb.now.distinct)));
         apart = λ n h. ap (λ (s : RefPicSet). names n (long_term_members s)) derived.set
-          ∙ kinds_apart p first old n (sym (ap (λ (s : RefPicSet). names n (short_term_members s)) derived.set) ∙ h);
+            ∙ kinds_apart p first old n (sym (ap (λ (s : RefPicSet). names n (short_term_members s)) derived.set) ∙ h);
       };
     }

@@ -14,7 +14,10 @@ invariant-loop-i g l = record {
   few_curr : array_vec_len l.curr ≤ l.i;
   few_foll : array_vec_len l.foll ≤ l.i;
   curr : (p : Head) (first : Slice) → l.order_count ≡ p.order_count → l.modulus ≡ pos first.max_pic_order_cnt_lsb
-      → l.curr.items ≡ map (long_term_entry p first (buffer_of l.dpb)) (filter is_curr_long_term (map (long_term_member (plain_slice_header l.header)) (numbers_below l.i)));
+      → l.curr.items ≡ map (long_term_entry p first (buffer_of l.dpb))
+      (filter is_curr_long_term (map (long_term_member (plain_slice_header l.header)) (numbers_below l.i)));
   foll : (p : Head) (first : Slice) → l.order_count ≡ p.order_count → l.modulus ≡ pos first.max_pic_order_cnt_lsb
-      → l.foll.items ≡ map (long_term_entry p first (buffer_of l.dpb)) (filter (λ m. not (is_curr_long_term m)) (map (long_term_member (plain_slice_header l.header)) (numbers_below l.i)));
+      → l.foll.items ≡ map (long_term_entry p first (buffer_of l.dpb))
+      (filter (λ m. not (is_curr_long_term m))
+      (map (long_term_member (plain_slice_header l.header)) (numbers_below l.i)));
 }

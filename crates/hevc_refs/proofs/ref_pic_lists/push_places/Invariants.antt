@@ -8,5 +8,10 @@ use Rattle.hevc_refs.proofs.ref_pic_lists.push_places.Given as goal
 abbrev pub invariant-loop-i : goal.invariant-loop-i
 invariant-loop-i l = record {
   whole : array_vec_len l.places ≡ l.i;
-  placed : plain_places l.places.items ≡ map (λ i. slice_index_or (base_places l.base.first.now l.base.second.now l.base.long_term.now l.base.has_current) (entry_index (if l.is_changed then Some l.list_entry else None) i % length (base_places l.base.first.now l.base.second.now l.base.long_term.now l.base.has_current)) None) (numbers_below l.i);
+  placed : plain_places l.places.items ≡ map
+      (λ i. slice_index_or
+      (base_places l.base.first.now l.base.second.now l.base.long_term.now l.base.has_current)
+      (entry_index (if l.is_changed then Some l.list_entry else None) i % length
+      (base_places l.base.first.now l.base.second.now l.base.long_term.now l.base.has_current)) None)
+      (numbers_below l.i);
 }

@@ -6,4 +6,7 @@ use Rattle.hevc_dpb.specs.Views.{buffer_of}
 use Rattle.hevc_refs.proofs.short_term.number_of.Goals as goal
 
 pub returns : goal.returns
-returns g c = c.find.ensures ∙ ap (λ (x : ℤ). first_number (λ e. is_short_term e.mark && int_eq e.order_count x) (buffer_of c.args.dpb.now)) {y = c.args.order_count +ℤ c.args.delta} (omega (arith, ints))
+returns g c =
+    c.find.ensures
+    ∙ ap (λ (x : ℤ). first_number (λ e. is_short_term e.mark && int_eq e.order_count x)
+    (buffer_of c.args.dpb.now)) {y = c.args.order_count +ℤ c.args.delta} (omega (arith, ints))

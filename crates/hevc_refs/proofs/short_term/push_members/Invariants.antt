@@ -11,5 +11,8 @@ use Rattle.hevc_refs.proofs.short_term.push_members.Given as goal
 abbrev pub invariant-loop-i : goal.invariant-loop-i
 invariant-loop-i g l = record {
   few : array_vec_len l.out ≤ array_vec_len l.initial.out + l.i;
-  pushed : (p : Head) → l.order_count ≡ p.order_count → l.out.items ≡ l.initial.out.items ++ map (short_term_entry p (buffer_of l.dpb)) (filter (is_wanted l.wanted) (map (short_term_member l.deltas l.used) (numbers_below l.i)));
+  pushed : (p : Head) → l.order_count ≡ p.order_count
+      → l.out.items ≡ l.initial.out.items
+      ++ map (short_term_entry p (buffer_of l.dpb))
+      (filter (is_wanted l.wanted) (map (short_term_member l.deltas l.used) (numbers_below l.i)));
 }

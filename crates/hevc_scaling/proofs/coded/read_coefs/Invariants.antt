@@ -8,6 +8,7 @@ use Rattle.hevc_scaling.proofs.coded.read_coefs.Given as goal
 
 abbrev pub invariant-loop-i : goal.invariant-loop-i
 invariant-loop-i g l = record {
-  same : scanned (repeat next_entry l.i (g.row.N - l.i) (plain_coefs l.coefs)) l.r ≡ scanned (coefs g.row.N l.start) l.fn.r;
+  same : scanned (repeat next_entry l.i (g.row.N - l.i) (plain_coefs l.coefs)) l.r ≡ scanned
+      (coefs g.row.N l.start) l.fn.r;
   ahead : IsAhead l.fn.r.place l.r.place;
 }

@@ -8,6 +8,7 @@ use Rattle.hevc_scaling.proofs.matrices.read_matrices.Given as goal
 
 abbrev pub invariant-loop-matrix_id : goal.invariant-loop-matrix_id
 invariant-loop-matrix_id g l = record {
-  same : scanned (repeat (next_matrix (plain_size l.size) l.defaults) l.matrix_id (6 - l.matrix_id) (plain_matrices l.all)) l.r ≡ scanned (matrices (plain_size l.size) l.defaults) l.fn.r;
+  same : scanned (repeat (next_matrix (plain_size l.size) l.defaults) l.matrix_id (6 - l.matrix_id)
+      (plain_matrices l.all)) l.r ≡ scanned (matrices (plain_size l.size) l.defaults) l.fn.r;
   ahead : IsAhead l.fn.r.place l.r.place;
 }

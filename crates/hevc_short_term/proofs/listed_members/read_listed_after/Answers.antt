@@ -11,6 +11,8 @@ loop-preserved c =
     record {
       same = grind (arith, loops);
       count = omega (arith, ap length c.push.ensures, length-append c.loop.members (c.in_ok-member.member ∷ []));
-      order = rw c.push.ensures (up_more c.loop.members c.in_ok-member.member (omega arith) c.in_ok-member.ensures.above c.in_ok-member.ensures.near c.loop.invariant.order);
+      order = rw c.push.ensures
+          (up_more c.loop.members c.in_ok-member.member
+          (omega arith) c.in_ok-member.ensures.above c.in_ok-member.ensures.near c.loop.invariant.order);
       ahead = search rules;
     }

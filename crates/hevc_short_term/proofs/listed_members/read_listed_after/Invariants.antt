@@ -8,7 +8,8 @@ use Rattle.hevc_short_term.proofs.listed_members.read_listed_after.Given as goal
 
 abbrev pub invariant-loop : goal.invariant-loop
 invariant-loop l = record {
-  same : scanned (repeat next_member_after l.counter (l.count - l.counter) l.members) l.r ≡ scanned (listed_after l.count) l.fn.r;
+  same : scanned (repeat next_member_after l.counter (l.count - l.counter) l.members) l.r ≡ scanned
+      (listed_after l.count) l.fn.r;
   count : length l.members ≡ l.counter;
   order : UpTo l.members;
   ahead : IsAhead l.fn.r.place l.r.place;

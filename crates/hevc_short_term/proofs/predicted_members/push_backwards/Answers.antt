@@ -10,6 +10,8 @@ loop-i-preserved c =
     let pushed = simp to_z-of_z at c.push_shifted.ensures.items in
     let here : (c.loop-i.i - 1) + 1 ≡ c.loop-i.i = omega arith in
     record {
-      items = simp to_z-of_z (backwards c.args.shift c.args.differences.now c.args.flags.now (c.loop-i.i - 1) _ _ _ _ _ (omega arith) (omega arith) (rw here (simp to_z-of_z at c.loop-i.invariant.items)) pushed);
+      items = simp to_z-of_z
+          (backwards c.args.shift c.args.differences.now c.args.flags.now (c.loop-i.i - 1) _ _ _ _ _
+          (omega arith) (omega arith) (rw here (simp to_z-of_z at c.loop-i.invariant.items)) pushed);
       count = omega arith;
     }

@@ -9,6 +9,8 @@ loop-i-preserved c =
     let difference : SFits w32 (get_or c.args.differences.now c.loop-i.i (pos 0)) = search rules in
     let pushed = simp to_z-of_z at c.push_shifted.ensures.items in
     record {
-      items = simp to_z-of_z (forwards c.args.shift c.args.differences.now c.args.flags.now c.loop-i.i _ _ _ _ _ c.loop-i-test.true (omega arith) (simp to_z-of_z at c.loop-i.invariant.items) pushed);
+      items = simp to_z-of_z
+          (forwards c.args.shift c.args.differences.now c.args.flags.now c.loop-i.i _ _ _ _ _
+          c.loop-i-test.true (omega arith) (simp to_z-of_z at c.loop-i.invariant.items) pushed);
       count = omega arith;
     }

@@ -8,5 +8,7 @@ pub returns-then-pps : goal.returns-then-pps
 unfolding quantiser when
 returns-then-pps c = record {
   reads = search rules;
-  moves = ahead_then _ _ _ (ahead_then _ _ _ c.in_ok-qp_delta.ensures.read.moves c.in_ok-check.ensures.read.moves) c.read_chroma_offsets.ensures.moves;
+  moves = ahead_then _ _ _
+      (ahead_then _ _ _ c.in_ok-qp_delta.ensures.read.moves c.in_ok-check.ensures.read.moves)
+      c.read_chroma_offsets.ensures.moves;
 }

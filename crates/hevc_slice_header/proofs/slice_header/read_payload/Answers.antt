@@ -29,13 +29,18 @@ returns-in-Ok-clause-read c =
     let rest = bits q in
     let h = plain_slice_header c.read_aligned.new.h in
     let kept = kept_active_sets c.args.ppses.now c.args.spses.now in
-    let all = header_read (nalu_type_number c.args.nalu_type) c.args.payload.now kept (left c.new-r.result) c.new-r.result.telling c.read_aligned.new.r h c.in-Ok.ensures.read in
+    let all = header_read (nalu_type_number c.args.nalu_type) c.args.payload.now kept
+    (left c.new-r.result) c.new-r.result.telling c.read_aligned.new.r h c.in-Ok.ensures.read in
     let reached : IsReached p q = is_reached _ _ c.in-Ok.ensures.moves in
-    let size : c.bits_between.result ≡ length (bits p) - length rest = rw (← c.fork-start.ensures, ← c.fork.ensures) c.bits_between.ensures in
+    let size : c.bits_between.result ≡ length (bits p) - length rest =
+    rw (← c.fork-start.ensures, ← c.fork.ensures) c.bits_between.ensures in
     let same : with_sizes c.args.payload.now h (length (bits p) - length rest) ≡ plain_slice_header c.set_sizes.new.h =
     sized c.args.payload.now p q c.new-r.ensures.place reached h
     ∙ ap (λ (n : ℕ). record h { header_bit_size = 16 + n; n_emulation_prevention_bytes = q.dropped }) (sym size)
-    ∙ ap (λ (n : ℕ). record h { header_bit_size = 16 + c.bits_between.result; n_emulation_prevention_bytes = n }) (sym c.num_epb.ensures.value)
+    ∙ ap (λ (n : ℕ). record h {
+      header_bit_size = 16 + c.bits_between.result;
+      n_emulation_prevention_bytes = n;
+    }) (sym c.num_epb.ensures.value)
     ∙ sym c.set_sizes.ensures.set in
     (rest, rw (← c.new-r.ensures.payload) (all ∙ ap (λ (x : PlainSliceSegmentHeader). gives x rest) same))
 
@@ -43,4 +48,6 @@ returns-in-Ok-clause-read c =
 pub returns-clause-read : goal.returns-clause-read
 returns-clause-read c =
     let kept = kept_active_sets c.args.ppses.now c.args.spses.now in
-    rw (← c.new-r.ensures.payload) (header_refused (nalu_type_number c.args.nalu_type) c.args.payload.now kept (left c.new-r.result) c.new-r.result.telling c.read_aligned.new.r c.in-Err.error c.in-Err.ensures.read)
+    rw (← c.new-r.ensures.payload)
+    (header_refused (nalu_type_number c.args.nalu_type) c.args.payload.now kept
+    (left c.new-r.result) c.new-r.result.telling c.read_aligned.new.r c.in-Err.error c.in-Err.ensures.read)

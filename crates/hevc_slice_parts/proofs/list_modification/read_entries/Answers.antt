@@ -9,6 +9,8 @@ unfolding list_entry
 loop-i-preserved c = record {
   same = grind (arith, loops);
   count = grind (arith);
-  fit = rw c.push.ensures.items (AtMost-more (c.args.num_pic_total_curr - 1) c.loop-i.entries.items c.in_ok-entry.entry c.loop-i.invariant.fit (grind arith));
+  fit = rw c.push.ensures.items
+      (AtMost-more (c.args.num_pic_total_curr - 1) c.loop-i.entries.items c.in_ok-entry.entry
+      c.loop-i.invariant.fit (grind arith));
   ahead = search rules;
 }

@@ -8,6 +8,7 @@ use Rattle.hevc_slice_parts.proofs.list_weights.read_chroma_flags.Given as goal
 
 abbrev pub invariant-loop-i : goal.invariant-loop-i
 invariant-loop-i l = record {
-  same : scanned (repeat (chroma_flag l.list) l.i (l.count - l.i) (plain_list_weights l.w)) l.r ≡ scanned (chroma_flags l.list l.count (plain_list_weights l.fn.w)) l.fn.r;
+  same : scanned (repeat (chroma_flag l.list) l.i (l.count - l.i) (plain_list_weights l.w)) l.r ≡ scanned
+      (chroma_flags l.list l.count (plain_list_weights l.fn.w)) l.fn.r;
   ahead : IsAhead l.fn.r.place l.r.place;
 }

@@ -9,6 +9,8 @@ use Rattle.hevc_slice_parts.proofs.list_weights.read_weights.Given as goal
 
 abbrev pub invariant-loop-i : goal.invariant-loop-i
 invariant-loop-i l = record {
-  same : scanned (repeat (place_weights (plain_sps l.fn.sps) l.list) l.i (l.count - l.i) (plain_list_weights l.w)) l.r ≡ scanned (weights (plain_sps l.fn.sps) l.list l.count (plain_list_weights l.fn.w)) l.fn.r;
+  same : scanned
+      (repeat (place_weights (plain_sps l.fn.sps) l.list) l.i (l.count - l.i) (plain_list_weights l.w)) l.r
+      ≡ scanned (weights (plain_sps l.fn.sps) l.list l.count (plain_list_weights l.fn.w)) l.fn.r;
   ahead : IsAhead l.fn.r.place l.r.place;
 }

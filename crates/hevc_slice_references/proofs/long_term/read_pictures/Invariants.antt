@@ -9,7 +9,9 @@ use Rattle.hevc_slice_references.proofs.long_term.read_pictures.Given as goal
 
 abbrev pub invariant-loop-i : goal.invariant-loop-i
 invariant-loop-i l = record {
-  same : scanned (repeat (long_term_picture (plain_sps l.fn.sps)) l.i (l.count - l.i) (plain_slice_header l.h)) l.r ≡ scanned (long_term_pictures (plain_sps l.fn.sps) (plain_slice_header l.fn.h)) l.fn.r;
+  same : scanned
+      (repeat (long_term_picture (plain_sps l.fn.sps)) l.i (l.count - l.i) (plain_slice_header l.h)) l.r
+      ≡ scanned (long_term_pictures (plain_sps l.fn.sps) (plain_slice_header l.fn.h)) l.fn.r;
   few : cycles_before l.i (plain_slice_header l.h) ≤ l.i * 2 ^ 28;
   ahead : IsAhead l.fn.r.place l.r.place;
 }

@@ -14,5 +14,6 @@ bits_between-h-requires-clause-few c =
     let most = c.highest_buffering.result in
     let table = short_term_ref_pic_set (map plain_short_term_ref_pic_set sets) count most count in
     let read = given_is_read table c.args.r.now c.read_short_term_set.new.r set c.in_ok-set.ensures.rows.reads in
-    let few = set_size sets count most count set (left c.args.r.now) (left c.read_short_term_set.new.r) c.highest_buffering.ensures.small read in
+    let few = set_size sets count most count set (left c.args.r.now)
+    (left c.read_short_term_set.new.r) c.highest_buffering.ensures.small read in
     rw (c.fork-before.ensures, c.fork.ensures) few

@@ -8,5 +8,7 @@ use Rattle.hevc_stream_maker.proofs.slice.write_members.Given as goal
 abbrev pub invariant-loop-distance : goal.invariant-loop-distance
 invariant-loop-distance l = record {
   rising : are_rising l.last (drop l.distance-index l.members) ≡ true;
-  rest : (difference used : Row) → l.payload ++ spelled_elements (members difference used l.last (drop l.distance-index l.members)) ≡ l.fn.payload ++ spelled_elements (members difference used 0 l.members);
+  rest : (difference used : Row)
+      → l.payload ++ spelled_elements (members difference used l.last (drop l.distance-index l.members))
+      ≡ l.fn.payload ++ spelled_elements (members difference used 0 l.members);
 }

@@ -7,6 +7,7 @@ use Rattle.hevc_v4l2.proofs.long_term.long_term_bits.Given as goal
 
 abbrev pub invariant-loop-i : goal.invariant-loop-i
 invariant-loop-i l = record {
-  counted : l.bits ≡ l.initial.bits + sum (map (picture_bits (plain_sps l.sps) (plain_slice_header l.header)) (range_with_len 0 l.i));
+  counted : l.bits ≡ l.initial.bits + sum
+      (map (picture_bits (plain_sps l.sps) (plain_slice_header l.header)) (range_with_len 0 l.i));
   few : l.bits ≤ l.initial.bits + 96 * l.i;
 }

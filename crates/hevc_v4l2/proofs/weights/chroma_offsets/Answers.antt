@@ -8,6 +8,7 @@ pub returns : goal.returns
 unfolding chroma_offsets
 returns c =
     fill_by_all
-    (λ k. chroma_offset_pair c.args.scale.half_range c.args.scale.log2_denominator (get_or c.args.delta_weights.now k no_pair) (get_or c.args.delta_offsets.now k no_pair))
+    (λ k. chroma_offset_pair c.args.scale.half_range c.args.scale.log2_denominator
+    (get_or c.args.delta_weights.now k no_pair) (get_or c.args.delta_offsets.now k no_pair))
     c.loop-i.offsets 15 [] c.loop-i.invariant.long
     (λ k below. c.loop-i.invariant.written k (omega arith))

@@ -8,6 +8,7 @@ use Rattle.hevc_vps.proofs.orderings.read_own_orderings.Given as goal
 
 abbrev pub invariant-loop-i : goal.invariant-loop-i
 invariant-loop-i l = record {
-  same : scanned (repeat own_ordering l.i (l.count - l.i) (plain_vps l.vps)) l.r ≡ scanned (own_orderings (plain_vps l.fn.vps)) l.fn.r;
+  same : scanned (repeat own_ordering l.i (l.count - l.i) (plain_vps l.vps)) l.r ≡ scanned
+      (own_orderings (plain_vps l.fn.vps)) l.fn.r;
   ahead : IsAhead l.fn.r.place l.r.place;
 }

@@ -8,6 +8,7 @@ use Rattle.hevc_vps.proofs.structures.read_structures.Given as goal
 
 abbrev pub invariant-loop-i : goal.invariant-loop-i
 invariant-loop-i l = record {
-  same : scanned (repeat structure l.i (l.count - l.i) (plain_vps l.vps)) l.r ≡ scanned (structures (plain_vps l.fn.vps)) l.fn.r;
+  same : scanned (repeat structure l.i (l.count - l.i) (plain_vps l.vps)) l.r ≡ scanned
+      (structures (plain_vps l.fn.vps)) l.fn.r;
   ahead : IsAhead l.fn.r.place l.r.place;
 }

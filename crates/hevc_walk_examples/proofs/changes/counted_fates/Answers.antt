@@ -8,13 +8,19 @@ use Rattle.hevc_walk.specs.Walk.{finish, store_picture, change_format, begin_pic
 use Rattle.hevc_walk_examples.proofs.changes.counted_fates.Goals as goal
 
 pub returns-clause-fated : goal.returns-clause-fated
-unfolding head order_count_in_range nearest due_outputs needs_additional_bumping needs_bumping with_stored reference_set with_marks ref_pic_list0 ref_pic_list1 finish store_picture change_format begin_picture make_room start_decoding
+unfolding head order_count_in_range nearest due_outputs needs_additional_bumping needs_bumping with_stored
+    reference_set with_marks ref_pic_list0 ref_pic_list1 finish store_picture change_format begin_picture
+    make_room start_decoding
 returns-clause-fated c = refl
 
 pub returns-clause-out : goal.returns-clause-out
-unfolding head order_count_in_range nearest due_outputs needs_additional_bumping needs_bumping with_stored reference_set with_marks ref_pic_list0 ref_pic_list1 finish store_picture change_format begin_picture make_room start_decoding
+unfolding head order_count_in_range nearest due_outputs needs_additional_bumping needs_bumping with_stored
+    reference_set with_marks ref_pic_list0 ref_pic_list1 finish store_picture change_format begin_picture
+    make_room start_decoding
 returns-clause-out c = refl
 
 pub returns-clause-times : goal.returns-clause-times
-unfolding head order_count_in_range nearest due_outputs needs_additional_bumping needs_bumping with_stored reference_set with_marks ref_pic_list0 ref_pic_list1 finish store_picture change_format begin_picture make_room start_decoding
+unfolding head order_count_in_range nearest due_outputs needs_additional_bumping needs_bumping with_stored
+    reference_set with_marks ref_pic_list0 ref_pic_list1 finish store_picture change_format begin_picture
+    make_room start_decoding
 returns-clause-times c = refl

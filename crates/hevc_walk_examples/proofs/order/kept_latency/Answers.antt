@@ -13,21 +13,62 @@ use Rattle.hevc_walk_examples.proofs.Small.{keeps_by, unequal, few, not_below}
 use Rattle.hevc_walk_examples.proofs.order.kept_latency.Goals as goal
 
 pub returns-clause-counts : goal.returns-clause-counts
-unfolding head order_count_in_range nearest due_outputs needs_additional_bumping needs_bumping with_stored reference_set with_marks ref_pic_list0 ref_pic_list1 finish store_picture change_format begin_picture make_room start_decoding
+unfolding head order_count_in_range nearest due_outputs needs_additional_bumping needs_bumping with_stored
+    reference_set with_marks ref_pic_list0 ref_pic_list1 finish store_picture change_format begin_picture
+    make_room start_decoding
 returns-clause-counts c = refl
 
 pub returns-clause-verdict : goal.returns-clause-verdict
-unfolding head order_count_in_range nearest due_outputs needs_additional_bumping needs_bumping with_stored reference_set with_marks ref_pic_list0 ref_pic_list1 finish store_picture change_format begin_picture make_room start_decoding
+unfolding head order_count_in_range nearest due_outputs needs_additional_bumping needs_bumping with_stored
+    reference_set with_marks ref_pic_list0 ref_pic_list1 finish store_picture change_format begin_picture
+    make_room start_decoding
 returns-clause-verdict c = refl
 
 pub returns-clause-keeps : goal.returns-clause-keeps
-unfolding head order_count_in_range nearest due_outputs needs_additional_bumping needs_bumping with_stored reference_set with_marks ref_pic_list0 ref_pic_list1 finish store_picture change_format begin_picture make_room start_decoding
-returns-clause-keeps c = All-from_recursion (KeepsOrder (late_stream 3)) (sequences (late_stream 3)) (keeps_by (late_stream 3) _ (refl, (refl, (refl, (refl, tt)))) (refl, (refl, (refl, (refl, tt)))) (λ some. (((λ b. not_below _ _ refl b), ((λ b. few _ _ refl), ((λ b. few _ _ refl), ((λ b. not_below _ _ refl b), tt)))), (((λ b. few _ _ refl), ((λ b. few _ _ refl), ((λ b. not_below _ _ refl b), tt))), (((λ b. not_below _ _ refl b), ((λ b. not_below _ _ refl b), tt)), (((λ b. not_below _ _ refl b), tt), (tt, tt)))))) ((λ e. ((λ d. few _ _ refl), ((λ d. few _ _ refl), ((λ d. few _ _ refl), ((λ d. few _ _ refl), tt))))), ((λ e. ((λ d. few _ _ refl), ((λ d. few _ _ refl), ((λ d. few _ _ refl), tt)))), ((λ e. ((λ d. few _ _ refl), ((λ d. few _ _ refl), tt))), ((λ e. ((λ d. few _ _ refl), tt)), tt)))) tt ((unequal _ _ refl, (unequal _ _ refl, (unequal _ _ refl, (unequal _ _ refl, tt)))), ((unequal _ _ refl, (unequal _ _ refl, (unequal _ _ refl, tt))), ((unequal _ _ refl, (unequal _ _ refl, tt)), ((unequal _ _ refl, tt), (tt, tt))))) (few _ _ refl, (few _ _ refl, (few _ _ refl, (few _ _ refl, (few _ _ refl, tt))))), tt)
+unfolding head order_count_in_range nearest due_outputs needs_additional_bumping needs_bumping with_stored
+    reference_set with_marks ref_pic_list0 ref_pic_list1 finish store_picture change_format begin_picture
+    make_room start_decoding
+returns-clause-keeps c = All-from_recursion (KeepsOrder (late_stream 3)) (sequences (late_stream 3)) (
+  keeps_by (late_stream 3) _ (refl, (refl, (refl, (refl, tt)))) (refl, (refl, (refl, (refl, tt))))
+      (λ some. (
+        (
+          (λ b. not_below _ _ refl b),
+          ((λ b. few _ _ refl), ((λ b. few _ _ refl), ((λ b. not_below _ _ refl b), tt))),
+        ),
+        (
+          ((λ b. few _ _ refl), ((λ b. few _ _ refl), ((λ b. not_below _ _ refl b), tt))),
+          (
+            ((λ b. not_below _ _ refl b), ((λ b. not_below _ _ refl b), tt)),
+            (((λ b. not_below _ _ refl b), tt), (tt, tt)),
+          ),
+        ),
+      )) (
+        (λ e. (
+          (λ d. few _ _ refl),
+          ((λ d. few _ _ refl), ((λ d. few _ _ refl), ((λ d. few _ _ refl), tt))),
+        )),
+        (
+          (λ e. ((λ d. few _ _ refl), ((λ d. few _ _ refl), ((λ d. few _ _ refl), tt)))),
+          ((λ e. ((λ d. few _ _ refl), ((λ d. few _ _ refl), tt))), ((λ e. ((λ d. few _ _ refl), tt)), tt)),
+        ),
+      ) tt (
+        (unequal _ _ refl, (unequal _ _ refl, (unequal _ _ refl, (unequal _ _ refl, tt)))),
+        (
+          (unequal _ _ refl, (unequal _ _ refl, (unequal _ _ refl, tt))),
+          ((unequal _ _ refl, (unequal _ _ refl, tt)), ((unequal _ _ refl, tt), (tt, tt))),
+        ),
+      ) (few _ _ refl, (few _ _ refl, (few _ _ refl, (few _ _ refl, (few _ _ refl, tt))))),
+  tt,
+)
 
 pub returns-clause-tested : goal.returns-clause-tested
-unfolding head order_count_in_range nearest due_outputs needs_additional_bumping needs_bumping with_stored reference_set with_marks ref_pic_list0 ref_pic_list1 finish store_picture change_format begin_picture make_room start_decoding
+unfolding head order_count_in_range nearest due_outputs needs_additional_bumping needs_bumping with_stored
+    reference_set with_marks ref_pic_list0 ref_pic_list1 finish store_picture change_format begin_picture
+    make_room start_decoding
 returns-clause-tested c = refl
 
 pub returns-clause-no_bounds : goal.returns-clause-no_bounds
-unfolding head order_count_in_range nearest due_outputs needs_additional_bumping needs_bumping with_stored reference_set with_marks ref_pic_list0 ref_pic_list1 finish store_picture change_format begin_picture make_room start_decoding
+unfolding head order_count_in_range nearest due_outputs needs_additional_bumping needs_bumping with_stored
+    reference_set with_marks ref_pic_list0 ref_pic_list1 finish store_picture change_format begin_picture
+    make_room start_decoding
 returns-clause-no_bounds c = refl

@@ -14,29 +14,71 @@ use Rattle.hevc_walk_examples.proofs.Small.{bounds_by, keeps_by, unequal, few, n
 use Rattle.hevc_walk_examples.proofs.order.kept_order.Goals as goal
 
 pub returns-clause-sequences : goal.returns-clause-sequences
-unfolding head order_count_in_range nearest due_outputs needs_additional_bumping needs_bumping with_stored reference_set with_marks ref_pic_list0 ref_pic_list1 finish store_picture change_format begin_picture make_room start_decoding
+unfolding head order_count_in_range nearest due_outputs needs_additional_bumping needs_bumping with_stored
+    reference_set with_marks ref_pic_list0 ref_pic_list1 finish store_picture change_format begin_picture
+    make_room start_decoding
 returns-clause-sequences c = refl
 
 pub returns-clause-outputs : goal.returns-clause-outputs
-unfolding head order_count_in_range nearest due_outputs needs_additional_bumping needs_bumping with_stored reference_set with_marks ref_pic_list0 ref_pic_list1 finish store_picture change_format begin_picture make_room start_decoding
+unfolding head order_count_in_range nearest due_outputs needs_additional_bumping needs_bumping with_stored
+    reference_set with_marks ref_pic_list0 ref_pic_list1 finish store_picture change_format begin_picture
+    make_room start_decoding
 returns-clause-outputs c = refl
 
 pub returns-clause-counts : goal.returns-clause-counts
-unfolding head order_count_in_range nearest due_outputs needs_additional_bumping needs_bumping with_stored reference_set with_marks ref_pic_list0 ref_pic_list1 finish store_picture change_format begin_picture make_room start_decoding
+unfolding head order_count_in_range nearest due_outputs needs_additional_bumping needs_bumping with_stored
+    reference_set with_marks ref_pic_list0 ref_pic_list1 finish store_picture change_format begin_picture
+    make_room start_decoding
 returns-clause-counts c = refl
 
 pub returns-clause-verdict : goal.returns-clause-verdict
-unfolding head order_count_in_range nearest due_outputs needs_additional_bumping needs_bumping with_stored reference_set with_marks ref_pic_list0 ref_pic_list1 finish store_picture change_format begin_picture make_room start_decoding
+unfolding head order_count_in_range nearest due_outputs needs_additional_bumping needs_bumping with_stored
+    reference_set with_marks ref_pic_list0 ref_pic_list1 finish store_picture change_format begin_picture
+    make_room start_decoding
 returns-clause-verdict c = refl
 
 pub returns-clause-keeps : goal.returns-clause-keeps
-unfolding head order_count_in_range nearest due_outputs needs_additional_bumping needs_bumping with_stored reference_set with_marks ref_pic_list0 ref_pic_list1 finish store_picture change_format begin_picture make_room start_decoding
-returns-clause-keeps c = All-from_recursion (KeepsOrder two_sequences) (sequences two_sequences) (keeps_by two_sequences _ (refl, (refl, tt)) (refl, (refl, tt)) (λ some. never _ refl some) ((λ e. ((λ d. few _ _ refl), ((λ d. few _ _ refl), tt))), ((λ e. ((λ d. few _ _ refl), tt)), tt)) tt ((unequal _ _ refl, (unequal _ _ refl, tt)), ((unequal _ _ refl, tt), (tt, tt))) (few _ _ refl, (few _ _ refl, (few _ _ refl, tt))), (keeps_by two_sequences _ (refl, tt) (refl, tt) (λ some. never _ refl some) ((λ e. ((λ d. few _ _ refl), tt)), tt) refl ((unequal _ _ refl, tt), (tt, tt)) (few _ _ refl, (few _ _ refl, tt)), tt))
+unfolding head order_count_in_range nearest due_outputs needs_additional_bumping needs_bumping with_stored
+    reference_set with_marks ref_pic_list0 ref_pic_list1 finish store_picture change_format begin_picture
+    make_room start_decoding
+returns-clause-keeps c =
+    All-from_recursion (KeepsOrder two_sequences) (sequences two_sequences) (
+      keeps_by two_sequences _ (refl, (refl, tt)) (refl, (refl, tt))
+          (λ some. never _ refl some) (
+            (λ e. ((λ d. few _ _ refl), ((λ d. few _ _ refl), tt))),
+            ((λ e. ((λ d. few _ _ refl), tt)), tt),
+          ) tt ((unequal _ _ refl, (unequal _ _ refl, tt)), ((unequal _ _ refl, tt), (tt, tt)))
+          (few _ _ refl, (few _ _ refl, (few _ _ refl, tt))),
+      (
+        keeps_by two_sequences _ (refl, tt) (refl, tt)
+            (λ some. never _ refl some) ((λ e. ((λ d. few _ _ refl), tt)), tt) refl (
+              (unequal _ _ refl, tt),
+              (tt, tt),
+            ) (few _ _ refl, (few _ _ refl, tt)),
+        tt,
+      ),
+    )
 
 pub returns-clause-bounds : goal.returns-clause-bounds
-unfolding head order_count_in_range nearest due_outputs needs_additional_bumping needs_bumping with_stored reference_set with_marks ref_pic_list0 ref_pic_list1 finish store_picture change_format begin_picture make_room start_decoding
-returns-clause-bounds c = All-from_recursion (KeepsBounds two_sequences) (sequences two_sequences) (bounds_by two_sequences _ (refl, (refl, tt)) (refl, (refl, tt)) refl ((λ e. few _ _ refl), ((λ e. few _ _ refl), tt)) tt ((unequal _ _ refl, (unequal _ _ refl, tt)), ((unequal _ _ refl, tt), (tt, tt))) (few _ _ refl, (few _ _ refl, (few _ _ refl, tt))), (bounds_by two_sequences _ (refl, tt) (refl, tt) refl ((λ e. few _ _ refl), tt) refl ((unequal _ _ refl, tt), (tt, tt)) (few _ _ refl, (few _ _ refl, tt)), tt))
+unfolding head order_count_in_range nearest due_outputs needs_additional_bumping needs_bumping with_stored
+    reference_set with_marks ref_pic_list0 ref_pic_list1 finish store_picture change_format begin_picture
+    make_room start_decoding
+returns-clause-bounds c =
+    All-from_recursion (KeepsBounds two_sequences) (sequences two_sequences) (
+      bounds_by two_sequences _ (refl, (refl, tt)) (refl, (refl, tt)) refl
+          ((λ e. few _ _ refl), ((λ e. few _ _ refl), tt)) tt (
+            (unequal _ _ refl, (unequal _ _ refl, tt)),
+            ((unequal _ _ refl, tt), (tt, tt)),
+          ) (few _ _ refl, (few _ _ refl, (few _ _ refl, tt))),
+      (
+        bounds_by two_sequences _ (refl, tt) (refl, tt) refl ((λ e. few _ _ refl), tt) refl
+            ((unequal _ _ refl, tt), (tt, tt)) (few _ _ refl, (few _ _ refl, tt)),
+        tt,
+      ),
+    )
 
 pub returns-clause-tested : goal.returns-clause-tested
-unfolding head order_count_in_range nearest due_outputs needs_additional_bumping needs_bumping with_stored reference_set with_marks ref_pic_list0 ref_pic_list1 finish store_picture change_format begin_picture make_room start_decoding
+unfolding head order_count_in_range nearest due_outputs needs_additional_bumping needs_bumping with_stored
+    reference_set with_marks ref_pic_list0 ref_pic_list1 finish store_picture change_format begin_picture
+    make_room start_decoding
 returns-clause-tested c = refl

@@ -8,13 +8,19 @@ use Rattle.hevc_walk.specs.Walk.{finish, store_picture, change_format, begin_pic
 use Rattle.hevc_walk_examples.proofs.references.counts_go_on.Goals as goal
 
 pub returns-clause-rasl : goal.returns-clause-rasl
-unfolding head order_count_in_range nearest due_outputs needs_additional_bumping needs_bumping with_stored reference_set with_marks ref_pic_list0 ref_pic_list1 finish store_picture change_format begin_picture make_room start_decoding
+unfolding head order_count_in_range nearest due_outputs needs_additional_bumping needs_bumping with_stored
+    reference_set with_marks ref_pic_list0 ref_pic_list1 finish store_picture change_format begin_picture
+    make_room start_decoding
 returns-clause-rasl c = refl
 
 pub returns-clause-anew : goal.returns-clause-anew
-unfolding head order_count_in_range nearest due_outputs needs_additional_bumping needs_bumping with_stored reference_set with_marks ref_pic_list0 ref_pic_list1 finish store_picture change_format begin_picture make_room start_decoding
+unfolding head order_count_in_range nearest due_outputs needs_additional_bumping needs_bumping with_stored
+    reference_set with_marks ref_pic_list0 ref_pic_list1 finish store_picture change_format begin_picture
+    make_room start_decoding
 returns-clause-anew c = refl
 
 pub returns-clause-within : goal.returns-clause-within
-unfolding head order_count_in_range nearest due_outputs needs_additional_bumping needs_bumping with_stored reference_set with_marks ref_pic_list0 ref_pic_list1 finish store_picture change_format begin_picture make_room start_decoding
+unfolding head order_count_in_range nearest due_outputs needs_additional_bumping needs_bumping with_stored
+    reference_set with_marks ref_pic_list0 ref_pic_list1 finish store_picture change_format begin_picture
+    make_room start_decoding
 returns-clause-within c = refl

@@ -23,6 +23,12 @@ returns-in-Ok c =
     let same = c.trial_unit.ensures.header header bits trial in
     let typed = ap (λ (h : UnitHeader). h.nal_unit_type) same ∙ c.requires.typed in
     let was_read = c.in-Ok.ensures.unit.read typed in
-    let was = trial_read (picture_parameter_set tid (only_sequence_set (plain_sps c.args.sps.now))) (plain_pps c.in-Ok.read) bits _ (c.trial_unit.ensures.bits header bits trial)
-    (was_read.0, ap₂ (λ (h : UnitHeader) (sets : ℕ → Option PlainSps). read (picture_parameter_set (temporal_id h) sets) (payload (bytes_of c.trial_unit.result))) (sym same) (sym c.in_ok-sets.ensures) ∙ was_read.1) in
-    same_read plain_pps (picture_parameter_set tid (only_sequence_set (plain_sps c.args.sps.now))) c.args.pps.now c.in-Ok.read bits c.pps_eq.result pps c.pps_eq.ensures was
+    let was = trial_read (picture_parameter_set tid (only_sequence_set (plain_sps c.args.sps.now)))
+    (plain_pps c.in-Ok.read) bits _ (c.trial_unit.ensures.bits header bits trial) (
+      was_read.0,
+      ap₂ (λ (h : UnitHeader) (sets : ℕ → Option PlainSps). read
+          (picture_parameter_set (temporal_id h) sets) (payload (bytes_of c.trial_unit.result))) (sym same)
+          (sym c.in_ok-sets.ensures) ∙ was_read.1,
+    ) in
+    same_read plain_pps (picture_parameter_set tid (only_sequence_set (plain_sps c.args.sps.now)))
+    c.args.pps.now c.in-Ok.read bits c.pps_eq.result pps c.pps_eq.ensures was

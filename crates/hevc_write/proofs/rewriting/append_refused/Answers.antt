@@ -11,7 +11,8 @@ use Rattle.hevc_write.proofs.rewriting.append_refused.Goals as goal
 pub unwrap-piece-requires : goal.unwrap-piece-requires
 unwrap-piece-requires c =
     let r = c.requires.refused in
-    piece_found (record {}) c.next.result (units_from raw c.args.position c.args.stream.now) (some_raw c.args.position c.args.stream.now r.0 r.1.0 r.1.1.1) c.next.ensures.none c.next.ensures.refused
+    piece_found (record {}) c.next.result (units_from raw c.args.position c.args.stream.now)
+    (some_raw c.args.position c.args.stream.now r.0 r.1.0 r.1.1.1) c.next.ensures.none c.next.ensures.refused
 
 pub returns-clause-next : goal.returns-clause-next
 returns-clause-next c =
@@ -21,19 +22,26 @@ returns-clause-next c =
     let piece = c.unwrap-piece.result in
     let next = c.offset.result + c.size.result in
     let place : piece.offset + piece.size ≡ next = omega (arith, c.offset.ensures.value, c.size.ensures.value) in
-    let first = at_ok c.next.result piece (λ n. units_from raw position stream ≡ unit_of n ∷ units_from raw (n.offset + n.size) stream) c.unwrap-piece.ensures c.next.ensures.first in
+    let first = at_ok c.next.result piece
+    (λ n. units_from raw position stream ≡ unit_of n ∷ units_from raw (n.offset + n.size) stream)
+    c.unwrap-piece.ensures c.next.ensures.first in
     let at = subst (λ (k : ℕ). units_from raw position stream ≡ unit_of piece ∷ units_from raw k stream) place first in
     let found = own_found position next stream (unit_of piece) r.0 r.1.0 at r.1.1.1 in
-    let parsed : parsed_header (kept_bytes (bytes_of piece)) ≡ Err r.1.1.0 = ap (λ (u : NalUnit). parsed_header u.bytes) (sym found.same) ∙ r.1.1.2 in
+    let parsed : parsed_header (kept_bytes (bytes_of piece)) ≡ Err r.1.1.0 =
+    ap (λ (u : NalUnit). parsed_header u.bytes) (sym found.same) ∙ r.1.1.2 in
     let ahead = at_ok c.next.result piece (λ n. position + 3 ≤ n.offset) c.unwrap-piece.ensures c.next.ensures.ahead in
-    let inside = at_ok c.next.result piece (λ n. n.offset + n.size ≤ length stream) c.unwrap-piece.ensures c.next.ensures.inside in
-    let grown = c.in_ok-append_completed.ensures.ok ∙ ap (λ (b : List ℕ). c.args.out.now.items ++ started (completed (kept_bytes b))) c.as_ref.ensures.value in
+    let inside =
+    at_ok c.next.result piece (λ n. n.offset + n.size ≤ length stream) c.unwrap-piece.ensures c.next.ensures.inside in
+    let grown = c.in_ok-append_completed.ensures.ok
+    ∙ ap (λ (b : List ℕ). c.args.out.now.items ++ started (completed (kept_bytes b))) c.as_ref.ensures.value in
     record {
       taken = λ sets. record {
         unit = own (unit_of piece);
         first = found.first;
         ahead = omega (arith, ahead, place);
         within = omega (arith, inside, place);
-        takes = λ kept before. refused_takes kept (bytes_of piece) r.1.1.0 c.args.out.now.items c.append_completed.new.out.items sets found.is parsed grown before;
+        takes = λ kept before. refused_takes kept
+            (bytes_of piece) r.1.1.0 c.args.out.now.items c.append_completed.new.out.items sets found.is
+            parsed grown before;
       };
     }

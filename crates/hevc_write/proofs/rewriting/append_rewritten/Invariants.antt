@@ -9,7 +9,8 @@ abbrev pub invariant-loop-parser : goal.invariant-loop-parser
 invariant-loop-parser l = record {
   within : l.position ≤ length l.stream;
   grows : (added : List ℕ) × (l.out.items ≡ l.fn.out.items ++ added);
-  left : Left l.stream l.fn.out.items l.out.items (kept_by l.parser).sequence_sets (units_from kept_bytes l.position l.stream);
+  left : Left l.stream l.fn.out.items l.out.items (kept_by l.parser).sequence_sets
+      (units_from kept_bytes l.position l.stream);
 }
 
 abbrev pub decreases-loop-parser : goal.decreases-loop-parser

@@ -22,9 +22,13 @@ returns-in-Ok-clause-found c = λ same.
     let sps = plain_sps c.args.slice.now.sps.now in
     let pps = plain_pps c.args.slice.now.pps.now in
     let trial = subst (λ (s : List ℕ). IsTrial header bits s) (sym c.deref.ensures.value) c.in_ok-stream.ensures in
-    let one = one_active sps pps (sets_by_id plain_sps c.in_ok-spses.spses) (sets_by_id plain_pps c.in_ok-ppses.ppses) c.in_ok-spses.ensures c.in_ok-ppses.ensures c.requires.named in
-    slice_found c.trial_unit.result header bits sps pps (kept_active_sets c.in_ok-ppses.ppses c.in_ok-spses.spses) (c.trial_unit.ensures.header header bits trial) (c.trial_unit.ensures.bits header bits trial) one c.requires.typed
-    c.read_slice_header.new.h (plain_slice_header c.args.slice.now.header.now) c.in-Ok.field-0 c.in-Ok.ensures.reads (c.is_same_but_sizes.ensures.0 same)
+    let one = one_active sps pps (sets_by_id plain_sps c.in_ok-spses.spses)
+    (sets_by_id plain_pps c.in_ok-ppses.ppses) c.in_ok-spses.ensures c.in_ok-ppses.ensures c.requires.named in
+    slice_found c.trial_unit.result header bits sps pps
+    (kept_active_sets c.in_ok-ppses.ppses c.in_ok-spses.spses)
+    (c.trial_unit.ensures.header header bits trial) (c.trial_unit.ensures.bits header bits trial) one c.requires.typed
+    c.read_slice_header.new.h (plain_slice_header c.args.slice.now.header.now) c.in-Ok.field-0
+    c.in-Ok.ensures.reads (c.is_same_but_sizes.ensures.0 same)
 
 pub returns-in-Ok-clause-read : goal.returns-in-Ok-clause-read
 returns-in-Ok-clause-read c = λ own front whole is e.
@@ -33,9 +37,14 @@ returns-in-Ok-clause-read c = λ own front whole is e.
     let sps = plain_sps c.args.slice.now.sps.now in
     let pps = plain_pps c.args.slice.now.pps.now in
     let trial = subst (λ (s : List ℕ). IsTrial header bits s) (sym c.deref.ensures.value) c.in_ok-stream.ensures in
-    let one = one_active sps pps (sets_by_id plain_sps c.in_ok-spses.spses) (sets_by_id plain_pps c.in_ok-ppses.ppses) c.in_ok-spses.ensures c.in_ok-ppses.ensures c.requires.named in
-    c.is_same_but_sizes.ensures.1 (slice_read c.trial_unit.result header bits sps pps (kept_active_sets c.in_ok-ppses.ppses c.in_ok-spses.spses) (c.trial_unit.ensures.header header bits trial) (c.trial_unit.ensures.bits header bits trial) one c.requires.typed
-    c.read_slice_header.new.h (plain_slice_header c.args.slice.now.header.now) own front c.in-Ok.field-0 c.in-Ok.ensures.reads whole is e)
+    let one = one_active sps pps (sets_by_id plain_sps c.in_ok-spses.spses)
+    (sets_by_id plain_pps c.in_ok-ppses.ppses) c.in_ok-spses.ensures c.in_ok-ppses.ensures c.requires.named in
+    c.is_same_but_sizes.ensures.1
+    (slice_read c.trial_unit.result header bits sps pps
+    (kept_active_sets c.in_ok-ppses.ppses c.in_ok-spses.spses)
+    (c.trial_unit.ensures.header header bits trial) (c.trial_unit.ensures.bits header bits trial) one c.requires.typed
+    c.read_slice_header.new.h (plain_slice_header c.args.slice.now.header.now) own front c.in-Ok.field-0
+    c.in-Ok.ensures.reads whole is e)
 
 pub returns-clause-read : goal.returns-clause-read
 returns-clause-read c =
@@ -45,9 +54,16 @@ returns-clause-read c =
     let pps = plain_pps c.args.slice.now.pps.now in
     let x = plain_slice_header c.args.slice.now.header.now in
     let trial = subst (λ (s : List ℕ). IsTrial header bits s) (sym c.deref.ensures.value) c.in_ok-stream.ensures in
-    let one = one_active sps pps (sets_by_id plain_sps c.in_ok-spses.spses) (sets_by_id plain_pps c.in_ok-ppses.ppses) c.in_ok-spses.ensures c.in_ok-ppses.ensures c.requires.named in
+    let one = one_active sps pps (sets_by_id plain_sps c.in_ok-spses.spses)
+    (sets_by_id plain_pps c.in_ok-ppses.ppses) c.in_ok-spses.ensures c.in_ok-ppses.ensures c.requires.named in
     if_ok c.refusal.result (λ same. (same ≡ false) × (c.in-Err.error ≢ NoMemory))
-    (λ same. (own : PlainSliceSegmentHeader) (front : List Bool) → bits ≡ with_trailing_bits front → IsSameButSizes own x → read (elements header.nal_unit_type (only_sets sps pps)) bits ≡ gives own (trailing_bits (length front)) → IsTrue same)
-    (λ same h own front whole is e. absurd (slice_not_refused c.trial_unit.result header bits sps pps (kept_active_sets c.in_ok-ppses.ppses c.in_ok-spses.spses) (c.trial_unit.ensures.header header bits trial) (c.trial_unit.ensures.bits header bits trial) one c.requires.typed
+    (λ same. (own : PlainSliceSegmentHeader) (front : List Bool) → bits ≡ with_trailing_bits front
+    → IsSameButSizes own x
+    → read (elements header.nal_unit_type (only_sets sps pps)) bits ≡ gives own
+    (trailing_bits (length front)) → IsTrue same)
+    (λ same h own front whole is e. absurd
+    (slice_not_refused c.trial_unit.result header bits sps pps
+    (kept_active_sets c.in_ok-ppses.ppses c.in_ok-spses.spses)
+    (c.trial_unit.ensures.header header bits trial) (c.trial_unit.ensures.bits header bits trial) one c.requires.typed
     c.read_slice_header.new.h own front c.in-Err.error h.1 c.in-Err.ensures.reads whole e))
     c.refusal.ensures

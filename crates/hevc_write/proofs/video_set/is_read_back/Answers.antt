@@ -12,6 +12,8 @@ returns-in-Ok c =
     let header = c.args.header.now in
     let bits = c.args.w.now in
     let trial = subst (λ (s : List ℕ). IsTrial header bits s) (sym c.deref.ensures.value) c.in_ok-stream.ensures in
-    let typed = ap (λ (h : UnitHeader). h.nal_unit_type) (c.trial_unit.ensures.header header bits trial) ∙ c.requires.typed in
-    let was = trial_read video_parameter_set (plain_vps c.in-Ok.read) bits _ (c.trial_unit.ensures.bits header bits trial) (c.in-Ok.ensures.unit.read typed) in
+    let typed = ap (λ (h : UnitHeader). h.nal_unit_type) (c.trial_unit.ensures.header header bits trial)
+    ∙ c.requires.typed in
+    let was = trial_read video_parameter_set (plain_vps c.in-Ok.read) bits _
+    (c.trial_unit.ensures.bits header bits trial) (c.in-Ok.ensures.unit.read typed) in
     same_read plain_vps video_parameter_set c.args.set.now c.in-Ok.read bits c.vps_eq.result vps c.vps_eq.ensures was

@@ -13,7 +13,10 @@ loop-i-preserved c =
     let x = plain_pps_scc_extension c.args.x.now in
     let list = unwrap_or-slice_get x.palette_predictor_initializer c.args.component [] in
     let here = c.in_ok-write_predictor.ensures in
-    one_more_turn _ _ c.loop-i.invariant (predictor_written _ x c.args.component c.loop-i.i (rw list here.0) (rw (list, ← c.bit_depth-depth.ensures.value) here.1))
+    one_more_turn _ _ c.loop-i.invariant
+    (predictor_written _ x c.args.component c.loop-i.i (rw list here.0)
+    (rw (list, ← c.bit_depth-depth.ensures.value) here.1))
 
 pub returns : goal.returns
-returns c = component_written _ (plain_pps_scc_extension c.args.x.now) c.loop-i.i c.args.count c.args.component _ _ (omega arith) c.loop-i.invariant (omega arith)
+returns c = component_written _ (plain_pps_scc_extension c.args.x.now) c.loop-i.i c.args.count
+    c.args.component _ _ (omega arith) c.loop-i.invariant (omega arith)

@@ -11,7 +11,8 @@ unfolding initializers
 returns c = record {
   written = λ y w.
       ue_then _ refl _ _ c.in_ok-ue_u8.ensures (λ v1 in1 b1 ue_u8_row.
-      counted_part_written (predictors _) own.all_predictors_of (predictors_keep _) _ _ c.in_ok-write_predictors.ensures refl (λ v2 b2 all_predictors_rows e at.
+      counted_part_written (predictors _) own.all_predictors_of
+      (predictors_keep _) _ _ c.in_ok-write_predictors.ensures refl (λ v2 b2 all_predictors_rows e at.
       let is = by e (λ r. r.num_palette_predictor_initializer_minus1) in
       let size = by e (λ r. r.palette_max_size) in
       let delta = by e (λ r. r.delta_palette_max_predictor_size) in

@@ -11,4 +11,6 @@ returns c = writes λ y w none. do
   rows ← ue_of _ refl _ _ none (λ r. r.palette_max_size) c.in_ok-ue_u8.ensures
   rows ← ue_of _ refl _ _ rows.known (λ r. r.delta_palette_max_predictor_size) c.in_ok-ue_u8-2.ensures
   rows ← flag_of _ refl rows.known (λ r. r.palette_predictor_initializers_present_flag) c.in_ok-flag.ensures
-  ending (part_if_of (initializers _) own.initializers_of (initializers_keep _) _ rows.known (λ r. r.palette_predictor_initializers_present_flag) c.in_ok-write_initializers_if.ensures refl) (λ _ _ rows e at. rows.reach _ e refl at)
+  ending (part_if_of (initializers _) own.initializers_of (initializers_keep _) _ rows.known
+      (λ r. r.palette_predictor_initializers_present_flag) c.in_ok-write_initializers_if.ensures refl)
+      (λ _ _ rows e at. rows.reach _ e refl at)

@@ -7,4 +7,5 @@ use Rattle.hevc_write_elements.specs.Filling.{WritesTurns}
 use Rattle.hevc_write_extensions.proofs.sps_scc_extension.write_predictors.Given as goal
 
 abbrev pub invariant-loop-component : goal.invariant-loop-component
-invariant-loop-component l = WritesTurns (component_predictors (sample_format (plain_sps l.sps)) l.count) (own.same_components (plain_sps_scc_extension l.x)) l.component l.fn.w l.w
+invariant-loop-component l = WritesTurns (component_predictors (sample_format (plain_sps l.sps)) l.count)
+    (own.same_components (plain_sps_scc_extension l.x)) l.component l.fn.w l.w

@@ -9,6 +9,8 @@ pub returns : goal.returns
 unfolding coding
 returns c = λ sps. writes λ y w none. do
   rows ← part_of presence own.presence_of presence_keeps _ none c.in_ok-write_presence.ensures refl
-  rows ← part_of (quantiser _) own.quantiser_of (quantiser_keeps _) _ rows.known (c.in_ok-write_quantiser.ensures _) refl
+  rows ← part_of (quantiser _) own.quantiser_of (quantiser_keeps _) _ rows.known
+      (c.in_ok-write_quantiser.ensures _) refl
   rows ← part_of tools own.tools_of tools_keeps _ rows.known c.in_ok-write_tools.ensures refl
-  ending (part_if_of (tiles _) own.tiles_of (tiles_keeps _) _ rows.known (λ r. r.tiles_enabled_flag) (c.in_ok-write_tiles_if.ensures _) refl) (λ _ _ rows e at. rows.reach _ e refl at)
+  ending (part_if_of (tiles _) own.tiles_of (tiles_keeps _) _ rows.known
+      (λ r. r.tiles_enabled_flag) (c.in_ok-write_tiles_if.ensures _) refl) (λ _ _ rows e at. rows.reach _ e refl at)

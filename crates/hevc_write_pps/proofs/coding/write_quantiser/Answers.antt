@@ -11,7 +11,8 @@ returns c = λ sps. writes λ y w none. do
   rows ← flag_of _ refl rows.known (λ r. r.constrained_intra_pred_flag) c.in_ok-flag.ensures
   rows ← flag_of _ refl rows.known (λ r. r.transform_skip_enabled_flag) c.in_ok-flag-2.ensures
   rows ← flag_of _ refl rows.known (λ r. r.cu_qp_delta_enabled_flag) c.in_ok-flag-3.ensures
-  rows ← ue_if_of _ refl _ _ _ _ rows.known (λ r. r.cu_qp_delta_enabled_flag) (λ r. r.diff_cu_qp_delta_depth) c.in_ok-ue_u8_if.ensures
+  rows ← ue_if_of _ refl _ _ _ _ rows.known (λ r. r.cu_qp_delta_enabled_flag)
+      (λ r. r.diff_cu_qp_delta_depth) c.in_ok-ue_u8_if.ensures
   rows ← se_of _ refl _ _ rows.known (λ r. r.cb_qp_offset) (omega (arith, ints)) c.in_ok-se_i8-2.ensures
   rows ← se_of _ refl _ _ rows.known (λ r. r.cr_qp_offset) (omega (arith, ints)) c.in_ok-se_i8-3.ensures
   done_filled (λ e at. rows.known.reach _ e refl at)

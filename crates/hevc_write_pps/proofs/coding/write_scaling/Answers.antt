@@ -10,7 +10,9 @@ unfolding scaling
 returns c = record {
   written = λ y w.
       flag_then _ refl c.in_ok-flag.ensures (λ v1 b1 scaling_list_data_present_flag_row.
-      then_filled (when_written scaling_list_data _ _ scaling_lists_fillable c.in_ok-write_scaling_lists_if.ensures (λ v2 b2 scaling_list_row.
+      then_filled (when_written scaling_list_data _ _ scaling_lists_fillable
+      c.in_ok-write_scaling_lists_if.ensures (λ v2 b2 scaling_list_row.
       done_filled (λ e at.
-      scaling_list_row (by e (λ r. r.scaling_list_data_present_flag)) (by e (λ r. r.scaling_list)) (scaling_list_data_present_flag_row (by e (λ r. r.scaling_list_data_present_flag)) at)))));
+      scaling_list_row (by e (λ r. r.scaling_list_data_present_flag)) (by e (λ r. r.scaling_list))
+      (scaling_list_data_present_flag_row (by e (λ r. r.scaling_list_data_present_flag)) at)))));
 }

@@ -12,4 +12,5 @@ returns c = writes λ y w none. do
   rows ← part_of filters own.filters_of filters_keeps _ rows.known c.in_ok-write_filters.ensures refl
   rows ← part_of scaling own.scaling_of scaling_keeps _ rows.known c.in_ok-write_scaling.ensures refl
   rows ← part_of (merging _) own.merging_of (merging_keeps _) _ rows.known (c.in_ok-write_merging.ensures _) refl
-  ending (part_of (extensions _) own.extensions_of (extensions_keeps _) _ rows.known c.in_ok-write_extensions.ensures refl) (λ _ _ rows e at. rows.reach _ e refl at)
+  ending (part_of (extensions _) own.extensions_of
+      (extensions_keeps _) _ rows.known c.in_ok-write_extensions.ensures refl) (λ _ _ rows e at. rows.reach _ e refl at)

@@ -10,8 +10,13 @@ pub returns : goal.returns
 unfolding told_tiles
 returns c = λ sps. is_present c.if-not-present.false (record {
   written = λ y w.
-      then_filled (one_table_written (told_sizes (row 11 17) 20 sps.pic_width_in_ctbs_y) (told_sizes_fillable (row 11 17) refl 20 sps.pic_width_in_ctbs_y) _ _ (numbers _ _) (c.in_ok-write_told_sizes.ensures (row 11 17) refl 20 sps.pic_width_in_ctbs_y) (λ v1 b1 column_width_minus1_row.
-      then_filled (one_table_written (told_sizes (row 11 18) 22 sps.pic_height_in_ctbs_y) (told_sizes_fillable (row 11 18) refl 22 sps.pic_height_in_ctbs_y) _ _ (numbers _ _) (c.in_ok-write_told_sizes-2.ensures (row 11 18) refl 22 sps.pic_height_in_ctbs_y) (λ v2 b2 row_height_minus1_row.
+      then_filled (one_table_written (told_sizes (row 11 17) 20 sps.pic_width_in_ctbs_y)
+      (told_sizes_fillable (row 11 17) refl 20 sps.pic_width_in_ctbs_y) _ _ (numbers _ _)
+      (c.in_ok-write_told_sizes.ensures (row 11 17) refl 20 sps.pic_width_in_ctbs_y) (λ v1 b1 column_width_minus1_row.
+      then_filled (one_table_written (told_sizes (row 11 18) 22 sps.pic_height_in_ctbs_y)
+      (told_sizes_fillable (row 11 18) refl 22 sps.pic_height_in_ctbs_y) _ _ (numbers _ _)
+      (c.in_ok-write_told_sizes-2.ensures (row 11 18) refl 22 sps.pic_height_in_ctbs_y) (λ v2 b2 row_height_minus1_row.
       done_filled (λ e at.
-      row_height_minus1_row (by e (λ r. r.num_tile_rows_minus1)) (by e (λ r. r.row_height_minus1)) (column_width_minus1_row (by e (λ r. r.num_tile_columns_minus1)) (by e (λ r. r.column_width_minus1)) at))))));
+      row_height_minus1_row (by e (λ r. r.num_tile_rows_minus1)) (by e (λ r. r.row_height_minus1))
+      (column_width_minus1_row (by e (λ r. r.num_tile_columns_minus1)) (by e (λ r. r.column_width_minus1)) at))))));
 })

@@ -9,4 +9,8 @@ use Rattle.hevc_write_set_parts.proofs.constraints.write_constraints.Goals as go
 pub returns : goal.returns
 unfolding constraints
 returns c = λ scope. writes λ y w none.
-    ending (either_part_of (range_extensions_flags scope) (own.other_constraints scope) own.constraints_of (range_extensions_flags_keeps scope) (other_constraints_keep scope) _ _ none (λ r. has_range_extensions_flags r.profile_idc r.profile_compatibility_flag) (rw c.has_extensions.ensures at (c.in_ok-write_either_constraints.ensures scope)) refl) (λ _ _ rows e at. rows.reach _ e refl at)
+    ending (either_part_of (range_extensions_flags scope) (own.other_constraints scope) own.constraints_of
+    (range_extensions_flags_keeps scope) (other_constraints_keep scope) _ _ none
+    (λ r. has_range_extensions_flags r.profile_idc r.profile_compatibility_flag)
+    (rw c.has_extensions.ensures at (c.in_ok-write_either_constraints.ensures scope)) refl)
+    (λ _ _ rows e at. rows.reach _ e refl at)

@@ -5,4 +5,5 @@ pub returns-then-extensions : goal.returns-then-extensions
 returns-then-extensions c = λ scope. first_of_two _ _ _ _ _ _ c.if-extensions.true (c.write_extensions.ensures scope)
 
 pub returns-else-extensions : goal.returns-else-extensions
-returns-else-extensions c = λ scope. second_of_two _ _ _ _ _ _ c.if-extensions.false (c.write_other_constraints.ensures scope)
+returns-else-extensions c =
+    λ scope. second_of_two _ _ _ _ _ _ c.if-extensions.false (c.write_other_constraints.ensures scope)

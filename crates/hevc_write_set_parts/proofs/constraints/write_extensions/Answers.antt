@@ -9,4 +9,5 @@ pub returns : goal.returns
 unfolding range_extensions_flags
 returns c = λ scope. writes λ y w none. do
   rows ← part_of (formats scope) own.formats_of (formats_keeps scope) _ none (c.in_ok-write_formats.ensures scope) refl
-  ending (part_of (bit_depth_flag scope) own.bit_depth_flag_of (bit_depth_flag_keeps scope) _ rows.known (c.in_ok-write_bit_depth_flag.ensures scope) refl) (λ _ _ rows e at. rows.reach _ e refl at)
+  ending (part_of (bit_depth_flag scope) own.bit_depth_flag_of (bit_depth_flag_keeps scope) _ rows.known
+      (c.in_ok-write_bit_depth_flag.ensures scope) refl) (λ _ _ rows e at. rows.reach _ e refl at)

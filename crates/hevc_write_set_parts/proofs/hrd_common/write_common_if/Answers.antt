@@ -11,4 +11,6 @@ unfolding common_parameters
 returns c = writes_if c.if-not-present.false λ y w none. do
   rows ← flag_of _ refl none (λ r. r.nal_hrd_parameters_present_flag) c.in_ok-flag.ensures
   rows ← flag_of _ refl rows.known (λ r. r.vcl_hrd_parameters_present_flag) c.in_ok-flag-2.ensures
-  ending (part_if_of buffering own.buffering_of buffering_keeps _ rows.known (λ r. r.nal_hrd_parameters_present_flag || r.vcl_hrd_parameters_present_flag) (rw c.has_buffering.ensures at c.in_ok-write_buffering_if.ensures) refl) (λ _ _ rows e at. rows.reach _ e refl at)
+  ending (part_if_of buffering own.buffering_of buffering_keeps _ rows.known
+      (λ r. r.nal_hrd_parameters_present_flag || r.vcl_hrd_parameters_present_flag)
+      (rw c.has_buffering.ensures at c.in_ok-write_buffering_if.ensures) refl) (λ _ _ rows e at. rows.reach _ e refl at)

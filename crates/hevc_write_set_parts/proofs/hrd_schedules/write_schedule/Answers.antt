@@ -18,8 +18,14 @@ returns c =
           done_filled (λ a.
           let rate = one_less c.args.i y.bit_rate_value_minus1 x.bit_rate_value_minus1 v1 0 (omega arith) a.0 in
           let size = one_less c.args.i y.cpb_size_value_minus1 x.cpb_size_value_minus1 v2 0 (omega arith) a.1 in
-          let unit_size = one_less c.args.i y.cpb_size_du_value_minus1 x.cpb_size_du_value_minus1 v3 0 (omega arith) a.2 in
-          let unit_rate = one_less c.args.i y.bit_rate_du_value_minus1 x.bit_rate_du_value_minus1 v4 0 (omega arith) a.3 in
-          let constant = one_less c.args.i y.cbr_flag x.cbr_flag v5 false (omega arith) a.4 in
-          ((rate.0, size.0, unit_size.0, unit_rate.0, constant.0), λ at. constant_row constant.1 (unit_rate_row refl unit_rate.1 (unit_size_row refl unit_size.1 (size_row size.1 (rate_row rate.1 at)))))))))));
+          let unit_size = one_less c.args.i y.cpb_size_du_value_minus1 x.cpb_size_du_value_minus1 v3 0
+          (omega arith) a.2 in
+          let unit_rate = one_less c.args.i y.bit_rate_du_value_minus1 x.bit_rate_du_value_minus1 v4 0
+          (omega arith) a.3 in
+          let constant = one_less c.args.i y.cbr_flag x.cbr_flag v5 false (omega arith) a.4 in (
+            (rate.0, size.0, unit_size.0, unit_rate.0, constant.0),
+            λ at. constant_row constant.1
+                (unit_rate_row refl unit_rate.1
+                (unit_size_row refl unit_size.1 (size_row size.1 (rate_row rate.1 at)))),
+          )))))));
     }

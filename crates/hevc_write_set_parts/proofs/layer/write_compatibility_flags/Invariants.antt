@@ -5,4 +5,5 @@ use Rattle.hevc_write_set_parts.specs.LayerProfile.{plain_layer_profile}
 use Rattle.hevc_write_set_parts.proofs.layer.write_compatibility_flags.Given as goal
 
 abbrev pub invariant-loop-i : goal.invariant-loop-i
-invariant-loop-i l = (scope : Scope) → WritesTurns (compatibility_flag scope) (same_flags (plain_layer_profile l.layer)) l.i l.fn.w l.w
+invariant-loop-i l = (scope : Scope)
+    → WritesTurns (compatibility_flag scope) (same_flags (plain_layer_profile l.layer)) l.i l.fn.w l.w

@@ -12,5 +12,6 @@ returns c = record {
       table_then (c.in_ok-write_layer_profile.ensures general) (λ v1 b1 general_profile_row.
       number_then _ refl 8 is_level c.in_ok-bits_u8.ensures (λ v2 b2 general_level_idc_row.
       done_filled (λ e at.
-      general_level_idc_row (by e (λ r. r.general_level_idc) ∙ sym c.number.ensures) (general_profile_row (by e general_profile ∙ sym c.general-layer.ensures) at))));
+      general_level_idc_row (by e (λ r. r.general_level_idc) ∙ sym c.number.ensures)
+      (general_profile_row (by e general_profile ∙ sym c.general-layer.ensures) at))));
 }

@@ -17,6 +17,9 @@ returns c =
     is_present c.if-not-present.false (record {
       written = λ y w.
           number_then _ refl 8 is_level c.in_ok-bits_u8.ensures (λ v b h. done_filled (λ a.
-          let level = one_less c.args.i y.sub_layer_level_idc x.sub_layer_level_idc v 0 within a in
-          (level.0, λ at. h (level.1 ∙ get_or-map level_number c.args.x.now.sub_layer_level_idc c.args.i _ 0 (omega arith) ∙ sym c.number.ensures) at)));
+          let level = one_less c.args.i y.sub_layer_level_idc x.sub_layer_level_idc v 0 within a in (
+            level.0,
+            λ at. h (level.1 ∙ get_or-map level_number c.args.x.now.sub_layer_level_idc c.args.i _ 0
+                (omega arith) ∙ sym c.number.ensures) at,
+          )));
     })

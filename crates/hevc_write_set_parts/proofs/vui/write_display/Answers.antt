@@ -12,4 +12,6 @@ returns c = writes λ y w none. do
   rows ← flag_of _ refl rows.known (λ r. r.field_seq_flag) c.in_ok-flag-2.ensures
   rows ← flag_of _ refl rows.known (λ r. r.frame_field_info_present_flag) c.in_ok-flag-3.ensures
   rows ← flag_of _ refl rows.known (λ r. r.default_display_window_flag) c.in_ok-flag-4.ensures
-  ending (part_if_of display_window own.display_window_of display_window_keeps _ rows.known (λ r. r.default_display_window_flag) c.in_ok-write_display_window_if.ensures refl) (λ _ _ rows e at. rows.reach _ e refl at)
+  ending (part_if_of display_window own.display_window_of display_window_keeps _ rows.known
+      (λ r. r.default_display_window_flag) c.in_ok-write_display_window_if.ensures refl)
+      (λ _ _ rows e at. rows.reach _ e refl at)

@@ -7,5 +7,6 @@ pub returns : goal.returns
 unfolding overscan
 returns c = writes λ y w none. do
   rows ← flag_of _ refl none (λ r. r.overscan_info_present_flag) c.in_ok-flag.ensures
-  rows ← flag_if_of _ refl _ _ rows.known (λ r. r.overscan_info_present_flag) (λ r. r.overscan_appropriate_flag) c.in_ok-flag_if.ensures
+  rows ← flag_if_of _ refl _ _ rows.known (λ r. r.overscan_info_present_flag)
+      (λ r. r.overscan_appropriate_flag) c.in_ok-flag_if.ensures
   done_filled (λ e at. rows.known.reach _ e refl at)

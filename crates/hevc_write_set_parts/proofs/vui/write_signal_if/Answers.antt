@@ -11,4 +11,6 @@ returns c = writes_if c.if-not-present.false λ y w none. do
   rows ← bits_of _ refl _ _ _ none (λ r. r.video_format) c.in_ok-bits_u8.ensures
   rows ← flag_of _ refl rows.known (λ r. r.video_full_range_flag) c.in_ok-flag.ensures
   rows ← flag_of _ refl rows.known (λ r. r.colour_description_present_flag) c.in_ok-flag-2.ensures
-  ending (part_if_of colours own.colours_of colours_keeps _ rows.known (λ r. r.colour_description_present_flag) c.in_ok-write_colours_if.ensures refl) (λ _ _ rows e at. rows.reach _ e refl at)
+  ending (part_if_of colours own.colours_of colours_keeps _ rows.known
+      (λ r. r.colour_description_present_flag) c.in_ok-write_colours_if.ensures refl)
+      (λ _ _ rows e at. rows.reach _ e refl at)

@@ -9,4 +9,6 @@ pub returns : goal.returns
 unfolding signal_type
 returns c = writes λ y w none. do
   rows ← flag_of _ refl none (λ r. r.video_signal_type_present_flag) c.in_ok-flag.ensures
-  ending (part_if_of signal own.signal_of signal_keeps _ rows.known (λ r. r.video_signal_type_present_flag) c.in_ok-write_signal_if.ensures refl) (λ _ _ rows e at. rows.reach _ e refl at)
+  ending (part_if_of signal own.signal_of signal_keeps _ rows.known
+      (λ r. r.video_signal_type_present_flag) c.in_ok-write_signal_if.ensures refl)
+      (λ _ _ rows e at. rows.reach _ e refl at)

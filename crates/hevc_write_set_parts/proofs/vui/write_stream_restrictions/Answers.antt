@@ -9,4 +9,6 @@ pub returns : goal.returns
 unfolding stream_restrictions
 returns c = writes λ y w none. do
   rows ← flag_of _ refl none (λ r. r.bitstream_restriction_flag) c.in_ok-flag.ensures
-  ending (part_if_of restrictions own.restrictions_of restrictions_keeps _ rows.known (λ r. r.bitstream_restriction_flag) c.in_ok-write_restrictions_if.ensures refl) (λ _ _ rows e at. rows.reach _ e refl at)
+  ending (part_if_of restrictions own.restrictions_of restrictions_keeps _ rows.known
+      (λ r. r.bitstream_restriction_flag) c.in_ok-write_restrictions_if.ensures refl)
+      (λ _ _ rows e at. rows.reach _ e refl at)

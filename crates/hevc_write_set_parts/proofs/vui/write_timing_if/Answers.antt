@@ -11,6 +11,8 @@ returns c = writes_if c.if-not-present.false λ y w none. do
   rows ← bits_of _ refl _ _ _ none (λ r. r.num_units_in_tick) c.in_ok-bits.ensures
   rows ← bits_of _ refl _ _ _ rows.known (λ r. r.time_scale) c.in_ok-bits-2.ensures
   rows ← flag_of _ refl rows.known (λ r. r.poc_proportional_to_timing_flag) c.in_ok-flag.ensures
-  rows ← ue_if_of _ refl _ _ _ _ rows.known (λ r. r.poc_proportional_to_timing_flag) (λ r. r.num_ticks_poc_diff_one_minus1) c.in_ok-ue_if.ensures
+  rows ← ue_if_of _ refl _ _ _ _ rows.known (λ r. r.poc_proportional_to_timing_flag)
+      (λ r. r.num_ticks_poc_diff_one_minus1) c.in_ok-ue_if.ensures
   rows ← flag_of _ refl rows.known (λ r. r.hrd_parameters_present_flag) c.in_ok-flag-2.ensures
-  ending (part_if_of (hrd _) own.hrd_of (hrd_keeps _) _ rows.known (λ r. r.hrd_parameters_present_flag) c.in_ok-write_hrd_if.ensures refl) (λ _ _ rows e at. rows.reach _ e refl at)
+  ending (part_if_of (hrd _) own.hrd_of (hrd_keeps _) _ rows.known
+      (λ r. r.hrd_parameters_present_flag) c.in_ok-write_hrd_if.ensures refl) (λ _ _ rows e at. rows.reach _ e refl at)

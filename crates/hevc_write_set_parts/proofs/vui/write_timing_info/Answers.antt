@@ -9,4 +9,5 @@ pub returns : goal.returns
 unfolding timing_info
 returns c = writes λ y w none. do
   rows ← flag_of _ refl none (λ r. r.timing_info_present_flag) c.in_ok-flag.ensures
-  ending (part_if_of (timing _) own.timing_of (timing_keeps _) _ rows.known (λ r. r.timing_info_present_flag) c.in_ok-write_timing_if.ensures refl) (λ _ _ rows e at. rows.reach _ e refl at)
+  ending (part_if_of (timing _) own.timing_of (timing_keeps _) _ rows.known
+      (λ r. r.timing_info_present_flag) c.in_ok-write_timing_if.ensures refl) (λ _ _ rows e at. rows.reach _ e refl at)

@@ -14,5 +14,6 @@ returns c = record {
       done_filled (λ e at.
       let small : v1 < 2 ^ 32 = grind (arith, nat_tests, within) in
       let delta = by e (λ r. r.delta_poc) in
-      used_by_curr_pic_row (by e (λ r. r.used_by_curr_pic)) (ue_row (sym (c.gap_minus1.ensures v1 small (omega (arith, ints, delta)))) at))));
+      used_by_curr_pic_row (by e (λ r. r.used_by_curr_pic))
+      (ue_row (sym (c.gap_minus1.ensures v1 small (omega (arith, ints, delta)))) at))));
 }

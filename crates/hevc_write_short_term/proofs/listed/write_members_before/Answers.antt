@@ -16,7 +16,9 @@ loop-i-preserved c =
     let none : ShortTermMember = record { delta_poc = pos 0; used_by_curr_pic = false } in
     let fits : SFits w64 c.last_delta.result = search rules in
     one_more_turn _ _ c.loop-i.invariant (before_written c.args.members.now c.loop-i.i none c.loop-i-test.true
-    (subst (λ (last : ℤ). WritesTable (member_before last) (get_or c.args.members.now c.loop-i.i none) c.loop-i.w c.write_member_before.new.w) c.last_delta.ensures (simp to_z-of_z at c.in_ok-write_member_before.ensures)))
+    (subst (λ (last : ℤ). WritesTable (member_before last)
+    (get_or c.args.members.now c.loop-i.i none) c.loop-i.w c.write_member_before.new.w) c.last_delta.ensures
+    (simp to_z-of_z at c.in_ok-write_member_before.ensures)))
 
 pub returns : goal.returns
 returns c = λ count. listed_before_written _ c.loop-i.i count c.loop-i.invariant (omega arith)

@@ -18,12 +18,24 @@ returns-clause-rows c =
           then_filled (ue_if_then _ refl _ _ _ _ c.in_ok-ue_u8_if.ensures (λ v1 b1 delta_idx_minus1_row.
           flag_then _ refl c.in_ok-flag.ensures (λ v2 b2 delta_rps_sign_row.
           ue_then _ refl _ _ c.in_ok-ue.ensures (λ v3 _ b3 abs_delta_rps_minus1_row.
-          done_filled (weakened (beside (rows_before_kept (map plain_short_term_ref_pic_set c.args.sets.now) c.args.st_rps_idx _ b3)
-          (members_written (map plain_short_term_ref_pic_set c.args.sets.now) c.args.st_rps_idx (plain_short_term_ref_pic_set c.args.x.now) _ (plain_short_term_ref_pic_set other) b3 _ _ c.other_set.ensures (apart other (omega arith) (omega arith)) (many other (omega arith) (omega arith)) c.in_ok-write_member_flags.ensures)) (λ z all h e at.
-          h.1 e (abs_delta_rps_minus1_row (sym h.0.2 ∙ by e (λ r. r.abs_delta_rps_minus1) ∙ sym c.from.ensures) (delta_rps_sign_row (sym h.0.1 ∙ by e (λ r. r.delta_rps_sign)) (delta_idx_minus1_row refl (sym h.0.0 ∙ by e (λ r. r.delta_idx_minus1)) at)))))))));
+          done_filled (weakened
+          (beside (rows_before_kept (map plain_short_term_ref_pic_set c.args.sets.now) c.args.st_rps_idx _ b3)
+          (members_written (map plain_short_term_ref_pic_set c.args.sets.now) c.args.st_rps_idx
+          (plain_short_term_ref_pic_set c.args.x.now) _
+          (plain_short_term_ref_pic_set other) b3 _ _ c.other_set.ensures
+          (apart other (omega arith) (omega arith))
+          (many other (omega arith) (omega arith)) c.in_ok-write_member_flags.ensures)) (λ z all h e at.
+          h.1 e (abs_delta_rps_minus1_row (sym h.0.2 ∙ by e (λ r. r.abs_delta_rps_minus1)
+          ∙ sym c.from.ensures)
+          (delta_rps_sign_row (sym h.0.1 ∙ by e (λ r. r.delta_rps_sign))
+          (delta_idx_minus1_row refl (sym h.0.0 ∙ by e (λ r. r.delta_idx_minus1)) at)))))))));
     }
 
 pub returns-clause-flags : goal.returns-clause-flags
 returns-clause-flags c =
-    let x = plain_short_term_ref_pic_set c.args.x.now in
-    (c.ue.new.w, subst (λ (other : PlainShortTermRefPicSet). WritesFlags (chosen_flags (shift_of x) (differences other ++ pos 0 ∷ []) (members_of x)) c.ue.new.w c.write_member_flags.new.w) c.other_set.ensures c.in_ok-write_member_flags.ensures)
+    let x = plain_short_term_ref_pic_set c.args.x.now in (
+      c.ue.new.w,
+      subst (λ (other : PlainShortTermRefPicSet). WritesFlags
+          (chosen_flags (shift_of x) (differences other ++ pos 0 ∷ []) (members_of x)) c.ue.new.w
+          c.write_member_flags.new.w) c.other_set.ensures c.in_ok-write_member_flags.ensures,
+    )

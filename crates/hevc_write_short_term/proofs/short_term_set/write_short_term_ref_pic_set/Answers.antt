@@ -9,6 +9,9 @@ unfolding short_term_ref_pic_set
 returns-clause-rows c = λ most. record {
   written = λ w.
       flag_if_then _ refl _ _ c.in_ok-flag_if.ensures (λ v1 b1 inter_ref_pic_set_prediction_flag_row.
-      either_part_written (predicted_set _ _ _) (listed_set _) members (predicted_keeps _ _ _) (listed_keeps _) _ _ (c.in_ok-write_members.ensures.rows most) refl (λ v2 b2 inter_ref_pic_set_prediction_flag_row_2 e at.
-      inter_ref_pic_set_prediction_flag_row_2 (by e (λ r. r.inter_ref_pic_set_prediction_flag)) _ e refl (inter_ref_pic_set_prediction_flag_row refl (by e (λ r. r.inter_ref_pic_set_prediction_flag)) at)));
+      either_part_written (predicted_set _ _ _) (listed_set _) members (predicted_keeps _ _ _)
+      (listed_keeps _) _ _ (c.in_ok-write_members.ensures.rows most) refl
+      (λ v2 b2 inter_ref_pic_set_prediction_flag_row_2 e at.
+      inter_ref_pic_set_prediction_flag_row_2 (by e (λ r. r.inter_ref_pic_set_prediction_flag)) _ e refl
+      (inter_ref_pic_set_prediction_flag_row refl (by e (λ r. r.inter_ref_pic_set_prediction_flag)) at)));
 }

@@ -14,9 +14,13 @@ returns c =
     is_present c.if-not-present.false (record {
       written = λ y w.
           ue_then _ refl _ _ c.in_ok-ue_u8.ensures (λ v1 few b1 ue_u8_row.
-          then_filled (one_table_written (λ (k : ℕ). entry_points (k + 1) y.num_entry_point_offsets) (λ k. entry_points_fillable (k + 1) y.num_entry_point_offsets) v1 c.offset_len_minus1.result (numbers v1 c.offset_len_minus1.result) (c.in_ok-write_entry_points.ensures y.num_entry_point_offsets) (λ v2 b2 entry_point_offset_minus1_row.
+          then_filled (one_table_written (λ (k : ℕ). entry_points (k + 1) y.num_entry_point_offsets)
+          (λ k. entry_points_fillable (k + 1) y.num_entry_point_offsets) v1 c.offset_len_minus1.result
+          (numbers v1 c.offset_len_minus1.result)
+          (c.in_ok-write_entry_points.ensures y.num_entry_point_offsets) (λ v2 b2 entry_point_offset_minus1_row.
           done_filled (λ e at.
           let len : v1 ≡ x.offset_len_minus1 = by e (λ r. r.offset_len_minus1) in
           let few_bits : x.offset_len_minus1 ≤ 31 = rw (← len) (grind (arith, nat_tests, few)) in
-          entry_point_offset_minus1_row (len ∙ sym (c.offset_len_minus1.ensures.value few_bits)) (by e (λ r. r.entry_point_offset_minus1) ∙ sym c.as_slice.ensures) (ue_u8_row len at)))));
+          entry_point_offset_minus1_row (len ∙ sym (c.offset_len_minus1.ensures.value few_bits))
+          (by e (λ r. r.entry_point_offset_minus1) ∙ sym c.as_slice.ensures) (ue_u8_row len at)))));
     })

@@ -7,7 +7,9 @@ pub loop-i-init : goal.loop-i-init
 loop-i-init c = no_turns _ _ _
 
 pub loop-i-preserved : goal.loop-i-preserved
-loop-i-preserved c = one_more_turn _ _ c.loop-i.invariant (entry_point_written _ _ _ (omega arith) (rw (← c.from-num_bits.ensures) c.in_ok-bits.ensures))
+loop-i-preserved c =
+    one_more_turn _ _ c.loop-i.invariant
+    (entry_point_written _ _ _ (omega arith) (rw (← c.from-num_bits.ensures) c.in_ok-bits.ensures))
 
 pub returns : goal.returns
 returns c = λ count. entry_points_written _ _ c.loop-i.i count c.loop-i.invariant (omega arith)

@@ -10,4 +10,6 @@ pub returns : goal.returns
 unfolding parallel_parts
 returns c = writes_if c.if-not-present.false λ y w none. do
   rows ← ue_of _ refl _ _ none (λ r. r.num_entry_point_offsets) c.in_ok-ue.ensures
-  ending (part_if_of entry_point_offsets own.entry_point_offsets_of entry_point_offsets_keeps _ rows.known (λ r. not (r.num_entry_point_offsets == 0)) c.in_ok-write_entry_point_offsets_if.ensures refl) (λ _ _ rows e at. rows.reach _ e refl at)
+  ending (part_if_of entry_point_offsets own.entry_point_offsets_of entry_point_offsets_keeps _ rows.known
+      (λ r. not (r.num_entry_point_offsets == 0)) c.in_ok-write_entry_point_offsets_if.ensures refl)
+      (λ _ _ rows e at. rows.reach _ e refl at)

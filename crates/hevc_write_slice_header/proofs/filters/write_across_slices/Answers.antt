@@ -10,5 +10,8 @@ returns c = record {
   written = λ y w.
       flag_if_then _ refl _ _ c.in_ok-flag_if.ensures (λ v1 b1 loop_filter_across_slices_enabled_flag_row.
       done_filled (λ e at.
-      loop_filter_across_slices_enabled_flag_row ((ap (λ (b : Bool). c.args.pps.now.loop_filter_across_slices_enabled_flag && b) (by e (λ r. has_filters r))) ∙ sym c.goes_across.ensures) (by e (λ r. r.loop_filter_across_slices_enabled_flag)) at));
+      loop_filter_across_slices_enabled_flag_row
+      ((ap (λ (b : Bool). c.args.pps.now.loop_filter_across_slices_enabled_flag && b)
+      (by e (λ r. has_filters r))) ∙ sym c.goes_across.ensures)
+      (by e (λ r. r.loop_filter_across_slices_enabled_flag)) at));
 }

@@ -7,5 +7,6 @@ pub returns : goal.returns
 unfolding adaptive_offset
 returns c = writes λ y w none. do
   rows ← flag_if_of _ refl _ _ none (always _) (λ r. r.sao_luma_flag) c.in_ok-flag_if.ensures
-  rows ← flag_if_of _ refl _ _ rows.known (always _) (λ r. r.sao_chroma_flag) (rw c.has_chroma_offset.ensures at c.in_ok-flag_if-2.ensures)
+  rows ← flag_if_of _ refl _ _ rows.known (always _)
+      (λ r. r.sao_chroma_flag) (rw c.has_chroma_offset.ensures at c.in_ok-flag_if-2.ensures)
   done_filled (λ e at. rows.known.reach _ e refl at)

@@ -10,4 +10,6 @@ pub returns : goal.returns
 unfolding own_deblocking
 returns c = writes_if c.if-not-present.false λ y w none. do
   rows ← flag_of _ refl none (λ r. r.deblocking_filter_disabled_flag) c.in_ok-flag.ensures
-  ending (part_if_of filter_offsets own.filter_offsets_of filter_offsets_keeps _ rows.known (λ r. not r.deblocking_filter_disabled_flag) c.in_ok-write_filter_offsets_if.ensures refl) (λ _ _ rows e at. rows.reach _ e refl at)
+  ending (part_if_of filter_offsets own.filter_offsets_of filter_offsets_keeps _ rows.known
+      (λ r. not r.deblocking_filter_disabled_flag) c.in_ok-write_filter_offsets_if.ensures refl)
+      (λ _ _ rows e at. rows.reach _ e refl at)

@@ -4,4 +4,5 @@ use Rattle.hevc_write_slice_header.proofs.LongTerm.{picture_written}
 use Rattle.hevc_write_slice_header.proofs.long_term.write_long_term_picture.Goals as goal
 
 pub returns : goal.returns
-returns c = picture_written (plain_sps c.args.sps.now) (plain_slice_header c.args.x.now) c.args.i c.in_ok-write_place.ensures c.in_ok-write_cycles.ensures
+returns c = picture_written (plain_sps c.args.sps.now)
+    (plain_slice_header c.args.x.now) c.args.i c.in_ok-write_place.ensures c.in_ok-write_cycles.ensures

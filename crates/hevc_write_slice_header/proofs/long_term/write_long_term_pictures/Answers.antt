@@ -12,4 +12,5 @@ pub loop-i-preserved : goal.loop-i-preserved
 loop-i-preserved c = one_more_turn _ _ c.loop-i.invariant c.in_ok-write_long_term_picture.ensures
 
 pub returns : goal.returns
-returns c = pictures_written (plain_sps c.args.sps.now) (plain_slice_header c.args.x.now) c.loop-i.i c.loop-i.invariant (omega (arith, c.from.ensures, c.from-2.ensures))
+returns c = pictures_written (plain_sps c.args.sps.now)
+    (plain_slice_header c.args.x.now) c.loop-i.i c.loop-i.invariant (omega (arith, c.from.ensures, c.from-2.ensures))

@@ -6,4 +6,5 @@ use Rattle.hevc_write_slice_header.specs.HeaderParts.{SameLongTerm}
 use Rattle.hevc_write_slice_header.proofs.long_term.write_long_term_pictures.Given as goal
 
 abbrev pub invariant-loop-i : goal.invariant-loop-i
-invariant-loop-i l = WritesTurns (long_term_picture (plain_sps l.sps)) (SameLongTerm (plain_slice_header l.x)) l.i l.fn.w l.w
+invariant-loop-i l =
+    WritesTurns (long_term_picture (plain_sps l.sps)) (SameLongTerm (plain_slice_header l.x)) l.i l.fn.w l.w

@@ -12,6 +12,7 @@ returns c = record {
   written = λ y w.
       se_then _ refl _ _ c.in_ok-se_i8.ensures (λ v1 b1 qp_delta_row.
       check_then _ _ (λ held2.
-      when_part_written (chroma_offsets _) own.chroma_offsets_of (chroma_offsets_keeps _) _ c.in_ok-write_chroma_offsets_if.ensures refl (λ v3 b3 chroma_offsets_rows e at.
+      when_part_written (chroma_offsets _) own.chroma_offsets_of
+      (chroma_offsets_keeps _) _ c.in_ok-write_chroma_offsets_if.ensures refl (λ v3 b3 chroma_offsets_rows e at.
       chroma_offsets_rows refl _ e refl ((qp_delta_row (by e (λ r. r.qp_delta) ∙ omega (arith, ints)) at)))));
 }

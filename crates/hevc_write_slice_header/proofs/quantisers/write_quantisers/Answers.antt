@@ -9,4 +9,6 @@ pub returns : goal.returns
 unfolding quantisers
 returns c = writes λ y w none. do
   rows ← part_of (quantiser _) own.quantiser_of (quantiser_keeps _) _ none c.in_ok-write_quantiser.ensures refl
-  ending (part_of (extension_offsets _) own.extension_offsets_of (extension_offsets_keeps _) _ rows.known c.in_ok-write_extension_offsets.ensures refl) (λ _ _ rows e at. rows.reach _ e refl at)
+  ending (part_of (extension_offsets _) own.extension_offsets_of
+      (extension_offsets_keeps _) _ rows.known c.in_ok-write_extension_offsets.ensures refl)
+      (λ _ _ rows e at. rows.reach _ e refl at)

@@ -1,7 +1,8 @@
 use Rattle.std.proofs.Common.{refl}
 use Rattle.hevc_tables.specs.SliceHeaderTable.{kind}
 use Rattle.hevc_spec.specs.Rows.{row}
-use Rattle.hevc_write_elements.proofs.Chains.{done_filled, always, bits_if_of, flag_if_of, ue_of, writes, zeros_of, ◌>>=◌}
+use Rattle.hevc_write_elements.proofs.Chains.{done_filled, always, bits_if_of, flag_if_of, ue_of}
+use Rattle.hevc_write_elements.proofs.Chains.{writes, zeros_of, ◌>>=◌}
 use Rattle.hevc_write_slice_header.proofs.segment.write_kind.Goals as goal
 
 pub returns : goal.returns

@@ -7,7 +7,11 @@ pub loop-i-init : goal.loop-i-init
 loop-i-init c = λ r kept. no_turns _ _ _
 
 pub loop-i-preserved : goal.loop-i-preserved
-loop-i-preserved c = λ r kept. one_more_turn _ _ (c.loop-i.invariant r kept) (entry_written r kept _ _ c.loop-i.i (omega arith) (rw (← c.ceil_log2-num_bits.ensures.value) c.in_ok-bits.ensures))
+loop-i-preserved c =
+    λ r kept. one_more_turn _ _ (c.loop-i.invariant r kept)
+    (entry_written r kept _ _ c.loop-i.i (omega arith) (rw (← c.ceil_log2-num_bits.ensures.value) c.in_ok-bits.ensures))
 
 pub returns : goal.returns
-returns c = record { written = λ r kept count. entries_written r kept _ _ count c.loop-i.i (c.loop-i.invariant r kept) (omega arith) }
+returns c = record {
+  written = λ r kept count. entries_written r kept _ _ count c.loop-i.i (c.loop-i.invariant r kept) (omega arith);
+}

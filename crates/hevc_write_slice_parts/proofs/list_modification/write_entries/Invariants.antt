@@ -7,4 +7,5 @@ use Rattle.hevc_write_elements.specs.Filling.{WritesTurns, are_first}
 use Rattle.hevc_write_slice_parts.proofs.list_modification.write_entries.Given as goal
 
 abbrev pub invariant-loop-i : goal.invariant-loop-i
-invariant-loop-i l = (r : Row) → chosen_value r ≡ None → WritesTurns (list_entry r l.num_pic_total_curr) (are_first l.entries) l.i l.fn.w l.w
+invariant-loop-i l = (r : Row) → chosen_value r ≡ None
+    → WritesTurns (list_entry r l.num_pic_total_curr) (are_first l.entries) l.i l.fn.w l.w

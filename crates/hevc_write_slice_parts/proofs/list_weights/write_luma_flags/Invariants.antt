@@ -5,4 +5,5 @@ use Rattle.hevc_write_slice_parts.specs.WeightParts as own
 use Rattle.hevc_write_slice_parts.proofs.list_weights.write_luma_flags.Given as goal
 
 abbrev pub invariant-loop-i : goal.invariant-loop-i
-invariant-loop-i l = (list : ℕ) → WritesTurns (luma_flag list) (own.same_luma_flags (own.plain_list_weights l.x)) l.i l.fn.w l.w
+invariant-loop-i l = (list : ℕ)
+    → WritesTurns (luma_flag list) (own.same_luma_flags (own.plain_list_weights l.x)) l.i l.fn.w l.w

@@ -13,9 +13,20 @@ returns c = λ sps list.
     let i = c.args.i in
     record {
       written = λ y w.
-          then_filled (when_turn_written (luma_weight sps list) (own.same_luma x) own.luma_weights_of i (luma_weight_keeps sps list i) y (fewer_luma x i y) (c.in_ok-write_luma_weight_if.ensures sps list) (λ v1 b1 luma_weights_rows.
-          when_turn_written (chroma_weight sps list) (own.same_chroma x) own.chroma_weights_of i (chroma_weight_keeps sps list i) _ (fewer_chroma x i (own.luma_weights_of v1 y)) (c.in_ok-write_chroma_weight_if.ensures sps list) (λ v2 b2 chroma_weights_rows a.
+          then_filled (when_turn_written (luma_weight sps list) (own.same_luma x) own.luma_weights_of i
+          (luma_weight_keeps sps list i) y (fewer_luma x i y)
+          (c.in_ok-write_luma_weight_if.ensures sps list) (λ v1 b1 luma_weights_rows.
+          when_turn_written (chroma_weight sps list) (own.same_chroma x) own.chroma_weights_of i
+          (chroma_weight_keeps sps list i) _ (fewer_chroma x i (own.luma_weights_of v1 y))
+          (c.in_ok-write_chroma_weight_if.ensures sps list) (λ v2 b2 chroma_weights_rows a.
           let luma = luma_weights_rows (ap (λ (l : List Bool). get_or l i false) a.luma_flags) a.luma in
-          let chroma = chroma_weights_rows (ap (λ (l : List Bool). get_or l i false) a.chroma_flags) a.chroma in
-          (record { luma_flags = a.luma_flags; chroma_flags = a.chroma_flags; luma = luma.0; chroma = chroma.0 }, λ at. chroma.1 (luma.1 at)))));
+          let chroma = chroma_weights_rows (ap (λ (l : List Bool). get_or l i false) a.chroma_flags) a.chroma in (
+            record {
+              luma_flags = a.luma_flags;
+              chroma_flags = a.chroma_flags;
+              luma = luma.0;
+              chroma = chroma.0;
+            },
+            λ at. chroma.1 (luma.1 at),
+          ))));
     }

@@ -11,4 +11,6 @@ returns c = writes λ y w none. do
   rows ← flag_of _ refl none (λ r. r.amp_enabled_flag) c.in_ok-flag.ensures
   rows ← flag_of _ refl rows.known (λ r. r.sample_adaptive_offset_enabled_flag) c.in_ok-flag-2.ensures
   rows ← flag_of _ refl rows.known (λ r. r.pcm_enabled_flag) c.in_ok-flag-3.ensures
-  ending (part_if_of pulse_code_modulation own.pulse_code_modulation_of pulse_code_modulation_keeps _ rows.known (λ r. r.pcm_enabled_flag) c.in_ok-write_pulse_code_modulation_if.ensures refl) (λ _ _ rows e at. rows.reach _ e refl at)
+  ending (part_if_of pulse_code_modulation own.pulse_code_modulation_of pulse_code_modulation_keeps _
+      rows.known (λ r. r.pcm_enabled_flag) c.in_ok-write_pulse_code_modulation_if.ensures refl)
+      (λ _ _ rows e at. rows.reach _ e refl at)

@@ -10,7 +10,8 @@ pub returns : goal.returns
 unfolding usability_information
 returns c = is_present c.if-not-present.false (record {
   written = λ y w.
-      then_filled (one_table_written vui_parameters vui_fillable _ _ (numbers _ _) c.in_ok-write_vui_parameters.ensures (λ v1 b1 vui_parameters_row.
+      then_filled (one_table_written vui_parameters vui_fillable _ _
+      (numbers _ _) c.in_ok-write_vui_parameters.ensures (λ v1 b1 vui_parameters_row.
       done_filled (λ e at.
       vui_parameters_row (by e (λ r. r.max_sub_layers_minus1)) (by e (λ r. r.vui_parameters)) at)));
 })

@@ -8,6 +8,9 @@ use Rattle.hevc_write_sps.proofs.extensions.write_extension_data_if.Goals as goa
 pub returns : goal.returns
 unfolding extension_data
 returns c = writes_if c.if-not-present.false λ y w none. do
-  rows ← part_of extension_flags own.extension_flags_of extension_flags_keeps _ none c.in_ok-write_extension_flags.ensures refl
-  rows ← part_if_of range_extension own.range_extension_of range_extension_keeps _ rows.known (λ r. r.range_extension_flag) c.in_ok-write_range_extension_if.ensures refl
-  ending (part_if_of scc_extension own.scc_extension_of scc_extension_keeps _ rows.known (λ r. r.scc_extension_flag) c.in_ok-write_scc_extension_if.ensures refl) (λ _ _ rows e at. rows.reach _ e refl at)
+  rows ← part_of extension_flags own.extension_flags_of extension_flags_keeps _ none
+      c.in_ok-write_extension_flags.ensures refl
+  rows ← part_if_of range_extension own.range_extension_of range_extension_keeps _ rows.known
+      (λ r. r.range_extension_flag) c.in_ok-write_range_extension_if.ensures refl
+  ending (part_if_of scc_extension own.scc_extension_of scc_extension_keeps _ rows.known
+      (λ r. r.scc_extension_flag) c.in_ok-write_scc_extension_if.ensures refl) (λ _ _ rows e at. rows.reach _ e refl at)

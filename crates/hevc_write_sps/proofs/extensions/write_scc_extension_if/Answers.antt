@@ -11,7 +11,8 @@ pub returns : goal.returns
 unfolding scc_extension
 returns c = is_present c.if-not-present.false (record {
   written = λ y w.
-      then_filled (one_table_written sps_scc_extension sps_scc_fillable _ _ (formats _ _) c.in_ok-write_sps_scc_extension.ensures (λ v1 b1 scc_extension_row.
+      then_filled (one_table_written sps_scc_extension sps_scc_fillable _ _
+      (formats _ _) c.in_ok-write_sps_scc_extension.ensures (λ v1 b1 scc_extension_row.
       done_filled (λ e at.
       scc_extension_row (by e (λ r. sample_format r)) (by e (λ r. r.scc_extension)) at)));
 })

@@ -13,5 +13,10 @@ returns c = record {
       ue_then _ refl _ _ c.in_ok-ue_u8-4.ensures (λ v4 _ b4 log2_diff_max_min_luma_transform_block_size_row.
       check_then _ _ (λ held5.
       done_filled (λ e at.
-      (log2_diff_max_min_luma_transform_block_size_row (by e (λ r. r.log2_diff_max_min_luma_transform_block_size)) (log2_min_luma_transform_block_size_minus2_row (by e (λ r. r.log2_min_luma_transform_block_size_minus2)) (log2_diff_max_min_luma_coding_block_size_row (by e (λ r. r.log2_diff_max_min_luma_coding_block_size)) (log2_min_luma_coding_block_size_minus3_row (by e (λ r. r.log2_min_luma_coding_block_size_minus3)) at))))))))));
+      (log2_diff_max_min_luma_transform_block_size_row
+      (by e (λ r. r.log2_diff_max_min_luma_transform_block_size))
+      (log2_min_luma_transform_block_size_minus2_row
+      (by e (λ r. r.log2_min_luma_transform_block_size_minus2))
+      (log2_diff_max_min_luma_coding_block_size_row (by e (λ r. r.log2_diff_max_min_luma_coding_block_size))
+      (log2_min_luma_coding_block_size_minus3_row (by e (λ r. r.log2_min_luma_coding_block_size_minus3)) at))))))))));
 }

@@ -14,5 +14,8 @@ returns c = is_present c.if-not-present.false (record {
       ue_then _ refl _ _ c.in_ok-ue-4.ensures (λ v4 _ b4 conf_win_bottom_offset_row.
       check_then _ _ (λ held5.
       done_filled (λ e at.
-      (conf_win_bottom_offset_row (by e (λ r. r.conf_win_bottom_offset)) (conf_win_top_offset_row (by e (λ r. r.conf_win_top_offset)) (conf_win_right_offset_row (by e (λ r. r.conf_win_right_offset)) (conf_win_left_offset_row (by e (λ r. r.conf_win_left_offset)) at))))))))));
+      (conf_win_bottom_offset_row (by e (λ r. r.conf_win_bottom_offset))
+      (conf_win_top_offset_row (by e (λ r. r.conf_win_top_offset))
+      (conf_win_right_offset_row (by e (λ r. r.conf_win_right_offset))
+      (conf_win_left_offset_row (by e (λ r. r.conf_win_left_offset)) at))))))))));
 })

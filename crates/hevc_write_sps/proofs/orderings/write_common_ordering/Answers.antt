@@ -17,7 +17,9 @@ returns c =
           ue_then _ refl _ _ third.1 (λ v3 _ b3 max_latency_increase_plus1_row.
           done_filled (λ e at.
           let m = by e (λ r. r.max_sub_layers_minus1) ∙ sym c.from-highest.ensures in
-          max_latency_increase_plus1_row (highest_is y.max_sub_layers_minus1 v3 _ _ (by e (λ r. r.max_latency_increase_plus1)) m)
+          max_latency_increase_plus1_row
+          (highest_is y.max_sub_layers_minus1 v3 _ _ (by e (λ r. r.max_latency_increase_plus1)) m)
           (max_num_reorder_pics_row (highest_is y.max_sub_layers_minus1 v2 _ _ (by e (λ r. r.max_num_reorder_pics)) m)
-          (max_dec_pic_buffering_minus1_row (highest_is y.max_sub_layers_minus1 v1 _ _ (by e (λ r. r.max_dec_pic_buffering_minus1)) m) at))))));
+          (max_dec_pic_buffering_minus1_row
+          (highest_is y.max_sub_layers_minus1 v1 _ _ (by e (λ r. r.max_dec_pic_buffering_minus1)) m) at))))));
     }

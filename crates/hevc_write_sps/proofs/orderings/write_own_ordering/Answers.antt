@@ -21,6 +21,8 @@ returns c =
           done_filled (λ a.
           let buffering = one_less i y.max_dec_pic_buffering_minus1 x.max_dec_pic_buffering_minus1 v1 0 first.0 a.0 in
           let reordering = one_less i y.max_num_reorder_pics x.max_num_reorder_pics v2 0 second.0 a.1 in
-          let latency = one_less i y.max_latency_increase_plus1 x.max_latency_increase_plus1 v3 0 third.0 a.2 in
-          ((buffering.0, reordering.0, latency.0), λ at. latency_row latency.1 (reordering_row reordering.1 (buffering_row buffering.1 at)))))));
+          let latency = one_less i y.max_latency_increase_plus1 x.max_latency_increase_plus1 v3 0 third.0 a.2 in (
+            (buffering.0, reordering.0, latency.0),
+            λ at. latency_row latency.1 (reordering_row reordering.1 (buffering_row buffering.1 at)),
+          )))));
     }

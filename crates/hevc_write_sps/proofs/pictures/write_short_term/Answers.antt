@@ -9,7 +9,11 @@ unfolding short_term
 returns c = record {
   written = λ y w.
       ue_then _ refl _ _ c.in_ok-ue_u8.ensures (λ v1 _ b1 num_short_term_ref_pic_sets_row.
-      then_filled (one_table_written (λ (k : ℕ). short_term_sets k (highest_buffering y)) (λ k. short_term_sets_fillable k (highest_buffering y)) _ _ (numbers _ _) (c.in_ok-write_short_term_sets.ensures _) (λ v2 b2 short_term_ref_pic_set_row.
+      then_filled (one_table_written (λ (k : ℕ). short_term_sets k (highest_buffering y))
+      (λ k. short_term_sets_fillable k (highest_buffering y)) _ _ (numbers _ _)
+      (c.in_ok-write_short_term_sets.ensures _) (λ v2 b2 short_term_ref_pic_set_row.
       done_filled (λ e at.
-      short_term_ref_pic_set_row (by e (λ r. r.num_short_term_ref_pic_sets)) (by e (λ r. r.short_term_ref_pic_set)) (num_short_term_ref_pic_sets_row (by e (λ r. r.num_short_term_ref_pic_sets)) at)))));
+      short_term_ref_pic_set_row (by e (λ r. r.num_short_term_ref_pic_sets))
+      (by e (λ r. r.short_term_ref_pic_set))
+      (num_short_term_ref_pic_sets_row (by e (λ r. r.num_short_term_ref_pic_sets)) at)))));
 }

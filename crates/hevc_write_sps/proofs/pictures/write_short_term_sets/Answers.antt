@@ -16,9 +16,22 @@ loop-i-preserved c = λ most.
     let sets = c.as_slice-sets.result.now in
     let i = c.loop-i.i in
     let here : get_or sets i c.index-sets-i.result ≡ c.index-sets-i.result = sym c.index-sets-i.is in
-    one_more_turn _ _ (c.loop-i.invariant most) (set_written _ most (map plain_short_term_ref_pic_set sets) i default_short_term_ref_pic_set (rw (length-map sets plain_short_term_ref_pic_set) (omega arith))
-    (subst (λ (before : List PlainShortTermRefPicSet). WritesTable (short_term_ref_pic_set before c.args.x.now.num_short_term_ref_pic_sets most i) (get_or (map plain_short_term_ref_pic_set sets) i default_short_term_ref_pic_set) c.loop-i.w c.write_short_term_ref_pic_set.new.w) (sym (take-map plain_short_term_ref_pic_set i sets))
-    (subst (λ (set : PlainShortTermRefPicSet). WritesTable (short_term_ref_pic_set (map plain_short_term_ref_pic_set (take i sets)) c.args.x.now.num_short_term_ref_pic_sets most i) set c.loop-i.w c.write_short_term_ref_pic_set.new.w) (sym (get_or-map plain_short_term_ref_pic_set sets i c.index-sets-i.result default_short_term_ref_pic_set c.loop-i-test.true ∙ ap plain_short_term_ref_pic_set here)) (c.in_ok-write_short_term_ref_pic_set.ensures.rows most))))
+    one_more_turn _ _ (c.loop-i.invariant most)
+    (set_written _ most (map plain_short_term_ref_pic_set sets) i default_short_term_ref_pic_set
+    (rw (length-map sets plain_short_term_ref_pic_set) (omega arith))
+    (subst (λ (before : List PlainShortTermRefPicSet). WritesTable
+    (short_term_ref_pic_set before c.args.x.now.num_short_term_ref_pic_sets most i)
+    (get_or (map plain_short_term_ref_pic_set sets) i default_short_term_ref_pic_set) c.loop-i.w
+    c.write_short_term_ref_pic_set.new.w) (sym (take-map plain_short_term_ref_pic_set i sets))
+    (subst (λ (set : PlainShortTermRefPicSet). WritesTable
+    (short_term_ref_pic_set
+    (map plain_short_term_ref_pic_set (take i sets)) c.args.x.now.num_short_term_ref_pic_sets most i) set
+    c.loop-i.w c.write_short_term_ref_pic_set.new.w)
+    (sym (get_or-map plain_short_term_ref_pic_set sets i c.index-sets-i.result
+    default_short_term_ref_pic_set c.loop-i-test.true ∙ ap plain_short_term_ref_pic_set here))
+    (c.in_ok-write_short_term_ref_pic_set.ensures.rows most))))
 
 pub returns : goal.returns
-returns c = λ most. rw (← c.as_slice-sets.ensures) (sets_written _ most _ c.loop-i.i (c.loop-i.invariant most) (rw (length-map c.as_slice-sets.result.now plain_short_term_ref_pic_set) (omega arith)))
+returns c = λ most. rw (← c.as_slice-sets.ensures)
+    (sets_written _ most _ c.loop-i.i (c.loop-i.invariant most)
+    (rw (length-map c.as_slice-sets.result.now plain_short_term_ref_pic_set) (omega arith)))

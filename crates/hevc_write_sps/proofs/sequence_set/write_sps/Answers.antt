@@ -9,4 +9,5 @@ pub returns : goal.returns
 unfolding sequence_parameter_set
 returns c = writes_table λ w none. do
   rows ← part_of format own.format_of format_keeps _ none c.in_ok-write_format.ensures refl
-  ending (part_of coding own.coding_of coding_keeps _ rows.known c.in_ok-write_coding.ensures refl) (λ _ _ rows e at. rows.reach _ e refl at)
+  ending (part_of coding own.coding_of coding_keeps _ rows.known c.in_ok-write_coding.ensures refl)
+      (λ _ _ rows e at. rows.reach _ e refl at)

@@ -13,4 +13,5 @@ pub loop-i-preserved : goal.loop-i-preserved
 loop-i-preserved c = one_more_turn _ _ c.loop-i.invariant c.in_ok-write_structure.ensures
 
 pub returns : goal.returns
-returns c = structures_written (plain_vps c.args.x.now) c.loop-i.i c.loop-i.invariant (rw (length-map c.args.x.now.hrd_parameters plain_hrd_params) (omega (arith, ap length c.as_slice-i-end.ensures)))
+returns c = structures_written (plain_vps c.args.x.now) c.loop-i.i c.loop-i.invariant
+    (rw (length-map c.args.x.now.hrd_parameters plain_hrd_params) (omega (arith, ap length c.as_slice-i-end.ensures)))

@@ -9,4 +9,6 @@ pub returns : goal.returns
 unfolding timing_info
 returns c = writes λ y w none. do
   told ← flag_of _ refl none (λ r. r.timing_info_present_flag) c.in_ok-flag.ensures
-  ending (part_if_of own.timing_rows own.timing_of timing_keeps (record (own.without_structures y) { timing_info_present_flag = told.value }) told.known (λ r. r.timing_info_present_flag) c.in_ok-write_timing_if.ensures refl) (λ _ _ rows e at. rows.reach _ e refl at)
+  ending (part_if_of own.timing_rows own.timing_of timing_keeps
+      (record (own.without_structures y) { timing_info_present_flag = told.value }) told.known
+      (λ r. r.timing_info_present_flag) c.in_ok-write_timing_if.ensures refl) (λ _ _ rows e at. rows.reach _ e refl at)

@@ -20,5 +20,6 @@ returns c =
           let sets : v2 ≡ x.num_layer_sets_minus1 = by e (λ r. r.num_layer_sets_minus1) in
           let few_layers : x.max_layer_id ≤ 62 = rw (← layers) (grind (arith, nat_tests, few)) in
           let few_sets : x.num_layer_sets_minus1 ≤ 1023 = rw (← sets) (grind (arith, nat_tests, fewer)) in
-          zeros_row (ap₂ (λ (k m : ℕ). (k + 1) * m) layers sets ∙ sym (c.num_layer_flags.ensures few_layers few_sets)) (ue_row sets (bits_u8_row layers at)))))));
+          zeros_row (ap₂ (λ (k m : ℕ). (k + 1) * m) layers sets
+          ∙ sym (c.num_layer_flags.ensures few_layers few_sets)) (ue_row sets (bits_u8_row layers at)))))));
     }

@@ -8,7 +8,11 @@ write_low_bits-requires c =
     omega (arith, exponent_below c.ilog2.result 31 few)
 
 pub returns-clause-ok : goal.returns-clause-ok
-returns-clause-ok c = let zeros = leading_zero_bits-is c.args.value c.ilog2.result c.requires c.ilog2.ensures.power_le c.ilog2.ensures.next_power_gt in rw zeros c.write_low_bits.ensures.ok
+returns-clause-ok c = let zeros =
+    leading_zero_bits-is c.args.value c.ilog2.result c.requires c.ilog2.ensures.power_le
+    c.ilog2.ensures.next_power_gt in rw zeros c.write_low_bits.ensures.ok
 
 pub returns-clause-err : goal.returns-clause-err
-returns-clause-err c = let zeros = leading_zero_bits-is c.args.value c.ilog2.result c.requires c.ilog2.ensures.power_le c.ilog2.ensures.next_power_gt in rw zeros c.write_low_bits.ensures.err
+returns-clause-err c = let zeros =
+    leading_zero_bits-is c.args.value c.ilog2.result c.requires c.ilog2.ensures.power_le
+    c.ilog2.ensures.next_power_gt in rw zeros c.write_low_bits.ensures.err

@@ -16,5 +16,10 @@ invariant_of-result g c =
       | else-is_end w ↦ search (rules, fewer)
     ] in
     let first = c.in-Some.ensures.first g.U.Header.kept size small in
-    let behind = units_from g.U.Header.kept (offset + size) stream in
-    (search rules, search rules, search rules, search rules, (c.args.position.now, behind, first ∙ ap (λ bytes. record { offset = offset; bytes = bytes } ∷ behind) found))
+    let behind = units_from g.U.Header.kept (offset + size) stream in (
+      search rules,
+      search rules,
+      search rules,
+      search rules,
+      (c.args.position.now, behind, first ∙ ap (λ bytes. record { offset = offset; bytes = bytes } ∷ behind) found),
+    )

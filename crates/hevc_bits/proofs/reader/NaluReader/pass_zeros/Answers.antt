@@ -7,8 +7,11 @@ use Rattle.hevc_bits.proofs.reader.NaluReader.pass_zeros.Goals as goal
 pub returns-then-zeros-eq31-clause-read : goal.returns-then-zeros-eq31-clause-read
 returns-then-zeros-eq31-clause-read c =
     let rest = bits c.read_bit.new.self in
-    let zero = c.in_ok-read_bit.ensures.read ∙ ap (λ (b : Bool). b ∷ rest) c.if-not-branch.true in
-    (golomb_too_many c.loop-zeros.zeros (bits c.loop-zeros.ahead) rest _ zero c.if-zeros-eq31.true c.loop-zeros.invariant.same, refl)
+    let zero = c.in_ok-read_bit.ensures.read ∙ ap (λ (b : Bool). b ∷ rest) c.if-not-branch.true in (
+      golomb_too_many c.loop-zeros.zeros (bits c.loop-zeros.ahead) rest _ zero c.if-zeros-eq31.true
+          c.loop-zeros.invariant.same,
+      refl,
+    )
 
 pub loop-zeros-preserved : goal.loop-zeros-preserved
 loop-zeros-preserved c =

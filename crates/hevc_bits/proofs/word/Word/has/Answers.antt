@@ -12,5 +12,6 @@ returns c =
           let e = w.fill.ensures in
           rw w.self-is (fills num old w.fill.new.self e.filled e.same (λ few. e.full (omega (arith, c.requires.few))))
       | else-self-num_bits w ↦
-          rw w.self-is (fills num old old c.requires.filled refl (λ few. absurd (omega (arith, w.if-self-num_bits.false))))
+          rw w.self-is (fills num old old c.requires.filled refl
+          (λ few. absurd (omega (arith, w.if-self-num_bits.false))))
     ]

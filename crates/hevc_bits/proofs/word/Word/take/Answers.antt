@@ -16,4 +16,5 @@ pub returns-clause-number : goal.returns-clause-number
 returns-clause-number c = rw (one c.args.num_bits (omega (arith, c.requires.held, c.requires.filled.fits))) refl
 
 pub returns-clause-bound : goal.returns-clause-bound
-returns-clause-bound c = rw (one c.args.num_bits (omega (arith, c.requires.held, c.requires.filled.fits))) (mod_below _ (2 ^ c.args.num_bits) (pow_pos c.args.num_bits))
+returns-clause-bound c = rw (one c.args.num_bits (omega (arith, c.requires.held, c.requires.filled.fits)))
+    (mod_below _ (2 ^ c.args.num_bits) (pow_pos c.args.num_bits))

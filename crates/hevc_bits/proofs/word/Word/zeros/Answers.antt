@@ -15,7 +15,12 @@ record IsCount (n left count : ℕ) : Type 0 where
 counts : (n left : ℕ) → n < 2 ^ left → left ≤ 63 → IsCount n left (count_leading_zeros 64 n)
 counts zero left small fits =
     let none : count_leading_zeros 64 0 ≡ 64 = leading_of_zero 64 in
-    rw none (record { all = omega arith; most = omega arith; least_one = λ lt. absurd (omega arith); below = λ lt. absurd (omega arith) })
+    rw none (record {
+      all = omega arith;
+      most = omega arith;
+      least_one = λ lt. absurd (omega arith);
+      below = λ lt. absurd (omega arith);
+    })
 counts (suc n) left small fits =
     let whole : 2 ^ left ≤ 2 ^ 64 = pow_mono {i = left} {j = 64} (omega arith) in
     let top = leading_top 64 (suc n) (omega arith) (omega arith) in
@@ -35,14 +40,17 @@ counts (suc n) left small fits =
 one : (n : ℕ) → n < 64 → 1 * 2 ^ n % 18446744073709551616 ≡ 2 ^ n
 one n lt = one_shl n 64 lt
 
-unread_count : (cache left : ℕ) → left ≤ 63 → IsCount (cache % 2 ^ left) left (count_leading_zeros 64 (cache % (1 * 2 ^ left % 18446744073709551616)))
-unread_count cache left fits = rw (one left (omega arith)) (counts (cache % 2 ^ left) left (mod_below cache (2 ^ left) (pow_pos left)) fits)
+unread_count : (cache left : ℕ) → left ≤ 63
+    → IsCount (cache % 2 ^ left) left (count_leading_zeros 64 (cache % (1 * 2 ^ left % 18446744073709551616)))
+unread_count cache left fits =
+    rw (one left (omega arith)) (counts (cache % 2 ^ left) left (mod_below cache (2 ^ left) (pow_pos left)) fits)
 
 pub overflow_sub-result : goal.overflow_sub-result
 overflow_sub-result c = (unread_count c.args.self.now.cache c.args.self.now.left c.requires.fits).all
 
 pub returns-clause-within : goal.returns-clause-within
-returns-clause-within c = let k = unread_count c.args.self.now.cache c.args.self.now.left c.requires.fits in omega (arith, k.most)
+returns-clause-within c = let k = unread_count c.args.self.now.cache c.args.self.now.left c.requires.fits in
+    omega (arith, k.most)
 
 pub returns-clause-least : goal.returns-clause-least
 returns-clause-least c = (unread_count c.args.self.now.cache c.args.self.now.left c.requires.fits).least_one

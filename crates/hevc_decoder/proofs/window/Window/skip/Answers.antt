@@ -8,7 +8,11 @@ returns-then-count-left-clause-too_long g c =
     let before = c.loop-count.invariant.given in
     let more = c.in_ok-count.ensures.more in
     let both = length-append before.0 more.0 in
-    λ _. (before.0 ++ more.0, omega (arith, both, before.1, more.2, c.if-count-left.true), Consumes-trans _ _ _ _ _ before.2 more.3)
+    λ _. (
+      before.0 ++ more.0,
+      omega (arith, both, before.1, more.2, c.if-count-left.true),
+      Consumes-trans _ _ _ _ _ before.2 more.3,
+    )
 
 pub loop-count-preserved : goal.loop-count-preserved
 loop-count-preserved g c =
@@ -16,6 +20,10 @@ loop-count-preserved g c =
     let more = c.in_ok-count.ensures.more in
     let both = length-append before.0 more.0 in
     record {
-      given = (before.0 ++ more.0, omega (arith, both, before.1, more.2, c.if-count-left.false), Consumes-trans _ _ _ _ _ before.2 more.3);
+      given = (
+        before.0 ++ more.0,
+        omega (arith, both, before.1, more.2, c.if-count-left.false),
+        Consumes-trans _ _ _ _ _ before.2 more.3,
+      );
       later = search rules;
     }

@@ -5,7 +5,8 @@ use Rattle.hevc_decoder.proofs.window.Window.skip.Given as goal
 -- so many bytes have left the source
 abbrev pub invariant-loop-count : goal.invariant-loop-count
 invariant-loop-count g l = record {
-  given : (bytes : List ℕ) × (length bytes + l.left ≡ l.limit) × Consumes (g.S.Source.left l.fn.source) (g.S.Source.left l.source) bytes;
+  given : (bytes : List ℕ) × (length bytes + l.left ≡ l.limit)
+      × Consumes (g.S.Source.left l.fn.source) (g.S.Source.left l.source) bytes;
   later : g.S.Source.faults l.fn.source ≤ g.S.Source.faults l.source;
 }
 

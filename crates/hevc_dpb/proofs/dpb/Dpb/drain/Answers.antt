@@ -11,19 +11,36 @@ use Rattle.hevc_dpb.proofs.PlainLaws.{plain_order}
 use Rattle.hevc_dpb.proofs.dpb.Dpb.drain.Goals as goal
 
 pub invariant_of-self-clause-few : goal.invariant_of-self-clause-few
-invariant_of-self-clause-few g c = omega (arith, ap length c.keep_not_waiting.ensures.kept, filter_few waits_not c.order_if_stale.new.self.entries.items, c.order_if_stale.new.self.few)
+invariant_of-self-clause-few g c =
+    omega (
+      arith,
+      ap length c.keep_not_waiting.ensures.kept,
+      filter_few waits_not c.order_if_stale.new.self.entries.items,
+      c.order_if_stale.new.self.few,
+    )
 
 pub invariant_of-self-clause-distinct : goal.invariant_of-self-clause-distinct
-invariant_of-self-clause-distinct g c = subst (λ l. Distinct (numbers l)) (sym c.keep_not_waiting.ensures.kept) (distinct_filter (λ e. e.number) waits_not c.order_if_stale.new.self.entries.items c.order_if_stale.new.self.distinct)
+invariant_of-self-clause-distinct g c =
+    subst (λ l. Distinct (numbers l)) (sym c.keep_not_waiting.ensures.kept)
+    (distinct_filter
+    (λ e. e.number) waits_not c.order_if_stale.new.self.entries.items c.order_if_stale.new.self.distinct)
 
 pub returns-clause-handles : goal.returns-clause-handles
-returns-clause-handles g c = subst (λ l. IsSublist (tickets c.order_waiting.new.self.entries.items) (tickets l)) c.order_if_stale.ensures.entries (subst (λ l. IsSublist (tickets l) (tickets c.order_if_stale.new.self.entries.items)) (sym (c.order_waiting.ensures.entries ∙ c.keep_not_waiting.ensures.kept)) (filter_sublist ticket waits_not c.order_if_stale.new.self.entries.items))
+returns-clause-handles g c =
+    subst (λ l. IsSublist (tickets c.order_waiting.new.self.entries.items) (tickets l))
+    c.order_if_stale.ensures.entries
+    (subst (λ l. IsSublist (tickets l) (tickets c.order_if_stale.new.self.entries.items))
+    (sym (c.order_waiting.ensures.entries ∙ c.keep_not_waiting.ensures.kept))
+    (filter_sublist ticket waits_not c.order_if_stale.new.self.entries.items))
 
 pub returns-in_err-reserve-clause-handles : goal.returns-in_err-reserve-clause-handles
 returns-in_err-reserve-clause-handles g c = sublist_all _
 
 pub append_in_order-requires-clause-room : goal.append_in_order-requires-clause-room
-append_in_order-requires-clause-room g c = let l = positions_few c.order_if_stale.new.self.entries.items c.order_if_stale.new.self.waiting.items (c.order_if_stale.new.self.in_order c.order_if_stale.ensures.fresh) in omega (arith, l, c.order_if_stale.new.self.few, c.in_ok-reserve.ensures.ok)
+append_in_order-requires-clause-room g c = let l =
+    positions_few c.order_if_stale.new.self.entries.items c.order_if_stale.new.self.waiting.items
+    (c.order_if_stale.new.self.in_order c.order_if_stale.ensures.fresh) in
+    omega (arith, l, c.order_if_stale.new.self.few, c.in_ok-reserve.ensures.ok)
 
 pub returns-clause-drained : goal.returns-clause-drained
 returns-clause-drained g c = plain_order c.args.self.now.entries.items
@@ -35,5 +52,7 @@ pub returns-clause-keeps : goal.returns-clause-keeps
 returns-clause-keeps g c = record {
   size = search rules;
   room = search rules;
-  latency = λ h. subst HaveLatency (sym (c.order_waiting.ensures.entries ∙ c.keep_not_waiting.ensures.kept)) (latency_filter waits_not c.order_if_stale.new.self.entries.items (subst HaveLatency (sym c.order_if_stale.ensures.entries) h));
+  latency = λ h. subst HaveLatency (sym (c.order_waiting.ensures.entries ∙ c.keep_not_waiting.ensures.kept))
+      (latency_filter waits_not c.order_if_stale.new.self.entries.items
+      (subst HaveLatency (sym c.order_if_stale.ensures.entries) h));
 }

@@ -9,15 +9,22 @@ use Rattle.hevc_pictures.proofs.Powers.{power_most}
 use Rattle.hevc_dpb.specs.Views.{buffer_of}
 use Rattle.hevc_dpb.proofs.dpb.Dpb.find_ref_by_poc_masked.Goals as goal
 
-modulo_by : (es : Buffer) (found : Option ℕ) (poc wanted m : ℤ) (modulus : ℕ) → found ≡ first_number (λ e. is_reference e.mark && int_eq (int_rem_euclid e.order_count m) (int_rem_euclid wanted m)) es
-    → wanted ≡ poc → m ≡ pos modulus → found ≡ first_number (λ e. is_reference e.mark && is_congruent modulus e.order_count poc) es
+modulo_by : (es : Buffer) (found : Option ℕ) (poc wanted m : ℤ) (modulus : ℕ)
+    → found ≡ first_number
+    (λ e. is_reference e.mark && int_eq (int_rem_euclid e.order_count m) (int_rem_euclid wanted m)) es
+    → wanted ≡ poc → m ≡ pos modulus
+    → found ≡ first_number (λ e. is_reference e.mark && is_congruent modulus e.order_count poc) es
 modulo_by es found poc wanted m modulus is is_poc is_m =
     is
-    ∙ ap (λ (x : ℤ). first_number (λ e. is_reference e.mark && int_eq (int_rem_euclid e.order_count m) (int_rem_euclid x m)) es) is_poc
-    ∙ ap (λ (x : ℤ). first_number (λ e. is_reference e.mark && int_eq (int_rem_euclid e.order_count x) (int_rem_euclid poc x)) es) is_m
+    ∙ ap (λ (x : ℤ). first_number
+    (λ e. is_reference e.mark && int_eq (int_rem_euclid e.order_count m) (int_rem_euclid x m)) es) is_poc
+    ∙ ap (λ (x : ℤ). first_number
+    (λ e. is_reference e.mark && int_eq (int_rem_euclid e.order_count x) (int_rem_euclid poc x)) es) is_m
 
 pub returns : goal.returns
 returns g c modulus is =
     let most = power_most c.requires.log2_minus4 c.requires.bound in
-    let sum : to_z w32 (of_z w32 (to_z w32 (of_z w32 c.args.mask) +ℤ pos 1)) ≡ c.args.mask +ℤ pos 1 = omega (arith, ints, most, c.requires.power) in
-    modulo_by (buffer_of c.args.self.now) c.find.result c.args.poc _ _ modulus c.find.ensures (to_z-of_z w32 c.args.poc c.ranges.poc) (sum ∙ is)
+    let sum : to_z w32 (of_z w32 (to_z w32 (of_z w32 c.args.mask) +ℤ pos 1)) ≡ c.args.mask +ℤ pos 1 =
+    omega (arith, ints, most, c.requires.power) in
+    modulo_by (buffer_of c.args.self.now) c.find.result c.args.poc _ _ modulus c.find.ensures
+    (to_z-of_z w32 c.args.poc c.ranges.poc) (sum ∙ is)

@@ -14,7 +14,10 @@ returns-clause-sound g c =
       latency = subst HaveLatency (sym entries) s.latency;
       below = below_part _ _ _ _ s.below (omega arith) (part_same _ _ entries);
       newest = none_newest _ _ _ c.requires.none;
-      announced = record { stored = announced_same _ _ _ _ refl (same_pictures _ _ entries) s.announced.stored; current = none_announced _ _ _ c.requires.none };
+      announced = record {
+        stored = announced_same _ _ _ _ refl (same_pictures _ _ entries) s.announced.stored;
+        current = none_announced _ _ _ c.requires.none;
+      };
       told = told_same refl s.told (λ t h. record {
         handles = λ x k. h.handles x (part_same _ _ entries x k);
         sequence = tt;

@@ -12,8 +12,12 @@ use Rattle.hevc_driver.proofs.driver.Driver.negotiate.Goals as goal
 
 pub returns-clause-part : goal.returns-clause-part
 returns-clause-part g c t is =
-    let drains = c.output_all.ensures.part (g.B.StatelessH265DecoderBackend.log c.args.self.now.backend) (g.B.StatelessH265DecoderBackend.handed c.args.self.now.backend) (g.B.StatelessH265DecoderBackend.frames c.args.self.now.backend).asked t in
-    runs_behind _ t _ _ _ (on_store (output_by draining) (standing c.args.self.now.standing)) (on_store (open_sequence (format_of_set (plain_sps c.args.sps.now)))) _ _ _ _ drains (λ call h. (h.0, h.1 ∙ drains.next)) (c.open_sequence.ensures.part t is)
+    let drains = c.output_all.ensures.part (g.B.StatelessH265DecoderBackend.log c.args.self.now.backend)
+    (g.B.StatelessH265DecoderBackend.handed c.args.self.now.backend)
+    (g.B.StatelessH265DecoderBackend.frames c.args.self.now.backend).asked t in
+    runs_behind _ t _ _ _ (on_store (output_by draining) (standing c.args.self.now.standing))
+    (on_store (open_sequence (format_of_set (plain_sps c.args.sps.now)))) _ _ _ _ drains
+    (λ call h. (h.0, h.1 ∙ drains.next)) (c.open_sequence.ensures.part t is)
 
 pub open_sequence-requires-clause-sound : goal.open_sequence-requires-clause-sound
 open_sequence-requires-clause-sound g c =

@@ -35,7 +35,9 @@ hand_over-requires-clause-ready g c =
     let l = c.enter.ensures.leaves in
     record {
       none = none_with _ _ _ (ap (current_of c.args.self.now.standing.set) l.current ∙ r.none);
-      accepted = ap (λ (a : Option NegotiationInfo). is_accepted (format_of_set (plain_sps c.args.sps.now)) (option_map format_of a)) l.accepted ∙ r.accepted;
+      accepted = ap
+          (λ (a : Option NegotiationInfo). is_accepted (format_of_set (plain_sps c.args.sps.now))
+          (option_map format_of a)) l.accepted ∙ r.accepted;
       named = r.named;
       frame = r.frame;
       sound = left_sound _ _ _ _ r.sound r.none l (omega (arith, c.requires.next.number, c.enter.ensures.number));
@@ -49,12 +51,22 @@ returns-clause-part g c o =
     let mid = c.enter.new.self in
     let after = c.hand_over.new.self in
     let segment = segment_of c.args.slice.now c.args.sps.now c.args.pps.now in
-    let given = given_slice c.args.timestamp (plain_picture c.args.head.now.picture) (dpb_of (enters p w s).next.store) segment in
+    let given = given_slice c.args.timestamp (plain_picture c.args.head.now.picture)
+    (dpb_of (enters p w s).next.store) segment in
     let entered = c.enter.ensures.part _ _ _ given o c.args.pps.now in
-    let there = left_sound _ _ _ _ c.requires.ready.sound c.requires.ready.none c.enter.ensures.leaves (omega (arith, c.requires.next.number, c.enter.ensures.number)) in
+    let there = left_sound _ _ _ _ c.requires.ready.sound c.requires.ready.none c.enter.ensures.leaves
+    (omega (arith, c.requires.next.number, c.enter.ensures.number)) in
     let stored = sized_dpb mid there.sized ∙ ap (λ (v : Standing). dpb_of v.store) entered.next in
-    opened _ given _ _ _ p w s (standing mid) _ (plain_set mid.set) c.requires.next.decoded c.requires.ready.none entered (c.enter.ensures.set o c.args.pps.now)
-    (subst (λ (d : PlainDpb). Runs c.hand_over.result (given_slice c.args.timestamp (plain_picture c.args.head.now.picture) d segment)
-    (traces (g.B.StatelessH265DecoderBackend.log c.args.self.now.backend) (g.B.StatelessH265DecoderBackend.handed c.args.self.now.backend) (g.B.StatelessH265DecoderBackend.frames c.args.self.now.backend).asked mid)
-    (traces (g.B.StatelessH265DecoderBackend.log after.backend) (g.B.StatelessH265DecoderBackend.handed after.backend) (g.B.StatelessH265DecoderBackend.frames after.backend).asked after.standing)
-    (hands_over p (plain_set mid.set) w (standing mid)) (λ call. LeftStarted call × (standing after.standing ≡ standing mid)) (standing after.standing)) stored (c.hand_over.ensures.part o))
+    opened _ given _ _ _ p w s (standing mid) _
+    (plain_set mid.set) c.requires.next.decoded c.requires.ready.none entered (c.enter.ensures.set o c.args.pps.now)
+    (subst (λ (d : PlainDpb). Runs c.hand_over.result
+    (given_slice c.args.timestamp (plain_picture c.args.head.now.picture) d segment)
+    (traces (g.B.StatelessH265DecoderBackend.log c.args.self.now.backend)
+    (g.B.StatelessH265DecoderBackend.handed c.args.self.now.backend)
+    (g.B.StatelessH265DecoderBackend.frames c.args.self.now.backend).asked mid)
+    (traces (g.B.StatelessH265DecoderBackend.log after.backend)
+    (g.B.StatelessH265DecoderBackend.handed after.backend)
+    (g.B.StatelessH265DecoderBackend.frames after.backend).asked after.standing)
+    (hands_over p (plain_set mid.set) w (standing mid))
+    (λ call. LeftStarted call × (standing after.standing ≡ standing mid)) (standing after.standing)) stored
+    (c.hand_over.ensures.part o))

@@ -18,13 +18,29 @@ use Rattle.hevc_driver.proofs.driver.Driver.open_sequence.Goals as goal
 
 pub returns-in_err-new_sequence-clause-part : goal.returns-in_err-new_sequence-clause-part
 returns-in_err-new_sequence-clause-part g c t is =
-    runs_stop _ _ t _ _ _ _ _ c.from_residual.ensures.1 (stops_at t _ _ (walk.NewSequence (format_of_set (plain_sps c.args.sps.now))) [] _ c.in_err-new_sequence.ensures.log c.in_err-new_sequence.ensures.handed (ap (λ (f : Frames). f.asked) c.in_err-new_sequence.ensures.frames) refl (keeps_all _ _ refl) (tt, refl))
+    runs_stop _ _ t _ _ _ _ _ c.from_residual.ensures.1
+    (stops_at t _ _ (walk.NewSequence (format_of_set (plain_sps c.args.sps.now))) [] _
+    c.in_err-new_sequence.ensures.log c.in_err-new_sequence.ensures.handed
+    (ap (λ (f : Frames). f.asked) c.in_err-new_sequence.ensures.frames) refl (keeps_all _ _ refl) (tt, refl))
 
 pub returns-clause-part : goal.returns-clause-part
 returns-clause-part g c t is = record {
-  does = does_call t _ _ (new_sequence_call c.args.sps.now) c.in_ok-new_sequence.ensures.log (sequence_handed t _ _ _ is c.in_ok-new_sequence.ensures.handed) (ap (λ (f : Frames). f.asked) c.in_ok-new_sequence.ensures.frames) refl (keeps_more _ _ _ (ap tickets c.set_max_num_pics.ensures.entries)) tt;
-  next = ap (λ (es : Buffer). record (standing c.args.self.now.standing) { store = record { accepted = Some (format_of c.from-format.result); buffer = es } }) (ap plain_entries c.set_max_num_pics.ensures.entries)
-      ∙ ap (λ (f : Format). record (standing c.args.self.now.standing) { store = record { accepted = Some f; buffer = (standing c.args.self.now.standing).store.buffer } }) (ap format_of c.from-format.ensures);
+  does = does_call t _ _ (new_sequence_call c.args.sps.now) c.in_ok-new_sequence.ensures.log
+      (sequence_handed t _ _ _ is c.in_ok-new_sequence.ensures.handed)
+      (ap (λ (f : Frames). f.asked) c.in_ok-new_sequence.ensures.frames) refl
+      (keeps_more _ _ _ (ap tickets c.set_max_num_pics.ensures.entries)) tt;
+  next = ap (λ (es : Buffer). record (standing c.args.self.now.standing) {
+    store = record {
+      accepted = Some (format_of c.from-format.result);
+      buffer = es;
+    };
+  }) (ap plain_entries c.set_max_num_pics.ensures.entries)
+      ∙ ap (λ (f : Format). record (standing c.args.self.now.standing) {
+        store = record {
+          accepted = Some f;
+          buffer = (standing c.args.self.now.standing).store.buffer;
+        };
+      }) (ap format_of c.from-format.ensures);
 }
 
 pub returns-clause-stays : goal.returns-clause-stays
@@ -37,7 +53,11 @@ returns-clause-stays g c =
         latency = subst HaveLatency (sym entries) s.latency;
         below = below_part _ _ _ _ s.below (omega arith) (part_same _ _ entries);
         newest = none_newest _ _ _ c.requires.none;
-        announced = record { stored = announced_more _ _ _ _ c.in_ok-new_sequence.ensures.handed (announced_same _ _ _ _ refl (same_pictures _ _ entries) s.announced.stored); current = none_announced _ _ _ c.requires.none };
+        announced = record {
+          stored = announced_more _ _ _ _ c.in_ok-new_sequence.ensures.handed
+              (announced_same _ _ _ _ refl (same_pictures _ _ entries) s.announced.stored);
+          current = none_announced _ _ _ c.requires.none;
+        };
         told = told_call (new_sequence_call c.args.sps.now) c.in_ok-new_sequence.ensures.log s.told (λ t h. record {
           handles = λ x k. h.handles x (part_same _ _ entries x k);
           sequence = ap (λ i. Some (format_of i)) (sym c.from-format.ensures);

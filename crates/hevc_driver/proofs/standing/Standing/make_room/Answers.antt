@@ -14,13 +14,23 @@ use Rattle.hevc_driver.proofs.Soundness.{bumped_total}
 use Rattle.hevc_driver.proofs.standing.Standing.make_room.Goals as goal
 
 pub returns-then-head-clause-part : goal.returns-then-head-clause-part
-returns-then-head-clause-part g c log handed asked t = clears t _ _ (head_of c.args.head.now) (standing c.args.self.now) c.clear.new.self c.if-head.true (ap plain_entries c.clear.ensures.entries) (ap tickets c.clear.ensures.entries) refl refl refl refl refl
+returns-then-head-clause-part g c log handed asked t =
+    clears t _ _ (head_of c.args.head.now) (standing c.args.self.now) c.clear.new.self c.if-head.true
+    (ap plain_entries c.clear.ensures.entries) (ap tickets c.clear.ensures.entries) refl refl refl refl refl
 
 pub returns-then-starts_sequence-clause-part : goal.returns-then-starts_sequence-clause-part
-returns-then-starts_sequence-clause-part g c log handed asked t = drains t _ _ (head_of c.args.head.now) (standing c.args.self.now) c.args.self.now.dpb c.output_all.new.dpb c.args.self.now.queue c.output_all.new.queue c.if-head.false (sym c.starts_sequence.ensures ∙ c.if-starts_sequence.true) refl c.output_all.ensures refl refl refl refl refl refl refl
+returns-then-starts_sequence-clause-part g c log handed asked t =
+    drains t _ _ (head_of c.args.head.now)
+    (standing c.args.self.now) c.args.self.now.dpb c.output_all.new.dpb c.args.self.now.queue
+    c.output_all.new.queue c.if-head.false (sym c.starts_sequence.ensures ∙ c.if-starts_sequence.true) refl
+    c.output_all.ensures refl refl refl refl refl refl refl
 
 pub returns-else-starts_sequence-clause-part : goal.returns-else-starts_sequence-clause-part
-returns-else-starts_sequence-clause-part g c log handed asked t = bumps t _ _ (head_of c.args.head.now) (standing c.args.self.now) c.remove_unused.new.self c.bump_for_room.new.dpb c.args.self.now.queue c.bump_for_room.new.queue c.if-head.false (sym c.starts_sequence.ensures ∙ c.if-starts_sequence.false) c.remove_unused.ensures.buffer (λ x k. sublist_part c.remove_unused.ensures.handles x k) c.bump_for_room.ensures refl refl refl refl refl refl
+returns-else-starts_sequence-clause-part g c log handed asked t =
+    bumps t _ _ (head_of c.args.head.now) (standing c.args.self.now) c.remove_unused.new.self
+    c.bump_for_room.new.dpb c.args.self.now.queue c.bump_for_room.new.queue c.if-head.false
+    (sym c.starts_sequence.ensures ∙ c.if-starts_sequence.false) c.remove_unused.ensures.buffer
+    (λ x k. sublist_part c.remove_unused.ensures.handles x k) c.bump_for_room.ensures refl refl refl refl refl refl
 
 pub bump_for_room-requires-clause-room : goal.bump_for_room-requires-clause-room
 bump_for_room-requires-clause-room g c =
@@ -38,7 +48,11 @@ returns-else-starts_sequence-clause-leaves g c =
       pictures = λ x k. needed_pictures _ _ c.remove_unused.ensures.entries x (stored_part _ _ b.entries x k);
       size = b.size ∙ c.remove_unused.ensures.keeps.size;
       latency = b.latency;
-      grows = record { few = (let t = bumped_total _ _ _ _ _ b in omega (arith, t, same, kept)); capacity = b.capacity; stored = b.room ∙ c.remove_unused.ensures.keeps.room };
+      grows = record {
+        few = (let t = bumped_total _ _ _ _ _ b in omega (arith, t, same, kept));
+        capacity = b.capacity;
+        stored = b.room ∙ c.remove_unused.ensures.keeps.room;
+      };
       accepted = refl;
       current = refl;
       kept = refl;
@@ -62,7 +76,11 @@ returns-then-starts_sequence-clause-leaves g c = record {
   pictures = stored_part _ _ c.output_all.ensures.entries;
   size = search rules;
   latency = search rules;
-  grows = record { few = (let t = bumped_total _ _ _ _ _ c.output_all.ensures in omega (arith, t)); capacity = c.output_all.ensures.capacity; stored = c.output_all.ensures.room };
+  grows = record {
+    few = (let t = bumped_total _ _ _ _ _ c.output_all.ensures in omega (arith, t));
+    capacity = c.output_all.ensures.capacity;
+    stored = c.output_all.ensures.room;
+  };
   accepted = refl;
   current = refl;
   kept = refl;

@@ -7,5 +7,6 @@ use Rattle.hevc_elements.proofs.reader.ElementReader.tell_each.Given as goal
 abbrev pub invariant-loop-i : goal.invariant-loop-i
 invariant-loop-i l = record {
   place : l.self.place ≡ l.fn.self.place;
-  told : and_told (bits_told l.row (take (l.num_bits - l.i) (bits l.ahead))) l.self.telling ≡ and_told (bits_told l.row (take l.num_bits (left l.fn.self))) l.fn.self.telling;
+  told : and_told (bits_told l.row (take (l.num_bits - l.i) (bits l.ahead))) l.self.telling ≡ and_told
+      (bits_told l.row (take l.num_bits (left l.fn.self))) l.fn.self.telling;
 }

@@ -30,16 +30,24 @@ invariant_of-self-2 c =
     let options = options_of self.options in
     let items = self.waiting.items in
     let reads = c.in_ok-set.ensures.unit.read c.requires.typed in
-    let now = read_now (kept_by self.parser) (kept_by c.keep_sequence_set.new.self) (plain_sps set) (bytes_of c.args.nalu.now) c.copy_of.result (reads_it (bytes_of c.args.nalu.now) (plain_sps set) reads.0 reads.1) c.in_ok-keep_sequence_set.ensures.kept
-    (subst (λ (bs : List ℕ). IfSome c.copy_of.result (λ u. u.bytes.items ≡ bs)) c.as_ref.ensures.value c.copy_of.ensures.bytes)
-    (subst (λ (s : Sps). IfSome c.copy_of.result (λ u. u.id ≡ s.seq_parameter_set_id)) c.get.ensures c.copy_of.ensures.id) in
+    let now = read_now (kept_by self.parser) (kept_by c.keep_sequence_set.new.self) (plain_sps set)
+    (bytes_of c.args.nalu.now) c.copy_of.result
+    (reads_it (bytes_of c.args.nalu.now) (plain_sps set) reads.0 reads.1) c.in_ok-keep_sequence_set.ensures.kept
+    (subst (λ (bs : List ℕ). IfSome c.copy_of.result (λ u. u.bytes.items ≡ bs)) c.as_ref.ensures.value
+    c.copy_of.ensures.bytes)
+    (subst (λ (s : Sps). IfSome c.copy_of.result (λ u. u.id ≡ s.seq_parameter_set_id)) c.get.ensures
+    c.copy_of.ensures.id) in
     elim c.if-branch.branch [
       | then-branch w ↦ rw w.self-is (record {
         repeated = now;
         wanted = self.wanted;
         covered = self.covered;
-        settled = subst (λ (k : Kept). list_all (is_settled w.with_id-self.result options k) items ≡ true) (sym c.in_ok-keep_sequence_set.ensures.kept)
-            (settled_behind_set options (plain_sps set) self.changed w.with_id-self.result (subst (λ (s : Sps). (k : ℕ) → has_id w.with_id-self.result k ≡ (k == s.seq_parameter_set_id || has_id self.changed k)) c.get.ensures w.with_id-self.ensures) (kept_by self.parser) items self.settled);
+        settled = subst (λ (k : Kept). list_all (is_settled w.with_id-self.result options k) items ≡ true)
+            (sym c.in_ok-keep_sequence_set.ensures.kept)
+            (settled_behind_set options (plain_sps set) self.changed w.with_id-self.result
+            (subst (λ (s : Sps). (k : ℕ)
+            → has_id w.with_id-self.result k ≡ (k == s.seq_parameter_set_id || has_id self.changed k))
+            c.get.ensures w.with_id-self.ensures) (kept_by self.parser) items self.settled);
       })
       | else-branch w ↦
           let same : sequence_set_by self.parser set.seq_parameter_set_id ≡ Some set = search rules in
@@ -47,17 +55,26 @@ invariant_of-self-2 c =
             repeated = now;
             wanted = self.wanted;
             covered = self.covered;
-            settled = settled_again options self.changed (plain_sps set) (kept_by self.parser) (kept_by c.keep_sequence_set.new.self) (ap (option_map plain_sps) same) c.in_ok-keep_sequence_set.ensures.kept items self.settled;
+            settled = settled_again options self.changed (plain_sps set) (kept_by self.parser)
+                (kept_by c.keep_sequence_set.new.self)
+                (ap (option_map plain_sps) same) c.in_ok-keep_sequence_set.ensures.kept items self.settled;
           })
     ]
 
 pub returns-clause-keeps : goal.returns-clause-keeps
 returns-clause-keeps c =
     let header = c.requires.parsed in
-    rw c.get.ensures (sequence_set_kept (options_in c.args.self.now) (bytes_of c.args.nalu.now) c.args.nalu.now.header header c.requires.wanted c.args.self.now.waiting.items (kept_by c.args.self.now.parser) (kept_by c.keep_sequence_set.new.self) (plain_sps c.in_ok-set.set) (c.in_ok-set.ensures.unit.read c.requires.typed) c.requires.typed c.in_ok-keep_sequence_set.ensures.kept)
+    rw c.get.ensures
+    (sequence_set_kept (options_in c.args.self.now) (bytes_of c.args.nalu.now) c.args.nalu.now.header header
+    c.requires.wanted c.args.self.now.waiting.items (kept_by c.args.self.now.parser)
+    (kept_by c.keep_sequence_set.new.self) (plain_sps c.in_ok-set.set)
+    (c.in_ok-set.ensures.unit.read c.requires.typed) c.requires.typed c.in_ok-keep_sequence_set.ensures.kept)
 
 pub returns-in_err-set-clause-keeps : goal.returns-in_err-set-clause-keeps
 returns-in_err-set-clause-keeps c =
     let header = c.requires.parsed in
     let is : c.from_residual.result ≡ Err c.in_err-set.field-0.0 = search rules in
-    rw is (sequence_set_refused (options_in c.args.self.now) (bytes_of c.args.nalu.now) c.args.nalu.now.header header c.requires.wanted c.args.self.now.waiting.items (kept_by c.args.self.now.parser) (kept_by c.args.self.now.parser) c.in_err-set.field-0.0 c.requires.typed (c.in_err-set.ensures.unit.read c.requires.typed) c.in_err-set.ensures.names_no_set refl)
+    rw is (sequence_set_refused (options_in c.args.self.now)
+    (bytes_of c.args.nalu.now) c.args.nalu.now.header header c.requires.wanted c.args.self.now.waiting.items
+    (kept_by c.args.self.now.parser) (kept_by c.args.self.now.parser) c.in_err-set.field-0.0
+    c.requires.typed (c.in_err-set.ensures.unit.read c.requires.typed) c.in_err-set.ensures.names_no_set refl)

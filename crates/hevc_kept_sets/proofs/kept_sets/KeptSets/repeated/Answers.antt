@@ -12,5 +12,12 @@ returns c =
     let set = plain_sps c.in_ok-set.set.now in
     let is : c.args.self.now.last_read ≡ Some last = search rules in
     let same : last.bytes.items ≡ c.args.bytes.now = search rules in
-    let found : kept.sequence_sets last.id ≡ Some set = sym c.in_ok-set.ensures.found in
-    (set, (ap set_read (sym same) ∙ read_last kept c.args.self.now.last_read last is c.args.self.now.repeated ∙ found, ap kept.sequence_sets c.in_ok-set.ensures.own_id ∙ found, refl))
+    let found : kept.sequence_sets last.id ≡ Some set = sym c.in_ok-set.ensures.found in (
+      set,
+      (
+        ap set_read (sym same)
+            ∙ read_last kept c.args.self.now.last_read last is c.args.self.now.repeated ∙ found,
+        ap kept.sequence_sets c.in_ok-set.ensures.own_id ∙ found,
+        refl,
+      ),
+    )

@@ -8,4 +8,5 @@ use Rattle.hevc_parser.proofs.parser.Parser.keep_picture_set.Goals as goal
 pub returns-clause-kept : goal.returns-clause-kept
 returns-clause-kept c =
     ap (λ (sets : ℕ → Option PlainPps). record (kept_by c.args.self.now) { picture_sets = sets })
-    (kept_behind c.args.set plain_pps c.args.self.now.picture_sets c.insert.new.self c.args.set.pic_parameter_set_id c.in_ok-insert.ensures.updates)
+    (kept_behind c.args.set plain_pps c.args.self.now.picture_sets c.insert.new.self
+    c.args.set.pic_parameter_set_id c.in_ok-insert.ensures.updates)

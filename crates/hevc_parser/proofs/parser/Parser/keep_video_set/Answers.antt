@@ -8,4 +8,5 @@ use Rattle.hevc_parser.proofs.parser.Parser.keep_video_set.Goals as goal
 pub returns-clause-kept : goal.returns-clause-kept
 returns-clause-kept c =
     ap (λ (sets : ℕ → Option PlainVps). record (kept_by c.args.self.now) { video_sets = sets })
-    (kept_behind c.args.set plain_vps c.args.self.now.video_sets c.insert.new.self c.args.set.video_parameter_set_id c.in_ok-insert.ensures.updates)
+    (kept_behind c.args.set plain_vps c.args.self.now.video_sets c.insert.new.self
+    c.args.set.video_parameter_set_id c.in_ok-insert.ensures.updates)

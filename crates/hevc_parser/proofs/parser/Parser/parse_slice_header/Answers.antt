@@ -10,11 +10,22 @@ use Rattle.hevc_parser.proofs.parser.Parser.parse_slice_header.Goals as goal
 
 pub returns-clause-reads : goal.returns-clause-reads
 returns-clause-reads c =
-    let h = c.read_slice.new.slice.header in
-    (h, refl, read_whole _ _ h _ _ (subst (λ (u : FoundUnit UnitHeader). ReadsSlice (active_of (kept_by c.args.self.now)) u (Ok c.in_ok-read_slice.field-0) h) c.new_slice-slice.ensures.unit c.in_ok-read_slice.ensures.reads))
+    let h = c.read_slice.new.slice.header in (
+      h,
+      refl,
+      read_whole _ _ h _ _
+          (subst (λ (u : FoundUnit UnitHeader). ReadsSlice (active_of (kept_by c.args.self.now)) u
+          (Ok c.in_ok-read_slice.field-0) h) c.new_slice-slice.ensures.unit c.in_ok-read_slice.ensures.reads),
+    )
 
 pub returns-in_err-read_slice-clause-reads : goal.returns-in_err-read_slice-clause-reads
 returns-in_err-read_slice-clause-reads c =
     let h = c.read_slice.new.slice.header in
     let e = err_from_is_err_and c.from_residual.result c.from_residual.ensures.1 in
-    rw e.1 (rw e.2 (h, tt, refused_whole _ _ h _ (subst (λ (u : FoundUnit UnitHeader). ReadsSlice (active_of (kept_by c.args.self.now)) u (Err c.in_err-read_slice.field-0.0) h) c.new_slice-slice.ensures.unit c.in_err-read_slice.ensures.reads)))
+    rw e.1 (rw e.2 (
+      h,
+      tt,
+      refused_whole _ _ h _
+          (subst (λ (u : FoundUnit UnitHeader). ReadsSlice (active_of (kept_by c.args.self.now)) u
+          (Err c.in_err-read_slice.field-0.0) h) c.new_slice-slice.ensures.unit c.in_err-read_slice.ensures.reads),
+    ))

@@ -13,9 +13,17 @@ returns c = (
   record {
     keeps = tt;
     unit = record {
-      wrong_type = lent_type c.in_ok-set.set c.lend_video_set.result c.lend_video_set.ensures.refused c.in_ok-set.ensures.unit.wrong_type;
-      read = λ is. lent_reads plain_vps c.in_ok-set.set c.lend_video_set.result (read video_parameter_set (payload (bytes_of c.args.nalu.now))) c.lend_video_set.ensures.same c.lend_video_set.ensures.refused (c.in_ok-set.ensures.unit.read is);
-      means = λ is. means_by _ video_parameter_set (payload (bytes_of c.args.nalu.now)) c.lend_video_set.result (lent_reads plain_vps c.in_ok-set.set c.lend_video_set.result (read video_parameter_set (payload (bytes_of c.args.nalu.now))) c.lend_video_set.ensures.same c.lend_video_set.ensures.refused (c.in_ok-set.ensures.unit.read is));
+      wrong_type =
+          lent_type c.in_ok-set.set c.lend_video_set.result c.lend_video_set.ensures.refused
+          c.in_ok-set.ensures.unit.wrong_type;
+      read = λ is. lent_reads plain_vps c.in_ok-set.set c.lend_video_set.result
+          (read video_parameter_set (payload (bytes_of c.args.nalu.now))) c.lend_video_set.ensures.same
+          c.lend_video_set.ensures.refused (c.in_ok-set.ensures.unit.read is);
+      means = λ is. means_by _ video_parameter_set
+          (payload (bytes_of c.args.nalu.now)) c.lend_video_set.result
+          (lent_reads plain_vps c.in_ok-set.set c.lend_video_set.result
+          (read video_parameter_set (payload (bytes_of c.args.nalu.now))) c.lend_video_set.ensures.same
+          c.lend_video_set.ensures.refused (c.in_ok-set.ensures.unit.read is));
     };
     names_no_set = lent_names c.lend_video_set.result c.lend_video_set.ensures.refused;
   },

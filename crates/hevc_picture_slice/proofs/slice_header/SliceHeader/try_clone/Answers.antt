@@ -5,4 +5,5 @@ use Rattle.hevc_picture_slice.proofs.slice_header.SliceHeader.try_clone.Goals as
 
 -- field by field: the modification and the entry points are equal copies, the other fields are read as they are
 pub returns : goal.returns
-returns c = Cover-one the_type.cover the_type.propositions _ _ (rw c.modification_copy.ensures (rw c.in_ok-entry_point_offset_minus1.ensures (search rules)))
+returns c = Cover-one the_type.cover the_type.propositions _ _
+    (rw c.modification_copy.ensures (rw c.in_ok-entry_point_offset_minus1.ensures (search rules)))

@@ -20,11 +20,21 @@ invariant_of-self-2 c =
     c.in_ok-place.place q.queue c.put.new.self c.sets_event-event.result
     c.self.invariant at (c.sets_event-event.ensures)
     c.in_ok-put.ensures.put c.and-self-inside.ensures in
-    let filled = latest_begins q.before.items q.history.items given (wanted q.controls) (wanted c.fill_picture.new.controls) c.fill_picture.ensures c.self.invariant.2 in
+    let filled =
+    latest_begins q.before.items q.history.items given (wanted q.controls)
+    (wanted c.fill_picture.new.controls) c.fill_picture.ensures c.self.invariant.2 in
     (more.0, more.1, rw c.and-self-inside.ensures filled)
 
 -- the call is told of what lives as long as the arguments
 pub and-self-inside-requires : goal.and-self-inside-requires
 and-self-inside-requires c κs within =
-    let told = (⊑_meet _ _ _ (⊑_meet _ _ _ within.0 (⊑_static _)) (⊑_meet _ _ _ (⊑_meet _ _ _ within.1.0 (⊑_static _)) (⊑_meet _ _ _ (⊑_meet _ _ _ within.1.1.0 (⊑_static _)) (⊑_meet _ _ _ (⊑_meet _ _ _ within.1.1.1.0 (⊑_static _)) (⊑_meet _ _ _ (⊑_meet _ _ _ within.1.1.1.1.0 (⊑_static _)) (⊑_meet _ _ _ (⊑_meet _ _ _ within.1.1.1.1.1.0 (⊑_meet _ _ _ (⊑_meet _ _ _ (⊑_meet _ _ _ within.1.1.1.1.1.1.0 (⊑_static _)) (⊑_static _)) (⊑_static _))) (⊑_static _))))))) in
+    let told = (⊑_meet _ _ _ (⊑_meet _ _ _ within.0 (⊑_static _))
+    (⊑_meet _ _ _ (⊑_meet _ _ _ within.1.0 (⊑_static _))
+    (⊑_meet _ _ _ (⊑_meet _ _ _ within.1.1.0 (⊑_static _))
+    (⊑_meet _ _ _ (⊑_meet _ _ _ within.1.1.1.0 (⊑_static _))
+    (⊑_meet _ _ _ (⊑_meet _ _ _ within.1.1.1.1.0 (⊑_static _))
+    (⊑_meet _ _ _
+    (⊑_meet _ _ _ within.1.1.1.1.1.0
+    (⊑_meet _ _ _ (⊑_meet _ _ _ (⊑_meet _ _ _ within.1.1.1.1.1.1.0 (⊑_static _)) (⊑_static _))
+    (⊑_static _))) (⊑_static _))))))) in
     (⊑_static _, ⊑_meet _ _ _ told told)

@@ -17,5 +17,6 @@ invariant_of-self-2 c =
     c.in_ok-place.place q.queue c.put.new.self c.picture_event-event.result
     c.self.invariant at (c.picture_event-event.ensures)
     c.in_ok-put.ensures.put c.and-self-inside.ensures in
-    let filled = latest_stay q.before.items q.history.items g (wanted q.controls) (λ latest. refl) (λ latest. refl) c.self.invariant.2 in
+    let filled = latest_stay q.before.items q.history.items g (wanted q.controls) (λ latest. refl)
+    (λ latest. refl) c.self.invariant.2 in
     (more.0, more.1, rw c.and-self-inside.ensures filled)

@@ -18,7 +18,9 @@ invariant_of-self-2 c =
     let more =
     queue_more q.history.items c.and-self-inside.result.items g
     c.in_ok-place.place q.queue c.put.new.self c.sequence_event-event.result
-    c.self.invariant at (c.sequence_event-event.ensures ∙ ap (λ (info : NegotiationInfo). event_of c.in_ok-place.place (NewSequence info)) c.from.ensures)
+    c.self.invariant at (c.sequence_event-event.ensures
+    ∙ ap (λ (info : NegotiationInfo). event_of c.in_ok-place.place (NewSequence info)) c.from.ensures)
     c.in_ok-put.ensures.put c.and-self-inside.ensures in
-    let filled = latest_stay q.before.items q.history.items g (wanted q.controls) (λ latest. refl) (λ latest. refl) c.self.invariant.2 in
+    let filled = latest_stay q.before.items q.history.items g (wanted q.controls) (λ latest. refl)
+    (λ latest. refl) c.self.invariant.2 in
     (more.0, more.1, rw c.and-self-inside.ensures filled)

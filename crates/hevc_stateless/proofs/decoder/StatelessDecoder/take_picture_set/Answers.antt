@@ -13,4 +13,6 @@ returns-clause-step g c t =
     let bytes = bytes_of c.args.nalu.now in
     let h = c.args.nalu.now.header in
     let r = c.requires in
-    set_goes o k bytes h r.parsed r.wanted _ _ _ c.args.self.now.session (ap is_parameter_set r.typed) (ap is_idr r.typed) (same_picture_set o k bytes h r.parsed r.wanted r.typed) _ t _ (picture_set_means o k bytes h r.parsed r.wanted r.typed) c.in_ok-take_picture_set.ensures.behind
+    set_goes o k bytes h r.parsed r.wanted _ _ _ c.args.self.now.session (ap is_parameter_set r.typed)
+    (ap is_idr r.typed) (same_picture_set o k bytes h r.parsed r.wanted r.typed) _ t _
+    (picture_set_means o k bytes h r.parsed r.wanted r.typed) c.in_ok-take_picture_set.ensures.behind
