@@ -8,9 +8,12 @@
  *     while (bytes are left) {
  *         call.timestamp = ..; call.free_frames = ..;
  *         status = fezhalum_decode(decoder, bytes, size, &call);
- *         while (fezhalum_next(decoder, &event)) ..         whatever the status is
+ *         while (fezhalum_next(decoder, &event)) {          whatever the status is
+ *             FEZHALUM_CHANGED: fezhalum_accept_format(decoder), or it is told again
+ *             ..
+ *         }
  *         FEZHALUM_OK:        leave out call.taken bytes
- *         FEZHALUM_FORMAT:    fezhalum_accept_format(decoder), and give the same bytes once more
+ *         FEZHALUM_FORMAT:    give the same bytes once more
  *         FEZHALUM_NO_FRAMES: give the same bytes once more when a frame is free
  *         FEZHALUM_NO_UNIT:   the bytes are at their end
  *     }
@@ -50,7 +53,7 @@ uint32_t fezhalum_api_version(void);
 typedef enum fezhalum_status {
     FEZHALUM_OK = 0,
     FEZHALUM_NO_UNIT = 1,               /* there is no start code in the bytes */
-    FEZHALUM_FORMAT = 2,                /* a format was negotiated: accept it, and give the same unit once more */
+    FEZHALUM_FORMAT = 2,                /* a format was negotiated: accept it at its event, and give the same unit once more */
     FEZHALUM_NO_FRAMES = 3,             /* a picture begins, and no frame is free: the same unit may be given once more */
     FEZHALUM_NO_MEMORY = 4,             /* an allocation failed */
     FEZHALUM_TRUNCATED_UNIT = 5,        /* the unit has fewer than two bytes */
@@ -154,8 +157,8 @@ typedef struct fezhalum_unit {
     uint32_t row;
 } fezhalum_unit;
 
-/* The first unit whose start code is at the place `from` of the bytes or after it; the next one is searched from offset + size on. Needs
- * no decoder. Who wants the base layer alone gives a decoder the units of layer 0 alone. FEZHALUM_OK, FEZHALUM_NO_UNIT,
+/* The first unit whose start code is at the place `from` of the bytes or after it. After FEZHALUM_OK the next one is searched from
+ * offset + size on; a unit that is refused has neither, and the next one is searched from after its start code on. Needs no decoder. Who wants the base layer alone gives a decoder the units of layer 0 alone. FEZHALUM_OK, FEZHALUM_NO_UNIT,
  * FEZHALUM_TRUNCATED_UNIT, FEZHALUM_INVALID_UNIT_TYPE, FEZHALUM_OUT_OF_RANGE; FEZHALUM_TOO_LONG where `from` is above `size`. */
 uint32_t fezhalum_next_unit(const uint8_t *bytes, size_t size, size_t from, fezhalum_unit *unit);
 
@@ -187,7 +190,8 @@ uint32_t fezhalum_decode(fezhalum *decoder, const uint8_t *bytes, size_t size, f
 /* The next event. 1: it was written; 0: there is none, and `event` is as it was. */
 uint32_t fezhalum_next(fezhalum *decoder, fezhalum_event *event);
 
-/* The stream ends, or is left: the open picture is over, and all that waits is output. */
+/* The stream ends, or is left: the open picture is over, and all that waits is output. Parameter sets are kept; of what comes after it the
+ * decoder waits for a sequence parameter set or an IDR picture, so after a seek to a CRA picture give the sequence parameter set again. */
 uint32_t fezhalum_flush(fezhalum *decoder);
 
 /* Accepts the format that was negotiated. */

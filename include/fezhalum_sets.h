@@ -204,7 +204,7 @@ typedef struct fezhalum_pps {
     int8_t pps_beta_offset_div2;
     int8_t pps_tc_offset_div2;
     uint8_t log2_parallel_merge_level_minus2;
-    /* Of each tile column and row but the last (7.4.3.3.1); of the others 0. */
+    /* Of each tile column and row (6.5.1), the last one too; of the others 0. */
     uint32_t column_width_minus1[20];
     uint32_t row_height_minus1[22];
     /* of fezhalum_pps_flag */
