@@ -37,9 +37,9 @@ loop-rule-preserved g c =
             handles = c.in-Some.ensures.handles;
             entries = output_entries false _ (stored_entries c.loop-rule.dpb)
                 (stored_entries c.bump.new.self) c.in-Some.ensures.left;
-            size = c.in-Some.ensures.size;
-            room = c.in-Some.ensures.room;
-            latency = c.in-Some.ensures.latency c.loop-rule.invariant.so_far.latency;
+            size = c.in-Some.ensures.keeps.size;
+            room = c.in-Some.ensures.keeps.room;
+            latency = c.in-Some.ensures.keeps.latency c.loop-rule.invariant.so_far.latency;
           });
       room = omega (
         arith,
@@ -61,9 +61,9 @@ returns-in-None g c =
       handles = c.in-None.ensures.handles;
       entries = output_entries false _ (stored_entries c.loop-rule.dpb)
           (stored_entries c.bump.new.self) c.in-None.ensures.left;
-      size = c.in-None.ensures.size;
-      room = c.in-None.ensures.room;
-      latency = c.in-None.ensures.latency c.loop-rule.invariant.so_far.latency;
+      size = c.in-None.ensures.keeps.size;
+      room = c.in-None.ensures.keeps.room;
+      latency = c.in-None.ensures.keeps.latency c.loop-rule.invariant.so_far.latency;
     }))
     (none_left_waiting (holds c.args.rule) (buffer_of c.bump.new.self) (ap in_output_order same ∙ none))
 

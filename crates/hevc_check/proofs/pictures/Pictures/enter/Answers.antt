@@ -25,7 +25,7 @@ invariant_of-self c =
     let w = c.self.inside in
     let m = c.reference_set.ensures.kept in
     let r = c.remove_unused.ensures in
-    left_sound w.accepted w.accepted w.dpb c.remove_unused.new.self w.out w.out w.latest w.next c.self.invariant (r.size ∙ m.size ∙ c.self.invariant.sized) (r.latency (m.latency c.self.invariant.latency)) (r.room ∙ m.room) refl
+    left_sound w.accepted w.accepted w.dpb c.remove_unused.new.self w.out w.out w.latest w.next c.self.invariant (r.keeps.size ∙ m.size ∙ c.self.invariant.sized) (r.keeps.latency (m.latency c.self.invariant.latency)) (r.keeps.room ∙ m.room) refl
     (λ x k. keeps_all (tickets (stored_entries w.dpb)) (tickets (stored_entries c.reference_set.new.dpb)) m.handles x (sublist_part r.handles x k))
 
 pub returns-clause-left : goal.returns-clause-left

@@ -52,7 +52,7 @@ invariant_of-self-2 c =
     let w = c.self.inside in
     let s = c.in_ok-store_picture.ensures in
     let b = c.bump_additionally.ensures in
-    let stored = stored_sound w.accepted w.dpb c.store_picture.new.self w.out w.latest w.next c.in-Some.head c.self.invariant (sym c.take.ensures.value ∙ c.in-Some.is) s.size (s.latency c.self.invariant.latency) s.room s.handles in
+    let stored = stored_sound w.accepted w.dpb c.store_picture.new.self w.out w.latest w.next c.in-Some.head c.self.invariant (sym c.take.ensures.value ∙ c.in-Some.is) s.keeps.size (s.keeps.latency c.self.invariant.latency) s.keeps.room s.handles in
     subst (λ (l : Option Head). IsSound w.accepted c.bump_additionally.new.dpb c.bump_additionally.new.queue l w.next) (sym c.take.ensures.after)
     (left_sound w.accepted w.accepted c.store_picture.new.self c.bump_additionally.new.dpb w.out c.bump_additionally.new.queue None w.next stored (b.size ∙ stored.sized) b.latency b.room (b.capacity ∙ c.clear.ensures.capacity) b.handles)
 

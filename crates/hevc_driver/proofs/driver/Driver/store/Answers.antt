@@ -103,7 +103,7 @@ returns-clause-stays g c =
     let t = bumped_total _ _ _ _ _ b in
     record {
       sound = record {
-        sized = b.size ∙ e.size ∙ s.sized;
+        sized = b.size ∙ e.keeps.size ∙ s.sized;
         latency = b.latency;
         below = below_part _ _ _ _ (stored_below _ _ _ _ s.below c.requires.newest.counted e.handles)
             (omega arith) b.handles;
