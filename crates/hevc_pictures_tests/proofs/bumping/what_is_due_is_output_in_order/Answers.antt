@@ -8,8 +8,8 @@ use Rattle.hevc_pictures_tests.proofs.bumping.what_is_due_is_output_in_order.Goa
 pub bump_additionally-requires-clause-latency : goal.bump_additionally-requires-clause-latency
 bump_additionally-requires-clause-latency g c =
     let none = c.set_max_num_pics.ensures.entries ∙ c.reserve.ensures.entries ∙ c.new-dpb.ensures.entries in
-    c.store_picture-3.ensures.latency
-    (c.store_picture-2.ensures.latency
+    c.store_picture-3.ensures.keeps.latency
+    (c.store_picture-2.ensures.keeps.latency
     (c.store_picture.ensures.keeps.latency (subst HaveLatency (sym none) (λ k d lt. absurd (omega (arith, lt))))))
 
 pub bump_additionally-requires-clause-room : goal.bump_additionally-requires-clause-room
