@@ -109,7 +109,7 @@ WRONG = {
     "weights out of range": (
         stream(sequence_set(chroma=ue(3) + "0"), picture_set(weighted="1"), IDR, WEIGHTED), 1,
         "refused unit 3: delta_chroma_offset_l0[ i ][ j ] is out of its range (7.3.6.3; table 16, row 8)"),
-    "a stream that is cut": (stream(SPS, PPS[:3]), 1, "refused unit 1: it ends before its syntax does: is the stream cut there?"),
+    "a stream that is cut": (stream(SPS, SPS[:10]), 1, "refused unit 1: it ends before its syntax does: is the stream cut there?"),
     "a header that is cut": (stream(SPS, PPS, IDR[:1]), 1, "refused unit 2: it ends within its header: is the stream cut there?"),
 }
 # other programs on some of these

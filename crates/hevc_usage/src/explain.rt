@@ -20,7 +20,7 @@ pub(crate) fn explain<R: Eprint>(
     head: &[u8],
     line: Option<&[u8]>,
 ) {
-    let text = line.and_then(|line| std::str::from_utf8(line).ok());
+    let text = line.map(|line| std::str::from_utf8(line).unwrap_or(""));
     match status {
         0 => explain_done(runtime, about.name, head, text),
         1 => explain_refusal(runtime, about, head, text.unwrap_or("")),
