@@ -1,8 +1,8 @@
-"""Makes the examples of BACKENDS.md and CALLING.md, and checks the pages.
+"""Makes the names of rows and of elements, and checks the pages.
 
-pages.py          writes them, and the names of rows in hevc_row_names
+pages.py          writes them, in hevc_row_names and hevc_element_names
 pages.py --check  says what differs, and ends with 1 where anything does:
-                  those examples and names; that each row that code can answer is in TABLES.md; each bound of TABLES.md that is two numbers, beside the table's own in hevc_tables; that
+                  those names; that each row that code can answer is in TABLES.md; each bound of TABLES.md that is two numbers, beside the table's own in hevc_tables; that
                   each field of a record that TABLES.md names is an element of its table; that MAP.md has each crate of
                   crates.txt, in its order and no other; the numbers of edits in STRENGTH.md; that files and headings which
                   the pages name or link to are there
@@ -15,12 +15,6 @@ TOP = Path(__file__).resolve().parent.parent
 DOCS = TOP / "docs"
 CRATES = TOP / "crates"
 RECORD_CRATES = ("hevc_set_parts", "hevc_video_set", "hevc_sequence_set", "hevc_picture_slice")
-
-# The pages with an example, the file that has it, and its first line and the one after it ("": to the end).
-EXAMPLES = {
-    "BACKENDS.md": ("hevc_decoder_tests/src/backend/over_device.rt", "impl<D: Device> StatelessH265DecoderBackend", ""),
-    "CALLING.md": ("hevc_decoder_tests/src/decoder/calling.rt", "use hevc_backend", "/// The same of a whole stream."),
-}
 
 # Fields whose elements have another name in TABLES.md.
 OTHER_NAMES = {
@@ -252,6 +246,88 @@ def row_names():
     return "".join(parts)
 
 
+# How the indices of the elements of a row follow from what was told before: `Each` where they have an index and no line here.
+SUB_LAYERS = {(1, row): "SubLayers { flag: 8, top: 4 }" for row in (9, 10, 11)} | {(5, row): "SubLayers { flag: 16, top: 2 }" for row in (17, 18, 19)}
+INDICES = SUB_LAYERS | {
+    (1, 16): "Pairs { first: 1, of: 14, more: 1 }",
+    (1, 23): "AfterFirst",
+    (2, 29): "AboveTop",
+    (2, 30): "SubLayerProfile",
+    (2, 31): "Second",
+    **{(3, row): "Last { of: 10 }" for row in (11, 12, 13, 14)},
+    **{(4, row): "Schedules" for row in (1, 2, 3)},
+    (6, 1): "Matrices { less: 0 }",
+    (6, 2): "Matrices { less: 0 }",
+    (6, 3): "Matrices { less: 2 }",
+    (7, 5): "Members",
+    (10, 6): "Pairs { first: 0, of: 5, more: 1 }",
+    (13, 11): "Pairs { first: 0, of: 7, more: 0 }",
+    **{(14, row): "Next { of: 19 }" for row in (16, 17, 18, 19)},
+    (14, 20): "Last { of: 19 }",
+    (14, 52): "Bytes",
+    (14, 53): "Alignment",
+    **{(16, row): "First" for row in (5, 6, 11, 12)},
+    **{(16, row): "SecondTwice" for row in (7, 8, 13, 14)},
+}
+# The elements of rows whose line in TABLES.md doesn't list them one by one.
+LISTED = {
+    (2, 30): [
+        "sub_layer_profile_space", "sub_layer_tier_flag", "sub_layer_profile_idc", "sub_layer_profile_compatibility_flag",
+        "sub_layer_progressive_source_flag", "sub_layer_interlaced_source_flag", "sub_layer_non_packed_constraint_flag",
+        "sub_layer_frame_only_constraint_flag", "sub_layer_max_12bit_constraint_flag", "sub_layer_max_10bit_constraint_flag",
+        "sub_layer_max_8bit_constraint_flag", "sub_layer_max_422chroma_constraint_flag", "sub_layer_max_420chroma_constraint_flag",
+        "sub_layer_max_monochrome_constraint_flag", "sub_layer_intra_constraint_flag", "sub_layer_one_picture_only_constraint_flag",
+        "sub_layer_lower_bit_rate_constraint_flag", "sub_layer_max_14bit_constraint_flag", "sub_layer_reserved_zero_33bits",
+        "sub_layer_reserved_zero_34bits", "sub_layer_reserved_zero_7bits", "sub_layer_reserved_zero_35bits",
+        "sub_layer_reserved_zero_43bits", "sub_layer_inbld_flag", "sub_layer_reserved_zero_bit",
+    ],
+    (14, 53): ["alignment_bit_equal_to_one", "alignment_bit_equal_to_zero"],
+}
+ELEMENT_NAMES = CRATES / "hevc_element_names" / "src" / "elements.rt"
+ELEMENT_NAMES_HEAD = """//! The elements of the rows of the tables. `docs/pages.py` makes this file from docs/TABLES.md.
+use crate::rule::Rule;
+"""
+
+
+def element_rows():
+    """The rows in order, those between the parts of table 2 too: table, row, names and rule."""
+    for table, _, named in named_rows():
+        for row in range(1, max(named) + 1):
+            names = LISTED.get((table, row)) or [name for name in re.split(r", (?![^(]*\))", named.get(row, "")) if name]
+            bare = [re.sub(r"\[.*|\(.*", "", name).strip() for name in names]
+            rule = INDICES.get((table, row)) or ("Each" if any("[" in name for name in names) and (table, row) != (6, 4) else "Absent")
+            yield table, row, bare, rule
+
+
+def element_names():
+    """The file of the names of elements."""
+    starts, firsts, names, rules = [], [], [], []
+    for table, row, bare, rule in element_rows():
+        starts += [len(rules)] * (row == 1)
+        firsts.append(len(names))
+        names += bare
+        rules.append(rule)
+    firsts.append(len(names))
+    arrays = (
+        ("The place of each table's row 1 among the rows.", "STARTS", "u16", map(str, starts)),
+        ("The place of each row's first element, and after the last row the number of elements.", "FIRSTS", "u16", map(str, firsts)),
+        ("How the indices of each row's elements are told.", "RULES", "Rule", (f"Rule::{rule}" for rule in rules)),
+        ("The place of each element's name in the names, and at last their length.", "SPANS", "u16", (str(sum(map(len, names[:n]))) for n in range(len(names) + 1))),
+    )
+    text = ELEMENT_NAMES_HEAD
+    for comment, name, kind, values in arrays:
+        listed = list(values)
+        text += f"\n/// {comment}\npub static {name}: [{kind}; {len(listed)}] = [\n" + "".join(f"    {value},\n" for value in listed) + "];\n"
+    lines = "".join(f"    {name}\\\n" for name in names)
+    return text + f'\n/// The names of the elements.\npub static NAMES: [u8; {len("".join(names))}] = *b"\\\n{lines}    ";\n'
+
+
+def is_same(old, new):
+    """The same text but for its layout."""
+    bare = [re.sub(r",(?=[}\])])", "", "".join(text.split())) for text in (old, new)]
+    return bare[0] == bare[1]
+
+
 def wrong_names():
     """The rows that are left without an element."""
     for table, _, named in named_rows():
@@ -315,20 +391,6 @@ def wrong_files(path):
             yield f"{path.name}: no file {name}"
 
 
-def part_of(code, first, after):
-    """The code from the line that begins so to the one that begins so, or to its end."""
-    start = code.index("\n" + first) + 1
-    end = code.index("\n" + after, start) + 1 if after else len(code)
-    return code[start:end].rstrip("\n") + "\n"
-
-
-def with_example(page, example):
-    """The page with its example as it is in the code."""
-    before, old = page.split("```rust\n")
-    later = old.split("```\n")[1]
-    return f"{before}```rust\n{example}```\n{later}"
-
-
 def complaints():
     yield from wrong_bounds()
     yield from wrong_rows()
@@ -342,12 +404,8 @@ def complaints():
 
 
 def main():
-    pages = {}
-    for page, (example, first, after) in EXAMPLES.items():
-        path = DOCS / page
-        pages[path] = with_example(path.read_text(), part_of((CRATES / example).read_text(), first, after))
-    pages[ROW_NAMES] = row_names()
-    stale = [path for path, text in pages.items() if not path.exists() or path.read_text() != text]
+    pages = {ROW_NAMES: row_names(), ELEMENT_NAMES: element_names()}
+    stale = [path for path, text in pages.items() if not path.exists() or not is_same(path.read_text(), text)]
     if sys.argv[1:] == ["--check"]:
         said = [f"{path.relative_to(TOP)} differs from what docs/pages.py makes" for path in stale] + list(complaints())
         print("\n".join(said), end="\n" if said else "")

@@ -70,6 +70,9 @@ built sets -O2
 each "sets and headers" "$work/sets"
 built controls -O2
 each "structs of Linux" "$work/controls"
+built v4l2_player -O2 -D_DEFAULT_SOURCE
+gcc -Wall -Wextra -Werror -shared -fPIC -O1 tools/clients/device.c -o "$work/device.so" -ldl
+SHOW="$work/show" python3 tools/clients/compare.py "$work/v4l2_player" "$work/device.so" "${streams[@]}"
 built memory -O2 -Wl,--wrap=malloc,--wrap=realloc
 each "memory, each allocation failed in turn" "$work/memory"
 if command -v rustc > /dev/null; then
@@ -90,6 +93,9 @@ if built show-sanitized -g -fsanitize=address,undefined -fno-sanitize-recover=al
     each "sets and headers with AddressSanitizer" "$work/sets-sanitized"
     built controls-sanitized -g -fsanitize=address,undefined -fno-sanitize-recover=all
     each "structs of Linux with AddressSanitizer" "$work/controls-sanitized"
+    built v4l2_player-sanitized -g -D_DEFAULT_SOURCE -fsanitize=address,undefined -fno-sanitize-recover=all
+    LIBRARY_FIRST=$(gcc -print-file-name=libasan.so) SHOW="$work/show" python3 tools/clients/compare.py \
+        "$work/v4l2_player-sanitized" "$work/device.so" "${streams[@]}"
     built memory-sanitized -g -fsanitize=address,undefined -fno-sanitize-recover=all -Wl,--wrap=malloc,--wrap=realloc
     each "memory with AddressSanitizer" "$work/memory-sanitized"
 else
@@ -100,6 +106,8 @@ if command -v valgrind > /dev/null; then
     for name in trials sets controls; do
         each "$name under valgrind" valgrind -q --leak-check=full --error-exitcode=9 "$work/$name"
     done
+    RUNNER="valgrind -q --leak-check=full --error-exitcode=9" SHOW="$work/show" python3 tools/clients/compare.py \
+        "$work/v4l2_player" "$work/device.so" "${streams[@]}"
     if command -v rustc > /dev/null; then
         for name in sets controls; do
             alike "$name in Rust under valgrind" $name valgrind -q --leak-check=full --error-exitcode=9 "$work/$name-rust"

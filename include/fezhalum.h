@@ -45,7 +45,7 @@ extern "C" {
 
 /* The version of the calls and structs: 65536 * major + minor. One that has another major number isn't this header's. */
 #define FEZHALUM_API_MAJOR 0
-#define FEZHALUM_API_MINOR 3
+#define FEZHALUM_API_MINOR 4
 uint32_t fezhalum_api_version(void);
 
 /* What a call answers. FEZHALUM_NO_UNIT, FEZHALUM_FORMAT and FEZHALUM_NO_FRAMES refuse nothing of the stream. What is left after each is
@@ -70,7 +70,7 @@ typedef enum fezhalum_status {
     FEZHALUM_NOT_AWAITED = 16,          /* of fezhalum_accept_format: no format is awaited */
     FEZHALUM_TOO_LONG = 17,             /* there are 2^60 bytes or more, or a place isn't among them: nothing was done */
     FEZHALUM_MISSING_SPS = 18,          /* of fezhalum_read_unit: a sequence parameter set isn't kept, that of id unit.row */
-    FEZHALUM_NO_CONTROLS = 19,          /* 19 to 27 are of fezhalum_v4l2.h. There is no struct */
+    FEZHALUM_NO_CONTROLS = 19,         /* 19 to 29 are of fezhalum_v4l2.h. There is no struct */
     FEZHALUM_TILE_COLUMNS = 20,         /* a tile column is wider than 256 coding tree blocks */
     FEZHALUM_TILE_ROWS = 21,            /* a tile row is higher than 256 coding tree blocks */
     FEZHALUM_UNIT_SIZE = 22,            /* a unit has 2^29 bytes or more, or 2^32 or more before its data */
@@ -78,7 +78,9 @@ typedef enum fezhalum_status {
     FEZHALUM_CHROMA_DENOMINATOR = 24,   /* ChromaLog2WeightDenom is above 7 */
     FEZHALUM_LUMA_OFFSET = 25,          /* an offset of luma takes more than 8 bits */
     FEZHALUM_CHROMA_OFFSET = 26,        /* an offset of chroma takes more than 8 bits */
-    FEZHALUM_CURRENT_PICTURE = 27       /* a reference picture list has the current picture itself */
+    FEZHALUM_CURRENT_PICTURE = 27,      /* a reference picture list has the current picture itself */
+    FEZHALUM_NO_ROOM = 28,              /* there are more entry points than places for them */
+    FEZHALUM_ENTRY_POINT = 29           /* between two entry points there are 2^32 bytes */
 } fezhalum_status;
 
 static inline const char *fezhalum_status_string(uint32_t status) {
@@ -92,7 +94,8 @@ static inline const char *fezhalum_status_string(uint32_t status) {
         "a tile column is wider than 256 coding tree blocks", "a tile row is higher than 256 coding tree blocks",
         "the size of the unit takes more than 32 bits", "the size of the short-term reference picture set takes more than 16 bits",
         "the logarithm of the denominator of chroma weights is above 7", "an offset of luma takes more than 8 bits",
-        "an offset of chroma takes more than 8 bits", "a reference picture list has the current picture" };
+        "an offset of chroma takes more than 8 bits", "a reference picture list has the current picture",
+        "there are more entry points than places for them", "the bytes between two entry points take more than 32 bits" };
     return status < sizeof texts / sizeof *texts ? texts[status] : "no status";
 }
 

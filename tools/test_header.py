@@ -20,6 +20,7 @@ STRUCTS = {
     'fezhalum_slice': ('hevc_pull/src/fields/slice.rt', 'SliceFields'),
     'fezhalum_read': ('hevc_pull/src/reads.rt', 'UnitRead'),
     'fezhalum_picture_structs': ('hevc_queue/src/controls.rt', 'PictureControls'),
+    'fezhalum_slice_structs': ('hevc_v4l2/src/slice.rt', 'SliceControls'),
 }
 FLAGS = ('profile', 'vui', 'vps', 'sps', 'pps', 'slice')
 TYPES = {
@@ -131,7 +132,7 @@ def code_calls():
         exports = re.findall(r'pub (?:unsafe )?extern "C" fn (\w+)\(([^)]*)\)(?: -> (\w+))?', crate('fezhalum/src/' + path))
         for name, given, result in exports:
             kinds = [one.split(':')[1].strip() for one in given.split(',') if one.strip()]
-            kinds = [part for kind in kinds for part in {'&[u8]': ['*const u8', 'usize'], 'Global': []}.get(kind, [kind])]
+            kinds = [part for kind in kinds for part in {'&[u8]': ['*const u8', 'usize'], '&mut [u32]': ['*mut u32', 'usize'], 'Global': []}.get(kind, [kind])]
             calls[name] = (result or 'void', [kind.replace('&mut ', '*mut ') for kind in kinds])
     return calls
 

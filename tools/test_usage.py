@@ -1,6 +1,8 @@
 """What the programs say on standard error. It runs the programs that `rt ci` builds, where they are there."""
+import os
 import pathlib
 import subprocess
+import time
 import unittest
 
 CRATES = pathlib.Path(__file__).resolve().parent.parent / "crates"
@@ -173,6 +175,19 @@ class Usage(unittest.TestCase):
         with open("/dev/full", "wb") as full:
             status, _, said = run("hevc_trace", [], input=b"", stdout=full)
         self.assertEqual((status, said), (4, "hevc_trace: the output can't be written\n"))
+
+    def test_progress(self):
+        told = dict(os.environ, FEZHALUM_PROGRESS="1")
+        for program, words in PROGRAMS.items():
+            with subprocess.Popen([built(program), *words], stdin=subprocess.PIPE, stdout=subprocess.DEVNULL,
+                                  stderr=subprocess.PIPE, env=told) as running:
+                running.stdin.write(stream(b"\x02\x01\x80", b"\x02\x01\x40"))
+                running.stdin.flush()
+                time.sleep(0.7)
+                running.stdin.write(stream(b"\x02\x01\x80"))
+                running.stdin.close()
+                said = running.stderr.read().decode()
+            self.assertTrue(said.startswith(f"{program}: 0 MB read, 2 pictures\n"), said)
 
     def test_an_input_that_fails(self):
         for program, words in PROGRAMS.items():

@@ -80,6 +80,17 @@ def defined_flags(text):
     return {bit: re.sub(r'_flag$', '', name) for bit, name in enumerate(names)}
 
 
+def constants(text):
+    """The numbers of controls, of their values, of flags and of slice types that a header has for H.265, by name."""
+    text = re.sub(r'/\*.*?\*/', '', text, flags=re.S)
+    words = dict(re.findall(r'#define (V4L2_\w+)[ \t]+([^\n]+)', text))
+    words.update({name: str(i) for body in re.findall(r'enum v4l2_stateless_hevc_\w+ \{(.*?)\}', text, re.S)
+                  for i, name in enumerate(re.findall(r'V4L2_\w+', body))})
+    number = lambda word: eval(re.sub(r'V4L2_\w+', lambda name: str(number(words[name[0]])), word.replace('ULL', '')))  # noqa: E731
+    wanted = re.compile('V4L2_(CID_STATELESS_HEVC|STATELESS_HEVC|HEVC_(SPS_FLAG|PPS_FLAG|SLICE_PARAMS_FLAG|DECODE_PARAM_FLAG|DPB_ENTRY_LONG|SLICE_TYPE))_')
+    return {name: number(word) for name, word in words.items() if wanted.match(name)}
+
+
 class Layout(unittest.TestCase):
     def compare(self, header):
         text = header.read_text()
@@ -94,6 +105,10 @@ class Layout(unittest.TestCase):
     @unittest.skipUnless(HEADER.exists(), 'the header is not installed')
     def test_header_of_linux(self):
         self.compare(HEADER)
+
+    @unittest.skipUnless(HEADER.exists(), 'the header is not installed')
+    def test_constants_of_linux(self):
+        self.assertEqual(constants(OURS.read_text()), constants(HEADER.read_text()))
 
     @unittest.skipUnless(HEADER.exists(), 'the header is not installed')
     def test_flags_of_linux(self):

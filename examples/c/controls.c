@@ -4,7 +4,7 @@
 #include <inttypes.h>
 #include <stdio.h>
 
-static uint64_t pictures, slices, refused, wrong;
+static uint64_t pictures, slices, entry_points, refused, wrong;
 
 static void same(const char *what, uint64_t given, uint64_t wanted) {
     if (given == wanted) return;
@@ -24,20 +24,38 @@ static void check_picture(fezhalum *decoder, const fezhalum_event *sequence, con
     same("members after", params->num_poc_st_curr_after, sets->lists[1].count);
     same("long-term members", params->num_poc_lt_curr, sets->lists[3].count);
     for (uint32_t i = 0; i < sets->lists[0].count; i++)
-        if (sets->lists[0].kinds[i] == 0) same("member", params->dpb[params->poc_st_curr_before[i]].timestamp, sets->lists[0].numbers[i]);
+        if (sets->lists[0].kinds[i] == 0) same("member", params->dpb[params->poc_st_curr_before[i]].timestamp, 1000 * sets->lists[0].numbers[i]);
     for (uint32_t i = 0; i < sets->lists[1].count; i++)
-        if (sets->lists[1].kinds[i] == 0) same("member", params->dpb[params->poc_st_curr_after[i]].timestamp, sets->lists[1].numbers[i]);
+        if (sets->lists[1].kinds[i] == 0) same("member", params->dpb[params->poc_st_curr_after[i]].timestamp, 1000 * sets->lists[1].numbers[i]);
+}
+
+/* There are as many as the struct says, and where there is no room nothing is written. */
+static void check_entry_points(fezhalum *decoder, uint32_t number) {
+    uint32_t *offsets = calloc(number + 1, sizeof *offsets);
+    size_t count = 0;
+    if (!offsets) exit(5);
+    if (number) {
+        same("no room", fezhalum_entry_points(decoder, offsets, number - 1, &count), FEZHALUM_NO_ROOM);
+        same("none is written", offsets[0], 0);
+    }
+    same("entry points", fezhalum_entry_points(decoder, offsets, number + 1, &count), FEZHALUM_OK);
+    same("number of them", count, number);
+    same("end of them", offsets[number], 0);
+    entry_points += number;
+    free(offsets);
 }
 
 static void check_slice(fezhalum *decoder, const fezhalum_event *picture, const fezhalum_event *slice) {
-    static struct v4l2_ctrl_hevc_slice_params params;
+    static fezhalum_slice_structs structs;
+    const struct v4l2_ctrl_hevc_slice_params *params = &structs.params;
     slices++;
-    if (fezhalum_slice_control(decoder, &params) != FEZHALUM_OK) { refused++; return; }
-    same("bits", params.bit_size, 8 * slice->size);
-    same("address", params.slice_segment_addr, slice->address);
-    same("order count of a slice", (uint32_t)params.slice_pic_order_cnt, (uint32_t)picture->order_count);
-    for (uint32_t i = 0; i < 16; i++) same("end of list 0", i < slice->lists[0].count || params.ref_idx_l0[i] == 255, 1);
-    same("data within the unit", params.data_byte_offset <= slice->size, 1);
+    if (fezhalum_slice_controls(decoder, &structs) != FEZHALUM_OK) { refused++; return; }
+    same("bits", params->bit_size, 8 * slice->size);
+    same("address", params->slice_segment_addr, slice->address);
+    same("order count of a slice", (uint32_t)params->slice_pic_order_cnt, (uint32_t)picture->order_count);
+    for (uint32_t i = 0; i < 16; i++) same("end of list 0", i < slice->lists[0].count || params->ref_idx_l0[i] == 255, 1);
+    same("data within the unit", params->data_byte_offset <= structs.raw_data_byte_offset && structs.raw_data_byte_offset <= slice->size, 1);
+    check_entry_points(decoder, params->num_entry_point_offsets);
 }
 
 static int take(fezhalum *decoder) {
@@ -80,6 +98,7 @@ int main(int argc, char **argv) {
     take(decoder);
     fezhalum_free(decoder);
     free(bytes);
-    printf("controls: %" PRIu64 " pictures, %" PRIu64 " slice segments, %" PRIu64 " can't be held\n", pictures, slices, refused);
+    printf("controls: %" PRIu64 " pictures, %" PRIu64 " slice segments, %" PRIu64 " entry points, %" PRIu64 " can't be held\n",
+        pictures, slices, entry_points, refused);
     return wrong != 0;
 }

@@ -9,6 +9,7 @@ use fezhalum::{Decoder, Refusal, sys};
 struct Counts {
     pictures: u64,
     slices: u64,
+    entry_points: u32,
     refused: u64,
     wrong: u64,
 }
@@ -21,11 +22,11 @@ impl Counts {
         }
     }
 
-    /// Each member of a reference picture set that is stored has its number as timestamp.
+    /// Each member of a reference picture set that is stored has 1000 times its number as timestamp.
     fn same_members(&mut self, params: &sys::V4l2DecodeParams, indices: &[u8; 16], members: &sys::Places) {
         for i in 0..members.count as usize {
             if members.kinds[i] == 0 {
-                self.same("member", params.dpb[usize::from(indices[i])].timestamp, members.numbers[i]);
+                self.same("member", params.dpb[usize::from(indices[i])].timestamp, 1000 * members.numbers[i]);
             }
         }
     }
@@ -48,15 +49,18 @@ impl Counts {
 
     fn check_slice(&mut self, decoder: &mut Decoder, picture: &sys::Event, slice: &sys::Event) {
         self.slices += 1;
-        let Ok(params) = decoder.slice_control() else {
+        let Ok(sys::SliceStructs { params, raw_data_byte_offset: raw }) = decoder.slice_controls() else {
             self.refused += 1;
             return;
         };
+        self.entry_points += params.num_entry_point_offsets;
+        let mut offsets = vec![0; params.num_entry_point_offsets as usize];
+        self.same("entry points", decoder.entry_points(&mut offsets).ok(), Some(offsets.len()));
         self.same("bits", u64::from(params.bit_size), 8 * slice.size);
         self.same("address", params.slice_segment_addr, slice.address);
         self.same("order count of a slice", params.slice_pic_order_cnt, picture.order_count);
         self.same("end of list 0", params.ref_idx_l0[slice.lists[0].count as usize..].iter().all(|i| *i == 255), true);
-        self.same("data within the unit", u64::from(params.data_byte_offset) <= slice.size, true);
+        self.same("data within the unit", params.data_byte_offset <= raw && u64::from(raw) <= slice.size, true);
     }
 }
 
@@ -94,6 +98,7 @@ fn main() {
     }
     let _flushed = decoder.flush();
     take(&mut decoder, &mut latest, &mut counts);
-    println!("controls: {} pictures, {} slice segments, {} can't be held", counts.pictures, counts.slices, counts.refused);
+    let Counts { pictures, slices, entry_points, refused, .. } = counts;
+    println!("controls: {pictures} pictures, {slices} slice segments, {entry_points} entry points, {refused} can't be held");
     assert!(counts.wrong == 0);
 }

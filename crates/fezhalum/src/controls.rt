@@ -3,13 +3,14 @@ ghost use Rattle.std.specs.Prelude.{◌≡◌};
 ghost use Rattle.std.specs.Borrow.{full_share, sem};
 ghost use Rattle.std.specs.Ptr.{lies_at};
 ghost use Rattle.hevc_pull.specs.contracts.decoder.PullDecoder.{the_row};
-ghost use Rattle.hevc_pull.specs.Controls.{FillsPicture, FillsSlice, WantsControls};
+ghost use Rattle.hevc_pull.specs.Controls.{FillsPicture, FillsSlice, TellsLatestEntryPoints};
+ghost use Rattle.hevc_pull.specs.Controls.{WantsControls};
 ghost use Rattle.fezhalum.specs.Handles.{Becomes};
 
 use crate::Fezhalum;
-use hevc_pull::{PullDecoder, picture_controls, slice_control, want_controls};
+use hevc_pull::{PullDecoder, entry_points, picture_controls, slice_controls, want_controls};
 use hevc_queue::PictureControls;
-use hevc_v4l2::V4l2CtrlHevcSliceParams;
+use hevc_v4l2::SliceControls;
 
 fn want_controls_in(decoder: &mut PullDecoder) -> u32
     ensures { WantsControls decoder.old decoder.new result }
@@ -48,22 +49,44 @@ pub unsafe extern "C" fn fezhalum_picture_controls(
     picture_controls_in(&mut *(d as *mut PullDecoder), structs)
 }
 
-fn slice_control_in(decoder: &mut PullDecoder, control: &mut V4l2CtrlHevcSliceParams) -> u32
-    ensures { FillsSlice decoder.old decoder.new control.old control.new result }
+fn slice_controls_in(decoder: &mut PullDecoder, structs: &mut SliceControls) -> u32
+    ensures { FillsSlice decoder.old decoder.new structs.old structs.new result }
 {
-    slice_control(decoder, control)
+    slice_controls(decoder, structs)
 }
 
 /// The struct of the latest slice segment of that picture. Answers the status.
 #[unsafe(no_mangle)]
-pub unsafe extern "C" fn fezhalum_slice_control(
+pub unsafe extern "C" fn fezhalum_slice_controls(
     d: *mut Fezhalum,
-    control: &mut V4l2CtrlHevcSliceParams,
+    structs: &mut SliceControls,
 ) -> u32
     ghost x: { the_row.Denot }
     requires* { sem 𝓛 (lies_at the_row full_share d x) }
     ensures* { sem 𝓛 (Becomes the_row d
-        (λ now. FillsSlice x now control.old control.new result)) }
+        (λ now. FillsSlice x now structs.old structs.new result)) }
 {
-    slice_control_in(&mut *(d as *mut PullDecoder), control)
+    slice_controls_in(&mut *(d as *mut PullDecoder), structs)
+}
+
+fn entry_points_in(decoder: &mut PullDecoder, offsets: &mut [u32], count: &mut usize) -> u32
+    ensures { TellsLatestEntryPoints decoder.old decoder.new offsets.old offsets.new
+        count.old count.new result }
+{
+    entry_points(decoder, offsets, count)
+}
+
+/// The entry points of that slice segment, and how many there are. Answers the status.
+#[unsafe(no_mangle)]
+pub unsafe extern "C" fn fezhalum_entry_points(
+    d: *mut Fezhalum,
+    offsets: &mut [u32],
+    count: &mut usize,
+) -> u32
+    ghost x: { the_row.Denot }
+    requires* { sem 𝓛 (lies_at the_row full_share d x) }
+    ensures* { sem 𝓛 (Becomes the_row d (λ now. TellsLatestEntryPoints x now
+        offsets.old offsets.new count.old count.new result)) }
+{
+    entry_points_in(&mut *(d as *mut PullDecoder), offsets, count)
 }

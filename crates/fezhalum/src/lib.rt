@@ -43,9 +43,9 @@ pub extern "C" fn fezhalum_size() -> usize
 /// The version of the calls and the structs: 65536 times its first number, and its second.
 #[unsafe(no_mangle)]
 pub extern "C" fn fezhalum_api_version() -> u32
-    ensures { result ≡ 3 }
+    ensures { result ≡ 4 }
 {
-    3
+    4
 }
 
 /// A decoder over an empty queue, with the options that are the default.

@@ -1,11 +1,13 @@
 //! Tests of units and their bits, of the streams that are made of them, of input and output, of
-//! records, of elements, and of the names of rows.
+//! records, of elements and their lines, and of the names of rows.
 #![tactic(auto)]
 
 #[cfg(test)]
 mod bit_writer;
 #[cfg(test)]
 mod bits;
+#[cfg(test)]
+mod element_lines;
 #[cfg(test)]
 mod elements;
 #[cfg(test)]

@@ -19,7 +19,8 @@ whole (Ok m) n answers = let same : m ≡ n = cc answers in ap (λ k. Pictures k
 whole (Err refusal) n answers = absurd (cc answers)
 
 -- the unit of the refusal is told
-refused_at : (verdict : Result ℕ Refusal) (refused : decoded.Refused) → answer_of verdict ≡ Err refused → Refused refused.unit ≡ count_of_pictures verdict
+refused_at : (verdict : Result ℕ Refusal) (refused : decoded.Refused) → answer_of verdict ≡ Err refused
+    → Refused refused.unit ≡ count_of_pictures verdict
 refused_at (Ok m) refused answers = absurd (cc answers)
 refused_at (Err refusal) refused answers =
     let same : refused_of refusal ≡ refused = cc answers in
@@ -29,7 +30,8 @@ inside : (a b : Count) → Some a ≡ Some b → a ≡ b
 inside a b e = cc e
 
 -- a refusal that isn't of the backend, nor for a failed allocation, is that of the units
-told : (verdict : Result ℕ Refusal) (unit : ℕ) (error : DecodeError) (count : Count) → AnswersError error (record { unit = unit; error = error }) verdict → ¬ IsOfBackend error
+told : (verdict : Result ℕ Refusal) (unit : ℕ) (error : DecodeError) (count : Count)
+    → AnswersError error (record { unit = unit; error = error }) verdict → ¬ IsOfBackend error
     → count_of_refusal error unit ≡ Some count → count ≡ count_of_pictures verdict
 told verdict unit errors.NoNal count a b e = sym (inside _ _ e) ∙ refused_at verdict _ a
 told verdict unit errors.TruncatedNalu count a b e = sym (inside _ _ e) ∙ refused_at verdict _ a
@@ -47,13 +49,16 @@ told verdict unit errors.PictureNumbersSpent count a b e = sym (inside _ _ e) �
 told verdict unit errors.Backend count a b e = absurd (b tt)
 told verdict unit errors.NoMemory count a b e = absurd (cc e)
 
-answered : (verdict : Result ℕ Refusal) (answer : Result ℕ decoded.Refused) (count : Count) → AnswersVerdict answer verdict → IsNotOfBackend (without_unit answer)
+answered : (verdict : Result ℕ Refusal) (answer : Result ℕ decoded.Refused) (count : Count)
+    → AnswersVerdict answer verdict → IsNotOfBackend (without_unit answer)
     → count_of_answer answer ≡ Some count → count ≡ count_of_pictures verdict
 answered verdict (Ok n) count a b e = sym (inside _ _ e) ∙ whole verdict n a
 answered verdict (Err refused) count a b e = told verdict refused.unit refused.error count a b e
 
 -- the same of a count that may not be had
-pub answered_if : {E : Type 0} (verdict : Result ℕ Refusal) (answer : Result ℕ decoded.Refused) (result : Result Count E) → AnswersVerdict answer verdict
-    → IsNotOfBackend (without_unit answer) → IfOk result (λ found. count_of_answer answer ≡ Some found) → IfOk result (λ found. found ≡ count_of_pictures verdict)
+pub answered_if : {E : Type 0} (verdict : Result ℕ Refusal) (answer : Result ℕ decoded.Refused)
+    (result : Result Count E) → AnswersVerdict answer verdict
+    → IsNotOfBackend (without_unit answer) → IfOk result (λ found. count_of_answer answer ≡ Some found)
+    → IfOk result (λ found. found ≡ count_of_pictures verdict)
 answered_if verdict answer (Ok found) a b e = answered verdict answer found a b e
 answered_if verdict answer (Err error) a b e = tt

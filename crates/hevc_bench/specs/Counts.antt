@@ -9,6 +9,7 @@ use Rattle.hevc_stream.specs.Stream.{meanings}
 use Rattle.hevc_driver.specs.declared.decode_error.DecodeError.{DecodeError}
 use Rattle.hevc_driver.specs.declared.decode_error.DecodeError.TheVariants as errors
 use Rattle.hevc_decoder.specs.declared.decoded.Refused as decoded
+use Rattle.hevc_program_answers.specs.Answers.{answering, Program}
 use Rattle.hevc_bench.specs.declared.work.Work.{Work}
 use Rattle.hevc_bench.specs.declared.work.Work.TheVariants.{Decode, Cut, Read}
 use Rattle.hevc_bench.specs.declared.count.Count.{Count}
@@ -53,3 +54,9 @@ status_of (Pictures number) = 0
 status_of (Units number) = 0
 status_of (Bytes number) = 0
 status_of (Refused unit) = 1
+
+-- the counting, as a program, whose statuses with a line are 0 and 1
+abbrev pub bench_program : Program Work
+bench_program =
+    answering (λ work stream. line_of (count_of work stream))
+    (λ work stream. status_of (count_of work stream)) 1

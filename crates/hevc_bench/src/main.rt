@@ -41,5 +41,5 @@ impl Runnable for Bench {
 }
 
 fn main(rt: HostRuntime) -> ExitCode {
-    ExitCode::from(start::<Bench, HostRuntime>(&rt))
+    ExitCode::from(start::<Bench>(&rt))
 }

@@ -1,17 +1,15 @@
 //! The top call: from the words of the command line to the status.
-ghost use Rattle.std.specs.Prelude.{◌≡◌, ◌≤◌, ◌<◌, ◌↔◌, length, IfOk, IfSome, IsErrOf, OnErr};
-ghost use Rattle.std.specs.declared.option.Option.TheVariants.{None};
-ghost use Rattle.std.specs.Io.KnownBytes.{Appends, IsAtEnd};
-ghost use Rattle.hevc_fault_counts.specs.Faults.{Rose};
-ghost use Rattle.hevc_io.specs.Prefix.{AppendsPrefix, AppendsLess};
+ghost use Rattle.std.specs.Prelude.{◌≡◌, ◌≤◌};
+ghost use Rattle.hevc_program_answers.specs.Answers.{ends_of, moment, Answers};
 ghost use Rattle.hevc_bench.specs.Words.{asked_work};
-ghost use Rattle.hevc_bench.specs.Counts.{count_of, line_of, status_of};
+ghost use Rattle.hevc_bench.specs.Counts.{bench_program, count_of, line_of, status_of};
 
 use crate::count::{Count, find};
 use crate::line::line_text;
 use crate::work::{Work, read_work};
-use hevc_io::{INPUT_LIMIT, Sink, Source, Stop, Word, read_all, write_all};
-use std::alloc::Global;
+use hevc_io::{INPUT_LIMIT, Sink, Source, Word};
+use hevc_program_answers::{Answer, Asked, run_asked};
+use std::alloc::{AllocError, Global};
 
 /// Counts what the source's stream has, and writes one line. `words` are those of the command line after the program's
 /// name: by none the stream is decoded and its pictures are counted, by `cut` it is cut into units and these are counted, by `read`
@@ -30,66 +28,40 @@ use std::alloc::Global;
 pub fn run<S: Source, K: Sink>(alloc: Global, words: &[Word], source: &mut S, sink: &mut K) -> u8
     ensures statuses { result ≤ 6 }
 
-    // On 0 and 1 all was read, the line was written, and the status tells whether a unit was refused.
-    ensures whole { IfSome (asked_work words.now) (λ work. result ≤ 1
-        → IsAtEnd (S.left source.new) × IfSome (S.left source.old) (λ s.
-        Appends (K.written sink.old) (K.written sink.new) (line_of (count_of work s))
-        × (result ≡ status_of (count_of work s)))) }
-    // That is so for no longer input than may be.
-    ensures limit { IfSome (asked_work words.now) (λ _. result ≤ 1
-        → IfSome (S.left source.old) (λ s. length s ≤ INPUT_LIMIT)) }
-    // Whatever the status, what was written is a prefix of that line; on any but 0 and 1 not the whole.
-    ensures part { IfSome (asked_work words.now) (λ work. IfSome (S.left source.old) (λ s.
-        AppendsPrefix (K.written sink.old) (K.written sink.new) (line_of (count_of work s)))) }
-    ensures less { IfSome (asked_work words.now) (λ work. 1 < result
-        → IfSome (S.left source.old) (λ s.
-        AppendsLess (K.written sink.old) (K.written sink.new) (line_of (count_of work s)))) }
-
-    // 2 exactly where the words are others, and then nothing is read or written.
-    ensures no_work { (result ≡ 2) ↔ (asked_work words.now ≡ None) }
-    ensures untouched { result ≡ 2 → (source.new ≡ source.old) × (sink.new ≡ sink.old) }
-
-    ensures read { result ≡ 3
-        → Rose (S.faults source.old) (S.faults source.new) × (sink.new ≡ sink.old) }
-    ensures write { result ≡ 4 → Rose (K.faults sink.old) (K.faults sink.new) }
-    ensures long { result ≡ 6
-        → (sink.new ≡ sink.old) × IfSome (S.left source.old) (λ s. INPUT_LIMIT < length s) }
+    // What is read and written, by the status. On 0 and 1 the line.
+    ensures answers { Answers (ends_of S.left S.faults K.written K.faults)
+        bench_program INPUT_LIMIT (asked_work words.now)
+        (moment source.old sink.old) (moment source.new sink.new) result }
 {
-    let Some(work) = read_work(words) else {
-        return 2;
-    };
-    match write_count(alloc, work, source, sink) {
-        Ok(Count::Refused(_)) => 1,
-        Ok(_) => 0,
-        Err(stop) => stop.status(),
+    run_asked(alloc, read_work(words), source, sink)
+}
+
+impl Asked for Work {
+    ghost CanAsk = { λ work. Unit {0} };
+
+    ghost text = { λ work stream. line_of (count_of work stream) };
+
+    ghost status = { λ work stream. status_of (count_of work stream) };
+
+    ghost highest = { 1 };
+
+    ghost Holds = { λ work stream. Unit {0} };
+
+    fn answer(&self, alloc: Global, stream: &[u8]) -> Result<Answer, AllocError> {
+        let found = find(alloc, *self, stream)?;
+        Ok(Answer {
+            bytes: line_text(alloc, found)?.into_bytes(),
+            status: status_of(found),
+        })
     }
 }
 
-/// Reads the input, and writes the line of what it has, which is the answer.
-fn write_count<S: Source, K: Sink>(
-    alloc: Global,
-    work: Work,
-    source: &mut S,
-    sink: &mut K,
-) -> Result<Count, Stop>
-    ensures whole { IfOk result
-        (λ count. IsAtEnd (S.left source.new) × IfSome (S.left source.old) (λ s.
-        Appends (K.written sink.old) (K.written sink.new) (line_of (count_of work s))
-        × (count ≡ count_of work s))) }
-    ensures limit { IfOk result (λ _. IfSome (S.left source.old) (λ s. length s ≤ INPUT_LIMIT)) }
-    ensures part { IfSome (S.left source.old) (λ s.
-        AppendsPrefix (K.written sink.old) (K.written sink.new) (line_of (count_of work s))) }
-    ensures less { OnErr result (IfSome (S.left source.old) (λ s.
-        AppendsLess (K.written sink.old) (K.written sink.new) (line_of (count_of work s)))) }
-    ensures read { IsErrOf result Stop.Read
-        → Rose (S.faults source.old) (S.faults source.new) × (sink.new ≡ sink.old) }
-    ensures write { IsErrOf result Stop.Write → Rose (K.faults sink.old) (K.faults sink.new) }
-    ensures long { IsErrOf result Stop.TooLong
-        → (sink.new ≡ sink.old) × IfSome (S.left source.old) (λ s. INPUT_LIMIT < length s) }
+/// The status by a count: 1 where a unit was refused.
+fn status_of(count: Count) -> u8
+    ensures { result ≡ status_of count }
 {
-    let input = read_all(alloc, source, INPUT_LIMIT)?;
-    let found = find(alloc, work, &input)?;
-    let line = line_text(alloc, found)?;
-    write_all(sink, line.as_bytes())?;
-    Ok(found)
+    match count {
+        Count::Refused(_) => 1,
+        _ => 0,
+    }
 }

@@ -10,7 +10,7 @@ use Rattle.hevc_spec.proofs.PlaceLaws.{low_bits_length, with_bits_keeps, with_bi
 use Rattle.hevc_spec.proofs.LowBits.{low_bits-add, spells, drop-low_bits, golomb-low_bits}
 use Rattle.hevc_bits.specs.declared.word.Word.{Word}
 use Rattle.hevc_bits.specs.Cached.{byte_on, bytes_on, loaded_with, place_in, place_of, base_of}
-use Rattle.hevc_bits.specs.Cached.{end_of, ahead, IsNext, Holds, IsFilled, Fills, Takes}
+use Rattle.hevc_bits.specs.Cached.{end_of, ahead, IsNextByte, Holds, IsFilled, Fills, Takes}
 use Rattle.hevc_bits.specs.Cached.{TakesGolomb}
 use Rattle.hevc_bits.proofs.WordSteps.{holds_ends, holds_first, holds_others, Stands, passes, loads}
 
@@ -23,7 +23,7 @@ bits-parts : (p : Place) → bits p ≡ p.loaded ++ payload_bits p.zero_run p.be
 unfolding bits
 bits-parts p = refl
 
-bits-next : (b : List Bool) (mark : ℕ) (p q : Place) → IsNext b mark p q
+bits-next : (b : List Bool) (mark : ℕ) (p q : Place) → IsNextByte b mark p q
     → payload_bits p.zero_run p.behind ≡ b ++ payload_bits q.zero_run q.behind
 bits-next b mark p q next =
     let k = with_bits_keeps (record p { loaded = [] }) q next.loads in

@@ -8,7 +8,7 @@ use Rattle.std.proofs.lemmas.Nat.{shr-shr, field_of}
 use Rattle.std.proofs.lemmas.Nat.Bits.{bit_at-suc, bit_at_lowest}
 use Rattle.hevc_spec.specs.Payload.{Place, low_bits, run_behind, loading}
 use Rattle.hevc_spec.proofs.LowBits.{low_bits-mod, bit_at-mod}
-use Rattle.hevc_bits.specs.Cached.{byte_on, bytes_on, place_in, IsNext, IsSameBut, Holds}
+use Rattle.hevc_bits.specs.Cached.{byte_on, bytes_on, place_in, IsNextByte, IsSameBut, Holds}
 use Rattle.hevc_bits.proofs.WordSteps.{holds_ends, holds_none, holds_first, holds_others}
 use Rattle.hevc_bits.proofs.WordSteps.{holds_more, byte_on-loads, Stands}
 
@@ -102,7 +102,7 @@ lowest_mark marks mark small = bit_at_lowest (with_mark marks mark) ∙ omega ar
 -- ---- the bytes ahead, and one more
 
 holds_last : (n c marks byte mark : ℕ) (p end q more : Place) → n ≤ 7 → byte < 256 → mark < 2
-    → Holds n c marks p end → IsNext (low_bits 8 byte) mark end q → IsSameBut q more
+    → Holds n c marks p end → IsNextByte (low_bits 8 byte) mark end q → IsSameBut q more
     → Holds (suc n) (with_byte c byte) (with_mark marks mark) p more
 holds_last zero c marks byte mark p end q more few small one h next same =
     let here = holds_ends c marks p end h in
@@ -130,7 +130,7 @@ pub record Puts (left ahead filled c marks byte mark : ℕ) (base end : Place) :
   pub stands : Stands (left + 8) (ahead + 1) (filled + 1) (with_byte c byte) (with_mark marks mark) base end
 
 pub puts : (left ahead filled c marks byte mark : ℕ) (base end q more : Place) → left < 56 → byte < 256
-    → mark < 2 → Stands left ahead filled c marks base end → IsNext (low_bits 8 byte) mark end q → IsSameBut q more
+    → mark < 2 → Stands left ahead filled c marks base end → IsNextByte (low_bits 8 byte) mark end q → IsSameBut q more
     → Puts left ahead filled c marks byte mark base more
 puts left ahead filled c marks byte mark base end q more fits small one s next same =
     let a : ahead + 1 ≡ suc ahead = omega arith in

@@ -6,7 +6,7 @@ use Rattle.std.specs.Int.{bit_at}
 use Rattle.std.proofs.lemmas.Bool.{cases_lt}
 use Rattle.hevc_spec.specs.Payload.{Place, low_bits, loading, with_bits, next_place, place_behind}
 use Rattle.hevc_spec.proofs.PlaceLaws.{low_bits_length}
-use Rattle.hevc_bits.specs.Cached.{byte_on, bytes_on, loaded_with, place_in, IsNext, IsSameBut, Holds}
+use Rattle.hevc_bits.specs.Cached.{byte_on, bytes_on, loaded_with, place_in, IsNextByte, IsSameBut, Holds}
 
 pub bytes_on-suc : (n : ℕ) (p : Place) → bytes_on (suc n) p ≡ byte_on (bytes_on n p)
 unfolding bytes_on
@@ -29,7 +29,7 @@ unfolding Holds
 holds_ends c marks p end h = h
 
 pub holds_first : (n c marks : ℕ) (p end : Place) → Holds (suc n) c marks p end
-    → IsNext (low_bits 8 (c / 2 ^ (8 * n))) (bit_at marks n) p (byte_on p)
+    → IsNextByte (low_bits 8 (c / 2 ^ (8 * n))) (bit_at marks n) p (byte_on p)
 unfolding Holds
 holds_first n c marks p end h = h.0
 
@@ -38,7 +38,7 @@ unfolding Holds
 holds_others n c marks p end h = h.1
 
 pub holds_more : (n c marks : ℕ) (p end : Place)
-    → IsNext (low_bits 8 (c / 2 ^ (8 * n))) (bit_at marks n) p (byte_on p) → Holds n c marks (byte_on p) end
+    → IsNextByte (low_bits 8 (c / 2 ^ (8 * n))) (bit_at marks n) p (byte_on p) → Holds n c marks (byte_on p) end
     → Holds (suc n) c marks p end
 unfolding Holds
 holds_more n c marks p end first others = (first, others)
@@ -55,7 +55,7 @@ stay : (unread n : ℕ) (p : Place) → next_place (loaded_with (suc unread) n p
 stay unread n p = refl
 
 -- the first bit of the next byte
-cross : (m n mark : ℕ) (p q : Place) → IsNext (low_bits 8 n) mark p q
+cross : (m n mark : ℕ) (p q : Place) → IsNextByte (low_bits 8 n) mark p q
     → next_place (loaded_with 0 m p) ≡ Some (loaded_with 7 n q)
 cross m n mark p q next = rw (next.loads, next.loaded) refl
 

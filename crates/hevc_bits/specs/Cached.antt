@@ -53,7 +53,7 @@ abbrev pub place_of : Word → Place
 place_of w = place_in w.left (ahead w) w.filled w.cache (base_of w)
 
 -- The next payload byte has these bits, and a mark tells whether a 03 is dropped before it.
-pub record IsNext (byte : List Bool) (mark : ℕ) (old new : Place) : Type 0 where
+pub record IsNextByte (byte : List Bool) (mark : ℕ) (old new : Place) : Type 0 where
   pub loads : loading old.zero_run old.dropped old.behind ≡ Some new
   pub loaded : new.loaded ≡ byte
   pub dropped : new.dropped ≡ old.dropped + mark
@@ -68,7 +68,7 @@ pub record IsSameBut (old new : Place) : Type 0 where
 unfoldable pub Holds : ℕ → ℕ → ℕ → Place → Place → Type 0
 Holds zero cache marks p end = IsSameBut p end
 Holds (suc n) cache marks p end =
-    IsNext (low_bits 8 (cache / 2 ^ (8 * n))) (bit_at marks n) p (byte_on p)
+    IsNextByte (low_bits 8 (cache / 2 ^ (8 * n))) (bit_at marks n) p (byte_on p)
     × Holds n cache marks (byte_on p) end
 
 -- what every word keeps

@@ -4,7 +4,7 @@ ghost use Rattle.std.specs.Prelude.{◌≡◌, ◌≢◌, ◌≤◌, ◌<◌, �
 ghost use Rattle.std.specs.Prelude.{Ok, Err, IfOk, OnOk, IfErr, OnErr, IsErrOf, IfNone, IfSome};
 ghost use Rattle.std.specs.Prelude.{take, drop};
 ghost use Rattle.hevc_spec.specs.Units.{units_from, NalUnit};
-ghost use Rattle.hevc_bits.specs.FoundUnit.{FoundUnit, IsCutOut, bytes_of, unit_of};
+ghost use Rattle.hevc_bits.specs.FoundUnit.{FoundUnit, IsCutOut, FindsNext, bytes_of};
 ghost use Rattle.hevc_bits.specs.FoundUnit.{start_code_offset};
 ghost use Rattle.hevc_bits.specs.StartCode.{IsFirstCut};
 
@@ -68,12 +68,7 @@ impl<'a, U: Header> Nalu<'a, U> {
     /// is unchanged.
     pub fn next(stream: &'a [u8], position: &mut usize) -> Result<Nalu<'a, U>, UnitError>
         requires { position.old ≤ length stream.now }
-        // The unit is the first one, and the others are those after it.
-        ensures first { IfOk result
-            (λ n. units_from U.kept position.old stream.now
-            ≡ unit_of n ∷ units_from U.kept (n.offset + n.size) stream.now) }
-        ensures same_stream { IfOk result (λ n. n.stream ≡ stream.now) }
-        ensures header { IfOk result (λ n. U.parsed (bytes_of n) ≡ Ok n.header) }
+        ensures next { IfOk result (λ n. FindsNext U.kept U.parsed position.old stream.now n) }
         ensures none { IsErrOf result UnitError.NoNal
             ↔ (units_from U.kept position.old stream.now ≡ []) }
         // Any other refusal is the one of the first unit's bytes.
@@ -82,9 +77,6 @@ impl<'a, U: Header> Nalu<'a, U> {
             → (u : NalUnit) × (others : List NalUnit)
             × (units_from U.kept position.old stream.now ≡ u ∷ others)
             × (U.parsed u.bytes ≡ Err e)) }
-        // It is after the position and within the stream, so a search from its end goes on.
-        ensures ahead { IfOk result (λ n. position.old + 3 ≤ n.offset) }
-        ensures inside { IfOk result (λ n. n.offset + n.size ≤ length stream.now) }
         ensures moves { IfOk result (λ n. position.new ≡ n.offset) }
         ensures stays { OnErr result (position.new ≡ position.old) }
         ensures within { position.new ≤ length stream.now }

@@ -13,11 +13,11 @@ abbrev pub is_below : ℤ → Option ℤ → Bool
 is_below c None = false
 is_below c (Some k) = int_lt c k
 
--- an entry is referred to, or is needed for output and isn't output before an order count
-abbrev pub needs : ℤ → Entry → Bool
-needs c e = is_reference e.mark || (e.needed_for_output && int_le c e.order_count)
+-- An entry is still in the buffer once all before an order count are output: it is referred to, or
+-- is needed for output and isn't output before that count (C.5.2.2).
+abbrev pub stays_up_to : ℤ → Entry → Bool
+stays_up_to c e = is_reference e.mark || (e.needed_for_output && int_le c e.order_count)
 
--- the entries that are referred to, or are needed for output and aren't output before an order
--- count, fill a buffer
-abbrev pub fill_for : ℕ → ℤ → Buffer → Bool
-fill_for size c es = nat_le size (length (needed_behind c es))
+-- those that are so are as many as a buffer of this size holds
+abbrev pub is_full_up_to : ℕ → ℤ → Buffer → Bool
+is_full_up_to size c es = nat_le size (length (needed_behind c es))

@@ -1,5 +1,6 @@
 -- How many pictures are decoded between one that is to be output and a later one.
-use Rattle.std.specs.Prelude.{◌≡◌, ◌<◌, ◌-◌, ◌&&◌, ◌||◌, ℕ, ℤ, zero, suc, Bool, false, int_lt, nat_lt, slice_index_or, List, [], ◌∷◌, length, if◌then◌else◌, Option, None}
+use Rattle.std.specs.Prelude.{◌≡◌, ◌<◌, ◌-◌, ◌&&◌, not, ℕ, ℤ, Bool, int_lt, nat_lt, slice_index_or, List, [], ◌∷◌, length, drop, filter, if◌then◌else◌, Option, None}
+use Rattle.std.specs.List.{list_any}
 use Rattle.hevc_walk.specs.Pictures.{Picture}
 use Rattle.hevc_walk_order.specs.Sequences.{is_for_output}
 use Rattle.hevc_check.specs.Filled.{is_below}
@@ -10,16 +11,18 @@ abbrev pub Fall : ℕ → List Picture → Type 0
 Fall n [] = Unit {0}
 Fall n (p ∷ es) = (p.number < n) × Fall p.number es
 
-abbrev pub late_at : ℤ → ℕ → Picture → Bool → Bool
-late_at c zero p later = (is_for_output p && int_lt c p.order_count) || later
-late_at c (suc n) p later = later
+-- those of these pictures that are decoded
+abbrev pub decoded_of : List Picture → List Picture
+decoded_of es = filter (λ p. not p.skipped) es
 
--- one of these pictures, latest first, that is to be output has a higher count than this, and at
+-- a picture is to be output, and has a higher count than this
+abbrev pub is_above : ℤ → Picture → Bool
+is_above c p = is_for_output p && int_lt c p.order_count
+
+-- of these pictures, latest first, one that is to be output has a higher count than this, and at
 -- least n are decoded after it
 abbrev pub late_by : ℤ → ℕ → List Picture → Bool
-late_by c n [] = false
-late_by c n (p ∷ es) =
-    if p.skipped then late_by c n es else late_at c n p (late_by c (n - 1) es)
+late_by c n es = list_any (is_above c) (drop n (decoded_of es))
 
 -- the one of a list, latest last, that n are after
 abbrev pub back : ℕ → List (Option ℤ) → Option ℤ

@@ -23,7 +23,7 @@ use Rattle.hevc_driver.specs.declared.head.Context.{Context}
 use Rattle.hevc_driver.specs.Heads.{head_of}
 use Rattle.hevc_driver.specs.Sound.{AreBelow}
 use Rattle.hevc_check.specs.declared.begun.Begun.{Begun}
-use Rattle.hevc_check.specs.Filled.{fill_for, is_up_to}
+use Rattle.hevc_check.specs.Filled.{is_full_up_to, is_up_to}
 use Rattle.hevc_check.specs.declared.unlike.Unlike.{Unlike}
 use Rattle.hevc_check.specs.declared.unlike.Unlike.TheVariants as unlike
 
@@ -55,12 +55,12 @@ context_after p c = record {
 }
 
 -- the latest picture is over (C.5.2.3)
-abbrev pub finished : Place → Place
-finished w = record w { store = (finish w.latest w.store).next; latest = None }
+abbrev pub after_picture : Place → Place
+after_picture w = record w { store = (finish w.latest w.store).next; latest = None }
 
--- a picture begins with a slice
-abbrev pub begun : Slice → Place → Place
-begun s w = record {
+-- after the first slice of a picture
+abbrev pub with_picture : Slice → Place → Place
+with_picture s w = record {
   store = (picture_part w.latest (head w.next s) s w.store).next;
   latest = Some (head w.next s);
   next = context_after (head w.next s) w.next;
@@ -75,9 +75,9 @@ room_left p es =
 
 -- a picture begins a sequence: it is the first of all,
 -- or an IRAP picture with NoRaslOutputFlag (8.1.3)
-abbrev pub begins_at : walk.Head → Option walk.Head → Bool
-begins_at p None = true
-begins_at p (Some latest) = p.starts_sequence
+abbrev pub starts_sequence_after : walk.Head → Option walk.Head → Bool
+starts_sequence_after p None = true
+starts_sequence_after p (Some latest) = p.starts_sequence
 
 -- the entries that stay as the picture of a first slice is to be decoded (C.5.2.2)
 abbrev pub entries_at : Slice → Place → Buffer
@@ -86,14 +86,14 @@ entries_at s w =
     (with_marks (head w.next s) s (prepare w.latest (head w.next s) w.store).next.buffer)
 
 -- What is told of the picture that a slice begins.
-pub record IsBegun (s : Slice) (w : Place) (b : Begun) : Type 0 where
+pub record TellsPicture (s : Slice) (w : Place) (b : Begun) : Type 0 where
   pub same_head : head_of b.head ≡ head w.next s
-  pub begins : b.begins_sequence ≡ begins_at (head w.next s) w.latest
+  pub begins : b.begins_sequence ≡ starts_sequence_after (head w.next s) w.latest
   pub stored : (head w.next s).skipped ≡ false → b.stored.num ≡ length (entries_at s w)
   pub filled : (c : ℤ) → FitsSigned w32 c
       → is_up_to c b.stored.filled
       ≡ (not (head w.next s).skipped
-      && fill_for ((head w.next s).limits.max_dec_pic_buffering_minus1 + 1) c (entries_at s w))
+      && is_full_up_to ((head w.next s).limits.max_dec_pic_buffering_minus1 + 1) c (entries_at s w))
 
 -- What holds between two calls.
 pub record IsSound {Z : Type 0} (accepted : Option NegotiationInfo) (dpb : Dpb (Unit {0}))
@@ -114,51 +114,51 @@ abbrev pub CannotBegin : Slice → Place → Type 0
 CannotBegin s w =
     (is_full w.latest w.store ≡ true) ⊎ (order_count_in_range (head w.next s) ≡ false)
 
--- a slice begins a picture (7.4.2.4.5)
-abbrev pub begins_picture : Slice → Option walk.Head → Bool
-begins_picture s None = true
-begins_picture s (Some latest) = s.first_slice_segment_in_pic_flag
+-- a slice is the first of its picture (7.4.2.4.5)
+abbrev pub is_first_slice : Slice → Option walk.Head → Bool
+is_first_slice s None = true
+is_first_slice s (Some latest) = s.first_slice_segment_in_pic_flag
 
-abbrev pub first_by : Option Slice → Option walk.Head → Option Slice
-first_by None latest = None
-first_by (Some s) latest = if begins_picture s latest then Some s else None
+abbrev pub first_if : Option Slice → Option walk.Head → Option Slice
+first_if None latest = None
+first_if (Some s) latest = if is_first_slice s latest then Some s else None
 
 -- the slice of a unit with which a picture begins, if one does
 abbrev pub first_slice : Meaning → Place → Option Slice
-first_slice (CodedSlice s) w = first_by (whole_slice w.kept s) w.latest
+first_slice (CodedSlice s) w = first_if (whole_slice w.kept s) w.latest
 first_slice u w = None
 
-abbrev pub begun_by : Option Slice → Place → Place
-begun_by None w = w
-begun_by (Some s) w = begun s w
+abbrev pub with_first : Option Slice → Place → Place
+with_first None w = w
+with_first (Some s) w = with_picture s w
 
--- the first sequence set is negotiated
-abbrev pub opened : Option Format → Format → Option Format
-opened None format = Some format
-opened (Some accepted) format = Some accepted
+-- the format that is accepted after a sequence set: that of the first one
+abbrev pub accepted_after : Option Format → Format → Option Format
+accepted_after None format = Some format
+accepted_after (Some accepted) format = Some accepted
 
 -- after one more unit
-abbrev pub meant : Meaning → Place → Place
-meant (SequenceSet format) w =
-    record w { store = record w.store { accepted = opened w.store.accepted format } }
-meant (CodedSlice s) w =
-    begun_by (first_slice (CodedSlice s) w) (record w { kept = kept_header w.kept s })
-meant EndOfSequence w = record w { next = record w.next { first_after_end = true } }
-meant EndOfBitstream w = record w { next = record w.next { first_in_bitstream = true } }
-meant Other w = w
-meant (Refused cause) w = w
+abbrev pub after_unit : Meaning → Place → Place
+after_unit (SequenceSet format) w =
+    record w { store = record w.store { accepted = accepted_after w.store.accepted format } }
+after_unit (CodedSlice s) w =
+    with_first (first_slice (CodedSlice s) w) (record w { kept = kept_header w.kept s })
+after_unit EndOfSequence w = record w { next = record w.next { first_after_end = true } }
+after_unit EndOfBitstream w = record w { next = record w.next { first_in_bitstream = true } }
+after_unit Other w = w
+after_unit (Refused cause) w = w
 
 -- the picture that begins is told, if one does
 abbrev pub TellsFirst : Option Slice → Place → Option Begun → Type 0
 TellsFirst None w told = told ≡ None
-TellsFirst (Some s) w told = (b : Begun) × (told ≡ Some b) × IsBegun s w b
+TellsFirst (Some s) w told = (b : Begun) × (told ≡ Some b) × TellsPicture s w b
 
-abbrev pub CannotBeginBy : Option Slice → Place → Type 0
-CannotBeginBy None w = ⊥
-CannotBeginBy (Some s) w = CannotBegin s w
+abbrev pub CannotBeginWith : Option Slice → Place → Type 0
+CannotBeginWith None w = ⊥
+CannotBeginWith (Some s) w = CannotBegin s w
 
 -- a unit was taken; or it wasn't, since its picture can't begin, or where an allocation fails
 abbrev pub Takes : Result (Option Begun) Unlike → Meaning → Place → Place → Type 0
-Takes (Ok told) u old new = TellsFirst (first_slice u old) old told × (new ≡ meant u old)
-Takes (Err unlike.Refused) u old new = CannotBeginBy (first_slice u old) old
+Takes (Ok told) u old new = TellsFirst (first_slice u old) old told × (new ≡ after_unit u old)
+Takes (Err unlike.Refused) u old new = CannotBeginWith (first_slice u old) old
 Takes (Err unlike.NoMemory) u old new = Unit {0}

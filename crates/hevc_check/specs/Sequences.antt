@@ -9,7 +9,7 @@ use Rattle.hevc_walk.specs.Pictures.{Picture}
 use Rattle.hevc_walk_order.specs.Sequences.{begins, earliest, is_for_output}
 use Rattle.hevc_walk_order.specs.DisplayOrder.{entries_before}
 use Rattle.hevc_check_laws.specs.Breaches.{latest_sequence, earlier_in}
-use Rattle.hevc_check_laws.specs.Orders.{fills, filled_for}
+use Rattle.hevc_check_laws.specs.Orders.{is_full_for, was_full_up_to}
 use Rattle.hevc_pictures.specs.Limits.{limits_of}
 use Rattle.hevc_backend.specs.Negotiation.{format_of}
 use Rattle.hevc_driver.specs.Heads.{head_of}
@@ -53,12 +53,12 @@ pub record Follows (p : Picture) (es : List Picture) (q : Sequence) : Type 0 whe
   pub so_far : AreHighest es q.so_far
 
 -- What is told of a picture that begins, after those before it.
-pub record Tells (set : Option (ℕ × Format)) (p : Picture) (before : List Picture) (b : Begun)
+pub record TellsNext (set : Option (ℕ × Format)) (p : Picture) (before : List Picture) (b : Begun)
     : Type 0 where
   pub head : head_of b.head ≡ p.head
   pub begins : b.begins_sequence ≡ begins p before
   pub stored : p.skipped ≡ false → b.stored.num ≡ length (entries_before set p before)
-  pub filled : (c : ℤ) → FitsSigned w32 c → is_up_to c b.stored.filled ≡ fills set c p before
+  pub filled : (c : ℤ) → FitsSigned w32 c → is_up_to c b.stored.filled ≡ is_full_for set c p before
   pub numbers : Fall p.number before
 
 -- Of the sequence of the latest of these pictures this is kept, whichever picture comes next.
@@ -69,7 +69,7 @@ FollowsLatest (p ∷ before) q = (next : Picture) → Follows next (latest_seque
 -- up to which order count the buffer was full at the latest of these, or at an earlier one of its
 -- sequence but the first
 abbrev pub AreFilled : Option (ℕ × Format) → List Picture → Sequence → Type 0
-AreFilled set ps q = (c : ℤ) → FitsSigned w32 c → is_up_to c q.filled ≡ filled_for set c ps
+AreFilled set ps q = (c : ℤ) → FitsSigned w32 c → is_up_to c q.filled ≡ was_full_up_to set c ps
 
 -- Of these pictures this is kept.
 pub record FollowsAll (set : Option (ℕ × Format)) (ps : List Picture) (q : Sequence) : Type 0 where

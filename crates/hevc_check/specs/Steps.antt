@@ -10,7 +10,7 @@ use Rattle.hevc_check.specs.declared.check.Checked.{Checked}
 use Rattle.hevc_check.specs.declared.unlike.Unlike.{Unlike}
 use Rattle.hevc_check.specs.declared.unlike.Unlike.TheVariants.{Refused, NoMemory}
 use Rattle.hevc_check.specs.Answers.{checked_of}
-use Rattle.hevc_check.specs.Places.{place, first_slice, CannotBeginBy}
+use Rattle.hevc_check.specs.Places.{place, first_slice, CannotBeginWith}
 use Rattle.hevc_check.specs.declared.table.Table.{Table}
 use Rattle.hevc_check.specs.Late.{Fall}
 use Rattle.hevc_check.specs.Sequences.{FollowsAll}
@@ -36,7 +36,7 @@ pub record IsAt (t : Table) (v : Stream) (c : Check) : Type 0 where
   pub numbers : Fall (context v.pictures).number v.pictures
 
 -- a broken picture is told of
-pub record Tells (t : Table) (v : Stream) (told : Checked) : Type 0 where
+pub record TellsBroken (t : Table) (v : Stream) (told : Checked) : Type 0 where
   pub broken : BrokenAt
   pub told_is : checked_of told ≡ laws.No broken
   pub lowest_is : lowest t v ≡ Some broken
@@ -44,6 +44,6 @@ pub record Tells (t : Table) (v : Stream) (told : Checked) : Type 0 where
 -- a unit was taken, the k-th
 abbrev pub Steps : Table → Result (Option Checked) Unlike → ℕ → Meaning → Stream → Check → Type 0
 Steps t (Ok None) k u v new = IsAt t (with_unit k u v) new
-Steps t (Ok (Some told)) k u v new = Tells t (with_unit k u v) told
-Steps t (Err Refused) k u v new = CannotBeginBy (first_slice u (place v)) (place v)
+Steps t (Ok (Some told)) k u v new = TellsBroken t (with_unit k u v) told
+Steps t (Err Refused) k u v new = CannotBeginWith (first_slice u (place v)) (place v)
 Steps t (Err NoMemory) k u v new = Unit {0}

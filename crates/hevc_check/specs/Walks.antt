@@ -5,7 +5,7 @@ use Rattle.hevc_kept_sets.specs.Kept.{kept_of, options_in}
 use Rattle.hevc_check.specs.declared.begun.Begun.{Begun}
 use Rattle.hevc_check.specs.declared.unlike.Unlike.{Unlike}
 use Rattle.hevc_check.specs.declared.units.Walk.{Walk}
-use Rattle.hevc_check.specs.Places.{meant, first_slice, Takes}
+use Rattle.hevc_check.specs.Places.{after_unit, first_slice, Takes}
 
 -- a format was negotiated exactly where some sequence set is kept
 abbrev pub HasStarted : Walk → Type 0
@@ -28,6 +28,6 @@ pub record TakesUnit (result : Result (Option Begun) Unlike) (bytes : List ℕ) 
 pub record TakesSet (bytes : List ℕ) (old new : Walk) : Type 0 where
   pub first : first_slice (meaning (options_in old.sets) (kept_of old.sets) bytes) old.pictures
       ≡ None
-  pub meant : new.pictures
-      ≡ meant (meaning (options_in old.sets) (kept_of old.sets) bytes) old.pictures
+  pub after_unit : new.pictures
+      ≡ after_unit (meaning (options_in old.sets) (kept_of old.sets) bytes) old.pictures
   pub kept : kept_of new.sets ≡ kept_behind (options_in old.sets) (kept_of old.sets) bytes

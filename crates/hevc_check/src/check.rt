@@ -9,7 +9,7 @@ ghost use Rattle.hevc_walk.specs.Results.{verdict};
 ghost use Rattle.hevc_check_laws.specs.Breaches.{all_breaches};
 ghost use Rattle.hevc_check_laws.specs.Checks.{Yes, checked_bounds, checked_order, first_breach};
 ghost use Rattle.hevc_check.specs.Breaches.{breach_of};
-ghost use Rattle.hevc_check.specs.Sequences.{FollowsAll, Tells};
+ghost use Rattle.hevc_check.specs.Sequences.{FollowsAll, TellsNext};
 ghost use Rattle.hevc_stream.specs.Kept.{none_kept};
 ghost use Rattle.hevc_stream.specs.Options.{default_options};
 ghost use Rattle.hevc_stream.specs.Stream.{meaning, meanings};
@@ -101,11 +101,11 @@ impl Check {
     fn take_picture(&mut self, begun: &Begun) -> Result<Option<Breach>, AllocError>
         requires few { self.old.sequences < 2 ^ 64 - 1 }
         ensures breach { IfOk result (λ breach. (set : Option (ℕ × Format)) (p : Picture)
-            (before : List Picture) → Tells set p before begun.now
+            (before : List Picture) → TellsNext set p before begun.now
             → FollowsAll set before self.old.sequence → option_map breach_of breach
             ≡ first_breach (breaks_by self.old.sequence.table set p before) all_breaches) }
         ensures follows { OnOk result ((set : Option (ℕ × Format)) (p : Picture)
-            (before : List Picture) → Tells set p before begun.now
+            (before : List Picture) → TellsNext set p before begun.now
             → FollowsAll set before self.old.sequence
             → FollowsAll set (p ∷ before) self.new.sequence) }
         ensures table { self.new.sequence.table ≡ self.old.sequence.table }

@@ -2,7 +2,7 @@
 ghost use Rattle.std.specs.Prelude.{FitsSigned, ◌≡◌, ◌+◌, ◌||◌, ◌&&◌, ℤ, int_le, int_lt, count_by};
 ghost use Rattle.std.specs.Int.{w32};
 ghost use Rattle.hevc_dpb.specs.Plain.{plain_entry, plain_entries};
-ghost use Rattle.hevc_check.specs.Filled.{fill_for, is_up_to, is_below, needs};
+ghost use Rattle.hevc_check.specs.Filled.{is_full_up_to, is_up_to, is_below, stays_up_to};
 
 use hevc_dpb::DpbEntry;
 
@@ -36,37 +36,38 @@ pub(crate) fn is_up_to(count: i32, highest: Option<i32>) -> bool
     }
 }
 
-/// Whether a picture is referred to, or is needed for output and isn't output before an order count.
-fn is_needed(entry: &DpbEntry<()>, count: i32) -> bool
-    ensures { result ≡ needs count (plain_entry entry.now) }
+/// Whether a picture is still stored once all before an order count are output: it is referred to, or is needed for output and isn't
+/// output before.
+fn stays_up_to(entry: &DpbEntry<()>, count: i32) -> bool
+    ensures { result ≡ stays_up_to count (plain_entry entry.now) }
 {
     entry.picture.is_ref()
         || entry.picture.needed_for_output && count <= entry.picture.pic_order_cnt_val
 }
 
 /// How many of the stored pictures are so.
-fn num_needed(entries: &[DpbEntry<()>], count: i32) -> usize
-    ensures { result ≡ count_by (λ e. needs count (plain_entry e)) entries.now }
+fn num_staying(entries: &[DpbEntry<()>], count: i32) -> usize
+    ensures { result ≡ count_by (λ e. stays_up_to count (plain_entry e)) entries.now }
 {
     entries
         .iter()
-        .filter(|entry| is_needed(entry, count))
+        .filter(|entry| stays_up_to(entry, count))
         .count()
 }
 
-/// Whether these are more than `buffering`.
-fn are_full(entries: &[DpbEntry<()>], count: i32, buffering: u8) -> bool
-    ensures { result ≡ fill_for (buffering + 1) count (plain_entries entries.now) }
+/// Whether these are more than `buffering`, which fills the buffer.
+fn is_full_up_to(entries: &[DpbEntry<()>], count: i32, buffering: u8) -> bool
+    ensures { result ≡ is_full_up_to (buffering + 1) count (plain_entries entries.now) }
 {
-    num_needed(entries, count) > buffering as usize
+    num_staying(entries, count) > buffering as usize
 }
 
-/// The order count of a picture, if those that are needed then are more than `buffering`.
-fn filled_at(entries: &[DpbEntry<()>], count: i32, buffering: u8) -> Option<i32>
+/// The order count of a picture, if the buffer is full up to it.
+fn full_at(entries: &[DpbEntry<()>], count: i32, buffering: u8) -> Option<i32>
     ensures { (c : ℤ) → is_up_to c result
-        ≡ int_le c count && fill_for (buffering + 1) count (plain_entries entries.now) }
+        ≡ int_le c count && is_full_up_to (buffering + 1) count (plain_entries entries.now) }
 {
-    if are_full(entries, count, buffering) {
+    if is_full_up_to(entries, count, buffering) {
         Some(count)
     } else {
         None
@@ -76,17 +77,17 @@ fn filled_at(entries: &[DpbEntry<()>], count: i32, buffering: u8) -> Option<i32>
 /// The highest order count such that the pictures which are referred to, or are needed for output and
 /// aren't output before it, are more than `buffering`: the greatest of all where those that are
 /// referred to are.
-pub(crate) fn filled_up_to(entries: &[DpbEntry<()>], buffering: u8) -> Option<i32>
+pub(crate) fn full_up_to(entries: &[DpbEntry<()>], buffering: u8) -> Option<i32>
     ensures { (c : ℤ) → FitsSigned w32 c
-        → is_up_to c result ≡ fill_for (buffering + 1) c (plain_entries entries.now) }
+        → is_up_to c result ≡ is_full_up_to (buffering + 1) c (plain_entries entries.now) }
 {
-    if are_full(entries, i32::MAX, buffering) {
+    if is_full_up_to(entries, i32::MAX, buffering) {
         return Some(i32::MAX);
     }
     let mut highest = None;
     for entry in entries {
         let count = entry.picture.pic_order_cnt_val;
-        highest = higher_of(highest, filled_at(entries, count, buffering));
+        highest = higher_of(highest, full_at(entries, count, buffering));
     }
     highest
 }

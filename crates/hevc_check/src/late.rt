@@ -17,6 +17,7 @@ pub(crate) struct HighestCounts {
 
 impl HighestCounts {
     /// Of no pictures. Takes no memory.
+    #[tactic(auto, using(crate::proofs::Lateness::none_kept))]
     pub(crate) fn new(alloc: Global) -> HighestCounts
         ensures { AreHighest [] result }
     {
@@ -26,6 +27,7 @@ impl HighestCounts {
     }
 
     /// Of no pictures again.
+    #[tactic(auto, using(crate::proofs::Lateness::none_kept))]
     pub(crate) fn clear(&mut self)
         ensures { AreHighest [] self.new }
     {

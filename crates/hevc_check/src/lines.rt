@@ -4,7 +4,7 @@ ghost use Rattle.std.specs.String.{string_bytes};
 ghost use Rattle.hevc_check_laws.specs.Checks as laws;
 ghost use Rattle.hevc_check.specs.Answers.{checked_of};
 ghost use Rattle.hevc_check.specs.Breaches.{breach_of};
-ghost use Rattle.hevc_check.specs.Written.{breach_name, checked_line};
+ghost use Rattle.hevc_check.specs.Written.{breach_name, checked_answer};
 
 use crate::breach::Breach;
 use crate::check::Checked;
@@ -12,7 +12,7 @@ use std::alloc::{AllocError, Global};
 
 /// The line of an answer.
 pub(crate) fn checked_line(alloc: Global, checked: Checked) -> Result<String, AllocError>
-    ensures { IfOk result (λ line. string_bytes line ≡ checked_line (checked_of checked)) }
+    ensures { IfOk result (λ line. string_bytes line ≡ (checked_answer (checked_of checked)).0) }
 {
     match checked {
         Checked::Yes {
@@ -30,7 +30,7 @@ pub(crate) fn checked_line(alloc: Global, checked: Checked) -> Result<String, Al
 /// The line where nothing is broken: how many sequences and pictures there are.
 fn yes_line(alloc: Global, sequences: u64, pictures: u64) -> Result<String, AllocError>
     ensures { IfOk result
-        (λ line. string_bytes line ≡ checked_line (laws.Yes sequences pictures)) }
+        (λ line. string_bytes line ≡ (checked_answer (laws.Yes sequences pictures)).0) }
 {
     let mut line = String::new(alloc);
     writeln!(line, "check yes sequences {sequences} pictures {pictures}")?;
@@ -40,8 +40,8 @@ fn yes_line(alloc: Global, sequences: u64, pictures: u64) -> Result<String, Allo
 /// The line of a picture that breaks something: its number, the unit of its first slice, and what
 /// it breaks.
 fn no_line(alloc: Global, number: u64, unit: u64, breach: Breach) -> Result<String, AllocError>
-    ensures { IfOk result (λ line. string_bytes line ≡ checked_line
-        (laws.No (record { number = number; unit = unit; breach = breach_of breach }))) }
+    ensures { IfOk result (λ line. string_bytes line ≡ (checked_answer
+        (laws.No (record { number = number; unit = unit; breach = breach_of breach }))).0) }
 {
     let name = breach_name(breach);
     let mut line = String::new(alloc);

@@ -12,12 +12,12 @@ ghost use Rattle.hevc_walk.specs.Walk.{change_format, begin_picture, is_accepted
 ghost use Rattle.hevc_backend.specs.Negotiation.{format_of};
 ghost use Rattle.hevc_driver.specs.Heads.{head_of};
 ghost use Rattle.hevc_driver.specs.Slices.{slice_of};
-ghost use Rattle.hevc_check.specs.Filled.{fill_for, is_up_to};
-ghost use Rattle.hevc_check.specs.Places.{place, finished, begun, begins_picture, meant, room_left, IsBegun, CannotBegin, Takes};
+ghost use Rattle.hevc_check.specs.Filled.{is_full_up_to, is_up_to};
+ghost use Rattle.hevc_check.specs.Places.{place, after_picture, with_picture, is_first_slice, after_unit, room_left, TellsPicture, CannotBegin, Takes};
 
 use crate::beginning::after;
 use crate::begun::{Begun, Stored};
-use crate::filled::filled_up_to;
+use crate::filled::full_up_to;
 use crate::unlike::Unlike;
 use hevc_backend::NegotiationInfo;
 use hevc_bumping::{Frame, bump_additionally, bump_for_room};
@@ -55,7 +55,7 @@ impl Model for Pictures {
     ghost use Rattle.hevc_backend.specs.Negotiation.{format_of};
     ghost use Rattle.hevc_driver.specs.Heads.{head_of, context_of};
     ghost use Rattle.hevc_driver.specs.Slices.{kept_of};
-    ghost use Rattle.hevc_check.specs.Filled.{fill_for, is_up_to};
+    ghost use Rattle.hevc_check.specs.Filled.{is_full_up_to, is_up_to};
     ghost use Rattle.hevc_check.specs.Places.{Place, IsSound};
 
     ghost Value = { Place };
@@ -110,7 +110,7 @@ impl Pictures {
     ///
     /// Errors: the buffer is full.
     fn finish(&mut self) -> Result<(), DpbFull>
-        ensures finished { OnOk result (self.new ≡ finished self.old) }
+        ensures after_picture { OnOk result (self.new ≡ after_picture self.old) }
         ensures full { OnErr result (is_full self.old.latest self.old.store ≡ true) }
     {
         let Some(head) = self.latest.take() else {
@@ -169,7 +169,7 @@ impl Pictures {
             (slice_of o slice.now sps.now pps) self.old.store.buffer)) }
         ensures filled { (o : Options) (pps : code_pps.Pps) (c : ℤ) → FitsSigned w32 c
             → is_up_to c result.filled ≡ (not (head_of head.now).skipped
-            && fill_for (head.now.limits.buffering + 1) c (needed_entries (with_marks
+            && is_full_up_to (head.now.limits.buffering + 1) c (needed_entries (with_marks
             (head_of head.now) (slice_of o slice.now sps.now pps) self.old.store.buffer))) }
         ensures others { self.new ≡ record self.old { store = self.new.store } }
     {
@@ -184,7 +184,7 @@ impl Pictures {
         self.dpb.remove_unused();
         let stored = Stored {
             num: self.dpb.len(),
-            filled: filled_up_to(self.dpb.entries(), head.limits.buffering),
+            filled: full_up_to(self.dpb.entries(), head.limits.buffering),
         };
         self.make_room(head);
         stored
@@ -197,8 +197,8 @@ impl Pictures {
     fn begin(&mut self, options: Options, slice: &Slice<'_>, sps: &Sps) -> Result<Begun, Unlike>
         requires few { self.old.next.number < 2 ^ 64 - 1 }
         ensures begun { (pps : code_pps.Pps) → IfOk result (λ b.
-            IsBegun (slice_of options slice.now sps.now pps) self.old b
-            × (self.new ≡ begun (slice_of options slice.now sps.now pps) self.old)) }
+            TellsPicture (slice_of options slice.now sps.now pps) self.old b
+            × (self.new ≡ with_picture (slice_of options slice.now sps.now pps) self.old)) }
         ensures refused { (pps : code_pps.Pps) → OnErr result
             (CannotBegin (slice_of options slice.now sps.now pps) self.old) }
         ensures cause { IfErr result (λ e. e ≡ Unlike.Refused) }
@@ -219,9 +219,9 @@ impl Pictures {
 
     /// Whether a slice begins a picture (7.4.2.4.5).
     #[tactic(auto, unfolding(hevc_driver::specs::Slices::slice_of))]
-    fn begins_picture(&self, slice: &Slice<'_>) -> bool
+    fn is_first_slice(&self, slice: &Slice<'_>) -> bool
         ensures { (o : Options) (sps : code_sps.Sps) (pps : code_pps.Pps) → result
-            ≡ begins_picture (slice_of o slice.now sps pps) self.now.latest }
+            ≡ is_first_slice (slice_of o slice.now sps pps) self.now.latest }
     {
         self.latest.is_none() || slice.header().first_slice_segment_in_pic_flag
     }
@@ -246,7 +246,7 @@ impl Pictures {
             return Ok(None);
         }
         keep_header(self.alloc, &mut self.kept, slice);
-        if !self.begins_picture(slice) {
+        if !self.is_first_slice(slice) {
             return Ok(None);
         }
         let begun = self.begin(options, slice, sps)?;
@@ -255,7 +255,7 @@ impl Pictures {
 
     /// A sequence set is kept: the first one is negotiated.
     pub(crate) fn open_sequence(&mut self, sps: &Sps)
-        ensures { self.new ≡ meant (SequenceSet (format_of_set (plain_sps sps.now))) self.old }
+        ensures { self.new ≡ after_unit (SequenceSet (format_of_set (plain_sps sps.now))) self.old }
     {
         if self.accepted.is_some() {
             return;
@@ -281,14 +281,14 @@ impl Pictures {
 
     /// The next picture is the first one after an end of sequence (7.4.2.4.4).
     pub(crate) fn end_sequence(&mut self)
-        ensures { self.new ≡ meant EndOfSequence self.old }
+        ensures { self.new ≡ after_unit EndOfSequence self.old }
     {
         self.next.first_picture_after_eos = true;
     }
 
     /// The next picture is the first one after an end of bitstream.
     pub(crate) fn end_bitstream(&mut self)
-        ensures { self.new ≡ meant EndOfBitstream self.old }
+        ensures { self.new ≡ after_unit EndOfBitstream self.old }
     {
         self.next.first_picture_in_bitstream = true;
     }

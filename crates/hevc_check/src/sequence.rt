@@ -16,7 +16,7 @@ ghost use Rattle.hevc_check_laws.specs.Checks.{first_breach};
 ghost use Rattle.hevc_check.specs.Breaches.{breach_of};
 ghost use Rattle.hevc_check.specs.Filled.{is_below};
 ghost use Rattle.hevc_check.specs.Late.{AreHighest, Fall, late_by};
-ghost use Rattle.hevc_check.specs.Sequences.{Follows, FollowsAll, FollowsTo, KeepsHighest, Tells, above, has_count, output_above};
+ghost use Rattle.hevc_check.specs.Sequences.{Follows, FollowsAll, FollowsTo, KeepsHighest, TellsNext, above, has_count, output_above};
 ghost use Rattle.hevc_check.specs.Tables.{breaks_by, is_counted};
 
 use crate::begun::Begun;
@@ -250,7 +250,7 @@ impl Sequence {
     /// so up to it that one is output because the buffer is full no earlier than it.
     fn is_full(&self, begun: &Begun) -> bool
         ensures { (set : Option (ℕ × Format)) (p : Picture) (before : List Picture)
-            → Tells set p before begun.now → FollowsTo set p before self.now
+            → TellsNext set p before begun.now → FollowsTo set p before self.now
             → result ≡ breaks_by self.now.table set p before Full }
     {
         match self.table {
@@ -286,7 +286,7 @@ impl Sequence {
     /// What a picture breaks first, if anything.
     fn first_breach(&self, begun: &Begun) -> Option<Breach>
         ensures { (set : Option (ℕ × Format)) (p : Picture) (before : List Picture)
-            → Tells set p before begun.now → FollowsTo set p before self.now
+            → TellsNext set p before begun.now → FollowsTo set p before self.now
             → option_map breach_of result
             ≡ first_breach (breaks_by self.now.table set p before) all_breaches }
     {
@@ -387,7 +387,7 @@ impl Sequence {
     /// looked at whether it finds the buffer full.
     fn turn_to(&mut self, begun: &Begun)
         ensures follows { (set : Option (ℕ × Format)) (p : Picture) (before : List Picture)
-            → Tells set p before begun.now → FollowsAll set before self.old
+            → TellsNext set p before begun.now → FollowsAll set before self.old
             → FollowsTo set p before self.new }
         ensures table { self.new.table ≡ self.old.table }
     {
@@ -402,12 +402,12 @@ impl Sequence {
     /// what it breaks first, if anything.
     pub(crate) fn take(&mut self, begun: &Begun) -> Result<Option<Breach>, AllocError>
         ensures breach { IfOk result (λ breach. (set : Option (ℕ × Format)) (p : Picture)
-            (before : List Picture) → Tells set p before begun.now
+            (before : List Picture) → TellsNext set p before begun.now
             → FollowsAll set before self.old
             → option_map breach_of breach
             ≡ first_breach (breaks_by self.old.table set p before) all_breaches) }
         ensures follows { OnOk result ((set : Option (ℕ × Format)) (p : Picture)
-            (before : List Picture) → Tells set p before begun.now
+            (before : List Picture) → TellsNext set p before begun.now
             → FollowsAll set before self.old → FollowsAll set (p ∷ before) self.new) }
         ensures table { self.new.table ≡ self.old.table }
     {

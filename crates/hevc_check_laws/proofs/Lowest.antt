@@ -3,13 +3,15 @@ use Rattle.std.proofs.Common.{◌≡◌, ℕ, Bool, true, false, cond, List, [],
 use Rattle.hevc_walk.specs.Meanings.{Meaning}
 use Rattle.hevc_walk.specs.Pictures.{Picture}
 use Rattle.hevc_check_laws.specs.Breaches.{Breach, Changed, Latency, SameCount, Full, Discards, Reorder, all_breaches}
-use Rattle.hevc_check_laws.specs.Checks.{BrokenAt, first_breach, broken_at, earlier_broken, lowest_broken, Yes, checked_with}
+use Rattle.hevc_check_laws.specs.Checks.{BrokenAt, first_breach, broken_at, earlier_broken}
+use Rattle.hevc_check_laws.specs.Checks.{lowest_broken, Yes, checked_with}
 use Rattle.hevc_check_laws.proofs.Places.{Sound}
 
 abbrev pub Unbroken : (Picture → List Picture → Breach → Bool) → Picture → List Picture → Type 0
 Unbroken breaks p before = (b : Breach) → breaks p before b ≡ false
 
-peel : (f : Breach → Bool) (b : Breach) (bs : List Breach) → first_breach f (b ∷ bs) ≡ None → (f b ≡ false) × (first_breach f bs ≡ None)
+peel : (f : Breach → Bool) (b : Breach) (bs : List Breach) → first_breach f (b ∷ bs) ≡ None
+    → (f b ≡ false) × (first_breach f bs ≡ None)
 peel f b bs h = by_test (f b) h
   where
     by_test : (t : Bool) → cond t (Some b) (first_breach f bs) ≡ None → (t ≡ false) × (first_breach f bs ≡ None)
@@ -26,7 +28,8 @@ none-holds f h =
     let g = peel f Reorder [] e.1 in
     by_breach a.0 b.0 c.0 d.0 e.0 g.0
   where
-    by_breach : f Changed ≡ false → f Latency ≡ false → f SameCount ≡ false → f Full ≡ false → f Discards ≡ false → f Reorder ≡ false → (b : Breach) → f b ≡ false
+    by_breach : f Changed ≡ false → f Latency ≡ false → f SameCount ≡ false → f Full ≡ false → f Discards ≡ false
+        → f Reorder ≡ false → (b : Breach) → f b ≡ false
     by_breach a b c d e g Changed = a
     by_breach a b c d e g Latency = b
     by_breach a b c d e g SameCount = c
@@ -42,7 +45,8 @@ none-first f (b ∷ bs) h = by_test (f b) (h b) (none-first f bs h)
     by_test true e k = absurd (cc e)
     by_test false e k = k
 
-pub lowest-none : (breaks : Picture → List Picture → Breach → Bool) (ps : List Picture) → lowest_broken breaks ps ≡ None → Sound (Unbroken breaks) ps
+pub lowest-none : (breaks : Picture → List Picture → Breach → Bool) (ps : List Picture)
+    → lowest_broken breaks ps ≡ None → Sound (Unbroken breaks) ps
 lowest-none breaks [] h = tt
 lowest-none breaks (p ∷ before) h =
     let k = both (lowest_broken breaks before) (first_breach (breaks p before) all_breaches) h in
@@ -53,9 +57,12 @@ lowest-none breaks (p ∷ before) h =
     both None (Some b) h = absurd (cc h)
     both None None h = (refl, refl)
 
-pub none-lowest : (breaks : Picture → List Picture → Breach → Bool) (ps : List Picture) → Sound (Unbroken breaks) ps → lowest_broken breaks ps ≡ None
+pub none-lowest : (breaks : Picture → List Picture → Breach → Bool) (ps : List Picture) → Sound (Unbroken breaks) ps
+    → lowest_broken breaks ps ≡ None
 none-lowest breaks [] h = refl
-none-lowest breaks (p ∷ before) h = both (lowest_broken breaks before) (first_breach (breaks p before) all_breaches) (none-lowest breaks before h.1) (none-first (breaks p before) all_breaches h.0)
+none-lowest breaks (p ∷ before) h =
+    both (lowest_broken breaks before) (first_breach (breaks p before) all_breaches) (none-lowest breaks before h.1)
+    (none-first (breaks p before) all_breaches h.0)
   where
     both : (o : Option BrokenAt) (b : Option Breach) → o ≡ None → b ≡ None → earlier_broken o (broken_at p b) ≡ None
     both o b h k = ap (λ (x : Option BrokenAt). earlier_broken x (broken_at p b)) h ∙ ap (broken_at p) k

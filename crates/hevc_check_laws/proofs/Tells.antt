@@ -1,9 +1,11 @@
 -- What it says that a test fails.
-use Rattle.std.proofs.Common.{◌≡◌, ◌≢◌, ℕ, ℤ, ◌<◌, ◌≤◌, ◌<ℤ◌, Bool, true, false, not, ◌&&◌, ◌||◌, eqb, int_eq, List, [], ◌∷◌, refl, ◌∙◌, ap, subst, arith}
+use Rattle.std.proofs.Common.{◌≡◌, ◌≢◌, ℕ, ℤ, ◌<◌, ◌≤◌, ◌<ℤ◌, Bool, true, false, not, ◌&&◌, ◌||◌}
+use Rattle.std.proofs.Common.{eqb, int_eq, List, [], ◌∷◌, refl, ◌∙◌, ap, subst, arith}
 use Rattle.std.specs.Prelude.{Decides, nat_lt, nat_le, int_lt}
 use Rattle.std.specs.List.{list_any, AllByRecursion as Each}
 use Rattle.std.proofs.lemmas.Int.{ints}
-use Rattle.std.proofs.lemmas.Bool.Decides.{nat_tests, Decides-and, Decides-not, Decides-like, Decides-eqb, Decides-int_eq}
+use Rattle.std.proofs.lemmas.Bool.Decides.{nat_tests, Decides-and, Decides-not, Decides-like}
+use Rattle.std.proofs.lemmas.Bool.Decides.{Decides-eqb, Decides-int_eq}
 use Rattle.hevc_walk.specs.Meanings.{Format, Limits, same_format}
 use Rattle.hevc_walk_fates.proofs.Accepted.{same_format-equal}
 use Rattle.hevc_walk_order.specs.Tests.{same_limits}
@@ -38,7 +40,8 @@ pub fails-not : {P : Type 0} (t : Bool) → Decides t P → Fails (not t) P
 fails-not true d = d
 fails-not false d = d
 
-pub fails-any : {X : Type 0} (test : X → Bool) (P : X → Type 0) → ((x : X) → Fails (test x) (P x)) → (xs : List X) → Fails (list_any test xs) (Each P xs)
+pub fails-any : {X : Type 0} (test : X → Bool) (P : X → Type 0) → ((x : X) → Fails (test x) (P x)) → (xs : List X)
+    → Fails (list_any test xs) (Each P xs)
 fails-any test P each [] = (λ h. tt, λ h. refl)
 fails-any test P each (x ∷ xs) = by_test (test x) (list_any test xs) (each x) (fails-any test P each xs)
   where
@@ -94,14 +97,27 @@ limits_of m n k = record { max_num_reorder_pics = m; max_latency_increase_plus1 
 limits-tell : (a b : Limits) → Decides (same_limits a b) (a ≡ b)
 unfolding limits_of
 limits-tell a b = Decides-like (same_limits a b)
-    (λ h. ap (λ m. limits_of m a.max_latency_increase_plus1 a.max_dec_pic_buffering_minus1) h.0.0 ∙ ap (λ n. limits_of b.max_num_reorder_pics n a.max_dec_pic_buffering_minus1) h.0.1 ∙ ap (λ k. limits_of b.max_num_reorder_pics b.max_latency_increase_plus1 k) h.1)
-    (λ h. ((ap (λ (l : Limits). l.max_num_reorder_pics) h, ap (λ (l : Limits). l.max_latency_increase_plus1) h), ap (λ (l : Limits). l.max_dec_pic_buffering_minus1) h))
-    (Decides-and (eqb a.max_num_reorder_pics b.max_num_reorder_pics && eqb a.max_latency_increase_plus1 b.max_latency_increase_plus1) (eqb a.max_dec_pic_buffering_minus1 b.max_dec_pic_buffering_minus1)
-    (Decides-and (eqb a.max_num_reorder_pics b.max_num_reorder_pics) (eqb a.max_latency_increase_plus1 b.max_latency_increase_plus1) (Decides-eqb a.max_num_reorder_pics b.max_num_reorder_pics) (Decides-eqb a.max_latency_increase_plus1 b.max_latency_increase_plus1))
+    (λ h. ap (λ m. limits_of m a.max_latency_increase_plus1 a.max_dec_pic_buffering_minus1) h.0.0
+    ∙ ap (λ n. limits_of b.max_num_reorder_pics n a.max_dec_pic_buffering_minus1) h.0.1
+    ∙ ap (λ k. limits_of b.max_num_reorder_pics b.max_latency_increase_plus1 k) h.1)
+    (λ h. (
+      (ap (λ (l : Limits). l.max_num_reorder_pics) h, ap (λ (l : Limits). l.max_latency_increase_plus1) h),
+      ap (λ (l : Limits). l.max_dec_pic_buffering_minus1) h,
+    ))
+    (Decides-and
+    (eqb a.max_num_reorder_pics b.max_num_reorder_pics
+    && eqb a.max_latency_increase_plus1 b.max_latency_increase_plus1)
+    (eqb a.max_dec_pic_buffering_minus1 b.max_dec_pic_buffering_minus1)
+    (Decides-and (eqb a.max_num_reorder_pics b.max_num_reorder_pics)
+    (eqb a.max_latency_increase_plus1 b.max_latency_increase_plus1)
+    (Decides-eqb a.max_num_reorder_pics b.max_num_reorder_pics)
+    (Decides-eqb a.max_latency_increase_plus1 b.max_latency_increase_plus1))
     (Decides-eqb a.max_dec_pic_buffering_minus1 b.max_dec_pic_buffering_minus1))
 
 format-tells : (a b : Format) → Decides (same_format a b) (a ≡ b)
 format-tells a b = (same_format-equal a b, λ h. subst (λ (f : Format). same_format a f ≡ true) h (same_format-own a))
 
 pub same-tells : (l m : Limits) (f g : Format) → Fails (not (same_limits l m && same_format f g)) ((l ≡ m) × (f ≡ g))
-same-tells l m f g = fails-not (same_limits l m && same_format f g) (Decides-and (same_limits l m) (same_format f g) (limits-tell l m) (format-tells f g))
+same-tells l m f g =
+    fails-not (same_limits l m && same_format f g)
+    (Decides-and (same_limits l m) (same_format f g) (limits-tell l m) (format-tells f g))

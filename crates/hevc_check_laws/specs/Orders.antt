@@ -15,19 +15,19 @@ comes_late earlier p b =
     int_lt p.order_count b.order_count
     && nat_le (latency_pictures p.limits) (decoded_between b.number p.number earlier)
 
--- As a picture is to be decoded, the entries that are referred to, or are output no earlier than an
--- order count, fill the buffer: one of these is bumped (C.5.2.2).
-abbrev pub fills : Option (ℕ × Format) → ℤ → Picture → List Picture → Bool
-fills set c p before =
+-- As a picture is to be decoded the buffer is full of entries that are referred to, or are output no
+-- earlier than an order count, so one of these has to be output (C.5.2.2).
+abbrev pub is_full_for : Option (ℕ × Format) → ℤ → Picture → List Picture → Bool
+is_full_for set c p before =
     not p.skipped
     && nat_le (p.limits.max_dec_pic_buffering_minus1 + 1)
     (length (needed_behind c (entries_before set p before)))
 
--- so it is at the latest of these, or at an earlier one of its sequence but the first
-abbrev pub filled_for : Option (ℕ × Format) → ℤ → List Picture → Bool
-filled_for set c [] = false
-filled_for set c (p ∷ before) =
-    not (begins p before) && (fills set c p before || filled_for set c before)
+-- it was so at the latest of these, or at an earlier one of its sequence but the first
+abbrev pub was_full_up_to : Option (ℕ × Format) → ℤ → List Picture → Bool
+was_full_up_to set c [] = false
+was_full_up_to set c (p ∷ before) =
+    not (begins p before) && (is_full_for set c p before || was_full_up_to set c before)
 
 -- what a picture breaks, after those before it
 abbrev pub breaks_order : Option (ℕ × Format) → Picture → List Picture → Breach → Bool
@@ -42,8 +42,9 @@ breaks_order set p before Latency =
 breaks_order set p before SameCount =
     is_for_output p
     && list_any (λ b. int_eq p.order_count b.order_count) (earlier_for_output p before)
--- because the buffer is full there is bumped, up to it, what is output no earlier than it
-breaks_order set p before Full = is_for_output p && filled_for set p.order_count (p ∷ before)
+-- at it or before it the buffer was full of entries that are referred to, or are output no earlier
+-- than it
+breaks_order set p before Full = is_for_output p && was_full_up_to set p.order_count (p ∷ before)
 -- its NoOutputOfPriorPicsFlag is set (C.5.2.2), whether or not a picture waits for output
 breaks_order set p before Discards = discards p
 -- more pictures than declared are before it and are output after it

@@ -39,5 +39,5 @@ impl Runnable for Checker {
 }
 
 fn main(rt: HostRuntime) -> ExitCode {
-    ExitCode::from(start::<Checker, HostRuntime>(&rt))
+    ExitCode::from(start::<Checker>(&rt))
 }

@@ -133,6 +133,7 @@ module _ {B H P : Type 0} (log : B → Option (List (Call H))) (handed : B → O
     decodes_next r old_shown new_shown blames takes = record {
       out = takes.out;
       shown = takes.shown;
+      options = same_set;
       goes_on = λ o backend gone there. by_result r takes.out o backend gone there blames
           (subst (λ (x : Options). StepsBy r x k before after takes.out
           (scene log handed frames old []).seen (scene log handed frames new []).seen) there.set takes.steps);

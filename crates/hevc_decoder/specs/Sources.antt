@@ -2,6 +2,7 @@
 use Rattle.std.specs.Prelude.{◌≡◌, ℕ, ◌≤◌, List, [], ◌++◌, length, map, Option, Result, Ok, Err}
 use Rattle.std.specs.Prelude.{IfErr, IfOk, IfSome}
 use Rattle.std.specs.Io.KnownBytes.{Consumes}
+use Rattle.hevc_fault_counts.specs.Faults.{Rose}
 use Rattle.hevc_spec.specs.Units.{NalUnit, units}
 use Rattle.hevc_walk.specs.Results.{outputs}
 use Rattle.hevc_stream.specs.Options.{Options}
@@ -14,6 +15,11 @@ use Rattle.hevc_decoder.specs.Names.{output_picture}
 use Rattle.hevc_decoder.specs.Headline.{Appended, IsFront}
 use Rattle.hevc_decoder.specs.Scenes.{Scene, Trail, trail_of}
 use Rattle.hevc_decoder.specs.Runs.{Reached, Ended}
+
+-- A source's count of faults never falls; where it failed it has risen, or is at its highest.
+pub record CountsFailure (failed : Type 0) (before now : ℕ) : Type 0 where
+  pub later : before ≤ now
+  pub cause : failed → Rose before now
 
 -- what holds of an answer and of the bytes that a source had left, where it exposes them
 abbrev pub OfSource : {T E : Type 0} → Result T E → Option (List ℕ) → (T → List ℕ → Type 0) → Type 0

@@ -1,6 +1,7 @@
 -- A stream that is given to a decoder unit by unit.
-use Rattle.std.specs.Prelude.{◌≡◌, ℕ, ◌+◌, List, [], ◌∷◌, ◌++◌, Option, Some, None, Result, Ok, Err}
-use Rattle.hevc_spec.specs.Units.{NalUnit, units}
+use Rattle.std.specs.Prelude.{◌≡◌, ◌≤◌, ◌<◌, ℕ, ◌+◌, List, [], ◌∷◌, ◌++◌, length}
+use Rattle.std.specs.Prelude.{Option, Some, None, OnSome, Result, Ok, Err, IfOk}
+use Rattle.hevc_spec.specs.Units.{NalUnit, kept_bytes, units, units_from}
 use Rattle.hevc_bits.specs.FoundUnit.{FoundUnit, unit_of}
 use Rattle.hevc_stream.specs.Options.{Options}
 use Rattle.hevc_backend.specs.declared.call.Call.{Call}
@@ -24,6 +25,16 @@ abbrev pub StaysUnlessTaken : {T : Type 0} → Result (Option T) Refused → (ol
 StaysUnlessTaken (Ok (Some taken)) old new = Unit {0}
 StaysUnlessTaken (Ok None) old new = new ≡ old
 StaysUnlessTaken (Err refused) old new = new ≡ old
+
+-- The first unit from a position on was found, and the position is after it now; where none was
+-- taken it stays. It is never beyond the stream.
+pub record MovesOn {U : Type 0} (result : Result (Option (FoundUnit U)) Refused)
+    (stream : List ℕ) (old new : ℕ) : Type 0 where
+  pub next : IfOk result (λ found. IsNextUnit found
+      (units_from kept_bytes old stream) (units_from kept_bytes new stream))
+  pub moves : IfOk result (λ found. OnSome found (old < new))
+  pub stays : StaysUnlessTaken result old new
+  pub within : new ≤ length stream
 
 -- before a decoder is given a unit
 abbrev pub first_trail : {H : Type 0} → Option (List (Call H)) → Option (List Handed) → Trail H
@@ -64,7 +75,7 @@ GoesOn log handed frames counts is_faultless (Err refused) options stream k befo
     (told log handed counts is_faultless (view_of new).backend shown) (Err refused)
 
 -- The next unit was taken of a stream, of which `before` were left: so much more was output, and
--- the stream goes on.
+-- the stream goes on, under the same options.
 pub record DecodesNext {B H P T : Type 0} (log : B → Option (List (Call H)))
     (handed : B → Option (List Handed)) (frames : B → Frames) (counts : B → Counts)
     (is_faultless : B → Type 0)
@@ -72,6 +83,7 @@ pub record DecodesNext {B H P T : Type 0} (log : B → Option (List (Call H)))
     (old new : StatelessDecoder B H P) (old_shown new_shown : List (Shown H)) : Type 0 where
   pub out : List (Shown H)
   pub shown : new_shown ≡ old_shown ++ out
+  pub options : set_for new ≡ set_for old
   pub goes_on : (options : Options) (backend : B) (gone : List (Shown H))
       → StandsIn log handed frames counts is_faultless options stream k before backend gone old
       → GoesOn log handed frames counts is_faultless result options stream k before after backend

@@ -3,14 +3,13 @@ ghost use Rattle.std.specs.Prelude.{◌≡◌, ◌+◌, ◌-◌, ◌≤◌, ◌<
 ghost use Rattle.std.specs.Prelude.{OnOk, IsErrOf};
 ghost use Rattle.std.specs.Io.KnownBytes.{Consumes, IsAtEnd};
 ghost use Rattle.hevc_bits.specs.StartCode.{NoneStands};
-ghost use Rattle.hevc_fault_counts.specs.Faults.{Rose};
 ghost use Rattle.hevc_stream.specs.Kept.{none_kept};
 ghost use Rattle.hevc_driver.specs.Answers.{BlamesFairly};
 ghost use Rattle.hevc_stateless.specs.Decoders.{view_of, kept_in, set_for};
 ghost use Rattle.hevc_stateless.specs.Views.{at_beginning};
 ghost use Rattle.hevc_decoder.specs.Answers.{without_unit};
 ghost use Rattle.hevc_decoder.specs.Scenes.{scene, trail_of};
-ghost use Rattle.hevc_decoder.specs.Sources.{ComeOutFirst, Drained, FedTo, FeedsOn};
+ghost use Rattle.hevc_decoder.specs.Sources.{ComeOutFirst, CountsFailure, Drained, FedTo, FeedsOn};
 ghost use Rattle.hevc_bits.specs.declared.stream_limit.TheConstants.{STREAM_LIMIT};
 
 use crate::decoded::{Refused, Shown};
@@ -83,12 +82,11 @@ fn feed<B: StatelessH265DecoderBackend, S: Source>(
         BlamesFairly B.counts B.is_faultless (view_of decoder.old).backend
         (view_of decoder.new).backend (without_unit fed)) }
     ensures options { OnOk result (set_for decoder.new ≡ set_for decoder.old) }
-    ensures failed { IsErrOf result InputError.Failed
-        → Rose (S.faults source.old) (S.faults source.new) }
+    ensures faults { CountsFailure (IsErrOf result InputError.Failed)
+        (S.faults source.old) (S.faults source.new) }
     ensures too_long { IsErrOf result InputError.TooLong → (given : List ℕ)
         × (left.old < length given)
         × Consumes (S.left source.old) (S.left source.new) given }
-    ensures later { S.faults source.old ≤ S.faults source.new }
 {
     let mut unit = 0;
     loop {
@@ -130,12 +128,11 @@ pub(crate) fn take_source<B: StatelessH265DecoderBackend, S: Source>(
     ensures blames { IfOk result (λ answer.
         BlamesFairly B.counts B.is_faultless (view_of decoder.old).backend
         (view_of decoder.new).backend (without_unit answer)) }
-    ensures failed { IsErrOf result InputError.Failed
-        → Rose (S.faults source.old) (S.faults source.new) }
+    ensures faults { CountsFailure (IsErrOf result InputError.Failed)
+        (S.faults source.old) (S.faults source.new) }
     ensures too_long { IsErrOf result InputError.TooLong → (given : List ℕ)
         × (limit < length given)
         × Consumes (S.left source.old) (S.left source.new) given }
-    ensures later { S.faults source.old ≤ S.faults source.new }
 {
     let mut window = Window::new(alloc);
     let mut left = limit;

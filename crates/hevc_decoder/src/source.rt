@@ -1,10 +1,9 @@
 //! A source decoded.
 ghost use Rattle.std.specs.Prelude.{◌<◌, ◌≤◌, ℕ, List, IfOk, OnOk, IsErrOf, length};
 ghost use Rattle.std.specs.Io.KnownBytes.{Consumes, IsAtEnd};
-ghost use Rattle.hevc_fault_counts.specs.Faults.{Rose};
 ghost use Rattle.hevc_options.specs.Options.{options_of};
 ghost use Rattle.hevc_decoder.specs.Promise.{Decodes, IsHonest, told};
-ghost use Rattle.hevc_decoder.specs.Sources.{ComeOutFirst, OfSource};
+ghost use Rattle.hevc_decoder.specs.Sources.{ComeOutFirst, CountsFailure, OfSource};
 ghost use Rattle.hevc_bits.specs.declared.stream_limit.TheConstants.{STREAM_LIMIT};
 
 use crate::decoded::{Decoded, Shown};
@@ -50,12 +49,11 @@ pub fn decode_source_with<B: StatelessH265DecoderBackend + Drop, S: Source>(
         decoded.result) }
 
     // Why the input can't be had.
-    ensures failed { IsErrOf result InputError.Failed
-        → Rose (S.faults source.old) (S.faults source.new) }
+    ensures faults { CountsFailure (IsErrOf result InputError.Failed)
+        (S.faults source.old) (S.faults source.new) }
     ensures too_long { IsErrOf result InputError.TooLong → (given : List ℕ)
         × (limit < length given)
         × Consumes (S.left source.old) (S.left source.new) given }
-    ensures later { S.faults source.old ≤ S.faults source.new }
 {
     let mut decoder = StatelessDecoder::new_with(alloc, backend, options);
     let result = take_source(alloc, &mut decoder, source, limit, shown)?;

@@ -1,10 +1,9 @@
 //! A stream that is decoded unit by unit.
-ghost use Rattle.std.specs.Prelude.{◌≡◌, ◌≤◌, ◌<◌, [], ℕ, List, length, IfOk, OnSome};
+ghost use Rattle.std.specs.Prelude.{◌≡◌, ◌≤◌, ◌<◌, [], ℕ, List, length};
 ghost use Rattle.hevc_spec.specs.Units.{kept_bytes, units, units_from};
 ghost use Rattle.hevc_options.specs.Options.{options_of};
 ghost use Rattle.hevc_stateless.specs.Decoders.{set_for, view_of};
-ghost use Rattle.hevc_decoder.specs.Stepping.{DecodesEnd, DecodesNext, IsNextUnit, StandsIn};
-ghost use Rattle.hevc_decoder.specs.Stepping.{StaysUnlessTaken};
+ghost use Rattle.hevc_decoder.specs.Stepping.{DecodesEnd, DecodesNext, MovesOn, StandsIn};
 ghost use Rattle.hevc_decoder.specs.Answers.{outcome};
 ghost use Rattle.hevc_decoder.specs.Gives.{Closes, LeavesNext};
 ghost use Rattle.hevc_decoder.specs.Scenes.{scene};
@@ -46,12 +45,7 @@ pub fn decode_next_unit<'a, B: StatelessH265DecoderBackend>(
     requires within { position.old ≤ length stream.now }
     requires empty { (view_of decoder.old).queue ≡ [] }
     ensures empty { (view_of decoder.new).queue ≡ [] }
-    ensures next { IfOk result (λ found. IsNextUnit found
-        (units_from kept_bytes position.old stream.now)
-        (units_from kept_bytes position.new stream.now)) }
-    ensures moves { IfOk result (λ found. OnSome found (position.old < position.new)) }
-    ensures stays { StaysUnlessTaken result position.old position.new }
-    ensures within { position.new ≤ length stream.now }
+    ensures position { MovesOn result stream.now position.old position.new }
     ensures decodes { DecodesNext B.log B.handed B.frames B.counts B.is_faultless result stream.now unit
         (units_from kept_bytes position.old stream.now)
         (units_from kept_bytes position.new stream.now)
@@ -60,7 +54,6 @@ pub fn decode_next_unit<'a, B: StatelessH265DecoderBackend>(
         (units_from kept_bytes position.old stream.now)
         (scene B.log B.handed B.frames decoder.old shown.old.items)
         (scene B.log B.handed B.frames decoder.new shown.new.items) }
-    ensures options { set_for decoder.new ≡ set_for decoder.old }
 {
     take_next(decoder, stream, position, unit, shown)
 }

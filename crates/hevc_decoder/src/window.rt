@@ -2,7 +2,7 @@
 ghost use Rattle.std.specs.Prelude.{◌≡◌, ◌≤◌, ◌<◌, ◌+◌, ◌⊎◌, ◌++◌, [], ℕ, List, length, drop, true};
 ghost use Rattle.std.specs.Prelude.{IfOk, OnOk, OnErr, IsErrOf};
 ghost use Rattle.std.specs.Io.KnownBytes.{Consumes, IsAtEnd};
-ghost use Rattle.hevc_fault_counts.specs.Faults.{Rose};
+ghost use Rattle.hevc_decoder.specs.Sources.{CountsFailure};
 ghost use Rattle.hevc_decoder.specs.Windows.{IsLastStart, lead_length};
 
 use hevc_io::{InputError, Source};
@@ -64,10 +64,9 @@ impl Window {
         ensures end { IfOk result (λ count. count ≡ 0 → IsAtEnd (S.left source.new)) }
         ensures bound { IfOk result (λ count. count + length self.old ≡ length self.new) }
         ensures stays { OnErr result (self.new ≡ self.old) }
-        ensures failed { IsErrOf result InputError.Failed
-            → Rose (S.faults source.old) (S.faults source.new) }
+        ensures faults { CountsFailure (IsErrOf result InputError.Failed)
+            (S.faults source.old) (S.faults source.new) }
         ensures fits { IsErrOf result InputError.TooLong → ⊥ }
-        ensures later { S.faults source.old ≤ S.faults source.new }
     {
         let room = self.bytes.len().max(self.filled + BLOCK);
         self.bytes.resize(room, 0)?;
@@ -99,12 +98,11 @@ impl Window {
         ensures all { OnOk result ((given : List ℕ) × (length given ≤ limit)
             × Consumes (S.left source.old) (S.left source.new) given) }
         ensures end { OnOk result (IsAtEnd (S.left source.new)) }
-        ensures failed { IsErrOf result InputError.Failed
-            → Rose (S.faults source.old) (S.faults source.new) }
+        ensures faults { CountsFailure (IsErrOf result InputError.Failed)
+            (S.faults source.old) (S.faults source.new) }
         ensures too_long { IsErrOf result InputError.TooLong → (given : List ℕ)
             × (limit < length given)
             × Consumes (S.left source.old) (S.left source.new) given }
-        ensures later { S.faults source.old ≤ S.faults source.new }
     {
         let mut left = limit;
         loop {

@@ -652,7 +652,11 @@ fn cra_pictures_are_handled_as_bla_pictures(rt: HostRuntime) {
     let end =
         "show 0 poc 0 unit 4\nshow 1 poc 4 unit 5\nshow 2 poc 8 unit 5\nend pictures 3 shown 3\n";
     ends(rt, alloc, &[], &[SPS, PPS, IDR, P4, CRA], 0, end);
-    for words in [["cra"].as_slice(), &["layer", "6", "cra"]] {
+    for words in [
+        ["cra"].as_slice(),
+        &["layer", "6", "cra"],
+        &["cra", "layer", "6"],
+    ] {
         let end =
             "submit 2 handle 2\nshow 0 poc 0 unit 4\nshow 2 poc 8 unit 5\nend pictures 3 shown 2\n";
         ends(rt, alloc, words, &[SPS, PPS, IDR, P4, CRA], 0, end);
@@ -695,7 +699,8 @@ fn other_words_are_no_command(rt: HostRuntime) {
         &["layer", "00"],
         &["layer", "0", "0"],
         &["layer", "0", "cra", "cra"],
-        &["cra", "layer", "0"],
+        &["cra", "layer", "7"],
+        &["cra", "cra", "0"],
         &["make"],
         &["make", ""],
         &["make", "0"],

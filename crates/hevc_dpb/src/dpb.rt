@@ -50,15 +50,14 @@ impl<T: Copy> Dpb<T> {
     ghost use Rattle.hevc_pictures.specs.Marks.{mark_of};
     ghost use Rattle.hevc_dpb.specs.Numbers.{Absent};
     ghost use Rattle.hevc_dpb.specs.Entries.{ticket, tickets, reference_numbers, is_needed};
-    ghost use Rattle.hevc_dpb.specs.Entries.{waits_not, with_mark, unmarked, with_latency};
-    ghost use Rattle.hevc_dpb.specs.Entries.{stored_entry, IsStoredAs};
+    ghost use Rattle.hevc_dpb.specs.Entries.{waits_not, with_mark, unmarked};
+    ghost use Rattle.hevc_dpb.specs.Entries.{IsStoredAs};
     ghost use Rattle.hevc_dpb.specs.Output.{as_output, in_output_order, first_in, behind_output};
     ghost use Rattle.hevc_dpb.specs.Bumping.{is_additional_due, is_bumping_due};
-    ghost use Rattle.hevc_dpb.specs.Sublists.{IsSublist};
     ghost use Rattle.hevc_dpb.specs.Plain.{plain_entry, plain_output, HaveLatency};
     ghost use Rattle.hevc_dpb.specs.Views.{stored_entries, max_num_pics_of, room_of, is_stale};
     ghost use Rattle.hevc_dpb.specs.Views.{buffer_of};
-    ghost use Rattle.hevc_dpb.specs.Sizes.{KeepsSizes};
+    ghost use Rattle.hevc_dpb.specs.Sizes.{KeepsSizes, OnlyLoses, Stores};
     ghost use Rattle.hevc_dpb.specs.Lending.{LendsPicture};
     ghost use Rattle.hevc_dpb.specs.declared.entry.DpbEntry.{DpbEntry};
 
@@ -227,9 +226,7 @@ impl<T: Copy> Dpb<T> {
     pub fn remove_unused(&mut self)
         ensures entries { stored_entries self.new ≡ filter is_needed (stored_entries self.old) }
         ensures buffer { buffer_of self.new ≡ needed_entries (buffer_of self.old) }
-        ensures keeps { KeepsSizes self.old self.new }
-        ensures handles { IsSublist (tickets (stored_entries self.new))
-            (tickets (stored_entries self.old)) }
+        ensures leaves { OnlyLoses self.old self.new }
         ensures references { reference_numbers (stored_entries self.new)
             ≡ reference_numbers (stored_entries self.old) }
         ensures fresh { is_stale self.new ≡ false }
@@ -272,9 +269,7 @@ impl<T: Copy> Dpb<T> {
             ≡ option_map plain_output (first_in (walk.in_output_order (buffer_of self.old))) }
         ensures given { IfSome result
             (λ e. Contains (tickets (stored_entries self.old)) (ticket e)) }
-        ensures keeps { KeepsSizes self.old self.new }
-        ensures handles { IsSublist (tickets (stored_entries self.new))
-            (tickets (stored_entries self.old)) }
+        ensures leaves { OnlyLoses self.old self.new }
         ensures references { flush ≡ false
             → reference_numbers (stored_entries self.new)
             ≡ reference_numbers (stored_entries self.old) }
@@ -300,9 +295,7 @@ impl<T: Copy> Dpb<T> {
         ensures out_stays { OnErr result (out.new.items ≡ out.old.items) }
         ensures stays { OnErr result (self.new ≡ self.old) }
         ensures full { OnErr result (vec_capacity out.old < vec_len out.old + 16) }
-        ensures keeps { KeepsSizes self.old self.new }
-        ensures handles { IsSublist (tickets (stored_entries self.new))
-            (tickets (stored_entries self.old)) }
+        ensures leaves { OnlyLoses self.old self.new }
         ensures fresh { OnOk result (is_stale self.new ≡ false) }
     {
         out.reserve(16)?;
@@ -328,19 +321,13 @@ impl<T: Copy> Dpb<T> {
         requires room { max_num_pics_of self.old ≤ room_of self.old }
         ensures full { IsErr result
             ↔ (max_num_pics_of self.old ≤ length (stored_entries self.old)) }
-        ensures stored { OnOk result (stored_entries self.new
-            ≡ map with_latency (stored_entries self.old)
-            ++ stored_entry number picture handle ∷ []) }
+        ensures stored { OnOk result (Stores self.old self.new number picture handle) }
         ensures buffer { (p : Head) → IsStoredAs p number picture
             → HaveLatency (stored_entries self.old)
             → OnOk result (buffer_of self.new ≡ walk.with_stored p (buffer_of self.old)) }
         ensures stays { OnErr result (self.new ≡ self.old) }
         ensures keeps { KeepsSizes self.old self.new }
         ensures fits { OnOk result (length (stored_entries self.new) ≤ max_num_pics_of self.new) }
-        ensures handles { OnOk result
-            (tickets (stored_entries self.new)
-            ≡ tickets (stored_entries self.old) ++ (number, handle) ∷ []) }
-        ensures fresh { OnOk result (is_stale self.new ≡ false) }
     {
         if self.entries.len() >= self.max_num_pics {
             return Err(DpbFull);

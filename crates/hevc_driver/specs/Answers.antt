@@ -5,6 +5,7 @@ use Rattle.hevc_driver.specs.declared.decode_error.DecodeError.{DecodeError}
 use Rattle.hevc_driver.specs.declared.decode_error.DecodeError.TheVariants.{Backend, NoMemory}
 use Rattle.hevc_driver.specs.declared.decode_error.DecodeError.TheVariants.{CheckEvents}
 use Rattle.hevc_driver.specs.declared.decode_error.DecodeError.TheVariants.{NotEnoughOutputBuffers}
+use Rattle.hevc_driver.specs.declared.driver.Driver.{Driver}
 
 -- the counts are as they were, unless the backend failed or had no frame:
 -- then that of faults or of empty answers rose
@@ -54,6 +55,12 @@ pub record IsFair {B I T : Type 0} (counts : B → Counts) (is_faultless : B →
     (before now : B) (result : Result T DecodeError) : Type 0 where
   pub blames : BlamesFairly counts is_faultless before now result
   pub info : KeepsInfo (tells before) (tells now) result
+
+-- so it is of a driver's backend
+abbrev pub IsFairIn : {B H P I T : Type 0} → (counts : B → Counts) → (is_faultless : B → Type 0)
+    → (tells : B → I) → (before now : Driver B H P) → Result T DecodeError → Type 0
+IsFairIn counts is_faultless tells before now result =
+    IsFair counts is_faultless tells before.backend now.backend result
 
 -- the answer to a unit whose format was told, and is awaited
 abbrev pub awaited : {T : Type 0} → Result T DecodeError → Result T DecodeError

@@ -30,6 +30,7 @@ use Rattle.hevc_driver.specs.declared.standing.Standing as driver
 use Rattle.hevc_driver.specs.declared.driver.Driver.{Driver}
 use Rattle.hevc_driver.specs.Heads.{head_of}
 use Rattle.hevc_driver.specs.Standings.{current_of}
+use Rattle.hevc_backend.specs.Trait.{Frames}
 
 -- each of these numbers is below n
 abbrev pub AreBelow : {H : Type 0} → ℕ → List (ℕ × H) → Type 0
@@ -159,8 +160,14 @@ pub record MayBegin {H P : Type 0} (has_frame : Bool) (log : Option (List (Call 
   pub frame : IsTrue has_frame
   pub sound : IsSound log handed w
 
+-- so it may in a driver whose backend exposes these
+abbrev pub MayBeginIn : {B H P : Type 0} → (frames : B → Frames) → (log : B → Option (List (Call H)))
+    → (handed : B → Option (List Handed)) → Driver B H P → Slice → Sps → Pps → Type 0
+MayBeginIn frames log handed d slice sps pps =
+    MayBegin (frames d.backend).found (log d.backend) (handed d.backend) slice sps pps d.standing
+
 -- The head of the next picture, which is decoded.
-pub record IsNext {H P : Type 0} (head : Head) (sps : Sps) (w : driver.Standing H P) : Type 0 where
+pub record IsNextHead {H P : Type 0} (head : Head) (sps : Sps) (w : driver.Standing H P) : Type 0 where
   pub number : head.number ≡ w.next.number
   pub counted : head.number < 2 ^ 64 - 1
   pub format : head.format ≡ info_of (format_of_set (plain_sps sps))

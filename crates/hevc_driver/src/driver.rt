@@ -2,7 +2,7 @@
 ghost use Rattle.std.specs.Prelude.{◌≡◌, [], None, OnOk, option_map};
 ghost use Rattle.hevc_walk_units.specs.Units.{at_first, open_head};
 ghost use Rattle.hevc_driver.specs.Given.{Given};
-ghost use Rattle.hevc_driver.specs.Answers.{IsFair};
+ghost use Rattle.hevc_driver.specs.Answers.{IsFairIn};
 ghost use Rattle.hevc_driver.specs.Heads.{head_of};
 ghost use Rattle.hevc_driver.specs.Standings.{standing, traces, traces_in};
 ghost use Rattle.hevc_driver.specs.Sound.{IsSound, HasRoom, total, IsSoundIn, StaysSoundIn};
@@ -105,8 +105,7 @@ impl<B: StatelessH265DecoderBackend> Driver<B> {
         requires sound { IsSoundIn B.log B.handed self.old }
         requires room { HasRoom 1 self.old.standing }
         ensures stays { StaysSoundIn 1 B.log B.handed self.old self.new }
-        ensures fair { IsFair B.counts B.is_faultless B.info self.old.backend self.new.backend
-            result }
+        ensures fair { IsFairIn B.counts B.is_faultless B.info self.old self.new result }
         ensures part { (given : Given) → Closes result given
             (traces_in B.log B.handed B.frames self.old)
             (traces_in B.log B.handed B.frames self.new)

@@ -3,7 +3,7 @@ ghost use Rattle.std.specs.Prelude.{◌≡◌};
 ghost use Rattle.hevc_walk_units.specs.Units.{NoPicture};
 ghost use Rattle.hevc_backend.specs.Handed.{IsAmong};
 ghost use Rattle.hevc_driver.specs.Given.{Given};
-ghost use Rattle.hevc_driver.specs.Answers.{IsFair};
+ghost use Rattle.hevc_driver.specs.Answers.{IsFairIn};
 ghost use Rattle.hevc_driver.specs.Standings.{standing, traces_in, current_of, with_open};
 ghost use Rattle.hevc_driver.specs.Sound.{IsNewest, HasRoom, IsSoundIn, StaysSoundIn};
 ghost use Rattle.hevc_driver.specs.Takes.{Finishes};
@@ -22,8 +22,7 @@ impl<B: StatelessH265DecoderBackend> Driver<B> {
         requires sound { IsSoundIn B.log B.handed self.old }
         requires room { HasRoom 1 self.old.standing }
         ensures stays { StaysSoundIn 1 B.log B.handed self.old self.new }
-        ensures fair { IsFair B.counts B.is_faultless B.info self.old.backend self.new.backend
-            result }
+        ensures fair { IsFairIn B.counts B.is_faultless B.info self.old self.new result }
         ensures part { (given : Given) → Finishes result given
             (traces_in B.log B.handed B.frames self.old)
             (traces_in B.log B.handed B.frames self.new)
@@ -45,8 +44,7 @@ impl<B: StatelessH265DecoderBackend> Driver<B> {
         requires sound { IsSoundIn B.log B.handed self.old }
         requires room { HasRoom 1 self.old.standing }
         ensures stays { StaysSoundIn 1 B.log B.handed self.old self.new }
-        ensures fair { IsFair B.counts B.is_faultless B.info self.old.backend self.new.backend
-            result }
+        ensures fair { IsFairIn B.counts B.is_faultless B.info self.old self.new result }
         ensures part { (given : Given) → Finishes result given
             (traces_in B.log B.handed B.frames self.old)
             (traces_in B.log B.handed B.frames self.new)

@@ -8,7 +8,7 @@ ghost use Rattle.hevc_backend.specs.Handed.{segment_of};
 ghost use Rattle.hevc_backend.specs.Negotiation.{format_of};
 ghost use Rattle.hevc_driver.specs.Slices.{slice_of};
 ghost use Rattle.hevc_driver.specs.Given.{Given, given_first};
-ghost use Rattle.hevc_driver.specs.Answers.{IsFair, awaited};
+ghost use Rattle.hevc_driver.specs.Answers.{IsFair, IsFairIn, awaited};
 ghost use Rattle.hevc_driver.specs.Does.{Runs};
 ghost use Rattle.hevc_driver.specs.Standings.{standing, traces_in, current_of};
 ghost use Rattle.hevc_driver.specs.Sound.{HasRoom, AreNamed, IsSoundIn, StaysSoundIn};
@@ -43,8 +43,7 @@ impl<B: StatelessH265DecoderBackend> Driver<B> {
         requires sound { IsSoundIn B.log B.handed self.old }
         requires room { HasRoom 0 self.old.standing }
         ensures stays { StaysSoundIn 0 B.log B.handed self.old self.new }
-        ensures fair { IsFair B.counts B.is_faultless B.info self.old.backend self.new.backend
-            result }
+        ensures fair { IsFairIn B.counts B.is_faultless B.info self.old self.new result }
         ensures part { Begins result
             (given_first timestamp (slice_of options slice.now sps.now pps.now)
             (segment_of slice.now sps.now pps.now) (standing self.old.standing))

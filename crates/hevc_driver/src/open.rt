@@ -6,11 +6,11 @@ ghost use Rattle.hevc_driver.specs.Heads.{head_of};
 ghost use Rattle.hevc_driver.specs.Slices.{slice_of};
 ghost use Rattle.hevc_backend.specs.Handed.{dpb_of, plain_dpb, plain_picture, segment_of};
 ghost use Rattle.hevc_driver.specs.Given.{given_first, given_slice};
-ghost use Rattle.hevc_driver.specs.Answers.{IsFair};
+ghost use Rattle.hevc_driver.specs.Answers.{IsFairIn};
 ghost use Rattle.hevc_driver.specs.Does.{Runs};
 ghost use Rattle.hevc_driver.specs.Moments.{enters, starts, hands_over, given_up};
 ghost use Rattle.hevc_driver.specs.Standings.{standing, traces_in};
-ghost use Rattle.hevc_driver.specs.Sound.{IsNewest, HasRoom, IsNext, MayBegin, StaysSoundIn};
+ghost use Rattle.hevc_driver.specs.Sound.{IsNewest, HasRoom, IsNextHead, MayBeginIn, StaysSoundIn};
 ghost use Rattle.hevc_options.specs.declared.Options as code_options;
 ghost use Rattle.hevc_driver.specs.Takes.{Starts, LeftStarted};
 
@@ -35,13 +35,11 @@ impl<B: StatelessH265DecoderBackend> Driver<B> {
         sps: &Sps,
         pps: &Pps,
     ) -> Result<(), DecodeError>
-        requires ready { MayBegin (B.frames self.old.backend).found (B.log self.old.backend)
-            (B.handed self.old.backend) slice.now
-            sps.now pps.now self.old.standing }
+        requires ready { MayBeginIn B.frames B.log B.handed self.old slice.now sps.now
+            pps.now }
         requires room { HasRoom 0 self.old.standing }
         ensures stays { StaysSoundIn 0 B.log B.handed self.old self.new }
-        ensures fair { IsFair B.counts B.is_faultless B.info self.old.backend self.new.backend
-            result }
+        ensures fair { IsFairIn B.counts B.is_faultless B.info self.old self.new result }
         ensures part { Starts result
             (given_first timestamp (slice_of options slice.now sps.now pps.now)
             (segment_of slice.now sps.now pps.now) (standing self.old.standing))
@@ -71,14 +69,12 @@ impl<B: StatelessH265DecoderBackend> Driver<B> {
         sps: &Sps,
         pps: &Pps,
     ) -> Result<(), DecodeError>
-        requires ready { MayBegin (B.frames self.old.backend).found (B.log self.old.backend)
-            (B.handed self.old.backend) slice.now
-            sps.now pps.now self.old.standing }
-        requires next { IsNext head.now sps.now self.old.standing }
+        requires ready { MayBeginIn B.frames B.log B.handed self.old slice.now sps.now
+            pps.now }
+        requires next { IsNextHead head.now sps.now self.old.standing }
         requires room { HasRoom 0 self.old.standing }
         ensures stays { StaysSoundIn 0 B.log B.handed self.old self.new }
-        ensures fair { IsFair B.counts B.is_faultless B.info self.old.backend self.new.backend
-            result }
+        ensures fair { IsFairIn B.counts B.is_faultless B.info self.old self.new result }
         ensures part { (o : code_options.Options) → Runs result
             (given_slice timestamp (plain_picture head.now.picture)
             (dpb_of (enters (head_of head.now) (slice_of o slice.now sps.now pps.now)
@@ -106,14 +102,12 @@ impl<B: StatelessH265DecoderBackend> Driver<B> {
         sps: &Sps,
         pps: &Pps,
     ) -> Result<(), DecodeError>
-        requires ready { MayBegin (B.frames self.old.backend).found (B.log self.old.backend)
-            (B.handed self.old.backend) slice.now
-            sps.now pps.now self.old.standing }
+        requires ready { MayBeginIn B.frames B.log B.handed self.old slice.now sps.now
+            pps.now }
         requires newest { IsNewest head.now self.old.standing }
         requires decoded { is_decoded (head_of head.now) ≡ true }
         ensures stays { StaysSoundIn 0 B.log B.handed self.old self.new }
-        ensures fair { IsFair B.counts B.is_faultless B.info self.old.backend self.new.backend
-            result }
+        ensures fair { IsFairIn B.counts B.is_faultless B.info self.old self.new result }
         ensures part { (o : code_options.Options) → Runs result
             (given_slice timestamp (plain_picture head.now.picture)
             (plain_dpb self.old.standing.dpb) (segment_of slice.now sps.now pps.now))

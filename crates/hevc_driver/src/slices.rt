@@ -11,7 +11,7 @@ ghost use Rattle.hevc_driver.specs.Slices.{slice_of, kept_of, LeavesSlice};
 ghost use Rattle.hevc_backend.specs.Handed.{plain_dpb, segment_of};
 ghost use Rattle.hevc_driver.specs.Given.{Given, given_at, given_first};
 ghost use Rattle.hevc_driver.specs.Headers.{latest_of, latest_behind, whole_segment};
-ghost use Rattle.hevc_driver.specs.Answers.{IsFair};
+ghost use Rattle.hevc_driver.specs.Answers.{IsFairIn};
 ghost use Rattle.hevc_driver.specs.Standings.{standing, traces_in, current_of};
 ghost use Rattle.hevc_driver.specs.declared.current.Current.TheVariants.{OpenPicture};
 ghost use Rattle.hevc_driver.specs.Sound.{HasRoom, AreNamed, StaysSound, with_header, IsSoundIn};
@@ -89,8 +89,7 @@ impl<B: StatelessH265DecoderBackend> Driver<B> {
         requires room { HasRoom 1 self.old.standing }
         ensures stays { StaysSound 1 (B.log self.new.backend) (B.handed self.new.backend)
             (with_header self.new.standing.kept self.old.standing) self.new.standing }
-        ensures fair { IsFair B.counts B.is_faultless B.info self.old.backend self.new.backend
-            result }
+        ensures fair { IsFairIn B.counts B.is_faultless B.info self.old self.new result }
         ensures kept { latest_of self.new.standing.kept
             ≡ latest_behind (latest_of self.old.standing.kept)
             (plain_slice_header slice.old.header) }
@@ -132,8 +131,7 @@ impl<B: StatelessH265DecoderBackend> Driver<B> {
         requires sound { IsSoundIn B.log B.handed self.old }
         requires room { HasRoom 1 self.old.standing }
         ensures stays { StaysSoundIn 1 B.log B.handed self.old self.new }
-        ensures fair { IsFair B.counts B.is_faultless B.info self.old.backend self.new.backend
-            result }
+        ensures fair { IsFairIn B.counts B.is_faultless B.info self.old self.new result }
         ensures part { Changes result
             (given_first timestamp (slice_of options slice.now sps.now pps.now)
             (segment_of slice.now sps.now pps.now)
@@ -152,8 +150,7 @@ impl<B: StatelessH265DecoderBackend> Driver<B> {
         requires named { AreNamed slice.now sps.now pps.now }
         requires sound { IsSoundIn B.log B.handed self.old }
         ensures stays { StaysSoundIn 0 B.log B.handed self.old self.new }
-        ensures fair { IsFair B.counts B.is_faultless B.info self.old.backend self.new.backend
-            result }
+        ensures fair { IsFairIn B.counts B.is_faultless B.info self.old self.new result }
         ensures part { (given : Given) (o : code_options.Options)
             → given.segment ≡ Some (segment_of slice.now sps.now pps.now)
             → given.dpb ≡ plain_dpb self.old.standing.dpb
@@ -176,8 +173,7 @@ impl<B: StatelessH265DecoderBackend> Driver<B> {
         requires named { AreNamed slice.now sps.now pps.now }
         requires sound { IsSoundIn B.log B.handed self.old }
         ensures stays { StaysSoundIn 0 B.log B.handed self.old self.new }
-        ensures fair { IsFair B.counts B.is_faultless B.info self.old.backend self.new.backend
-            result }
+        ensures fair { IsFairIn B.counts B.is_faultless B.info self.old self.new result }
         ensures part { (given : Given) (o : code_options.Options)
             → given.segment ≡ Some (segment_of slice.now sps.now pps.now)
             → given.dpb ≡ plain_dpb self.old.standing.dpb

@@ -13,7 +13,8 @@ on_ok (Ok value) P holds = holds
 on_ok (Err error) P holds = tt
 
 -- of bytes that were extracted
-pub alike_on_ok : (r : Result Kept ExtractError) (t l : ℕ) (stream : List ℕ) → OnOk r (All HasLayer (units stream)) → TellsRefusal r (first_refused 0 (units stream))
+pub alike_on_ok : (r : Result Kept ExtractError) (t l : ℕ) (stream : List ℕ) → OnOk r (All HasLayer (units stream))
+    → TellsRefusal r (first_refused 0 (units stream))
     → OnOk r (l ≡ 63 → DecodesAlike t stream (extracted t 63 stream))
 alike_on_ok (Ok kept) t l stream layers none = λ _. decodes_alike t stream none layers
 alike_on_ok (Err error) t l stream layers none = tt

@@ -1,5 +1,6 @@
 -- The kept units are found in the bytes that are extracted.
-use Rattle.std.proofs.Common.{◌≡◌, ℕ, ◌+◌, Bool, true, false, cond, List, [], ◌∷◌, length, refl, ap, ◌∙◌, Result, Ok, Err}
+use Rattle.std.proofs.Common.{◌≡◌, ℕ, ◌+◌, Bool, true, false, cond, List, [], ◌∷◌, length, refl, ap}
+use Rattle.std.proofs.Common.{◌∙◌, Result, Ok, Err}
 use Rattle.std.specs.Prelude.{All}
 use Rattle.std.proofs.lemmas.List.Elements.{All-cons, All-nil, All-head, All-tail}
 use Rattle.hevc_spec.specs.UnitHeader.{UnitHeader, HeaderFault, unit_header}
@@ -23,20 +24,25 @@ has_header t l (Err fault) e = absurd cc
 abbrev WholeIfHeaded : NalUnit → Type 0
 WholeIfHeaded u = (h : UnitHeader) → unit_header u.bytes ≡ Ok h → IsWholePiece u.bytes
 
-whole_pieces : (t l : ℕ) (us : List NalUnit) → All WholeIfHeaded us → All IsWholePiece (bytes_of_all (kept_units t l us))
+whole_pieces : (t l : ℕ) (us : List NalUnit) → All WholeIfHeaded us
+    → All IsWholePiece (bytes_of_all (kept_units t l us))
 whole_pieces t l [] all = All-nil IsWholePiece
 whole_pieces t l (u ∷ us) all = by_test (is_kept t l u) refl (whole_pieces t l us (All-tail WholeIfHeaded u us all))
   where
-    by_test : (b : Bool) → is_kept t l u ≡ b → All IsWholePiece (bytes_of_all (kept_units t l us)) → All IsWholePiece (bytes_of_all (cond b (u ∷ kept_units t l us) (kept_units t l us)))
+    by_test : (b : Bool) → is_kept t l u ≡ b → All IsWholePiece (bytes_of_all (kept_units t l us))
+        → All IsWholePiece (bytes_of_all (cond b (u ∷ kept_units t l us) (kept_units t l us)))
     by_test true e more =
         let p = has_header t l (unit_header u.bytes) e in
         All-cons IsWholePiece u.bytes (bytes_of_all (kept_units t l us)) (All-head WholeIfHeaded u us all p.0 p.1) more
     by_test false e more = more
 
 -- units mean the same wherever they are
-meant_placed : (options : Options) (kept : Kept) (place : ℕ) (us : List NalUnit) → meanings_behind options kept (placed place (bytes_of_all us)) ≡ meanings_behind options kept us
+meant_placed : (options : Options) (kept : Kept) (place : ℕ) (us : List NalUnit)
+    → meanings_behind options kept (placed place (bytes_of_all us)) ≡ meanings_behind options kept us
 meant_placed options kept place [] = refl
-meant_placed options kept place (u ∷ us) = ap (λ (ms : List Meaning). meaning options kept u.bytes ∷ ms) (meant_placed options (kept_behind options kept u.bytes) (place + 3 + length u.bytes) us)
+meant_placed options kept place (u ∷ us) =
+    ap (λ (ms : List Meaning). meaning options kept u.bytes ∷ ms)
+    (meant_placed options (kept_behind options kept u.bytes) (place + 3 + length u.bytes) us)
 
 pub holds_kept : (t l : ℕ) (stream : List ℕ) → HoldsKept t l stream (extracted t l stream)
 holds_kept t l stream =

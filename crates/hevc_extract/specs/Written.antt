@@ -1,9 +1,10 @@
 -- What is written of a stream, and the status.
-use Rattle.std.specs.Prelude.{◌≡◌, ◌≤◌, ℕ, ◌⊎◌, List, ◌++◌, codes, decimal, Option, Some, None}
+use Rattle.std.specs.Prelude.{◌≡◌, ℕ, List, ◌++◌, codes, decimal, Option, Some, None}
 use Rattle.hevc_spec.specs.Units.{units}
 use Rattle.hevc_bits.specs.declared.header.UnitError.{UnitError}
 use Rattle.hevc_bits.specs.declared.header.UnitError.TheVariants.{NoNal, TruncatedNalu, InvalidNaluType, TemporalIdZero}
-use Rattle.hevc_program_answers.specs.Answers.{Program}
+use Rattle.hevc_program_answers.specs.Answers.{answering, Program}
+use Rattle.hevc_extract.specs.Alike.{DecodesAlike, HoldsKept}
 use Rattle.hevc_extract.specs.Extracting.{extracted, first_refused}
 use Rattle.hevc_extract.specs.declared.words.Targets.{Targets}
 
@@ -34,19 +35,15 @@ abbrev pub status_of : Option (ℕ × UnitError) → ℕ
 status_of None = 0
 status_of (Some refused) = 1
 
--- 0, 1 or 5
-abbrev pub IsDone : ℕ → Type 0
-IsDone status = (status ≡ 0) ⊎ (status ≡ 1) ⊎ (status ≡ 5)
+-- what is known of a stream of which no unit is refused: the kept units are found in the bytes that
+-- are written, and, where no layer is dropped, are decoded as in the stream
+abbrev pub HoldsAsAsked : Targets → List ℕ → Type 0
+HoldsAsAsked targets stream =
+    HoldsKept targets.highest_tid targets.highest_layer stream (written_of targets stream)
+    × (targets.highest_layer ≡ 63
+    → DecodesAlike targets.highest_tid stream (written_of targets stream))
 
--- 0 or 1: all was written
-abbrev pub IsAnswer : ℕ → Type 0
-IsAnswer status = status ≤ 1
-
--- the extractor, as a program
+-- the extractor, as a program, whose statuses with a text are 0 and 1
 abbrev pub extract_program : Program Targets
-extract_program = record {
-  text = written_of;
-  status = λ targets stream. status_of (first_refused 0 (units stream));
-  IsAnswer = IsAnswer;
-  IsDone = IsDone;
-}
+extract_program =
+    answering written_of (λ targets stream. status_of (first_refused 0 (units stream))) 1

@@ -1,21 +1,18 @@
 //! The top call: from the words of the command line to the status.
-ghost use Rattle.std.specs.Prelude.{◌≡◌, ◌≤◌, ◌<◌, ◌↔◌, ℕ, List, length, IfOk, IfSome, IsErrOf, IsTrue};
-ghost use Rattle.std.specs.declared.option.Option.TheVariants.{None, Some};
-ghost use Rattle.std.specs.Io.KnownBytes.{Appends, IsAtEnd};
-ghost use Rattle.hevc_fault_counts.specs.Faults.{Rose};
-ghost use Rattle.hevc_io.specs.Prefix.{AppendsLess, AppendsPrefix};
+ghost use Rattle.std.specs.Prelude.{◌≡◌, ◌≤◌, IfSome};
 ghost use Rattle.hevc_spec.specs.Units.{units};
 ghost use Rattle.hevc_extract.specs.Alike.{DecodesAlike, HoldsKept};
-ghost use Rattle.hevc_extract.specs.Extracting.{extracted, first_refused};
+ghost use Rattle.hevc_extract.specs.Extracting.{first_refused};
 ghost use Rattle.hevc_extract.specs.Targets.{asked_targets};
-ghost use Rattle.hevc_program_answers.specs.Answers.{Answers};
-ghost use Rattle.hevc_extract.specs.Written.{extract_program, written_of};
+ghost use Rattle.hevc_program_answers.specs.Answers.{ends_of, moment, Answers};
+ghost use Rattle.hevc_extract.specs.Written.{extract_program, status_of, written_of, HoldsAsAsked};
 
 use crate::extraction::{ExtractError, extract_layer};
 use crate::line::refusal_line;
 use crate::words::{Targets, read_targets};
-use hevc_io::{INPUT_LIMIT, Sink, Source, Stop, Word, read_all, write_all};
-use std::alloc::Global;
+use hevc_io::{INPUT_LIMIT, Sink, Source, Word};
+use hevc_program_answers::{Answer, Asked, run_asked};
+use std::alloc::{AllocError, Global};
 
 /// Reads the source's stream to its end, and writes the units of the lower sub-layers and layers,
 /// each after 00 00 01. `words` are those of the command line after the program's name: `T`, one
@@ -42,16 +39,9 @@ pub fn run_extract<S: Source, K: Sink>(
     ensures statuses { result ≤ 6 }
 
     // What is read and written, by the status. On 0 and 1 the kept units or the line of the refused one.
-    ensures answers { Answers
-        (record {
-          left = S.left;
-          failed_reads = S.faults;
-          written = K.written;
-          failed_writes = K.faults;
-        })
+    ensures answers { Answers (ends_of S.left S.faults K.written K.faults)
         extract_program INPUT_LIMIT (asked_targets words.now)
-        (record { source = source.old; sink = sink.old })
-        (record { source = source.new; sink = sink.new }) result }
+        (moment source.old sink.old) (moment source.new sink.new) result }
     // On 0 the kept units are found in the bytes, and are decoded as in the stream.
     ensures holds { IfSome (asked_targets words.now) (λ targets. result ≡ 0
         → IfSome (S.left source.old) (λ s.
@@ -60,64 +50,29 @@ pub fn run_extract<S: Source, K: Sink>(
         → targets.highest_layer ≡ 63 → IfSome (S.left source.old) (λ s.
         DecodesAlike targets.highest_tid s (written_of targets s))) }
 {
-    let Some(targets) = read_targets(words) else {
-        return 2;
-    };
-    match write_extracted(alloc, targets, source, sink) {
-        Ok(true) => 0,
-        Ok(false) => 1,
-        Err(stop) => stop.status(),
-    }
+    run_asked(alloc, read_targets(words), source, sink)
 }
 
-/// Reads the input, and writes what is extracted from it. Answers whether no unit was refused.
-fn write_extracted<S: Source, K: Sink>(
-    alloc: Global,
-    targets: Targets,
-    source: &mut S,
-    sink: &mut K,
-) -> Result<bool, Stop>
-    requires { (targets.highest_tid ≤ 6) × (targets.highest_layer ≤ 63) }
-    ensures whole { IfOk result
-        (λ is_whole. IsAtEnd (S.left source.new) × IfSome (S.left source.old) (λ s.
-        Appends (K.written sink.old) (K.written sink.new) (written_of targets s)
-        × (IsTrue is_whole ↔ (first_refused 0 (units s) ≡ None)))) }
-    ensures holds { IfOk result (λ is_whole. IfSome (S.left source.old) (λ s. IsTrue is_whole
-        → HoldsKept targets.highest_tid targets.highest_layer s (written_of targets s))) }
-    ensures alike { IfOk result (λ is_whole. IfSome (S.left source.old) (λ s. IsTrue is_whole
-        → targets.highest_layer ≡ 63
-        → DecodesAlike targets.highest_tid s (written_of targets s))) }
-    ensures limit { IfOk result (λ _. IfSome (S.left source.old) (λ s. length s ≤ INPUT_LIMIT)) }
-    ensures part { IfSome (S.left source.old) (λ s.
-        AppendsPrefix (K.written sink.old) (K.written sink.new) (written_of targets s)) }
-    ensures less { IsErrOf result Stop.Write → IfSome (S.left source.old) (λ s.
-        AppendsLess (K.written sink.old) (K.written sink.new) (written_of targets s)) }
-    ensures less_by_memory { IsErrOf result Stop.NoMemory → IfSome (S.left source.old) (λ s.
-        0 < length (written_of targets s)
-        → AppendsLess (K.written sink.old) (K.written sink.new) (written_of targets s)) }
-    ensures read { IsErrOf result Stop.Read
-        → Rose (S.faults source.old) (S.faults source.new) × (sink.new ≡ sink.old) }
-    ensures write { IsErrOf result Stop.Write → Rose (K.faults sink.old) (K.faults sink.new) }
-    ensures long { IsErrOf result Stop.TooLong
-        → (sink.new ≡ sink.old) × IfSome (S.left source.old) (λ s. INPUT_LIMIT < length s) }
-{
-    let input = read_all(alloc, source, INPUT_LIMIT)?;
-    let mut kept = Vec::new(alloc);
-    match extract_layer(
-        &input,
-        targets.highest_tid,
-        targets.highest_layer,
-        &mut kept,
-    ) {
-        Ok(_) => {
-            write_all(sink, &kept)?;
-            Ok(true)
+impl Asked for Targets {
+    ghost CanAsk = { λ targets. (targets.highest_tid ≤ 6) × (targets.highest_layer ≤ 63) };
+
+    ghost text = { written_of };
+
+    ghost status = { λ targets stream. status_of (first_refused 0 (units stream)) };
+
+    ghost highest = { 1 };
+
+    ghost Holds = { HoldsAsAsked };
+
+    fn answer(&self, alloc: Global, stream: &[u8]) -> Result<Answer, AllocError> {
+        let mut bytes = Vec::new(alloc);
+        match extract_layer(stream, self.highest_tid, self.highest_layer, &mut bytes) {
+            Ok(_) => Ok(Answer { bytes, status: 0 }),
+            Err(ExtractError::Refused { unit, error }) => Ok(Answer {
+                bytes: refusal_line(alloc, unit, error)?.into_bytes(),
+                status: 1,
+            }),
+            Err(ExtractError::NoMemory) => Err(AllocError),
         }
-        Err(ExtractError::Refused { unit, error }) => {
-            let line = refusal_line(alloc, unit, error)?;
-            write_all(sink, line.as_bytes())?;
-            Ok(false)
-        }
-        Err(ExtractError::NoMemory) => Err(Stop::NoMemory),
     }
 }

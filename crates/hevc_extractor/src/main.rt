@@ -31,5 +31,5 @@ impl Runnable for Extractor {
 }
 
 fn main(rt: HostRuntime) -> ExitCode {
-    ExitCode::from(start::<Extractor, HostRuntime>(&rt))
+    ExitCode::from(start::<Extractor>(&rt))
 }

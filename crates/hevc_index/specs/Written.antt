@@ -1,5 +1,5 @@
 -- What is written of a stream, and the status.
-use Rattle.std.specs.Prelude.{◌≡◌, ℕ, ◌⊎◌, List, ◌++◌, length, codes, decimal, Option, Some, None, Result, Ok, Err, IfSome}
+use Rattle.std.specs.Prelude.{ℕ, List, ◌++◌, length, codes, decimal, Option, Some, None, Result, Ok, Err, IfSome}
 use Rattle.std.specs.Fmt.{signed_decimal}
 use Rattle.std.specs.List.{flat_map}
 use Rattle.hevc_walk.specs.Pictures.{Picture}
@@ -8,7 +8,7 @@ use Rattle.hevc_decoder.specs.declared.decoded.Refused.{Refused}
 use Rattle.hevc_report.specs.Report.{refusal_line}
 use Rattle.hevc_index_laws.specs.Points.{points_of, PlainPoint}
 use Rattle.hevc_index_laws.specs.SplicedUnits.{spliced_bytes}
-use Rattle.hevc_program_answers.specs.Answers.{Program}
+use Rattle.hevc_program_answers.specs.Answers.{answering, Program}
 use Rattle.hevc_index.specs.declared.words.Request.{Request}
 use Rattle.hevc_index.specs.declared.words.Request.TheVariants.{Points, Splice}
 use Rattle.hevc_index.specs.Indexing.{ending, point_at, BeginsAtPoint}
@@ -71,15 +71,6 @@ BeginsAsAsked Points stream bytes = Unit {0}
 BeginsAsAsked (Splice number) stream bytes =
     IfSome (point_at number stream) (λ p. BeginsAtPoint p stream bytes)
 
--- 0, 1 or 7: all was written
-abbrev pub IsAnswer : ℕ → Type 0
-IsAnswer status = (status ≡ 0) ⊎ (status ≡ 1) ⊎ (status ≡ 7)
-
--- or 5
-abbrev pub IsDone : ℕ → Type 0
-IsDone status = IsAnswer status ⊎ (status ≡ 5)
-
--- points and splicing, as a program
+-- points and splicing, as a program, whose statuses are up to 7
 abbrev pub index_program : Program Request
-index_program =
-    record { text = written_of; status = status_of; IsAnswer = IsAnswer; IsDone = IsDone }
+index_program = answering written_of status_of 7

@@ -1,7 +1,6 @@
 //! What a stream gives, by what is asked for.
 ghost use Rattle.std.specs.Prelude.{◌≡◌, ◌<◌, IfOk, length};
 ghost use Rattle.hevc_bits.specs.declared.stream_limit.TheConstants.{STREAM_LIMIT};
-ghost use Rattle.hevc_report.specs.Report.{refusal_line};
 ghost use Rattle.hevc_index.specs.declared.words.Request.TheVariants.{Points, Splice};
 ghost use Rattle.hevc_index.specs.Written.{status_of, written_of, BeginsAsAsked};
 
@@ -10,32 +9,26 @@ use crate::point::IndexError;
 use crate::points::index;
 use crate::splicing::splice;
 use crate::words::Request;
-use hevc_decoder::Refused;
-use hevc_report::refusal_line;
+use hevc_program_answers::{Answer, Asked};
+use hevc_report::refusal_answer;
 use std::alloc::{AllocError, Global};
 
-/// What is written, and the status.
-#[derive(Drop)]
-pub(crate) struct Answer {
-    pub(crate) bytes: Vec<u8>,
-    pub(crate) status: u8,
-}
+impl Asked for Request {
+    ghost CanAsk = { λ request. Unit {0} };
 
-/// What a stream gives.
-pub(crate) fn answer_to(
-    alloc: Global,
-    request: Request,
-    stream: &[u8],
-) -> Result<Answer, AllocError>
-    requires { length stream.now < STREAM_LIMIT }
-    ensures written { IfOk result (λ answer. answer.bytes.items ≡ written_of request stream.now) }
-    ensures status { IfOk result (λ answer. answer.status ≡ status_of request stream.now) }
-    ensures begins { IfOk result (λ answer. answer.status ≡ 0
-        → BeginsAsAsked request stream.now (written_of request stream.now)) }
-{
-    match request {
-        Request::Points => points_answer(alloc, stream),
-        Request::Splice(number) => splice_answer(alloc, stream, number),
+    ghost text = { written_of };
+
+    ghost status = { status_of };
+
+    ghost highest = { 7 };
+
+    ghost Holds = { λ request stream. BeginsAsAsked request stream (written_of request stream) };
+
+    fn answer(&self, alloc: Global, stream: &[u8]) -> Result<Answer, AllocError> {
+        match *self {
+            Request::Points => points_answer(alloc, stream),
+            Request::Splice(number) => splice_answer(alloc, stream, number),
+        }
     }
 }
 
@@ -76,15 +69,4 @@ fn splice_answer(alloc: Global, stream: &[u8], number: u64) -> Result<Answer, Al
         Err(IndexError::Refused(refused)) => refusal_answer(alloc, refused),
         Err(IndexError::NoMemory) => Err(AllocError),
     }
-}
-
-/// The line of a refusal.
-fn refusal_answer(alloc: Global, refused: Refused) -> Result<Answer, AllocError>
-    ensures written { IfOk result (λ answer. answer.bytes.items ≡ refusal_line refused) }
-    ensures status { IfOk result (λ answer. answer.status ≡ 1) }
-{
-    Ok(Answer {
-        bytes: refusal_line(alloc, refused)?.into_bytes(),
-        status: 1,
-    })
 }

@@ -1,7 +1,9 @@
 -- The bytes that begin a stream at one of its units hold these units, and mean what they mean.
-use Rattle.std.proofs.Common.{◌≡◌, ℕ, suc, ◌+◌, List, [], ◌∷◌, drop, length, map, take, refl, sym, ap, subst, ◌∙◌, Option, Some, None, Result, Ok, Err}
+use Rattle.std.proofs.Common.{◌≡◌, ℕ, suc, ◌+◌, List, [], ◌∷◌, drop, length, map, take, refl, sym}
+use Rattle.std.proofs.Common.{ap, subst, ◌∙◌, Option, Some, None, Result, Ok, Err}
 use Rattle.std.specs.Prelude.{All}
-use Rattle.std.proofs.lemmas.List.Elements.{All-append, All-cons, All-drop, All-filter, All-head, All-map, All-nil, All-tail, All-take}
+use Rattle.std.proofs.lemmas.List.Elements.{All-append, All-cons, All-drop, All-filter, All-head}
+use Rattle.std.proofs.lemmas.List.Elements.{All-map, All-nil, All-tail, All-take}
 use Rattle.hevc_spec.specs.UnitHeader.{UnitHeader, HeaderFault, unit_header}
 use Rattle.hevc_spec.specs.Units.{NalUnit, units}
 use Rattle.hevc_bit_writer.specs.WrittenUnits.{placed}
@@ -51,7 +53,8 @@ taken_from k v (u ∷ us) none = by_refusal (refusal v u) refl (taken_from (k + 
     later : Option Refusal
     later = stop_from (k + 1) (with_unit k u v) us
 
-    by_refusal : (r : Option Cause) → refusal v u ≡ r → (later ≡ None → All IsNotRefused us) → first_refusal k r later ≡ None → All IsNotRefused (u ∷ us)
+    by_refusal : (r : Option Cause) → refusal v u ≡ r → (later ≡ None → All IsNotRefused us)
+        → first_refusal k r later ≡ None → All IsNotRefused (u ∷ us)
     by_refusal None e more none = All-cons IsNotRefused u us (not_refused u e) (more none)
     by_refusal (Some cause) e more none = absurd (cc none)
 
@@ -60,11 +63,14 @@ all_taken us m e = taken_from 0 nothing_yet us (not_stopped us m e)
 
 -- ---- their bytes
 
-has_header : (options : Options) (kept : Kept) (bytes : List ℕ) → IsNotRefused (meaning options kept bytes) → (h : UnitHeader) × (unit_header bytes ≡ Ok h)
+has_header : (options : Options) (kept : Kept) (bytes : List ℕ) → IsNotRefused (meaning options kept bytes)
+    → (h : UnitHeader) × (unit_header bytes ≡ Ok h)
 unfolding meaning content
 has_header options kept bytes taken = by_result (unit_header bytes) refl taken
   where
-    by_result : (r : Result UnitHeader HeaderFault) → unit_header bytes ≡ r → IsNotRefused (meaning_of options kept bytes (headed_content options kept bytes r)) → (h : UnitHeader) × (unit_header bytes ≡ Ok h)
+    by_result : (r : Result UnitHeader HeaderFault) → unit_header bytes ≡ r
+        → IsNotRefused (meaning_of options kept bytes (headed_content options kept bytes r))
+        → (h : UnitHeader) × (unit_header bytes ≡ Ok h)
     by_result (Ok h) e taken = (h, e)
     by_result (Err fault) e taken = absurd taken
 
@@ -74,7 +80,8 @@ IsWhole u = IsWholePiece u.bytes
 abbrev IsWholeIfHeaded : NalUnit → Type 0
 IsWholeIfHeaded u = (h : UnitHeader) → unit_header u.bytes ≡ Ok h → IsWholePiece u.bytes
 
-all_whole : (options : Options) (kept : Kept) (us : List NalUnit) → All IsNotRefused (meanings_behind options kept us) → All IsWholeIfHeaded us → All IsWhole us
+all_whole : (options : Options) (kept : Kept) (us : List NalUnit) → All IsNotRefused (meanings_behind options kept us)
+    → All IsWholeIfHeaded us → All IsWhole us
 all_whole options kept [] taken whole = All-nil IsWhole
 all_whole options kept (u ∷ us) taken whole =
     let next = kept_behind options kept u.bytes in
@@ -87,7 +94,8 @@ all_whole options kept (u ∷ us) taken whole =
 abbrev bytes_of : NalUnit → List ℕ
 bytes_of u = u.bytes
 
-pub found : (options : Options) (stream : List ℕ) (v m : ℕ) → verdict (meanings options stream) ≡ Ok m → units (spliced_bytes v stream) ≡ placed 0 (map bytes_of (spliced_units v (units stream)))
+pub found : (options : Options) (stream : List ℕ) (v m : ℕ) → verdict (meanings options stream) ≡ Ok m
+    → units (spliced_bytes v stream) ≡ placed 0 (map bytes_of (spliced_units v (units stream)))
 found options stream v m ok =
     let us = units stream in
     let whole = all_whole options none_kept us (all_taken (meanings options stream) m ok) (headed_units stream) in
@@ -98,15 +106,20 @@ found options stream v m ok =
 -- ---- what they mean
 
 -- units mean the same wherever they are
-meant_placed : (options : Options) (kept : Kept) (place : ℕ) (us : List NalUnit) → meanings_behind options kept (placed place (map bytes_of us)) ≡ meanings_behind options kept us
+meant_placed : (options : Options) (kept : Kept) (place : ℕ) (us : List NalUnit)
+    → meanings_behind options kept (placed place (map bytes_of us)) ≡ meanings_behind options kept us
 meant_placed options kept place [] = refl
-meant_placed options kept place (u ∷ us) = ap (λ (ms : List Meaning). meaning options kept u.bytes ∷ ms) (meant_placed options (kept_behind options kept u.bytes) (place + 3 + length u.bytes) us)
+meant_placed options kept place (u ∷ us) =
+    ap (λ (ms : List Meaning). meaning options kept u.bytes ∷ ms)
+    (meant_placed options (kept_behind options kept u.bytes) (place + 3 + length u.bytes) us)
 
-pub length_meant : (options : Options) (kept : Kept) (us : List NalUnit) → length (meanings_behind options kept us) ≡ length us
+pub length_meant : (options : Options) (kept : Kept) (us : List NalUnit)
+    → length (meanings_behind options kept us) ≡ length us
 length_meant options kept [] = refl
 length_meant options kept (u ∷ us) = ap suc (length_meant options (kept_behind options kept u.bytes) us)
 
-pub begins_at : (options : Options) (stream : List ℕ) (p : Picture) (m : ℕ) → verdict (meanings options stream) ≡ Ok m → IsPoint (meanings options stream) p → BeginsAt options p m stream (spliced_bytes p.unit stream)
+pub begins_at : (options : Options) (stream : List ℕ) (p : Picture) (m : ℕ) → verdict (meanings options stream) ≡ Ok m
+    → IsPoint (meanings options stream) p → BeginsAt options p m stream (spliced_bytes p.unit stream)
 begins_at options stream p m ok point = record {
   verdict = whole.ok;
   calls = calls-less p.number p.unit k (events us) (events now) whole.events;
@@ -139,5 +152,6 @@ begins_at options stream p m ok point = record {
     whole : Whole p.number p.unit k m us now
     whole =
         subst (λ (l : List Meaning). Whole p.number p.unit k m us l) (sym meant)
-        (subst (λ (j : ℕ). Whole p.number p.unit j m us (spliced sets p us)) (length_meant options none_kept (sets_before p.unit (units stream)))
+        (subst (λ (j : ℕ). Whole p.number p.unit j m us (spliced sets p us))
+        (length_meant options none_kept (sets_before p.unit (units stream)))
         (spliced-whole us sets p m (stream_is options stream) ok point of_sets))

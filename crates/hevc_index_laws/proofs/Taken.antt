@@ -1,5 +1,6 @@
 -- A parameter set that isn't refused negotiates a format or means nothing.
-use Rattle.std.proofs.Common.{◌≡◌, ℕ, zero, suc, Bool, true, false, cond, List, [], ◌∷◌, refl, sym, ap, subst, ◌∙◌, arith}
+use Rattle.std.proofs.Common.{◌≡◌, ℕ, zero, suc, Bool, true, false, cond, List, [], ◌∷◌, refl, sym}
+use Rattle.std.proofs.Common.{ap, subst, ◌∙◌, arith}
 use Rattle.std.specs.Prelude.{All, take}
 use Rattle.std.proofs.lemmas.Bool.Decides.{nat_tests}
 use Rattle.std.proofs.lemmas.List.Elements.{All-cons, All-nil, All-head, All-tail}
@@ -12,7 +13,11 @@ use Rattle.hevc_stream.specs.Contents.{Content, content}
 use Rattle.hevc_stream.specs.Kept.{Kept}
 use Rattle.hevc_stream.specs.Options.{Options}
 use Rattle.hevc_stream.specs.Stream.{kept_behind, meaning, meaning_of, meanings_behind}
-use Rattle.hevc_stream_laws.specs.UnitMeans.{spells, breaks_off, is_parameter_set, MeansByType, is_video_set, is_sequence_set, is_picture_set, is_slice_segment, ends_sequence, ends_bitstream, comes_first, is_other, Means, is_faulty, is_unwanted, is_wanted}
+use Rattle.hevc_stream_laws.specs.UnitMeans.{spells, breaks_off, is_parameter_set, MeansByType}
+use Rattle.hevc_stream_laws.specs.UnitMeans.{is_video_set, is_sequence_set, is_picture_set}
+use Rattle.hevc_stream_laws.specs.UnitMeans.{is_slice_segment, ends_sequence, ends_bitstream}
+use Rattle.hevc_stream_laws.specs.UnitMeans.{comes_first, is_other, Means, is_faulty, is_unwanted}
+use Rattle.hevc_stream_laws.specs.UnitMeans.{is_wanted}
 use Rattle.hevc_stream_laws.proofs.OneContent.{means_content}
 use Rattle.hevc_index_laws.specs.SplicedUnits.{is_set_unit, sets_before, IsNotRefused}
 use Rattle.hevc_index_laws.proofs.Kept.{same_kept, type_is}
@@ -24,7 +29,9 @@ no_slice t e s = grind (arith, nat_tests)
 abbrev IsOfSetUnit : Meaning → Type 0
 IsOfSetUnit u = IsNotRefused u → IsOfSet u
 
-of_content : (options : Options) (kept : Kept) (bytes : List ℕ) (c : Content) → is_parameter_set (nal_unit_type bytes) ≡ true → Means options kept bytes c → IsOfSetUnit (meaning_of options kept bytes c)
+of_content : (options : Options) (kept : Kept) (bytes : List ℕ) (c : Content)
+    → is_parameter_set (nal_unit_type bytes) ≡ true → Means options kept bytes c
+    → IsOfSetUnit (meaning_of options kept bytes c)
 of_content options kept bytes c e (is_faulty fault f m) = rw (← m) (λ x. absurd x)
 of_content options kept bytes c e (is_unwanted h f above m) = rw (← m) (λ x. tt)
 of_content options kept bytes c e (is_wanted h f below m) = by_type m
@@ -45,17 +52,22 @@ of_content options kept bytes c e (is_wanted h f below m) = by_type m
     by_type (comes_first has t m) = absurd (cc (set, t))
     by_type (is_other t o m) = absurd (cc (set, t))
 
-of_unit : (options : Options) (kept : Kept) (u : NalUnit) → is_set_unit u ≡ true → IsOfSetUnit (meaning options kept u.bytes)
+of_unit : (options : Options) (kept : Kept) (u : NalUnit) → is_set_unit u ≡ true
+    → IsOfSetUnit (meaning options kept u.bytes)
 unfolding meaning
-of_unit options kept u e = of_content options kept u.bytes (content options kept u.bytes) e (means_content options kept u.bytes)
+of_unit options kept u e =
+    of_content options kept u.bytes (content options kept u.bytes) e (means_content options kept u.bytes)
 
-pub sets_mean : (options : Options) (kept : Kept) (us : List NalUnit) (v : ℕ) → All IsNotRefused (take v (meanings_behind options kept us)) → All IsOfSet (meanings_behind options kept (sets_before v us))
+pub sets_mean : (options : Options) (kept : Kept) (us : List NalUnit) (v : ℕ)
+    → All IsNotRefused (take v (meanings_behind options kept us))
+    → All IsOfSet (meanings_behind options kept (sets_before v us))
 sets_mean options kept us zero taken = All-nil IsOfSet
 sets_mean options kept [] (suc v) taken = All-nil IsOfSet
 sets_mean options kept (u ∷ us) (suc v) taken =
     let first = meaning options kept u.bytes in
     let later = take v (meanings_behind options (kept_behind options kept u.bytes) us) in
-    by_test (is_set_unit u) refl (All-head IsNotRefused first later taken) (sets_mean options (kept_behind options kept u.bytes) us v (All-tail IsNotRefused first later taken))
+    by_test (is_set_unit u) refl (All-head IsNotRefused first later taken)
+    (sets_mean options (kept_behind options kept u.bytes) us v (All-tail IsNotRefused first later taken))
   where
     sets : List NalUnit
     sets = sets_before v us
@@ -63,7 +75,11 @@ sets_mean options kept (u ∷ us) (suc v) taken =
     next : Kept
     next = kept_behind options kept u.bytes
 
-    by_test : (b : Bool) → is_set_unit u ≡ b → IsNotRefused (meaning options kept u.bytes) → All IsOfSet (meanings_behind options next sets)
+    by_test : (b : Bool) → is_set_unit u ≡ b → IsNotRefused (meaning options kept u.bytes)
+        → All IsOfSet (meanings_behind options next sets)
         → All IsOfSet (meanings_behind options kept (cond b (u ∷ sets) sets))
-    by_test true e first more = All-cons IsOfSet (meaning options kept u.bytes) (meanings_behind options next sets) (of_unit options kept u e first) more
-    by_test false e first more = subst (λ (k : Kept). All IsOfSet (meanings_behind options k sets)) (same_kept options kept u e) more
+    by_test true e first more =
+        All-cons IsOfSet (meaning options kept u.bytes) (meanings_behind options next sets)
+        (of_unit options kept u e first) more
+    by_test false e first more =
+        subst (λ (k : Kept). All IsOfSet (meanings_behind options k sets)) (same_kept options kept u e) more

@@ -33,8 +33,7 @@ impl FaultPlan {
 
     /// Counts a call, and refuses it where its number is one of those that fail.
     pub(crate) fn count_call(&mut self) -> Result<(), Failed>
-        ensures planned { IsErr result ↔ Contains self.old.failing (self.old.calls + 1) }
-        ensures counted { CountsCall self.old self.new }
+        ensures planned { CountsCall (IsErr result) self.old self.new }
         ensures ok { OnOk result (self.new.faults ≡ self.old.faults) }
         ensures cause { HasCause self.old.faults self.new.faults result }
     {

@@ -1,5 +1,5 @@
 //! A source and a sink over memory, whose calls fail as planned.
-ghost use Rattle.std.specs.Prelude.{◌≡◌, ◌≤◌, ◌+◌, ◌↔◌, IsErr, OnOk, Contains, IsErrOf, vec_len};
+ghost use Rattle.std.specs.Prelude.{◌≡◌, ◌≤◌, IsErr, OnOk, IsErrOf, vec_len};
 ghost use Rattle.std.specs.Prelude.{drop, []};
 ghost use Rattle.std.specs.declared.option.Option.TheVariants.{Some};
 ghost use Rattle.std.specs.Io.{ReadsAtMost, WritesAtMost};
@@ -56,8 +56,7 @@ impl Source for MemorySource {
         ensures bound { ReadsAtMost result buf.new }
         ensures bytes { ReadConsumes (Some self.old.left) (Some self.new.left) result buf.new }
         ensures cause { HasCause self.old.plan.faults self.new.plan.faults result }
-        ensures planned { IsErr result ↔ Contains self.old.plan.failing (self.old.plan.calls + 1) }
-        ensures counted { CountsCall self.old.plan self.new.plan }
+        ensures planned { CountsCall (IsErr result) self.old.plan self.new.plan }
         ensures ok { OnOk result (self.new.plan.faults ≡ self.old.plan.faults) }
     {
         self.plan.count_call()?;
@@ -120,9 +119,8 @@ impl Sink for MemorySink {
             → Rose self.old.plan.faults self.new.plan.faults }
         ensures no_memory { IsErrOf result SinkError.NoMemory
             → self.new.plan.faults ≡ self.old.plan.faults }
-        ensures planned { IsErrOf result SinkError.Failed ↔ Contains self.old.plan.failing
-            (self.old.plan.calls + 1) }
-        ensures counted { CountsCall self.old.plan self.new.plan }
+        ensures planned { CountsCall (IsErrOf result SinkError.Failed) self.old.plan
+            self.new.plan }
         ensures ok { OnOk result (self.new.plan.faults ≡ self.old.plan.faults) }
     {
         if self.plan.count_call().is_err() {

@@ -1,13 +1,17 @@
 -- What is filled for Linux's stateless decoders, as C sees it.
-use Rattle.std.specs.Prelude.{◌≡◌, ◌⊎◌, ℕ, Option, Some, None, Result, Ok, Err}
+use Rattle.std.specs.Prelude.{◌≡◌, ◌⊎◌, ℕ, ◌++◌, List, length, drop, Option, Some, None, Result, Ok}
+use Rattle.std.specs.Prelude.{Err}
 use Rattle.hevc_v4l2.specs.declared.error.ControlError.{ControlError}
 use Rattle.hevc_v4l2.specs.declared.error.ControlError.TheVariants.{TileColumns, TileRows, UnitSize}
 use Rattle.hevc_v4l2.specs.declared.error.ControlError.TheVariants.{ShortTermSize}
 use Rattle.hevc_v4l2.specs.declared.error.ControlError.TheVariants.{ChromaDenominator, LumaOffset}
 use Rattle.hevc_v4l2.specs.declared.error.ControlError.TheVariants.{ChromaOffset, CurrentPicture}
-use Rattle.hevc_v4l2.specs.declared.slice.V4l2CtrlHevcSliceParams.{V4l2CtrlHevcSliceParams}
+use Rattle.hevc_v4l2.specs.declared.error.ControlError.TheVariants.{NoRoom, EntryPoint}
+use Rattle.hevc_v4l2.specs.declared.slice.SliceControls.{SliceControls}
+use Rattle.hevc_v4l2.specs.EntryPoints.{entry_points, entry_points_error}
 use Rattle.hevc_queue.specs.declared.controls.PictureControls.{PictureControls}
-use Rattle.hevc_queue.specs.Controls.{latest_picture_controls, latest_slice_control}
+use Rattle.hevc_queue.specs.Controls.{latest_offsets_minus1, latest_picture_controls}
+use Rattle.hevc_queue.specs.Controls.{latest_slice_controls}
 use Rattle.hevc_queue.specs.Queue.{given_wanted, with_controls}
 use Rattle.hevc_pull.specs.declared.decoder.PullDecoder.{PullDecoder}
 use Rattle.hevc_pull.specs.Views.{kept_of, options_for, view_in}
@@ -22,6 +26,8 @@ status_of_control ChromaDenominator = 24
 status_of_control LumaOffset = 25
 status_of_control ChromaOffset = 26
 status_of_control CurrentPicture = 27
+status_of_control NoRoom = 28
+status_of_control EntryPoint = 29
 
 -- What was filled is told; what can't be held is told by its status, and status 19 that nothing was
 -- filled: then the struct stays.
@@ -40,11 +46,37 @@ FillsPicture before now old new status =
     × Fills (latest_picture_controls (given_wanted (view_in before).backend)) old new status
 
 -- that of its latest slice segment
-abbrev pub FillsSlice : (before now : PullDecoder) → (old new : V4l2CtrlHevcSliceParams)
-    → (status : ℕ) → Type 0
+abbrev pub FillsSlice : (before now : PullDecoder) → (old new : SliceControls) → (status : ℕ)
+    → Type 0
 FillsSlice before now old new status =
     (now ≡ before)
-    × Fills (latest_slice_control (given_wanted (view_in before).backend)) old new status
+    × Fills (latest_slice_controls (given_wanted (view_in before).backend)) old new status
+
+-- Entry points are written to the first of the places; why not is told by the status, and then all
+-- places stay.
+abbrev pub Writes : (error : Option ControlError) → (points old new : List ℕ) → (status : ℕ)
+    → Type 0
+Writes None points old new status =
+    (status ≡ 0) × (new ≡ points ++ drop (length points) old)
+Writes (Some error) points old new status = (status ≡ status_of_control error) × (new ≡ old)
+
+-- Those of this slice segment are written, and how many there are is told. Without one all stays.
+abbrev pub TellsEntryPoints : (offsets_minus1 : Option (List ℕ)) → (old new : List ℕ)
+    → (count count' : ℕ) → (status : ℕ) → Type 0
+TellsEntryPoints None old new count count' status =
+    (status ≡ 19) × (new ≡ old) × (count' ≡ count)
+TellsEntryPoints (Some offsets_minus1) old new count count' status =
+    (count' ≡ length offsets_minus1)
+    × Writes (entry_points_error offsets_minus1 (length old)) (entry_points offsets_minus1)
+    old new status
+
+-- those of the latest slice segment
+abbrev pub TellsLatestEntryPoints : (before now : PullDecoder) → (old new : List ℕ)
+    → (count count' : ℕ) → (status : ℕ) → Type 0
+TellsLatestEntryPoints before now old new count count' status =
+    (now ≡ before)
+    × TellsEntryPoints (latest_offsets_minus1 (given_wanted (view_in before).backend))
+    old new count count' status
 
 -- structs are wanted from here on, or an allocation failed
 pub record WantsControls (before now : PullDecoder) (status : ℕ) : Type 0 where

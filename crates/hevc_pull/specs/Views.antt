@@ -1,5 +1,5 @@
 -- What contracts see of a decoder that calls nobody.
-use Rattle.std.specs.Prelude.{ℕ, Option, Some, List}
+use Rattle.std.specs.Prelude.{◌≡◌, ℕ, Option, Some, List}
 use Rattle.hevc_stream.specs.Kept.{Kept}
 use Rattle.hevc_stream.specs.Options.{Options}
 use Rattle.hevc_backend.specs.declared.call.Call.{Call}
@@ -55,3 +55,13 @@ abbrev pub with_free_frames : (free_frames : ℕ) → Seen Queue ℕ → Seen Qu
 with_free_frames free_frames s = record s {
   view = record s.view { backend = record s.view.backend { free_frames = free_frames } };
 }
+
+-- The sets that are kept, and what is set for decoding, stay.
+pub record KeepsSets (before now : PullDecoder) : Type 0 where
+  pub kept : kept_of now ≡ kept_of before
+  pub options : options_for now ≡ options_for before
+
+-- Whether structs are wanted stays, and no event is thrown away before it is taken.
+pub record KeepsTold (before now : PullDecoder) : Type 0 where
+  pub wanted : wanted_after now ≡ wanted_after before
+  pub taken : num_taken now ≡ num_taken before

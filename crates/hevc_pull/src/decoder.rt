@@ -1,6 +1,7 @@
 //! The decoder and its calls.
 ghost use Rattle.std.specs.Prelude.{◌≡◌, ◌<◌, ◌≤◌, ◌↔◌, [], true, length, Some, IfOk, IfNone};
 ghost use Rattle.std.specs.Prelude.{IfSome, IsOk, OnErr, OnOk, MatchOption};
+ghost use Rattle.std.specs.Option.{option_map};
 ghost use Rattle.hevc_bits.specs.declared.stream_limit.TheConstants.{STREAM_LIMIT};
 ghost use Rattle.hevc_spec.specs.Units.{units};
 ghost use Rattle.hevc_driver.specs.Given.{Given};
@@ -9,10 +10,11 @@ ghost use Rattle.hevc_stateless.specs.declared.state.State.TheVariants.{Reset};
 ghost use Rattle.hevc_stateless.specs.Flushes.{Flushes};
 ghost use Rattle.hevc_stateless.specs.Steps.{TakesFirst};
 ghost use Rattle.hevc_stateless.specs.Views.{OutputsFew, PopsFrame};
-ghost use Rattle.hevc_queue.specs.Controls.{latest_picture_controls, latest_slice_control};
+ghost use Rattle.hevc_queue.specs.Controls.{latest_offsets_minus1, latest_picture_controls};
+ghost use Rattle.hevc_queue.specs.Controls.{latest_slice_controls};
 ghost use Rattle.hevc_queue.specs.Queue.{given_wanted, with_controls};
-ghost use Rattle.hevc_pull.specs.Views.{kept_of, options_for, seen_of, num_taken, pulled_traces};
-ghost use Rattle.hevc_pull.specs.Views.{view_in, wanted_after, with_free_frames};
+ghost use Rattle.hevc_pull.specs.Views.{options_for, seen_of, pulled_traces};
+ghost use Rattle.hevc_pull.specs.Views.{KeepsSets, KeepsTold, view_in, with_free_frames};
 ghost use Rattle.hevc_pull.specs.Pulling.{PullsNext, TakesEvent, outputs_are_due};
 
 use crate::pulled::Pulled;
@@ -20,7 +22,7 @@ use hevc_driver::{DecodeError, Frame};
 use hevc_events::Event;
 use hevc_queue::{PictureControls, QueueBackend};
 use hevc_stateless::{DecoderEvent, StatelessDecoder};
-use hevc_v4l2::{ControlError, V4l2CtrlHevcSliceParams};
+use hevc_v4l2::{ControlError, SliceControls};
 use std::alloc::{AllocError, Global};
 use thiserror::Error;
 
@@ -65,9 +67,7 @@ impl PullDecoder {
             (with_free_frames free_frames (seen_of self.old)) (seen_of self.new) }
         ensures few { OutputsFew (view_in self.old) (view_in self.new) }
         ensures inside { IfOk result (λ place. (3 ≤ place) × (place ≤ length bitstream.now)) }
-        ensures wanted { wanted_after self.new ≡ wanted_after self.old }
-        // No event is thrown away before it is taken.
-        ensures taken { num_taken self.new ≡ num_taken self.old }
+        ensures told { KeepsTold self.old self.new }
         ensures options { options_for self.new ≡ options_for self.old }
     {
         self.set_free_frames(free_frames);
@@ -85,11 +85,8 @@ impl PullDecoder {
         ensures latest { (view_in self.new).latest ≡ (view_in self.old).latest }
         ensures state { OnOk result ((view_in self.new).state ≡ Reset) }
         ensures stays { OnErr result ((view_in self.new).state ≡ (view_in self.old).state) }
-        ensures wanted { wanted_after self.new ≡ wanted_after self.old }
-        // No event is thrown away before it is taken.
-        ensures taken { num_taken self.new ≡ num_taken self.old }
-        ensures kept { kept_of self.new ≡ kept_of self.old }
-        ensures options { options_for self.new ≡ options_for self.old }
+        ensures told { KeepsTold self.old self.new }
+        ensures keeps { KeepsSets self.old self.new }
     {
         self.decoder.flush()
     }
@@ -99,8 +96,7 @@ impl PullDecoder {
     /// sequence begins come before that.
     pub fn next(&mut self) -> Option<Pulled>
         ensures next { PullsNext result (view_in self.old) (view_in self.new) }
-        ensures kept { kept_of self.new ≡ kept_of self.old }
-        ensures options { options_for self.new ≡ options_for self.old }
+        ensures keeps { KeepsSets self.old self.new }
     {
         if !self.decoder.backend().is_sequence_next() {
             if let Some(event) = self.take_event() {
@@ -114,8 +110,7 @@ impl PullDecoder {
     fn next_output(&mut self) -> Option<Pulled>
         requires { outputs_are_due (view_in self.old).backend.waiting ≡ true }
         ensures next { PullsNext result (view_in self.old) (view_in self.new) }
-        ensures kept { kept_of self.new ≡ kept_of self.old }
-        ensures options { options_for self.new ≡ options_for self.old }
+        ensures keeps { KeepsSets self.old self.new }
     {
         if let Some(frame) = self.next_frame() {
             return Some(Pulled::Output(frame));
@@ -135,8 +130,7 @@ impl PullDecoder {
         ensures others { view_in self.new
             ≡ record (view_in self.old) { queue = (view_in self.new).queue } }
         ensures unchanged { IfNone result (view_in self.new ≡ view_in self.old) }
-        ensures kept { kept_of self.new ≡ kept_of self.old }
-        ensures options { options_for self.new ≡ options_for self.old }
+        ensures keeps { KeepsSets self.old self.new }
     {
         match self.decoder.next_event() {
             Some(DecoderEvent::FrameReady(frame)) => Some(frame),
@@ -151,8 +145,7 @@ impl PullDecoder {
             (λ event. TakesEvent event (view_in self.old).backend (view_in self.new).backend) }
         ensures others { view_in self.new
             ≡ record (view_in self.old) { backend = (view_in self.new).backend } }
-        ensures kept { kept_of self.new ≡ kept_of self.old }
-        ensures options { options_for self.new ≡ options_for self.old }
+        ensures keeps { KeepsSets self.old self.new }
     {
         let stand_in = self.decoder.backend().stand_in(self.alloc);
         let mut backend = self.decoder.replace_backend(stand_in);
@@ -166,8 +159,7 @@ impl PullDecoder {
         ensures view { view_in self.new ≡ record (view_in self.old) {
           backend = record (view_in self.old).backend { free_frames = free_frames };
         } }
-        ensures kept { kept_of self.new ≡ kept_of self.old }
-        ensures options { options_for self.new ≡ options_for self.old }
+        ensures keeps { KeepsSets self.old self.new }
         ensures seen { seen_of self.new ≡ with_free_frames free_frames (seen_of self.old) }
     {
         let stand_in = self.decoder.backend().stand_in(self.alloc);
@@ -185,8 +177,7 @@ impl PullDecoder {
           backend = with_controls (view_in self.old).backend;
         }) }
         ensures unchanged { OnErr result (view_in self.new ≡ view_in self.old) }
-        ensures kept { kept_of self.new ≡ kept_of self.old }
-        ensures options { options_for self.new ≡ options_for self.old }
+        ensures keeps { KeepsSets self.old self.new }
     {
         let stand_in = self.decoder.backend().stand_in(self.alloc);
         let mut backend = self.decoder.replace_backend(stand_in);
@@ -204,10 +195,18 @@ impl PullDecoder {
     }
 
     /// The struct of its latest slice segment, or what it can't hold; None where there is none.
-    pub fn slice_control(&self) -> Option<Result<V4l2CtrlHevcSliceParams, ControlError>>
-        ensures { result ≡ latest_slice_control (given_wanted (view_in self.now).backend) }
+    pub fn slice_controls(&self) -> Option<Result<SliceControls, ControlError>>
+        ensures { result ≡ latest_slice_controls (given_wanted (view_in self.now).backend) }
     {
-        self.decoder.backend().slice_control()
+        self.decoder.backend().slice_controls()
+    }
+
+    /// The bytes from each entry point of that slice segment to the next one, less 1.
+    pub fn offsets_minus1(&self) -> Option<&[u32]>
+        ensures { option_map (λ offsets. offsets.now) result
+            ≡ latest_offsets_minus1 (given_wanted (view_in self.now).backend) }
+    {
+        self.decoder.backend().offsets_minus1()
     }
 
     /// Accepts the format that is awaited.
@@ -217,8 +216,7 @@ impl PullDecoder {
         ensures accepted { IsOk result ↔ ((view_in self.old).state ≡ AwaitingFormat) }
         ensures view { OnOk result (view_in self.new ≡ record (view_in self.old) { state = Decoding }) }
         ensures unchanged { OnErr result (self.new ≡ self.old) }
-        ensures kept { kept_of self.new ≡ kept_of self.old }
-        ensures options { options_for self.new ≡ options_for self.old }
+        ensures keeps { KeepsSets self.old self.new }
     {
         if !self.decoder.awaiting_format() {
             return Err(NotAwaited);

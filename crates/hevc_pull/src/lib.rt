@@ -13,7 +13,7 @@ mod status;
 mod units;
 
 pub use calls::{DecodeCall, accept_format, decode, flush, next_event};
-pub use controls::{picture_controls, slice_control, want_controls};
+pub use controls::{entry_points, picture_controls, slice_controls, want_controls};
 pub use decoder::{NotAwaited, PullDecoder};
 pub use fields::{
     PpsFields, ProfileFields, SliceFields, SpsFields, VpsFields, VuiFields, pps_fields,

@@ -1,18 +1,18 @@
 -- What is filled after one more call.
-use Rattle.std.proofs.Common.{◌≡◌, List, [], ◌∷◌, ◌++◌, length, drop, Option, Some, None, Result}
+use Rattle.std.proofs.Common.{◌≡◌, List, [], ◌∷◌, ◌++◌, length, drop, Option, Some, None}
 use Rattle.std.proofs.Common.{refl, ap, sym, ◌∙◌, arith}
 use Rattle.std.specs.Option.{option_map}
 use Rattle.std.proofs.lemmas.List.{drop-append-le, length_push}
 use Rattle.std.proofs.lemmas.List.Sums.{fold-append}
-use Rattle.hevc_v4l2.specs.declared.error.ControlError.{ControlError}
-use Rattle.hevc_v4l2.specs.declared.slice.V4l2CtrlHevcSliceParams.{V4l2CtrlHevcSliceParams}
+use Rattle.hevc_queue.specs.declared.controls.SegmentControls.{SegmentControls}
 use Rattle.hevc_queue.specs.declared.controls.Controls.{Controls}
 use Rattle.hevc_queue.specs.declared.given.BegunPicture.{BegunPicture}
 use Rattle.hevc_queue.specs.declared.given.GivenSlice.{GivenSlice}
 use Rattle.hevc_queue.specs.declared.given.Given.{Given}
 use Rattle.hevc_queue.specs.declared.given.Given.TheVariants.{Begun, Slice}
 use Rattle.hevc_queue.specs.Given.{begun_after, latest_begun, latest_slice, slice_after}
-use Rattle.hevc_queue.specs.Controls.{AreOfCalls, begun_controls, controls_of, slice_of_picture, with_begun, with_slice}
+use Rattle.hevc_queue.specs.Controls.{AreOfCalls, begun_controls, controls_of, segment_of_picture}
+use Rattle.hevc_queue.specs.Controls.{with_begun, with_slice}
 
 begun_more : (given : List Given) (g : Given)
     → latest_begun (given ++ g ∷ []) ≡ begun_after (latest_begun given) g
@@ -32,13 +32,13 @@ filled_slices : (given : List Given) (s : GivenSlice)
     → controls_of (given ++ Slice s ∷ []) ≡ with_slice s (controls_of given)
 filled_slices given s =
     rw (begun_more given (Slice s), slice_more given (Slice s))
-    (of_latest (latest_begun given) (slice_of_picture (latest_begun given) (latest_slice given)))
+    (of_latest (latest_begun given) (segment_of_picture (latest_begun given) (latest_slice given)))
   where
-    filled : Option BegunPicture → Option (Result V4l2CtrlHevcSliceParams ControlError) → Controls
+    filled : Option BegunPicture → Option SegmentControls → Controls
     filled latest slice = record { begun = option_map begun_controls latest; slice = slice }
 
-    of_latest : (latest : Option BegunPicture) (before : Option (Result V4l2CtrlHevcSliceParams ControlError))
-        → filled latest (slice_of_picture latest (Some s)) ≡ with_slice s (filled latest before)
+    of_latest : (latest : Option BegunPicture) (before : Option SegmentControls)
+        → filled latest (segment_of_picture latest (Some s)) ≡ with_slice s (filled latest before)
     of_latest None before = refl
     of_latest (Some b) before = refl
 

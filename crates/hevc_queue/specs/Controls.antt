@@ -1,5 +1,5 @@
 -- The structs of Linux's stateless decoders, of the latest calls.
-use Rattle.std.specs.Prelude.{◌≡◌, ◌≤◌, List, length, drop, Option, Some, None, Result, Ok, Err}
+use Rattle.std.specs.Prelude.{◌≡◌, ◌≤◌, ℕ, List, length, drop, Option, Some, None, Result, Ok, Err}
 use Rattle.std.specs.Option.{option_map, option_or}
 use Rattle.std.specs.Box.{box_value}
 use Rattle.std.specs.Global.{Box}
@@ -12,14 +12,15 @@ use Rattle.hevc_dpb.specs.Views.{stored_entries}
 use Rattle.hevc_refs.specs.Lists.{places_of}
 use Rattle.hevc_refs.specs.Sets.{plain_set}
 use Rattle.hevc_v4l2.specs.declared.error.ControlError.{ControlError}
-use Rattle.hevc_v4l2.specs.declared.slice.V4l2CtrlHevcSliceParams.{V4l2CtrlHevcSliceParams}
+use Rattle.hevc_v4l2.specs.declared.slice.SliceControls.{SliceControls}
 use Rattle.hevc_v4l2.specs.SequenceSet.{control_of_sps}
 use Rattle.hevc_v4l2.specs.PictureSet.{control_of_pps, pps_error}
 use Rattle.hevc_v4l2.specs.Scaling.{active_lists, control_of_lists}
 use Rattle.hevc_v4l2.specs.Decode.{control_of_decoding, short_term_error}
-use Rattle.hevc_v4l2.specs.Slice.{control_of_slice, slice_error}
+use Rattle.hevc_v4l2.specs.Slice.{controls_of_slice, slice_error}
 use Rattle.hevc_queue.specs.declared.controls.PictureControls.{PictureControls}
 use Rattle.hevc_queue.specs.declared.controls.BegunControls.{BegunControls}
+use Rattle.hevc_queue.specs.declared.controls.SegmentControls.{SegmentControls}
 use Rattle.hevc_queue.specs.declared.controls.Controls.{Controls}
 use Rattle.hevc_queue.specs.declared.given.BegunPicture.{BegunPicture}
 use Rattle.hevc_queue.specs.declared.given.GivenSlice.{GivenSlice}
@@ -51,27 +52,39 @@ abbrev pub picture_controls : BegunPicture → Result PictureControls ControlErr
 picture_controls b = held (picture_error b) (structs_of_picture b)
 
 -- that of a slice segment of this picture
-abbrev pub slice_control : PictureData → GivenSlice
-    → Result V4l2CtrlHevcSliceParams ControlError
-slice_control picture s =
+abbrev pub slice_controls : PictureData → GivenSlice → Result SliceControls ControlError
+slice_controls picture s =
     held
     (slice_error s.slice (plain_sps s.sps) (places_of s.list0) (places_of s.list1))
-    (control_of_slice picture s.slice (plain_sps s.sps)
+    (controls_of_slice picture s.slice (plain_sps s.sps)
     (reference_numbers (stored_entries s.buffer)) (places_of s.list0) (places_of s.list1))
 
 -- those of the latest picture that began
 abbrev pub latest_picture_controls : List Given → Option (Result PictureControls ControlError)
 latest_picture_controls given = option_map picture_controls (latest_begun given)
 
-abbrev pub slice_of_picture : Option BegunPicture → Option GivenSlice
-    → Option (Result V4l2CtrlHevcSliceParams ControlError)
-slice_of_picture (Some b) (Some s) = Some (slice_control b.picture s)
-slice_of_picture b s = None
+-- with the entry points of its header, of which each has 1 less than there are bytes to the next
+abbrev pub segment_controls : PictureData → GivenSlice → SegmentControls
+segment_controls picture s = record {
+  filled = slice_controls picture s;
+  offsets_minus1 = s.slice.header.entry_point_offset_minus1;
+}
 
--- that of the latest slice segment
-abbrev pub latest_slice_control : List Given
-    → Option (Result V4l2CtrlHevcSliceParams ControlError)
-latest_slice_control given = slice_of_picture (latest_begun given) (latest_slice given)
+abbrev pub segment_of_picture : Option BegunPicture → Option GivenSlice → Option SegmentControls
+segment_of_picture (Some b) (Some s) = Some (segment_controls b.picture s)
+segment_of_picture b s = None
+
+-- those of the latest slice segment
+abbrev pub latest_segment : List Given → Option SegmentControls
+latest_segment given = segment_of_picture (latest_begun given) (latest_slice given)
+
+abbrev pub latest_slice_controls : List Given → Option (Result SliceControls ControlError)
+latest_slice_controls given =
+    option_map (λ (c : SegmentControls). c.filled) (latest_segment given)
+
+abbrev pub latest_offsets_minus1 : List Given → Option (List ℕ)
+latest_offsets_minus1 given =
+    option_map (λ (c : SegmentControls). c.offsets_minus1) (latest_segment given)
 
 -- those that are in a box
 abbrev pub wanted : Option (Box Controls) → Option Controls
@@ -86,14 +99,14 @@ with_begun b controls = record { begun = Some (begun_controls b); slice = None }
 
 abbrev pub with_slice : GivenSlice → Controls → Controls
 with_slice s controls = record controls {
-  slice = option_map (λ (b : BegunControls). slice_control b.picture s) controls.begun;
+  slice = option_map (λ (b : BegunControls). segment_controls b.picture s) controls.begun;
 }
 
 -- those of the latest picture that began, and of its latest slice segment
 abbrev pub controls_of : List Given → Controls
 controls_of given = record {
   begun = option_map begun_controls (latest_begun given);
-  slice = latest_slice_control given;
+  slice = latest_segment given;
 }
 
 -- where structs are wanted, they are those of the calls since

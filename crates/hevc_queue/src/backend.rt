@@ -2,16 +2,20 @@
 ghost use Rattle.std.specs.Prelude.{◌≡◌, ◌+◌, ◌<◌, ◌^◌, ◌↔◌, [], ◌∷◌, ℕ, drop, length};
 ghost use Rattle.std.specs.Prelude.{slice_index_or, None, Some, IsNone, IfSome, IfNone, IfOk, OnOk};
 ghost use Rattle.std.specs.Prelude.{OnErr};
+ghost use Rattle.std.specs.Option.{option_map};
 ghost use Rattle.hevc_backend.specs.Trait.{CountsFaults};
 ghost use Rattle.hevc_backend.specs.declared.call.Call.{Call};
 ghost use Rattle.hevc_events.specs.Waiting.{sequence_is_next};
 ghost use Rattle.hevc_queue.specs.Events.{event_of, events_of};
-ghost use Rattle.hevc_queue.specs.Controls.{latest_picture_controls, latest_slice_control};
+ghost use Rattle.hevc_queue.specs.Controls.{latest_offsets_minus1, latest_picture_controls};
+ghost use Rattle.hevc_queue.specs.Controls.{latest_slice_controls};
 ghost use Rattle.hevc_queue.specs.Queue.{given_wanted, handed_of, log_of, new_queue};
 ghost use Rattle.hevc_queue.specs.Queue.{with_controls_after, with_controls, with_taken};
 
 use crate::asked::{picture_event, sequence_event, sets_event, slice_event, submission_event};
-use crate::controls::{Controls, PictureControls, fill_picture, fill_slice, no_controls};
+use crate::controls::{
+    Controls, PictureControls, fill_picture, fill_slice, no_controls, wanted_offsets,
+};
 use crate::given::Given;
 use hevc_backend::{BackendError, NegotiationInfo, StatelessH265DecoderBackend, StreamInfo};
 use hevc_dpb::{Dpb, PictureData};
@@ -20,7 +24,7 @@ use hevc_history::History;
 use hevc_picture_slice::{Pps, Slice};
 use hevc_refs::{RefPicList, RefPicSet};
 use hevc_sequence_set::Sps;
-use hevc_v4l2::{ControlError, V4l2CtrlHevcSliceParams};
+use hevc_v4l2::{ControlError, SliceControls};
 use std::alloc::{AllocError, Global};
 use std::marker::Model;
 
@@ -182,11 +186,22 @@ impl QueueBackend {
     }
 
     /// The struct of its latest slice segment, or what it can't hold; None where there is none.
-    pub fn slice_control(&self) -> Option<Result<V4l2CtrlHevcSliceParams, ControlError>>
-        ensures { result ≡ latest_slice_control (given_wanted self.now) }
+    pub fn slice_controls(&self) -> Option<Result<SliceControls, ControlError>>
+        ensures { result ≡ latest_slice_controls (given_wanted self.now) }
     {
         let controls = self.controls.as_ref()?;
-        controls.slice
+        let segment = controls.slice.as_ref()?;
+        Some(segment.filled)
+    }
+
+    /// The bytes from each entry point of that slice segment to the next one, less 1.
+    pub fn offsets_minus1(&self) -> Option<&[u32]>
+        ensures { option_map (λ offsets. offsets.now) result
+            ≡ latest_offsets_minus1 (given_wanted self.now) }
+    {
+        let controls = self.controls.as_ref()?;
+        let segment = controls.slice.as_ref()?;
+        Some(segment.offsets_minus1.as_slice())
     }
 
     /// The place of the next call in the log.
@@ -283,6 +298,7 @@ impl StatelessH265DecoderBackend for QueueBackend {
     ) -> Result<(), BackendError> {
         let place = self.next_place()?;
         let event = slice_event(place, number, slice, ref_pic_list0, ref_pic_list1);
+        let offsets_minus1 = wanted_offsets(&self.controls, slice)?;
         self.queue.put(event)?;
         self.history = self.history.and(&(
             number,
@@ -295,6 +311,7 @@ impl StatelessH265DecoderBackend for QueueBackend {
         ));
         fill_slice(
             &mut self.controls,
+            offsets_minus1,
             slice,
             sps,
             pps,

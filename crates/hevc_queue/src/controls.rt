@@ -1,5 +1,5 @@
 //! The structs of Linux's stateless decoders, of the latest calls, where they are wanted.
-ghost use Rattle.std.specs.Prelude.{◌≡◌, []};
+ghost use Rattle.std.specs.Prelude.{◌≡◌, [], IfOk};
 ghost use Rattle.std.specs.Option.{option_map};
 ghost use Rattle.hevc_queue.specs.Given.{begun_with, slice_with};
 ghost use Rattle.hevc_queue.specs.Controls.{controls_of, picture_controls, wanted, with_begun};
@@ -9,11 +9,13 @@ use hevc_dpb::{Dpb, PictureData};
 use hevc_picture_slice::{Pps, Slice};
 use hevc_refs::{RefPicList, RefPicSet};
 use hevc_sequence_set::Sps;
+use hevc_set_parts::Items;
 use hevc_v4l2::{
-    ControlError, V4l2CtrlHevcDecodeParams, V4l2CtrlHevcPps, V4l2CtrlHevcScalingMatrix,
-    V4l2CtrlHevcSliceParams, V4l2CtrlHevcSps, decode_control, pps_control, scaling_control,
-    slice_control, sps_control,
+    ControlError, SliceControls, V4l2CtrlHevcDecodeParams, V4l2CtrlHevcPps,
+    V4l2CtrlHevcScalingMatrix, V4l2CtrlHevcSps, decode_control, pps_control, scaling_control,
+    slice_controls, sps_control,
 };
+use std::alloc::AllocError;
 
 /// The structs of a picture that begins.
 #[repr(C)]
@@ -32,11 +34,19 @@ pub struct BegunControls {
     pub filled: Result<PictureControls, ControlError>,
 }
 
+/// The struct of a slice segment, or what it can't hold, with its entry points.
+#[derive(Drop)]
+pub struct SegmentControls {
+    pub filled: Result<SliceControls, ControlError>,
+    /// The bytes from each entry point to the next one, less 1.
+    pub offsets_minus1: Items<u32>,
+}
+
 /// The structs of the latest picture that began, and of its latest slice segment.
-#[derive(Clone, Copy)]
+#[derive(Drop)]
 pub struct Controls {
     pub begun: Option<BegunControls>,
-    pub slice: Option<Result<V4l2CtrlHevcSliceParams, ControlError>>,
+    pub slice: Option<SegmentControls>,
 }
 
 /// Those of no call.
@@ -94,10 +104,26 @@ pub(crate) fn fill_picture(
     }
 }
 
-/// A slice segment comes: where structs are wanted, and were filled for its picture, its own is
-/// filled.
+/// The entry points of a slice segment, where structs are wanted.
+pub(crate) fn wanted_offsets(
+    controls: &Option<Box<Controls>>,
+    slice: &Slice<'_>,
+) -> Result<Option<Items<u32>>, AllocError>
+    ensures { IfOk result (λ offsets. offsets
+        ≡ option_map (λ _. slice.now.header.entry_point_offset_minus1) (wanted controls.now)) }
+{
+    if controls.is_none() {
+        return Ok(None);
+    }
+    let offsets_minus1 = slice.header.entry_point_offset_minus1.try_copy()?;
+    Ok(Some(offsets_minus1))
+}
+
+/// A slice segment with these entry points comes: where structs are wanted, and were filled for its
+/// picture, its own is filled.
 pub(crate) fn fill_slice(
     controls: &mut Option<Box<Controls>>,
+    offsets_minus1: Option<Items<u32>>,
     slice: &Slice<'_>,
     sps: &Sps,
     pps: &Pps,
@@ -105,15 +131,19 @@ pub(crate) fn fill_slice(
     list0: &RefPicList,
     list1: &RefPicList,
 )
+    requires { offsets_minus1
+        ≡ option_map (λ _. slice.now.header.entry_point_offset_minus1) (wanted controls.old) }
     ensures { wanted controls.new ≡ option_map
         (with_slice (slice_with 0 slice.now sps.now pps.now dpb.now list0.now list1.now))
         (wanted controls.old) }
 {
     if let Some(controls) = controls {
-        let filled = match &controls.begun {
-            Some(begun) => Some(slice_control(&begun.picture, slice, sps, dpb, list0, list1)),
-            None => None,
+        controls.slice = match (&controls.begun, offsets_minus1) {
+            (Some(begun), Some(offsets_minus1)) => Some(SegmentControls {
+                filled: slice_controls(&begun.picture, slice, sps, dpb, list0, list1),
+                offsets_minus1,
+            }),
+            _ => None,
         };
-        controls.slice = filled;
     }
 }

@@ -9,5 +9,5 @@ mod given;
 mod places;
 
 pub use backend::QueueBackend;
-pub use controls::{BegunControls, Controls, PictureControls};
+pub use controls::{BegunControls, Controls, PictureControls, SegmentControls};
 pub use given::{BegunPicture, Given, GivenSlice};

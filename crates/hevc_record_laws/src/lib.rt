@@ -8,7 +8,7 @@ ghost use Rattle.hevc_picture_slice.specs.SliceHeader.{plain_slice_header};
 ghost use Rattle.hevc_record_laws.specs.Values.{IsItsValues};
 
 /// Two parameter sets or slice headers whose fields have the same values are the same.
-#[tactic(auto, using(crate::proofs::Values::vps, crate::proofs::Values::sps, crate::proofs::Values::pps, crate::proofs::Values::slice_header))]
+#[tactic(auto, using(crate::proofs::Values::VideoSet::vps, crate::proofs::Values::SequenceSet::sps, crate::proofs::Values::PictureSlice::pps, crate::proofs::Values::PictureSlice::slice_header))]
 pub fn records_are_their_values()
     ensures vps { IsItsValues plain_vps }
     ensures sps { IsItsValues plain_sps }

@@ -21,8 +21,10 @@ no_stop : (us : List Meaning) (r : Result ℕ Refused) → AnswersVerdict r (ver
 no_stop us (Ok m) answers is = goes_on (full us) (stop us) (length (pictures us)) m answers
 no_stop us (Err refused) answers is = absurd (cc is)
 
-pub come_in_turn : (us : List Meaning) (r : Result ℕ Refused) → AnswersVerdict r (verdict us) → is_ok r ≡ true → ComeInTurn us (outputs us)
+pub come_in_turn : (us : List Meaning) (r : Result ℕ Refused) → AnswersVerdict r (verdict us) → is_ok r ≡ true
+    → ComeInTurn us (outputs us)
 come_in_turn us r answers is = in_turn us (no_stop us r answers is)
 
-pub come_in_order : (us : List Meaning) (r : Result ℕ Refused) → AnswersVerdict r (verdict us) → is_ok r ≡ true → ComeInOrder us (outputs us)
+pub come_in_order : (us : List Meaning) (r : Result ℕ Refused) → AnswersVerdict r (verdict us) → is_ok r ≡ true
+    → ComeInOrder us (outputs us)
 come_in_order us r answers is = law us (no_stop us r answers is)

@@ -14,17 +14,22 @@ use Rattle.hevc_report.specs.Report.{last_line}
 use Rattle.hevc_report.proofs.Joined.{some_line}
 
 -- the front alone
-pub front_written : (a b : Option (List ℕ)) (front rest : List ℕ) → 0 < length rest → Appends a b front → AppendsLess a b (front ++ rest)
+pub front_written : (a b : Option (List ℕ)) (front rest : List ℕ) → 0 < length rest → Appends a b front
+    → AppendsLess a b (front ++ rest)
 front_written a b front rest some all =
     let long = length-append front rest in
     (length front, omega (arith, some, long), subst (Appends a b) (sym (take-append_seam front rest)) all)
 
 -- the front, and a part of the rest
-pub rest_less : (a b c : Option (List ℕ)) (front rest : List ℕ) → Appends a b front → AppendsLess b c rest → AppendsLess a c (front ++ rest)
+pub rest_less : (a b c : Option (List ℕ)) (front rest : List ℕ) → Appends a b front → AppendsLess b c rest
+    → AppendsLess a c (front ++ rest)
 rest_less a b c front rest all l =
     let short = l.1 in
-    let long = length-append front rest in
-    (length front + l.0, omega (arith, short, long), subst (Appends a c) (sym (take-append-add front rest l.0)) (Appends-trans a b c front (take l.0 rest) all l.2))
+    let long = length-append front rest in (
+      length front + l.0,
+      omega (arith, short, long),
+      subst (Appends a c) (sym (take-append-add front rest l.0)) (Appends-trans a b c front (take l.0 rest) all l.2),
+    )
 
 -- what holds anyway holds on a refusal
 pub on_refusal : {T E : Type 0} (r : Result T E) (P : Type 0) → P → OnErr r P

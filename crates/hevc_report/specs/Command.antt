@@ -22,12 +22,19 @@ abbrev pub with_cra : List ℕ → Options → Option Options
 with_cra word options =
     if bytes_eq word (codes "cra") then Some (record options { handle_cra_as_bla = true }) else None
 
--- no words, `cra`, `layer T` and `layer T cra` are the commands
+-- `layer T cra` or `cra layer T`: both
+abbrev pub with_both : List ℕ → List ℕ → List ℕ → Option Options
+with_both first second third =
+    if bytes_eq first (codes "cra")
+    then option_and_then (with_cra first) (with_layer second third)
+    else option_and_then (with_cra third) (with_layer first second)
+
+-- no words, `cra`, `layer T`, and the two last in any order are the commands
 abbrev pub command : List (List ℕ) → Option Options
 command [] = Some default_options
 command (cra ∷ []) = with_cra cra default_options
 command (layer ∷ digit ∷ []) = with_layer layer digit
-command (layer ∷ digit ∷ cra ∷ []) = option_and_then (with_cra cra) (with_layer layer digit)
+command (first ∷ second ∷ third ∷ []) = with_both first second third
 command words = None
 
 -- the number up to 100000 that decimal digits spell after a number; 48 is the code of 0

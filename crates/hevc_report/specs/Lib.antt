@@ -4,6 +4,7 @@ pub mod Grows
 pub mod Lines
 pub mod Report
 pub mod Reported
+pub mod Runs
 pub mod Status
 pub mod Summary
 pub mod Tells

@@ -3,7 +3,7 @@ ghost use Rattle.std.specs.Prelude.{◌≡◌, ◌≤◌, IfSome, IsSome, option
 ghost use Rattle.std.specs.declared.option.Option.TheVariants.{None};
 ghost use Rattle.std.specs.Str.{bytes_eq};
 ghost use Rattle.hevc_options.specs.Options.{options_of};
-ghost use Rattle.hevc_report.specs.Command.{command, number_of_pictures, pictures_to_make, sub_layer, with_cra, with_layer};
+ghost use Rattle.hevc_report.specs.Command.{command, number_of_pictures, pictures_to_make, sub_layer, with_both, with_cra, with_layer};
 
 use hevc_decoder::Options;
 use hevc_io::Word;
@@ -15,7 +15,7 @@ use hevc_io::Word;
 /// | none | `Options::new` |
 /// | `cra` | CRA pictures are handled as BLA pictures |
 /// | `layer T` | the highest sub-layer that is wanted is T, one digit from 0 to 6 |
-/// | `layer T cra` | both |
+/// | `layer T cra`, `cra layer T` | both |
 pub(crate) fn read_command(words: &[Word]) -> Option<Options>
     ensures { option_map options_of result ≡ command words.now }
 {
@@ -23,7 +23,7 @@ pub(crate) fn read_command(words: &[Word]) -> Option<Options>
         [] => Some(Options::new()),
         [cra] => add_cra(cra, Options::new()),
         [layer, digit] => read_layer(layer, digit),
-        [layer, digit, cra] => add_cra(cra, read_layer(layer, digit)?),
+        [first, second, third] => read_both(first, second, third),
         _ => None,
     }
 }
@@ -61,6 +61,17 @@ fn read_number(digits: &[u8]) -> Option<u32>
         }
     }
     Some(number)
+}
+
+/// The options of `layer T cra` or `cra layer T`.
+fn read_both(first: &Word, second: &Word, third: &Word) -> Option<Options>
+    ensures { option_map options_of result ≡ with_both first.now second.now third.now }
+{
+    if is_text(first, "cra") {
+        add_cra(first, read_layer(second, third)?)
+    } else {
+        add_cra(third, read_layer(first, second)?)
+    }
 }
 
 /// The options of `layer T`.

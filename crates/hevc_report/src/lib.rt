@@ -8,4 +8,4 @@ mod program;
 mod report;
 
 pub use program::run;
-pub use report::refusal_line;
+pub use report::refusal_answer;

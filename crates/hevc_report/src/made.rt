@@ -1,14 +1,11 @@
 //! A made stream, decoded, and one line of it.
-ghost use Rattle.std.specs.Prelude.{◌≡◌, ◌≤◌, ◌<◌, ◌⊎◌, length, IfOk, is_ok, true};
-ghost use Rattle.std.specs.Io.KnownBytes.{Appends};
-ghost use Rattle.hevc_fault_counts.specs.Faults.{Rose};
+ghost use Rattle.std.specs.Prelude.{◌≡◌, ◌≤◌, length, IfOk, is_ok, true};
 ghost use Rattle.hevc_stream_maker.specs.Made.{made};
 ghost use Rattle.hevc_walk.specs.Clean.{IsClean};
 ghost use Rattle.hevc_stream.specs.Options.{default_options};
 ghost use Rattle.hevc_stream.specs.Stream.{meanings};
-ghost use Rattle.hevc_io.specs.Prefix.{AppendsPrefix, AppendsLess};
 ghost use Rattle.hevc_report.specs.Report.{ending_of};
-ghost use Rattle.hevc_report.specs.Status.{IsMade, status_of};
+ghost use Rattle.hevc_report.specs.Runs.{Makes};
 ghost use Rattle.hevc_report.specs.Summary.{summary_of};
 
 use crate::program::wants_memory;
@@ -30,17 +27,7 @@ struct Report {
 /// Answers the status of the program.
 pub(crate) fn run_made<K: Sink>(alloc: Global, pictures: u32, sink: &mut K) -> u8
     requires { (1 ≤ pictures) × (pictures ≤ 100000) }
-    ensures statuses { IsMade result }
-    ensures whole { result ≤ 1
-        → Appends (K.written sink.old) (K.written sink.new) (summary_of (made pictures))
-        × (result ≡ status_of (ending_of default_options (made pictures))) }
-    ensures part { AppendsPrefix (K.written sink.old) (K.written sink.new)
-        (summary_of (made pictures)) }
-    ensures less { 1 < result
-        → AppendsLess (K.written sink.old) (K.written sink.new) (summary_of (made pictures)) }
-    ensures write { result ≡ 4 → Rose (K.faults sink.old) (K.faults sink.new) }
-    ensures clean { IsClean (meanings default_options (made pictures))
-        → ¬ (Rose (K.faults sink.old) (K.faults sink.new)) → (result ≡ 0) ⊎ (result ≡ 5) }
+    ensures makes { Makes K.written K.faults (made pictures) sink.old sink.new result }
 {
     let Ok(report) = summary_on(alloc, pictures) else {
         return 5;

@@ -1,20 +1,16 @@
 //! The top call: from the words of the command line to the status.
-ghost use Rattle.std.specs.Prelude.{◌≡◌, ◌==◌, ◌≤◌, ◌<◌, ◌⊎◌, ◌↔◌, ◌++◌, ℕ, List, length, is_ok, IfOk, IfSome, IsErrOf, IsTrue, OnErr, OnOk};
-ghost use Rattle.std.specs.declared.option.Option.TheVariants.{None, Some};
+ghost use Rattle.std.specs.Prelude.{◌≡◌, ◌≤◌, ◌<◌, ◌↔◌, ◌++◌, ℕ, List, length, is_ok, IfOk, IfSome, IsErrOf, IsTrue, OnErr, OnOk};
 ghost use Rattle.std.specs.Io.KnownBytes.{Appends, IsAtEnd};
 ghost use Rattle.hevc_fault_counts.specs.Faults.{Rose};
-ghost use Rattle.hevc_walk.specs.Clean.{IsClean};
-ghost use Rattle.hevc_stream.specs.Stream.{meanings};
 ghost use Rattle.hevc_options.specs.Options.{options_of};
 ghost use Rattle.hevc_decoder.specs.Sources.{OfSource};
-ghost use Rattle.hevc_stream_maker.specs.Made.{made};
-ghost use Rattle.hevc_stream.specs.Options.{default_options};
-ghost use Rattle.hevc_report.specs.Command.{command, pictures_to_make};
+ghost use Rattle.hevc_report.specs.Command.{command};
 ghost use Rattle.hevc_io.specs.Prefix.{AppendsPrefix, AppendsLess};
+ghost use Rattle.hevc_program_answers.specs.Answers.{ends_of, moment};
 ghost use Rattle.hevc_report.specs.Lines.{rest_text};
-ghost use Rattle.hevc_report.specs.Report.{ending_of, report_of};
-ghost use Rattle.hevc_report.specs.Status.{status_of, IsDone, IsMade, WantsMemory};
-ghost use Rattle.hevc_report.specs.Summary.{summary_of};
+ghost use Rattle.hevc_report.specs.Report.{report_of};
+ghost use Rattle.hevc_report.specs.Runs.{Reports, Runs};
+ghost use Rattle.hevc_report.specs.Status.{WantsMemory};
 ghost use Rattle.hevc_report.specs.Tells.{Tells};
 
 use crate::command::{read_command, read_make};
@@ -48,63 +44,22 @@ struct Trace {
 /// | 6 | the stream has more than 268,435,456 bytes; nothing is written |
 pub fn run<S: Source, K: Sink>(alloc: Global, words: &[Word], source: &mut S, sink: &mut K) -> u8
     ensures statuses { result ≤ 6 }
-
-    // On 0 and 1 all was read, the report on it was written, and the status tells whether it was decoded.
-    ensures whole { IfSome (command words.now) (λ options. result ≤ 1
-        → IsAtEnd (S.left source.new) × IfSome (S.left source.old) (λ s.
-        Appends (K.written sink.old) (K.written sink.new) (report_of options s)
-        × (result ≡ status_of (ending_of options s))
-        × Tells INPUT_LIMIT options s (result == 0))) }
-    // Whatever the status, what was written is a prefix of that report; on any but 0 and 1 not the whole.
-    ensures part { IfSome (command words.now) (λ options. IfSome (S.left source.old) (λ s.
-        AppendsPrefix (K.written sink.old) (K.written sink.new) (report_of options s))) }
-    ensures less { IfSome (command words.now) (λ options. 1 < result
-        → IfSome (S.left source.old) (λ s.
-        AppendsLess (K.written sink.old) (K.written sink.new) (report_of options s))) }
-
-    // 2 exactly where the words are no command, and then nothing is read or written.
-    ensures no_command { (result ≡ 2)
-        ↔ (command words.now ≡ None) × (pictures_to_make words.now ≡ None) }
-    ensures untouched { result ≡ 2 → (source.new ≡ source.old) × (sink.new ≡ sink.old) }
-
-    ensures read { result ≡ 3
-        → Rose (S.faults source.old) (S.faults source.new) × (sink.new ≡ sink.old) }
-    ensures write { result ≡ 4 → Rose (K.faults sink.old) (K.faults sink.new) }
-    ensures long { result ≡ 6
-        → (sink.new ≡ sink.old) × IfSome (S.left source.old) (λ s. INPUT_LIMIT < length s) }
-
-    // A command, ends that don't fail, and an input within the limit.
-    ensures completes { IfSome (command words.now) (λ options.
-        (s : List ℕ) → S.left source.old ≡ Some s → length s ≤ INPUT_LIMIT
-        → ¬ (Rose (S.faults source.old) (S.faults source.new))
-        → ¬ (Rose (K.faults sink.old) (K.faults sink.new)) → IsDone result) }
-    // A clean stream, then, is decoded unless an allocation fails.
-    ensures clean { IfSome (command words.now) (λ options.
-        (s : List ℕ) → S.left source.old ≡ Some s → length s ≤ INPUT_LIMIT
-        → IsClean (meanings options s)
-        → ¬ (Rose (S.faults source.old) (S.faults source.new))
-        → ¬ (Rose (K.faults sink.old) (K.faults sink.new)) → (result ≡ 0) ⊎ (result ≡ 5)) }
-
-    // For `make N` the source isn't read, and the status is 0, 1, 4 or 5.
-    ensures make_statuses { IfSome (pictures_to_make words.now) (λ _.
-        (source.new ≡ source.old) × IsMade result) }
-    // On 0 and 1 the line of the made stream was written, and the status tells whether it was decoded.
-    ensures make_whole { IfSome (pictures_to_make words.now) (λ n. result ≤ 1
-        → Appends (K.written sink.old) (K.written sink.new) (summary_of (made n))
-        × (result ≡ status_of (ending_of default_options (made n)))) }
-    // Whatever the status, a prefix of that line was written; on any but 0 and 1 not the whole.
-    ensures make_part { IfSome (pictures_to_make words.now) (λ n.
-        AppendsPrefix (K.written sink.old) (K.written sink.new) (summary_of (made n))) }
-    ensures make_less { IfSome (pictures_to_make words.now) (λ n. 1 < result
-        → AppendsLess (K.written sink.old) (K.written sink.new) (summary_of (made n))) }
-    // A clean one, where the sink doesn't fail, is decoded unless an allocation fails.
-    ensures make_clean { IfSome (pictures_to_make words.now) (λ n.
-        IsClean (meanings default_options (made n))
-        → ¬ (Rose (K.faults sink.old) (K.faults sink.new)) → (result ≡ 0) ⊎ (result ≡ 5)) }
+    ensures runs { Runs (ends_of S.left S.faults K.written K.faults)
+        INPUT_LIMIT words.now (moment source.old sink.old) (moment source.new sink.new) result }
 {
     if let Some(pictures) = read_make(words) {
         return run_made(alloc, pictures, sink);
     }
+    run_report(alloc, words, source, sink)
+}
+
+/// The same where the words are those for a report, or for nothing.
+fn run_report<S: Source, K: Sink>(alloc: Global, words: &[Word], source: &mut S, sink: &mut K) -> u8
+    ensures statuses { result ≤ 6 }
+    ensures reports { Reports (ends_of S.left S.faults K.written K.faults)
+        INPUT_LIMIT (command words.now)
+        (moment source.old sink.old) (moment source.new sink.new) result }
+{
     let Some(options) = read_command(words) else {
         return 2;
     };

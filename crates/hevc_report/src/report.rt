@@ -14,7 +14,7 @@ mod summary;
 pub(crate) use backend::ReportBackend;
 use hevc_decoder::{Refused, Shown};
 use last::push_last;
-pub use last::refusal_line;
+pub use last::refusal_answer;
 use line::push_shown;
 use std::alloc::{AllocError, Global};
 pub(crate) use summary::summary_text;

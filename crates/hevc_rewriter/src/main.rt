@@ -31,5 +31,5 @@ impl Runnable for Rewriter {
 }
 
 fn main(rt: HostRuntime) -> ExitCode {
-    ExitCode::from(start::<Rewriter, HostRuntime>(&rt))
+    ExitCode::from(start::<Rewriter>(&rt))
 }

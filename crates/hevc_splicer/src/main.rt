@@ -34,5 +34,5 @@ impl Runnable for Splicer {
 }
 
 fn main(rt: HostRuntime) -> ExitCode {
-    ExitCode::from(start::<Splicer, HostRuntime>(&rt))
+    ExitCode::from(start::<Splicer>(&rt))
 }

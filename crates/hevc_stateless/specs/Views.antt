@@ -1,13 +1,15 @@
 -- What contracts see of a stream that is being decoded.
-use Rattle.std.specs.Prelude.{◌≡◌, ℕ, ◌+◌, ◌≤◌, List, [], ◌∷◌, length, Option, Some, None}
+use Rattle.std.specs.Prelude.{◌≡◌, ℕ, ◌+◌, ◌≤◌, List, [], ◌∷◌, length, Option, Some, None, Result}
 use Rattle.hevc_walk_units.specs.Units as units
 use Rattle.hevc_walk_units.specs.Units.{Standing, at_first}
 use Rattle.hevc_bumping.specs.declared.frame.Frame.{Frame}
 use Rattle.hevc_records.specs.SliceHeader.{PlainSliceSegmentHeader}
 use Rattle.hevc_backend.specs.declared.call.Call.{Call}
 use Rattle.hevc_backend.specs.Handed.{Handed}
-use Rattle.hevc_backend.specs.Trait.{Frames}
+use Rattle.hevc_backend.specs.Trait.{Counts, Frames}
+use Rattle.hevc_driver.specs.Answers.{IsFair}
 use Rattle.hevc_driver.specs.Does.{Traces}
+use Rattle.hevc_driver.specs.declared.decode_error.DecodeError.{DecodeError}
 use Rattle.hevc_stateless.specs.declared.state.State.{State}
 use Rattle.hevc_stateless.specs.declared.state.State.TheVariants.{AwaitingStreamInfo}
 
@@ -83,3 +85,9 @@ IsIdleBefore state current = Unit {0}
 abbrev pub PopsFrame : {H : Type 0} → Option (Frame H) → List (Frame H) → List (Frame H) → Type 0
 PopsFrame (Some frame) before now = before ≡ frame ∷ now
 PopsFrame None before now = (before ≡ []) × (now ≡ [])
+
+-- what an answer says of the backend of what contracts see
+abbrev pub IsFairSeen : {B H I T : Type 0} → (counts : B → Counts) → (is_faultless : B → Type 0)
+    → (tells : B → I) → (before now : View B H) → Result T DecodeError → Type 0
+IsFairSeen counts is_faultless tells before now result =
+    IsFair counts is_faultless tells before.backend now.backend result

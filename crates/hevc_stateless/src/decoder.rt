@@ -7,7 +7,6 @@ ghost use Rattle.hevc_options.specs.Options.{options_of};
 ghost use Rattle.hevc_walk_units.specs.Units.{open_head};
 ghost use Rattle.hevc_driver.specs.Given.{Given};
 ghost use Rattle.hevc_driver.specs.Heads.{head_of};
-ghost use Rattle.hevc_driver.specs.Answers.{IsFair};
 ghost use Rattle.hevc_stateless.specs.declared.state.State.TheVariants.{AwaitingFormat, Decoding};
 ghost use Rattle.hevc_stateless.specs.declared.state.State.TheVariants.{Reset};
 ghost use Rattle.hevc_stateless.specs.States.{is_awaited};
@@ -16,7 +15,7 @@ ghost use Rattle.hevc_stateless.specs.Flushes.{Flushes};
 ghost use Rattle.hevc_bits.specs.FoundUnit.{bytes_of};
 ghost use Rattle.hevc_stateless.specs.Steps.{StepsIn, TakesFirst};
 ghost use Rattle.hevc_stateless.specs.Views.{at_beginning, traces_at, OutputsFew};
-ghost use Rattle.hevc_stateless.specs.Decoders.{view_of, kept_in, set_for, seen_by};
+ghost use Rattle.hevc_stateless.specs.Decoders.{IsFairOver, view_of, kept_in, set_for, seen_by};
 ghost use Rattle.hevc_bits.specs.declared.stream_limit.TheConstants.{STREAM_LIMIT};
 
 use crate::event::DecoderEvent;
@@ -72,8 +71,7 @@ impl<B: StatelessH265DecoderBackend> StatelessDecoder<B> {
     pub fn decode(&mut self, timestamp: u64, bitstream: &[u8]) -> Result<usize, DecodeError>
         requires short { length bitstream.now < STREAM_LIMIT }
         ensures few { OutputsFew (view_of self.old) (view_of self.new) }
-        ensures fair { IsFair B.counts B.is_faultless B.info (view_of self.old).backend
-            (view_of self.new).backend result }
+        ensures fair { IsFairOver B.counts B.is_faultless B.info self.old self.new result }
         ensures takes { TakesFirst (units bitstream.now) result timestamp (set_for self.old)
             (seen_by B.log B.handed B.frames self.old)
             (seen_by B.log B.handed B.frames self.new) }
@@ -100,8 +98,7 @@ impl<B: StatelessH265DecoderBackend> StatelessDecoder<B> {
     ) -> Result<(), DecodeError>
         requires short { length nalu.now.stream < STREAM_LIMIT }
         ensures few { OutputsFew (view_of self.old) (view_of self.new) }
-        ensures fair { IsFair B.counts B.is_faultless B.info (view_of self.old).backend
-            (view_of self.new).backend result }
+        ensures fair { IsFairOver B.counts B.is_faultless B.info self.old self.new result }
         ensures takes { StepsIn result timestamp (set_for self.old)
             nalu.now.header (bytes_of nalu.now)
             (seen_by B.log B.handed B.frames self.old)
@@ -124,8 +121,7 @@ impl<B: StatelessH265DecoderBackend> StatelessDecoder<B> {
     /// call of the backend was refused the open picture is given up, and a second call goes on.
     pub fn flush(&mut self) -> Result<(), DecodeError>
         ensures few { OutputsFew (view_of self.old) (view_of self.new) }
-        ensures fair { IsFair B.counts B.is_faultless B.info (view_of self.old).backend
-            (view_of self.new).backend result }
+        ensures fair { IsFairOver B.counts B.is_faultless B.info self.old self.new result }
         ensures flushes { (given : Given) → Flushes result given
             (traces_at B.log B.handed B.frames (view_of self.old))
             (traces_at B.log B.handed B.frames (view_of self.new))

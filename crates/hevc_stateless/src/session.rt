@@ -10,7 +10,6 @@ ghost use Rattle.hevc_walk_units.specs.Units.{open_head};
 ghost use Rattle.hevc_driver.specs.Headers.{whole_segment};
 ghost use Rattle.hevc_driver.specs.Heads.{head_of};
 ghost use Rattle.hevc_driver.specs.Given.{Given, given_at};
-ghost use Rattle.hevc_driver.specs.Answers.{IsFair};
 ghost use Rattle.hevc_driver.specs.Moments.{step_part};
 ghost use Rattle.hevc_driver.specs.Slices.{slice_of};
 ghost use Rattle.hevc_driver.specs.Sound.{AreNamed};
@@ -22,7 +21,7 @@ ghost use Rattle.hevc_stateless.specs.States.{state_at};
 ghost use Rattle.hevc_stateless.specs.Flushes.{Flushes};
 ghost use Rattle.hevc_stateless.specs.Steps.{Acts, TakesIn};
 ghost use Rattle.hevc_records.specs.SliceHeader.{PlainSliceSegmentHeader};
-ghost use Rattle.hevc_stateless.specs.Views.{at_beginning, traces_at, moment_at, PopsFrame};
+ghost use Rattle.hevc_stateless.specs.Views.{IsFairSeen, at_beginning, traces_at, moment_at, PopsFrame};
 ghost use Rattle.hevc_stateless.specs.Views.{OutputsFew};
 
 use crate::state::State;
@@ -179,8 +178,7 @@ impl<B: StatelessH265DecoderBackend> Session<B> {
     pub(crate) fn open_sequence(&mut self, sps: &Sps) -> Result<(), DecodeError>
         requires first { self.old.state ≡ AwaitingStreamInfo }
         ensures few { OutputsFew self.old self.new }
-        ensures fair { IsFair B.counts B.is_faultless B.info self.old.backend self.new.backend
-            result }
+        ensures fair { IsFairSeen B.counts B.is_faultless B.info self.old self.new result }
         ensures acts { (given : Given) (own : Option PlainSliceSegmentHeader)
             → given.set ≡ Some (plain_sps sps.now) → Acts result given
             (SequenceSet (format_of_set (plain_sps sps.now))) own self.old.state
@@ -209,8 +207,7 @@ impl<B: StatelessH265DecoderBackend> Session<B> {
         requires decoding { is_decoding (state_at (is_idr slice.old.nalu.header.nal_unit_type)
             self.old.state) ≡ true }
         ensures few { OutputsFew self.old self.new }
-        ensures fair { IsFair B.counts B.is_faultless B.info self.old.backend self.new.backend
-            result }
+        ensures fair { IsFairSeen B.counts B.is_faultless B.info self.old self.new result }
         ensures takes { TakesIn result
             (given_at timestamp (slice_of options slice.old sps.now pps.now)
             (whole_segment self.old.latest slice.old sps.now pps.now) self.old.standing)
@@ -252,8 +249,7 @@ impl<B: StatelessH265DecoderBackend> Session<B> {
     /// picture is given up.
     pub(crate) fn flush(&mut self) -> Result<(), DecodeError>
         ensures few { OutputsFew self.old self.new }
-        ensures fair { IsFair B.counts B.is_faultless B.info self.old.backend self.new.backend
-            result }
+        ensures fair { IsFairSeen B.counts B.is_faultless B.info self.old self.new result }
         ensures flushes { (given : Given) → Flushes result given
             (traces_at B.log B.handed B.frames self.old)
             (traces_at B.log B.handed B.frames self.new)

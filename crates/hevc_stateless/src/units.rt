@@ -7,12 +7,11 @@ ghost use Rattle.hevc_bits.specs.FoundUnit.{bytes_of};
 ghost use Rattle.hevc_stream.specs.Slices.{temporal_id};
 ghost use Rattle.hevc_kept_sets.specs.Kept.{kept_of, options_in};
 ghost use Rattle.hevc_driver.specs.Given.{Given};
-ghost use Rattle.hevc_driver.specs.Answers.{IsFair};
 ghost use Rattle.hevc_stateless.specs.States.{is_awaited, is_decoding, is_parameter_set, state_at};
 ghost use Rattle.hevc_stateless.specs.States.{unit_at};
 ghost use Rattle.hevc_stateless.specs.Segments.{given_with, own_header, read_at};
 ghost use Rattle.hevc_stateless.specs.Steps.{Acts, Step, TakesIn, given_to, IsOfSet};
-ghost use Rattle.hevc_stateless.specs.Decoders.{seen_by};
+ghost use Rattle.hevc_stateless.specs.Decoders.{IsFairOver, seen_by};
 ghost use Rattle.hevc_records.specs.SliceHeader.{PlainSliceSegmentHeader};
 ghost use Rattle.hevc_records.specs.Sps.{PlainSps};
 ghost use Rattle.hevc_walk_inputs.specs.Sequences.{format_of_set};
@@ -62,8 +61,7 @@ impl<B: StatelessH265DecoderBackend> StatelessDecoder<B> {
         requires wanted { temporal_id nalu.now.header ≤ (options_in self.old.kept).highest_tid }
         requires going { is_awaited self.old.session.state ≡ false }
         ensures few { OutputsFew self.old.session self.new.session }
-        ensures fair { IsFair B.counts B.is_faultless B.info self.old.session.backend
-            self.new.session.backend result }
+        ensures fair { IsFairOver B.counts B.is_faultless B.info self.old self.new result }
         ensures options { options_in self.new.kept ≡ options_in self.old.kept }
         ensures step { (timestamp : ℕ) → Step result
             (given_to timestamp (options_in self.old.kept) nalu.now.header (bytes_of nalu.now)
@@ -89,8 +87,7 @@ impl<B: StatelessH265DecoderBackend> StatelessDecoder<B> {
         requires kept { IsSome ((kept_of self.old.kept).sequence_sets id) }
         requires first { self.old.session.state ≡ AwaitingStreamInfo }
         ensures few { OutputsFew self.old.session self.new.session }
-        ensures fair { IsFair B.counts B.is_faultless B.info self.old.session.backend
-            self.new.session.backend result }
+        ensures fair { IsFairOver B.counts B.is_faultless B.info self.old self.new result }
         ensures acts { (given : Given) (own : Option PlainSliceSegmentHeader) (set : PlainSps)
             → (kept_of self.old.kept).sequence_sets id ≡ Some set → given.set ≡ Some set
             → Acts result given (SequenceSet (format_of_set set)) own self.old.session.state
@@ -133,8 +130,7 @@ impl<B: StatelessH265DecoderBackend> StatelessDecoder<B> {
         requires decoding { is_decoding (state_at (is_idr nalu.now.header.nal_unit_type)
             self.old.session.state) ≡ true }
         ensures few { OutputsFew self.old.session self.new.session }
-        ensures fair { IsFair B.counts B.is_faultless B.info self.old.session.backend
-            self.new.session.backend result }
+        ensures fair { IsFairOver B.counts B.is_faultless B.info self.old self.new result }
         ensures kept { self.new.kept ≡ self.old.kept }
         ensures takes { TakesIn result
             (given_with timestamp (unit_at (options_in self.old.kept) (kept_of self.old.kept)
@@ -198,8 +194,7 @@ impl<B: StatelessH265DecoderBackend> StatelessDecoder<B> {
         requires wanted { temporal_id nalu.now.header ≤ (options_in self.old.kept).highest_tid }
         requires going { is_awaited self.old.session.state ≡ false }
         ensures few { OutputsFew self.old.session self.new.session }
-        ensures fair { IsFair B.counts B.is_faultless B.info self.old.session.backend
-            self.new.session.backend result }
+        ensures fair { IsFairOver B.counts B.is_faultless B.info self.old self.new result }
         ensures options { options_in self.new.kept ≡ options_in self.old.kept }
         ensures step { Step result
             (given_to timestamp (options_in self.old.kept) nalu.now.header (bytes_of nalu.now)
@@ -231,8 +226,7 @@ impl<B: StatelessH265DecoderBackend> StatelessDecoder<B> {
         requires parsed { unit_header (bytes_of nalu.now) ≡ Ok nalu.now.header }
         requires going { is_awaited self.old.session.state ≡ false }
         ensures few { OutputsFew self.old.session self.new.session }
-        ensures fair { IsFair B.counts B.is_faultless B.info self.old.session.backend
-            self.new.session.backend result }
+        ensures fair { IsFairOver B.counts B.is_faultless B.info self.old self.new result }
         ensures options { options_in self.new.kept ≡ options_in self.old.kept }
         ensures step { Step result
             (given_to timestamp (options_in self.old.kept) nalu.now.header (bytes_of nalu.now)

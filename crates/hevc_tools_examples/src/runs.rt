@@ -25,13 +25,17 @@ pub fn wrong_writes()
     ensures memory { Copies asked two_bytes (holding []) (holding two_bytes) 5 → ⊥ }
 {}
 
-/// A status that the words, the ends or the input's length don't allow, or with which something is read or written.
-pub fn wrong_statuses()
+/// A status that the words don't allow, or with which something is read or written.
+pub fn wrong_words()
     ensures asked { Copies asked three_bytes (holding three_bytes) (holding []) 2 → ⊥ }
     ensures nothing_asked { Copies not_asked two_bytes (holding []) (holding two_bytes) 0 → ⊥ }
     ensures read_nothing { Copies not_asked two_bytes (holding []) (holding []) 2 → ⊥ }
     ensures wrote_nothing { Copies not_asked two_bytes (holding two_bytes) (holding (7 ∷ [])) 2
         → ⊥ }
+{}
+
+/// A status that the ends or the input's length don't allow, or with which something is written.
+pub fn wrong_statuses()
     ensures read { Copies asked three_bytes (holding three_bytes) (holding []) 3 → ⊥ }
     ensures read_alone { Copies asked two_bytes (failed_with two_bytes) (holding (7 ∷ [])) 3 → ⊥ }
     ensures write { Copies asked three_bytes (holding []) (holding (7 ∷ [])) 4 → ⊥ }

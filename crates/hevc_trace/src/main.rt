@@ -17,7 +17,7 @@ Decodes an H.265 byte stream (Annex B) from standard input, and prints the calls
 that a backend is asked for and the pictures that are output.\n\
 \n\
 \x20 layer T   decode the temporal sub-layers up to T, 0 to 6\n\
-\x20 cra       handle CRA pictures as BLA pictures\n\
+\x20 cra       handle CRA pictures as BLA pictures; before or after layer T\n\
 \x20 make N    decode a made stream of N pictures, 1 to 100000, and print one line\n";
 
 /// The program.
@@ -36,5 +36,5 @@ impl Runnable for Trace {
 }
 
 fn main(rt: HostRuntime) -> ExitCode {
-    ExitCode::from(start::<Trace, HostRuntime>(&rt))
+    ExitCode::from(start::<Trace>(&rt))
 }

@@ -4,3 +4,4 @@ pub mod Shifts
 pub mod Sums
 pub mod Costs
 pub mod LongTermCosts
+pub mod Written

@@ -1,6 +1,6 @@
 -- The decoded picture buffer as Linux's stateless decoders take it.
-use Rattle.std.specs.Prelude.{ℕ, ◌==◌, pos, Bool, true, false, List, Option, Some, None, position}
-use Rattle.std.specs.Prelude.{unwrap_or}
+use Rattle.std.specs.Prelude.{ℕ, ◌*◌, ◌%◌, ◌^◌, ◌==◌, pos, Bool, true, false, List, Option, Some}
+use Rattle.std.specs.Prelude.{None, position, unwrap_or}
 use Rattle.hevc_pictures.specs.declared.reference.Reference.{Reference}
 use Rattle.hevc_pictures.specs.declared.reference.Reference.TheVariants.{None as Unmarked}
 use Rattle.hevc_pictures.specs.declared.reference.Reference.TheVariants.{ShortTerm, LongTerm}
@@ -16,10 +16,17 @@ long_term_flag Unmarked = 0
 long_term_flag ShortTerm = 0
 long_term_flag LongTerm = 1
 
--- a stored picture by its handle, which is the timestamp of the buffer that it is decoded into
+-- "Timestamp of the V4L2 capture buffer to use as reference", in nanoseconds (v4l2_hevc_dpb_entry).
+-- A buffer is given its time as seconds and microseconds, a struct timeval, which the kernel turns
+-- into nanoseconds, in 64 bits (v4l2_timeval_to_ns): that of a picture's buffer is its number in
+-- microseconds.
+abbrev pub timestamp : (number : ℕ) → ℕ
+timestamp number = 1000 * number % 2 ^ 64
+
+-- a stored picture, whose handle is its number
 abbrev pub control_of_entry : DpbEntry ℕ → V4l2HevcDpbEntry
 control_of_entry e = record {
-  timestamp = e.handle;
+  timestamp = timestamp e.handle;
   flags = long_term_flag (reference_of e.picture);
   field_pic = 0;
   reserved = 0;

@@ -8,3 +8,4 @@ pub mod LongTerm
 pub mod Places
 pub mod Slice
 pub mod Decode
+pub mod EntryPoints

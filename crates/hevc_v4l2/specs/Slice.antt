@@ -14,22 +14,34 @@ use Rattle.hevc_v4l2.specs.declared.error.ControlError.TheVariants.{UnitSize, Sh
 use Rattle.hevc_v4l2.specs.declared.error.ControlError.TheVariants.{CurrentPicture}
 use Rattle.hevc_v4l2.specs.declared.weights.V4l2HevcPredWeightTable.{V4l2HevcPredWeightTable}
 use Rattle.hevc_v4l2.specs.declared.slice.V4l2CtrlHevcSliceParams.{V4l2CtrlHevcSliceParams}
+use Rattle.hevc_v4l2.specs.declared.slice.SliceControls.{SliceControls}
 use Rattle.hevc_v4l2.specs.Arrays.{padded}
 use Rattle.hevc_v4l2.specs.Buffer.{is_current, place_index}
 use Rattle.hevc_events.specs.Flags.{flags_of}
 use Rattle.hevc_v4l2.specs.LongTerm.{long_term_size}
 use Rattle.hevc_v4l2.specs.Weights.{control_of_weights, weights_error}
 
--- The slice's data follow the byte in which its header ends; the header's size doesn't count the
--- bytes that are inserted into the unit (7.3.1.1).
+-- The slice's data follow the byte in which its header ends. Emulation prevention bytes (7.3.1.1)
+-- don't count: the kernel's text doesn't say it, but the clients that its drivers were written for
+-- don't count them.
 abbrev pub data_byte_offset : PlainSliceSegmentHeader → ℕ
-data_byte_offset h = (h.header_bit_size + 7) / 8 + h.n_emulation_prevention_bytes
+data_byte_offset h = (h.header_bit_size + 7) / 8
 
--- the first of the sizes that the struct can't hold, of a unit of this many bytes
+-- the same in the bytes of the unit, among which they are
+abbrev pub raw_data_byte_offset : PlainSliceSegmentHeader → ℕ
+raw_data_byte_offset h = data_byte_offset h + h.n_emulation_prevention_bytes
+
+-- The sizes of reference picture sets are those of what the header includes. That of a dependent
+-- slice segment includes none (7.3.6.1).
+abbrev pub included_bits : PlainSliceSegmentHeader → ℕ → ℕ
+included_bits h bits = if h.dependent_slice_segment_flag then 0 else bits
+
+-- the first of the sizes that the structs can't hold, of a unit of this many bytes
 abbrev pub sizes_error : (size : ℕ) → PlainSliceSegmentHeader → Option ControlError
 sizes_error size h =
-    if nat_lt 4294967295 (8 * size) || nat_lt 4294967295 (data_byte_offset h) then Some UnitSize
-    else if nat_lt 65535 h.st_rps_bits then Some ShortTermSize
+    if nat_lt 4294967295 (8 * size) || nat_lt 4294967295 (raw_data_byte_offset h)
+    then Some UnitSize
+    else if nat_lt 65535 (included_bits h h.st_rps_bits) then Some ShortTermSize
     else None
 
 -- the current picture, which isn't in the buffer, can't be named
@@ -62,6 +74,7 @@ slice_flags h =
     h.dependent_slice_segment_flag ∷ [])
 
 -- Each field has the element of its name, the header of a dependent slice segment being completed.
+-- Pictures are frames (pic_struct): SEI messages aren't read.
 abbrev pub filled_control : PictureData → Slice → PlainSps
     → (bit_size data_offset short_term_bits : ℕ) → V4l2HevcPredWeightTable
     → (ref_idx_l0 ref_idx_l1 : List ℕ) → V4l2CtrlHevcSliceParams
@@ -94,7 +107,8 @@ filled_control picture slice sps bit_size data_offset short_term_bits weights l0
       ref_idx_l0 = l0;
       ref_idx_l1 = l1;
       short_term_ref_pic_set_size = short_term_bits;
-      long_term_ref_pic_set_size = long_term_size slice.nalu.header.nal_unit_type sps h;
+      long_term_ref_pic_set_size =
+          included_bits h (long_term_size slice.nalu.header.nal_unit_type sps h);
       pred_weight_table = weights;
       reserved1 = replicate 2 0;
       flags = slice_flags h;
@@ -108,7 +122,15 @@ abbrev pub control_of_slice : PictureData → Slice → PlainSps → (numbers : 
 control_of_slice picture slice sps numbers places0 places1 =
     let h = plain_slice_header slice.header in
     filled_control picture slice sps
-    (8 * slice.nalu.size) (data_byte_offset h) h.st_rps_bits
+    (8 * slice.nalu.size) (data_byte_offset h) (included_bits h h.st_rps_bits)
     (control_of_weights (pos sps.wp_offset_half_range_c) h.pred_weight_table)
     (padded 255 (map (place_index numbers) places0))
     (padded 255 (map (place_index numbers) places1))
+
+-- the same, and what it doesn't tell
+abbrev pub controls_of_slice : PictureData → Slice → PlainSps → (numbers : List ℕ)
+    → (places0 places1 : List (Option RefPicListEntry)) → SliceControls
+controls_of_slice picture slice sps numbers places0 places1 = record {
+  params = control_of_slice picture slice sps numbers places0 places1;
+  raw_data_byte_offset = raw_data_byte_offset (plain_slice_header slice.header);
+}

@@ -6,7 +6,7 @@ ghost use Rattle.hevc_dpb.specs.Entries.{is_ref};
 ghost use Rattle.hevc_dpb.specs.Views.{stored_entries};
 ghost use Rattle.hevc_v4l2.specs.Arrays.{padded};
 ghost use Rattle.hevc_v4l2.specs.Buffer.{control_of_entry, no_entry, number_index, member_index};
-ghost use Rattle.hevc_v4l2.specs.Buffer.{place_index, is_current};
+ghost use Rattle.hevc_v4l2.specs.Buffer.{place_index, is_current, timestamp};
 
 use arrayvec::ArrayVec;
 use hevc_dpb::{Dpb, DpbEntry};
@@ -17,7 +17,8 @@ use hevc_refs::RefPicListEntry;
 #[repr(C)]
 #[derive(Clone, Copy, Default)]
 pub struct V4l2HevcDpbEntry {
-    /// The timestamp of the buffer that the picture is decoded into: its handle.
+    /// The timestamp of the buffer that the picture is decoded into, in nanoseconds: 1000 times the
+    /// picture's number, modulo 2^64.
     pub timestamp: u64,
     /// 1 of a long-term reference picture, 0 of a short-term one
     /// (`V4L2_HEVC_DPB_ENTRY_LONG_TERM_REFERENCE`).
@@ -35,6 +36,13 @@ const _: () = prove!(size_of::<V4l2HevcDpbEntry>() == 16);
 /// No entry of the buffer.
 const NO_INDEX: u8 = 255;
 
+/// A number of microseconds as the kernel counts it, in nanoseconds.
+fn timestamp(number: u64) -> u64
+    ensures { result ≡ timestamp number }
+{
+    number.wrapping_mul(1000)
+}
+
 /// A stored picture, by its handle.
 fn control_of_entry(entry: &DpbEntry<u64>) -> V4l2HevcDpbEntry
     ensures { result ≡ control_of_entry entry.now }
@@ -44,7 +52,7 @@ fn control_of_entry(entry: &DpbEntry<u64>) -> V4l2HevcDpbEntry
         Reference::ShortTerm | Reference::None => 0,
     };
     V4l2HevcDpbEntry {
-        timestamp: entry.handle,
+        timestamp: timestamp(entry.handle),
         flags,
         field_pic: 0,
         reserved: 0,

@@ -30,4 +30,10 @@ pub enum ControlError {
     /// A reference list has the current picture itself (8.3.4), which isn't in the buffer.
     #[error("a reference picture list has the current picture")]
     CurrentPicture,
+    /// There are more entry points than places for them.
+    #[error("there are more entry points than places for them")]
+    NoRoom,
+    /// Between two entry points there are 2^32 bytes (7.4.7.1, entry_point_offset_minus1).
+    #[error("the bytes between two entry points take more than 32 bits")]
+    EntryPoint,
 }

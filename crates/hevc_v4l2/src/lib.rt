@@ -5,6 +5,7 @@
 mod arrays;
 mod buffer;
 mod decode;
+mod entry_points;
 mod error;
 mod laws;
 mod long_term;
@@ -16,10 +17,11 @@ mod weights;
 
 pub use buffer::V4l2HevcDpbEntry;
 pub use decode::{V4l2CtrlHevcDecodeParams, decode_control};
+pub use entry_points::write_entry_points;
 pub use error::ControlError;
 pub use laws::long_term_size_is_what_is_read;
 pub use picture_set::{V4l2CtrlHevcPps, pps_control};
 pub use scaling::{V4l2CtrlHevcScalingMatrix, scaling_control};
 pub use sequence_set::{V4l2CtrlHevcSps, sps_control};
-pub use slice::{V4l2CtrlHevcSliceParams, slice_control};
+pub use slice::{SliceControls, V4l2CtrlHevcSliceParams, slice_controls};
 pub use weights::V4l2HevcPredWeightTable;

@@ -1,5 +1,6 @@
 //! A slice segment: `struct v4l2_ctrl_hevc_slice_params`.
-ghost use Rattle.std.specs.Prelude.{◌≡◌, ◌*◌, pos, ◌≤ℤ◌, map, None, Some, IfNone, IfOk, IfSome};
+ghost use Rattle.std.specs.Prelude.{◌≡◌, ◌≤◌, ◌*◌, pos, ◌≤ℤ◌, map, None, Some, IfNone, IfOk};
+ghost use Rattle.std.specs.Prelude.{IfSome};
 ghost use Rattle.std.specs.Result.{result_err};
 ghost use Rattle.hevc_set_parts.specs.SliceType.{slice_type_number};
 ghost use Rattle.hevc_sequence_set.specs.Sps.{plain_sps};
@@ -10,8 +11,9 @@ ghost use Rattle.hevc_refs.specs.Lists.{places_of};
 ghost use Rattle.hevc_v4l2.specs.declared.error.ControlError.TheVariants.{CurrentPicture};
 ghost use Rattle.hevc_v4l2.specs.Arrays.{padded};
 ghost use Rattle.hevc_v4l2.specs.Buffer.{place_index};
-ghost use Rattle.hevc_v4l2.specs.Slice.{control_of_slice, data_byte_offset, filled_control};
-ghost use Rattle.hevc_v4l2.specs.Slice.{lists_error, sizes_error, slice_error, slice_flags};
+ghost use Rattle.hevc_v4l2.specs.Slice.{controls_of_slice, data_byte_offset, filled_control};
+ghost use Rattle.hevc_v4l2.specs.Slice.{included_bits, lists_error, raw_data_byte_offset};
+ghost use Rattle.hevc_v4l2.specs.Slice.{sizes_error, slice_error, slice_flags};
 
 use crate::buffer::{has_current, place_indices};
 use crate::error::ControlError;
@@ -32,7 +34,7 @@ use hevc_set_parts::SliceType;
 pub struct V4l2CtrlHevcSliceParams {
     /// The bits of the unit, its header's among them, without a start code.
     pub bit_size: u32,
-    /// The bytes of the unit before the data of the slice, emulation prevention bytes among them.
+    /// The bytes of the unit before the data of the slice, without emulation prevention bytes.
     pub data_byte_offset: u32,
     pub num_entry_point_offsets: u32,
     pub nal_unit_type: u8,
@@ -64,9 +66,10 @@ pub struct V4l2CtrlHevcSliceParams {
     pub ref_idx_l0: [u8; 16],
     /// The same of list 1.
     pub ref_idx_l1: [u8; 16],
-    /// The bits of the header's own short-term reference picture set.
+    /// The bits of the header's own short-term reference picture set, 0 in a dependent slice
+    /// segment.
     pub short_term_ref_pic_set_size: u16,
-    /// The bits of the header's part on long-term reference pictures.
+    /// The bits of the header's part on long-term reference pictures, likewise.
     pub long_term_ref_pic_set_size: u16,
     pub pred_weight_table: V4l2HevcPredWeightTable,
     /// Zeros.
@@ -77,11 +80,21 @@ pub struct V4l2CtrlHevcSliceParams {
 
 const _: () = prove!(size_of::<V4l2CtrlHevcSliceParams>() == 280);
 
+/// That struct, and what it doesn't tell.
+#[repr(C)]
+#[derive(Clone, Copy)]
+pub struct SliceControls {
+    pub params: V4l2CtrlHevcSliceParams,
+    /// The bytes of the unit before the data of the slice, emulation prevention bytes among them.
+    pub raw_data_byte_offset: u32,
+}
+
 /// The sizes that a slice segment tells of itself.
 #[derive(Clone, Copy)]
 struct Sizes {
     bits: u32,
     data_byte_offset: u32,
+    raw_data_byte_offset: u32,
     short_term_bits: u16,
 }
 
@@ -97,16 +110,16 @@ struct Indices {
 ///
 /// Errors, the first that there is: `UnitSize`, `ShortTermSize`, `ChromaDenominator`, `LumaOffset`,
 /// `ChromaOffset`, `CurrentPicture`.
-pub fn slice_control(
+pub fn slice_controls(
     picture: &PictureData,
     slice: &Slice<'_>,
     sps: &Sps,
     dpb: &Dpb<u64>,
     ref_pic_list0: &RefPicList,
     ref_pic_list1: &RefPicList,
-) -> Result<V4l2CtrlHevcSliceParams, ControlError>
+) -> Result<SliceControls, ControlError>
     ensures filled { IfOk result
-        (λ control. control ≡ control_of_slice picture.now slice.now (plain_sps sps.now)
+        (λ controls. controls ≡ controls_of_slice picture.now slice.now (plain_sps sps.now)
         (reference_numbers (stored_entries dpb.now))
         (places_of ref_pic_list0.now) (places_of ref_pic_list1.now)) }
     ensures refused { result_err result
@@ -118,7 +131,10 @@ pub fn slice_control(
     let Some(indices) = list_indices(dpb, ref_pic_list0, ref_pic_list1) else {
         return Err(ControlError::CurrentPicture);
     };
-    Ok(filled_control(picture, slice, sps, sizes, weights, indices))
+    Ok(SliceControls {
+        params: filled_control(picture, slice, sps, sizes, weights, indices),
+        raw_data_byte_offset: sizes.raw_data_byte_offset,
+    })
 }
 
 /// The sizes, where they can be held.
@@ -126,33 +142,48 @@ fn slice_sizes(slice: &Slice<'_>) -> Result<Sizes, ControlError>
     ensures bits { IfOk result (λ sizes. sizes.bits ≡ 8 * slice.now.nalu.size) }
     ensures data { IfOk result (λ sizes. sizes.data_byte_offset
         ≡ data_byte_offset (plain_slice_header slice.now.header)) }
-    ensures short_term { IfOk result
-        (λ sizes. sizes.short_term_bits ≡ slice.now.header.st_rps_bits) }
+    ensures raw_data { IfOk result (λ sizes. sizes.raw_data_byte_offset
+        ≡ raw_data_byte_offset (plain_slice_header slice.now.header)) }
+    ensures short_term { IfOk result (λ sizes. sizes.short_term_bits
+        ≡ included_bits (plain_slice_header slice.now.header) slice.now.header.st_rps_bits) }
     ensures refused { result_err result
         ≡ sizes_error slice.now.nalu.size (plain_slice_header slice.now.header) }
 {
     let size = slice.nalu.size();
     let data_byte_offset = data_byte_offset(&slice.header);
-    if size > 536870911 || data_byte_offset > 4294967295 {
+    let raw = u64::from(data_byte_offset) + u64::from(slice.header.n_emulation_prevention_bytes);
+    if size > 536870911 || raw > 4294967295 {
         return Err(ControlError::UnitSize);
     }
-    if slice.header.st_rps_bits > 65535 {
+    let short_term_bits = included_bits(&slice.header, slice.header.st_rps_bits);
+    if short_term_bits > 65535 {
         return Err(ControlError::ShortTermSize);
     }
     Ok(Sizes {
         bits: 8 * size as u32,
-        data_byte_offset: data_byte_offset as u32,
-        short_term_bits: slice.header.st_rps_bits as u16,
+        data_byte_offset,
+        raw_data_byte_offset: raw as u32,
+        short_term_bits: short_term_bits as u16,
     })
 }
 
-/// The bytes before the data of the slice.
-fn data_byte_offset(header: &SliceHeader) -> u64
+/// The bytes before the data of the slice, without those that are inserted.
+fn data_byte_offset(header: &SliceHeader) -> u32
     ensures { result ≡ data_byte_offset (plain_slice_header header.now) }
 {
-    let header_bits = header.header_bit_size;
-    let inserted = header.n_emulation_prevention_bytes;
-    (u64::from(header_bits) + 7) / 8 + u64::from(inserted)
+    ((u64::from(header.header_bit_size) + 7) / 8) as u32
+}
+
+/// The bits of a part of the header, none in a dependent slice segment.
+fn included_bits(header: &SliceHeader, bits: u32) -> u32
+    ensures value { result ≡ included_bits (plain_slice_header header.now) bits }
+    ensures few { result ≤ bits }
+{
+    if header.dependent_slice_segment_flag {
+        0
+    } else {
+        bits
+    }
 }
 
 /// WpOffsetHalfRangeC (7.4.3.2.2).
@@ -206,6 +237,7 @@ fn filled_control(
         sizes.bits sizes.data_byte_offset sizes.short_term_bits weights indices.l0 indices.l1 }
 {
     let header = &slice.header;
+    let long_term_bits = u32::from(long_term_size(slice, sps));
     let Indices { l0, l1 } = indices;
     V4l2CtrlHevcSliceParams {
         bit_size: sizes.bits,
@@ -234,7 +266,7 @@ fn filled_control(
         ref_idx_l0: l0,
         ref_idx_l1: l1,
         short_term_ref_pic_set_size: sizes.short_term_bits,
-        long_term_ref_pic_set_size: long_term_size(slice, sps),
+        long_term_ref_pic_set_size: included_bits(header, long_term_bits) as u16,
         pred_weight_table: weights,
         reserved1: [0; 2],
         flags: slice_flags(header),

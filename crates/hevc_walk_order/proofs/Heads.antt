@@ -1,4 +1,5 @@
--- What is so of every picture where no unit is refused: its order count is in range, and its flags agree. And the numbers
+-- What is so of every picture where no unit is refused: its order count is in range, and its flags
+-- agree. And the numbers
 -- of pictures rise.
 use Rattle.std.proofs.Common.{◌≡◌, ◌≢◌, ℕ, ◌+◌, ◌<◌, ◌≤◌, Bool, true, false, not, cond, ◌&&◌, ◌||◌}
 use Rattle.std.proofs.Common.{eqb, List, [], ◌∷◌, ◌++◌, length, refl, ◌∙◌, ap, arith, Option, Some}

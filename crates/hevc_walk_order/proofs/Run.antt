@@ -149,7 +149,8 @@ abbrev pub after : ℕ → List Picture → ℕ
 after n [] = 0
 after n (p ∷ ps) = cond (not p.skipped && nat_lt n p.number) 1 0 + after n ps
 
--- A picture of this count may still come: it is reached by few of those that are over, and each of these is late by few.
+-- A picture of this count may still come: it is reached by few of those that are over, and each of
+-- these is late by few.
 abbrev pub Near : Limits → List Picture → ℤ → Type 0
 Near limits ps c = (at_least c (keys_for_output ps) ≤ limits.max_num_reorder_pics)
     × (0 < limits.max_latency_increase_plus1
@@ -232,7 +233,8 @@ none-late limits (w ∷ ws) h = by_test (late limits w) h.0 (none-late limits ws
     by_test true e k = absurd (cc e)
     by_test false e k = k
 
--- As a picture is output, too many wait or one is late, or there is no room even if none that waits is output before a count.
+-- As a picture is output, too many wait or one is late, or there is no room even if none that waits
+-- is output before a count.
 abbrev Due : Limits → Buffer → List Entry → ℤ → Type 0
 Due limits es gone c = (needs_additional_bumping limits (after_output gone es) ≡ true)
     ⊎ (Each (λ k. c ≤ℤ k.1) (waiting (after_output gone es)) → ⊥)

@@ -42,11 +42,11 @@ pub record TakesNext (stream : List ℕ) (position next : ℕ) (old new : List �
   pub within : next ≤ length stream
   pub takes : Takes unit.bytes old new before after
 
-abbrev pub IsNext : List ℕ → ℕ → Option ℕ → List ℕ → List ℕ → (ℕ → Option PlainSps)
+abbrev pub TakesNextIfAny : List ℕ → ℕ → Option ℕ → List ℕ → List ℕ → (ℕ → Option PlainSps)
     → (ℕ → Option PlainSps) → Type 0
-IsNext stream position None old new before after =
+TakesNextIfAny stream position None old new before after =
     (units_from kept_bytes position stream ≡ []) × (new ≡ old)
-IsNext stream position (Some next) old new before after =
+TakesNextIfAny stream position (Some next) old new before after =
     TakesNext stream position next old new before after
 
 -- what was read, if anything was

@@ -17,7 +17,7 @@ ghost use Rattle.hevc_tables.specs.PpsTable.{picture_parameter_set};
 ghost use Rattle.hevc_picture_slice.specs.Pps.{plain_pps};
 ghost use Rattle.hevc_write_units.specs.Added.{AddsUnit};
 ghost use Rattle.hevc_write.specs.Rewriting.{IsRewriting, completed};
-ghost use Rattle.hevc_write.specs.Steps.{IsNext, ReadsOne, RefusedNext, Takes};
+ghost use Rattle.hevc_write.specs.Steps.{TakesNextIfAny, ReadsOne, RefusedNext, Takes};
 
 use crate::picture_unit::PictureUnit;
 use crate::piece::Piece;
@@ -80,7 +80,7 @@ fn append_next(
 ) -> Result<Option<usize>, AllocError>
     requires short { length stream.now < STREAM_LIMIT }
     requires within { position ≤ length stream.now }
-    ensures next { IfOk result (λ next. IsNext stream.now position next out.old.items
+    ensures next { IfOk result (λ next. TakesNextIfAny stream.now position next out.old.items
         out.new.items (kept_by parser.old).sequence_sets (kept_by parser.new).sequence_sets) }
     ensures grows { (added : List ℕ) × (out.new.items ≡ out.old.items ++ added) }
 {

@@ -99,7 +99,8 @@ fezhalum_decode_spec 𝓤 𝓛 𝓜 𝓡 wired =
     (1 ∷ []) $ split ! $ lft_end ! tt $
     -- [β is over; nothing; the bytes' token; α is over; the result; the rest; the lender's parts]
     move ! (5 ∷ []) $ pick ! (λ ws. split ! $ move ! (1 ∷ []) $ heard ! _ (λ told. fsplit ! $ fsplit ! $
-    -- [the last value; its borrow; the others; β is over; nothing; the token; α is over; the result; the lender's parts]
+    -- [the last value; its borrow; the others; β is over; nothing; the token; α is over; the
+    -- result; the lender's parts]
     move ! (6 ∷ 9 ∷ 0 ∷ []) $ use3 𝓛 (later (‵ (part_at R full_share ws.0 b o)))
     (ref_back 𝓛 R κ γ ws.0 b o) $ await ! tt $
     move ! (2 ∷ []) $ fsplit ! $ move ! (1 ∷ []) $ fsplit ! $ fsplit ! $

@@ -34,12 +34,12 @@ loop-rule-preserved g c =
           ∙ ap (λ (f : Frame g.row.H.Denot). c.loop-rule.queue.items ++ f ∷ []) c.of.ensures)
           c.push_back_reserved.ensures.capacity c.in-Some.ensures.given
           (record {
-            handles = c.in-Some.ensures.handles;
+            handles = c.in-Some.ensures.leaves.handles;
             entries = output_entries false _ (stored_entries c.loop-rule.dpb)
                 (stored_entries c.bump.new.self) c.in-Some.ensures.left;
-            size = c.in-Some.ensures.keeps.size;
-            room = c.in-Some.ensures.keeps.room;
-            latency = c.in-Some.ensures.keeps.latency c.loop-rule.invariant.so_far.latency;
+            size = c.in-Some.ensures.leaves.keeps.size;
+            room = c.in-Some.ensures.leaves.keeps.room;
+            latency = c.in-Some.ensures.leaves.keeps.latency c.loop-rule.invariant.so_far.latency;
           });
       room = omega (
         arith,
@@ -58,12 +58,12 @@ returns-in-None g c =
     (unchanged (holds c.args.rule) c.args.dpb.now c.loop-rule.dpb c.bump.new.self c.args.queue.now
     c.loop-rule.queue c.loop-rule.invariant.so_far same
     (record {
-      handles = c.in-None.ensures.handles;
+      handles = c.in-None.ensures.leaves.handles;
       entries = output_entries false _ (stored_entries c.loop-rule.dpb)
           (stored_entries c.bump.new.self) c.in-None.ensures.left;
-      size = c.in-None.ensures.keeps.size;
-      room = c.in-None.ensures.keeps.room;
-      latency = c.in-None.ensures.keeps.latency c.loop-rule.invariant.so_far.latency;
+      size = c.in-None.ensures.leaves.keeps.size;
+      room = c.in-None.ensures.leaves.keeps.room;
+      latency = c.in-None.ensures.leaves.keeps.latency c.loop-rule.invariant.so_far.latency;
     }))
     (none_left_waiting (holds c.args.rule) (buffer_of c.bump.new.self) (ap in_output_order same ∙ none))
 

@@ -18,4 +18,5 @@ pub returns-clause-counts : goal.returns-clause-counts
 returns-clause-counts c = bounds-answer
 
 pub returns-clause-outputs : goal.returns-clause-outputs
-returns-clause-outputs c us k m n ok answer q is = law_of_verdict us k ok q is (order-by_bounds us q (bounds-kept_by us m n answer q is))
+returns-clause-outputs c us k m n ok answer q is =
+    law_of_verdict us k ok q is (order-by_bounds us q (bounds-kept_by us m n answer q is))

@@ -25,6 +25,7 @@ returns-clause-outputs c us k m n ok answer q is = law_of_verdict us k ok q is (
 
 pub returns-clause-bounds : goal.returns-clause-bounds
 returns-clause-bounds c us m n answer =
-    order-answer us (all-sequences us (KeepsOrder us) (λ q is. order-by_bounds us q (bounds-kept_by us m n answer q is)))
+    order-answer us
+    (all-sequences us (KeepsOrder us) (λ q is. order-by_bounds us q (bounds-kept_by us m n answer q is)))
     ∙ sym (bounds-answer us (all-sequences us (KeepsBounds us) (bounds-kept_by us m n answer)))
     ∙ answer

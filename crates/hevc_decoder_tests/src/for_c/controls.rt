@@ -2,11 +2,12 @@
 use super::{check, check_all, pull_decoder};
 use crate::expect::ok;
 use hevc_pull::{
-    DecodeCall, PullDecoder, accept_format, decode, picture_controls, slice_control, want_controls,
+    DecodeCall, PullDecoder, accept_format, decode, entry_points, picture_controls, slice_controls,
+    want_controls,
 };
 use hevc_queue::PictureControls;
 use hevc_stream_maker::make_stream;
-use hevc_v4l2::V4l2CtrlHevcSliceParams;
+use hevc_v4l2::SliceControls;
 use std::process::Abort;
 
 /// Decodes a unit. The answer is its status.
@@ -35,7 +36,7 @@ fn decode_next(
     call.taken as usize
 }
 
-/// Decodes the units of a stream up to the second picture.
+/// Decodes the units of a stream up to the third picture.
 fn decode_some(rt: &impl Abort, decoder: &mut PullDecoder, stream: &[u8]) {
     let mut call = DecodeCall {
         timestamp: 0,
@@ -45,22 +46,22 @@ fn decode_some(rt: &impl Abort, decoder: &mut PullDecoder, stream: &[u8]) {
         row: 0,
     };
     let mut at = 0usize;
-    for _ in 0..5 {
+    for _ in 0..6 {
         let rest = ok(rt, stream.get(at..).ok_or("past the end"));
         at = at.saturating_add(decode_next(rt, decoder, rest, &mut call));
     }
 }
 
-/// The structs of the second picture and its slice segment.
+/// The structs of the third picture and its slice segment.
 fn structs_of(
     rt: &impl Abort,
     decoder: &mut PullDecoder,
     stream: &[u8],
-) -> (PictureControls, V4l2CtrlHevcSliceParams) {
+) -> (PictureControls, SliceControls) {
     decode_some(rt, decoder, stream);
     let filled = ok(rt, decoder.picture_controls().ok_or("no structs"));
     let picture = ok(rt, filled);
-    let filled = ok(rt, decoder.slice_control().ok_or("no struct"));
+    let filled = ok(rt, decoder.slice_controls().ok_or("no struct"));
     (picture, ok(rt, filled))
 }
 
@@ -68,14 +69,15 @@ fn structs_of(
 fn compare(rt: &impl Abort, decoder: &mut PullDecoder, stream: &[u8]) {
     let facts = [
         (decoder.picture_controls().is_none(), "no structs"),
-        (decoder.slice_control().is_none(), "no struct"),
+        (decoder.slice_controls().is_none(), "no struct"),
         (want_controls(decoder) == 0, "structs are wanted"),
         (decoder.picture_controls().is_none(), "none is filled yet"),
     ];
     check_all(rt, &facts);
     let (mut picture, mut slice) = structs_of(rt, decoder, stream);
     picture.decode_params.num_active_dpb_entries = 0;
-    slice.bit_size = 0;
+    slice.params.bit_size = 0;
+    let mut count = 7usize;
     let facts = [
         (
             picture_controls(decoder, &mut picture) == 0,
@@ -83,24 +85,33 @@ fn compare(rt: &impl Abort, decoder: &mut PullDecoder, stream: &[u8]) {
         ),
         (picture.sps.pic_width_in_luma_samples == 16, "its width"),
         (
-            picture.decode_params.pic_order_cnt_val == 8,
+            picture.decode_params.pic_order_cnt_val == 4,
             "its order count",
         ),
         (
-            picture.decode_params.num_active_dpb_entries == 1,
-            "its reference picture",
+            picture.decode_params.num_active_dpb_entries == 2,
+            "its reference pictures",
         ),
         (
             picture.decode_params.dpb[0].timestamp == 0,
-            "that picture's number",
+            "the time of the first one",
         ),
         (
-            slice_control(decoder, &mut slice) == 0,
+            picture.decode_params.dpb[1].timestamp == 1000,
+            "and of the second one, whose number is 1",
+        ),
+        (
+            slice_controls(decoder, &mut slice) == 0,
             "the struct of a slice segment",
         ),
-        (slice.slice_pic_order_cnt == 8, "its picture"),
-        (slice.ref_idx_l0[0] == 0, "its reference"),
-        (slice.bit_size != 0, "its size"),
+        (slice.params.slice_pic_order_cnt == 4, "its picture"),
+        (slice.params.ref_idx_l0[0] == 0, "its reference"),
+        (slice.params.bit_size != 0, "its size"),
+        (
+            entry_points(decoder, &mut [], &mut count) == 0,
+            "its entry points",
+        ),
+        (count == 0, "of which there are none"),
     ];
     check_all(rt, &facts);
 }
@@ -108,13 +119,13 @@ fn compare(rt: &impl Abort, decoder: &mut PullDecoder, stream: &[u8]) {
 #[test]
 fn structs_of_the_latest_picture(rt: HostRuntime) {
     let rt = &rt;
-    let stream = ok(rt, make_stream(rt.alloc(), 2));
+    let stream = ok(rt, make_stream(rt.alloc(), 3));
     let mut decoder = pull_decoder(rt.alloc());
     compare(rt, &mut decoder, stream.as_slice());
     let waiting = decoder.end();
     check(
         rt,
-        waiting == 1 + 2 * 3 + 1,
-        "a sequence, three calls for each picture, that the first is whole",
+        waiting == 1 + 3 * 3 + 2,
+        "a sequence, three calls for each picture, that the first two are whole",
     );
 }

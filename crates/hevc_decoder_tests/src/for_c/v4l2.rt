@@ -7,8 +7,8 @@ use hevc_picture_slice::{Pps, Slice, SliceHeader};
 use hevc_refs::{RefPicSet, ReferencePicLists};
 use hevc_sequence_set::Sps;
 use hevc_v4l2::{
-    ControlError, V4l2CtrlHevcDecodeParams, V4l2CtrlHevcScalingMatrix, V4l2CtrlHevcSliceParams,
-    decode_control, pps_control, scaling_control, slice_control, sps_control,
+    ControlError, SliceControls, V4l2CtrlHevcDecodeParams, V4l2CtrlHevcScalingMatrix,
+    decode_control, pps_control, scaling_control, slice_controls, sps_control, write_entry_points,
 };
 use std::alloc::Global;
 
@@ -88,11 +88,14 @@ fn default_lists_row_by_row(rt: HostRuntime) {
     check_all(&rt, &facts);
 }
 
-/// A slice segment of this unit, of whose header 17 bits and two bytes are told.
-fn slice_of(alloc: Global, nalu: Nalu<'_, NaluHeader>) -> Slice<'_> {
+/// A slice segment of this unit, dependent or not, of whose header 17 bits and two inserted bytes are
+/// told, and 40 bits of a short-term set.
+fn slice_of(alloc: Global, nalu: Nalu<'_, NaluHeader>, is_dependent: bool) -> Slice<'_> {
     let mut header = SliceHeader::new(alloc);
     header.header_bit_size = 17;
     header.n_emulation_prevention_bytes = 2;
+    header.st_rps_bits = 40;
+    header.dependent_slice_segment_flag = is_dependent;
     Slice::new(header, nalu)
 }
 
@@ -109,7 +112,7 @@ fn structs_of(
     alloc: Global,
     slice: &Slice<'_>,
 ) -> (
-    Result<V4l2CtrlHevcSliceParams, ControlError>,
+    Result<SliceControls, ControlError>,
     Result<V4l2CtrlHevcDecodeParams, ControlError>,
 ) {
     let picture = picture();
@@ -118,7 +121,7 @@ fn structs_of(
     let lists = ReferencePicLists::new();
     let (list0, list1) = (&lists.ref_pic_list0, &lists.ref_pic_list1);
     (
-        slice_control(&picture, slice, &sps, &dpb, list0, list1),
+        slice_controls(&picture, slice, &sps, &dpb, list0, list1),
         decode_control(&picture, slice, &sps, &dpb, &RefPicSet::new()),
     )
 }
@@ -128,12 +131,21 @@ fn a_slice_and_its_picture(rt: HostRuntime) {
     let rt = &rt;
     let mut position = 0;
     let nalu = ok(rt, Nalu::<NaluHeader>::next(&STREAM, &mut position));
-    let (slice, picture) = structs_of(rt.alloc(), &slice_of(rt.alloc(), nalu));
-    let control = ok(rt, slice);
+    let (slice, picture) = structs_of(rt.alloc(), &slice_of(rt.alloc(), nalu, false));
+    let structs = ok(rt, slice);
+    let control = structs.params;
     let picture = ok(rt, picture);
     let facts = [
         (control.bit_size == 32, "its size"),
-        (control.data_byte_offset == 5, "its header's size"),
+        (control.data_byte_offset == 3, "its header's size"),
+        (
+            structs.raw_data_byte_offset == 5,
+            "with the bytes that are inserted",
+        ),
+        (
+            control.short_term_ref_pic_set_size == 40,
+            "its short-term set",
+        ),
         (control.nal_unit_type == 1, "its type"),
         (control.slice_pic_order_cnt == -7, "its picture"),
         (control.ref_idx_l0 == [255; 16], "no reference picture"),
@@ -141,4 +153,49 @@ fn a_slice_and_its_picture(rt: HostRuntime) {
         (picture.flags == 1, "an IRAP picture"),
     ];
     check_all(rt, &facts);
+}
+
+#[test]
+fn a_dependent_slice_segment_includes_no_set(rt: HostRuntime) {
+    let rt = &rt;
+    let mut position = 0;
+    let nalu = ok(rt, Nalu::<NaluHeader>::next(&STREAM, &mut position));
+    let (slice, picture) = structs_of(rt.alloc(), &slice_of(rt.alloc(), nalu, true));
+    let control = ok(rt, slice).params;
+    let picture = ok(rt, picture);
+    let facts = [
+        (control.short_term_ref_pic_set_size == 0, "no set"),
+        (
+            picture.short_term_ref_pic_set_size == 40,
+            "that of its picture",
+        ),
+        (control.flags == 0x220, "its flags"),
+    ];
+    check_all(rt, &facts);
+}
+
+#[test]
+fn entry_points(rt: HostRuntime) {
+    let mut offsets = [0; 3];
+    let written = write_entry_points(&[9, 0xFFFF_FFFE], &mut offsets);
+    let mut others = [7; 3];
+    let too_far = write_entry_points(&[0xFFFF_FFFF], &mut others);
+    let too_many = write_entry_points(&[0, 0, 0, 0xFFFF_FFFF], &mut others);
+    let facts = [
+        (written.is_ok(), "they are written"),
+        (
+            offsets == [10, 0xFFFF_FFFF, 0],
+            "with 1 more, the first two",
+        ),
+        (
+            too_far.err() == Some(ControlError::EntryPoint),
+            "2^32 bytes to the next",
+        ),
+        (
+            too_many.err() == Some(ControlError::NoRoom),
+            "four in three places",
+        ),
+        (others == [7; 3], "none is written"),
+    ];
+    check_all(&rt, &facts);
 }

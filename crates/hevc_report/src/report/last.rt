@@ -4,6 +4,7 @@ ghost use Rattle.std.specs.String.{string_bytes};
 ghost use Rattle.hevc_report.specs.Report.{last_line, refusal_line, cause_numbers, cause_text};
 
 use hevc_decoder::{DecodeError, Refused};
+use hevc_program_answers::Answer;
 use std::alloc::{AllocError, Global};
 
 /// Adds the last line: how many pictures there were and how many were output, or the cause of a
@@ -26,12 +27,25 @@ pub(crate) fn push_last(
 /// The line of a refusal: the number of its unit, and its cause.
 ///
 /// Errors: no memory.
-pub fn refusal_line(alloc: Global, refused: Refused) -> Result<String, AllocError>
+fn refusal_line(alloc: Global, refused: Refused) -> Result<String, AllocError>
     ensures { IfOk result (λ line. string_bytes line ≡ refusal_line refused) }
 {
     let mut line = String::new(alloc);
     push_refusal(&mut line, refused)?;
     Ok(line)
+}
+
+/// The line of a refusal as a program's answer, with status 1.
+///
+/// Errors: no memory.
+pub fn refusal_answer(alloc: Global, refused: Refused) -> Result<Answer, AllocError>
+    ensures bytes { IfOk result (λ answer. answer.bytes.items ≡ refusal_line refused) }
+    ensures status { IfOk result (λ answer. answer.status ≡ 1) }
+{
+    Ok(Answer {
+        bytes: refusal_line(alloc, refused)?.into_bytes(),
+        status: 1,
+    })
 }
 
 /// Adds the line of a refusal.

@@ -1,4 +1,5 @@
--- `fezhalum_picture_controls` lends what lies at the pointer to `picture_controls_in`, and the struct again, and has both back.
+-- `fezhalum_picture_controls` lends what lies at the pointer to `picture_controls_in`, and the
+-- struct again, and has both back.
 use Rattle.fezhalum.proofs.Steps.{ℕ, List, [], ◌∷◌, ◌++◌, refl, w32, proved, full_share, id⊢, ftrue}
 use Rattle.fezhalum.proofs.Steps.{flft, flent, fex, named, fact, tables, ‵, raw, ◌⊛◌, some, later}
 use Rattle.fezhalum.proofs.Steps.{prop, ◌$◌, ◌∵◌, !, qed, done, move, keep, use1, use2, use3, split}

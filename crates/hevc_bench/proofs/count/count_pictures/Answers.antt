@@ -8,4 +8,5 @@ use Rattle.hevc_bench.proofs.count.count_pictures.Goals as goal
 pub returns : goal.returns
 returns c =
     let decoded = c.decode_stream-decoded in
-    answered_if (verdict (meanings default_options c.args.stream.now)) decoded.result.result c.count_answered.result decoded.ensures.decodes.answer (decoded.ensures.decodes.honest.faultless tt).1 c.count_answered.ensures
+    answered_if (verdict (meanings default_options c.args.stream.now)) decoded.result.result c.count_answered.result
+    decoded.ensures.decodes.answer (decoded.ensures.decodes.honest.faultless tt).1 c.count_answered.ensures

@@ -13,13 +13,20 @@ pub returns-in-Err-clause-answer : goal.returns-in-Err-clause-answer
 returns-in-Err-clause-answer c =
     let s = c.args.stream.now in
     let decodes = c.judge_stream-decoded.ensures.decodes in
-    subst (λ (e : CheckError). AnswersCheck (Err e) (verdict (meanings default_options s)) (checked_by c.args.table (meanings default_options s))) (sym c.error_of.ensures)
-    (subst (λ (o : Options). AnswersCheck (Err (error_by c.in-Err.refused.error c.in-Err.refused)) (verdict (meanings o s)) (checked_by c.args.table (meanings o s))) c.new-2.ensures
-    (refused_answer (options_of c.new-2.result) s _ _ c.judge_stream-decoded.result.result c.in-Err.refused (checked_by c.args.table (meanings (options_of c.new-2.result) s)) decodes.1 tt c.in-Err.is))
+    subst (λ (e : CheckError). AnswersCheck (Err e) (verdict (meanings default_options s))
+    (checked_by c.args.table (meanings default_options s))) (sym c.error_of.ensures)
+    (subst (λ (o : Options). AnswersCheck (Err (error_by c.in-Err.refused.error c.in-Err.refused))
+    (verdict (meanings o s)) (checked_by c.args.table (meanings o s))) c.new-2.ensures
+    (refused_answer (options_of c.new-2.result) s _ _ c.judge_stream-decoded.result.result c.in-Err.refused
+    (checked_by c.args.table (meanings (options_of c.new-2.result) s)) decodes.1 tt c.in-Err.is))
 
 pub returns-in-Ok-clause-order : goal.returns-in-Ok-clause-order
 returns-in-Ok-clause-order c passed q at =
     let s = c.args.stream.now in
     let decodes = c.judge_stream-decoded.ensures.decodes in
-    let whole = subst (λ (o : Options). verdict (meanings o s) ≡ Ok c.in_default.field-0) c.new-2.ensures (whole_verdict (options_of c.new-2.result) s _ _ c.judge_stream-decoded.result.result c.in_default.field-0 decodes.1 c.in_default.is) in
-    in_order c.args.table (meanings default_options s) c.in_default.field-0 c.in-Ok.checked whole c.in-Ok.ensures.checked passed q at
+    let whole =
+    subst (λ (o : Options). verdict (meanings o s) ≡ Ok c.in_default.field-0) c.new-2.ensures
+    (whole_verdict (options_of c.new-2.result) s _ _ c.judge_stream-decoded.result.result c.in_default.field-0
+    decodes.1 c.in_default.is) in
+    in_order c.args.table (meanings default_options s) c.in_default.field-0 c.in-Ok.checked whole
+    c.in-Ok.ensures.checked passed q at

@@ -11,7 +11,9 @@ returns-in-NoNal-clause-checked c =
     let l = c.loop-nalu in
     let s = c.args.stream.now in
     let none : units_from kept_bytes l.position s ≡ [] = search rules in
-    c.passed.ensures ∙ ends c.args.table default_options s (units_from kept_bytes l.position s) l.unit l.check none l.invariant.reached
+    c.passed.ensures
+    ∙ ends c.args.table default_options s (units_from kept_bytes l.position s) l.unit l.check none
+    l.invariant.reached
 
 pub returns-in_default : goal.returns-in_default
 returns-in_default c = record {
@@ -20,7 +22,8 @@ returns-in_default c = record {
       let l = c.loop-nalu in
       let s = c.args.stream.now in
       let r = c.in-Err.ensures.refused c.in_default.not-NoNal in
-      header_stops c.args.table default_options s (units_from kept_bytes l.position s) r.1 r.0 l.unit l.check c.in-Err.error r.2 r.3 l.invariant.reached n whole;
+      header_stops c.args.table default_options s (units_from kept_bytes l.position s) r.1 r.0 l.unit l.check
+      c.in-Err.error r.2 r.3 l.invariant.reached n whole;
 }
 
 pub returns-in_err-broken-clause-refused : goal.returns-in_err-broken-clause-refused
@@ -28,13 +31,18 @@ returns-in_err-broken-clause-refused c refused n whole =
     let l = c.loop-nalu in
     let s = c.args.stream.now in
     let nalu = c.in-Ok.nalu in
-    refused_at c.args.table default_options (options_in l.check.walk.sets) s (units_from kept_bytes l.position s) (units_from kept_bytes (nalu.offset + nalu.size) s) (unit_of nalu) l.unit l.check c.take_unit.new.self _ c.in-Ok.ensures.first l.invariant.options l.invariant.reached
-    (c.in_err-broken.ensures.steps c.args.table) (is_err_of c.from_residual-in_err-broken.result _ _ c.from_residual-in_err-broken.ensures.1 refused) n whole
+    refused_at c.args.table default_options (options_in l.check.walk.sets) s (units_from kept_bytes l.position s)
+    (units_from kept_bytes (nalu.offset + nalu.size) s) (unit_of nalu) l.unit l.check c.take_unit.new.self _
+    c.in-Ok.ensures.next.first l.invariant.options l.invariant.reached
+    (c.in_err-broken.ensures.steps c.args.table)
+    (is_err_of c.from_residual-in_err-broken.result _ _ c.from_residual-in_err-broken.ensures.1 refused) n whole
 
 pub returns-in-Some-clause-checked : goal.returns-in-Some-clause-checked
 returns-in-Some-clause-checked c =
     let l = c.loop-nalu in
     let s = c.args.stream.now in
     let nalu = c.in-Ok.nalu in
-    broken_at c.args.table default_options (options_in l.check.walk.sets) s (units_from kept_bytes l.position s) (units_from kept_bytes (nalu.offset + nalu.size) s) (unit_of nalu) l.unit l.check c.take_unit.new.self c.in_ok-broken.field-0 c.in-Some.broken c.in-Ok.ensures.first l.invariant.options l.invariant.reached
+    broken_at c.args.table default_options (options_in l.check.walk.sets) s (units_from kept_bytes l.position s)
+    (units_from kept_bytes (nalu.offset + nalu.size) s) (unit_of nalu) l.unit l.check c.take_unit.new.self
+    c.in_ok-broken.field-0 c.in-Some.broken c.in-Ok.ensures.next.first l.invariant.options l.invariant.reached
     (c.in_ok-broken.ensures.steps c.args.table) c.in-Some.is

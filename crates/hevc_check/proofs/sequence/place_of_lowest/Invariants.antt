@@ -6,5 +6,6 @@ use Rattle.hevc_check.proofs.sequence.place_of_lowest.Given as goal
 abbrev pub invariant-loop-place : goal.invariant-loop-place
 invariant-loop-place l = record {
   inside : l.lowest < length l.counts.items;
-  lowest : (k : ℕ) (d : ℤ) → k < l.place → slice_index_or l.counts.items l.lowest d ≤ℤ slice_index_or l.counts.items k d;
+  lowest : (k : ℕ) (d : ℤ) → k < l.place
+      → slice_index_or l.counts.items l.lowest d ≤ℤ slice_index_or l.counts.items k d;
 }

@@ -13,3 +13,11 @@ returns-clause-decodes g c =
     c.take_next.ensures.options
     c.take_next.result c.args.shown.now.items c.take_next.new.shown.items c.take_next.ensures.blames
     c.take_next.ensures.takes
+
+pub returns-clause-position : goal.returns-clause-position
+returns-clause-position g c = record {
+  next = c.take_next.ensures.next;
+  moves = c.take_next.ensures.moves;
+  stays = c.take_next.ensures.stays;
+  within = c.take_next.ensures.within;
+}

@@ -30,10 +30,10 @@ pub loop-shown-preserved : goal.loop-shown-preserved
 loop-shown-preserved g c =
     let stream = c.args.stream.now in
     let moves : c.loop-shown.position < c.decode_next_unit.new.position =
-    rw c.in-Some.is at c.in_ok-_nalu.ensures.moves in
+    rw c.in-Some.is at c.in_ok-_nalu.ensures.position.moves in
     let few = c.loop-shown.invariant.few in
     record {
-      within = c.in_ok-_nalu.ensures.within;
+      within = c.in_ok-_nalu.ensures.position.within;
       few = omega (arith, few, moves);
       empty = c.in_ok-_nalu.ensures.empty;
       along = λ o backend there.

@@ -50,7 +50,7 @@ returns-in-Err-take_unit-clause-takes g c =
     (units_from kept_bytes c.args.position.now piece) (units_from kept_bytes (nalu.offset + nalu.size) piece)
     (scene logs handeds framed c.args.decoder.now c.args.shown.now.items)
     (scene logs handeds framed c.take_unit.new.decoder c.take_unit.new.shown.items)
-    c.in-Ok.ensures.first (header_is (unit_header (bytes_of nalu)) nalu.header c.in-Ok.ensures.header)
+    c.in-Ok.ensures.next.first (header_is (unit_header (bytes_of nalu)) nalu.header c.in-Ok.ensures.next.header)
     (omega (arith, c.requires.few)) c.in-Err-take_unit.error c.in-Err-take_unit.ensures.gives
     (units_from kept_bytes c.args.position.now piece)
 
@@ -66,7 +66,7 @@ returns-clause-takes g c =
     rw (c.offset.ensures.value, c.size.ensures.value)
     (taken_next (set_for c.args.decoder.now) c.args.unit (unit_of nalu) nalu.header
     (units_from kept_bytes c.args.position.now piece) (units_from kept_bytes (nalu.offset + nalu.size) piece) old new
-    c.in-Ok.ensures.first (header_is (unit_header (bytes_of nalu)) nalu.header c.in-Ok.ensures.header)
+    c.in-Ok.ensures.next.first (header_is (unit_header (bytes_of nalu)) nalu.header c.in-Ok.ensures.next.header)
     (omega (arith, c.requires.few)) c.in_default.field-0 nalu
     (subst (λ (r : Result (Unit {0}) DecodeError). GivesWhole r c.args.unit
     (set_for c.args.decoder.now) nalu.header (bytes_of nalu) old new) c.in_default.is c.take_unit.ensures.gives)
@@ -83,8 +83,8 @@ returns-in-Err-take_unit-clause-leaves g c =
     (units_from kept_bytes c.args.position.now piece) (units_from kept_bytes (nalu.offset + nalu.size) piece)
     (scene logs handeds framed c.args.decoder.now c.args.shown.now.items)
     (scene logs handeds framed c.take_unit.new.decoder c.take_unit.new.shown.items) (Err c.in-Err-take_unit.error)
-    nalu.header c.in-Ok.ensures.first
-    (header_is (unit_header (bytes_of nalu)) nalu.header c.in-Ok.ensures.header) c.in-Err-take_unit.ensures.gives
+    nalu.header c.in-Ok.ensures.next.first
+    (header_is (unit_header (bytes_of nalu)) nalu.header c.in-Ok.ensures.next.header) c.in-Err-take_unit.ensures.gives
 
 pub returns-clause-leaves : goal.returns-clause-leaves
 returns-clause-leaves g c =
@@ -98,6 +98,7 @@ returns-clause-leaves g c =
     leaves_given (set_for c.args.decoder.now) c.args.unit (unit_of nalu)
     (units_from kept_bytes c.args.position.now piece)
     (units_from kept_bytes (nalu.offset + nalu.size) piece) old new (Ok tt)
-    nalu.header c.in-Ok.ensures.first (header_is (unit_header (bytes_of nalu)) nalu.header c.in-Ok.ensures.header)
+    nalu.header c.in-Ok.ensures.next.first
+    (header_is (unit_header (bytes_of nalu)) nalu.header c.in-Ok.ensures.next.header)
     (subst (λ (r : Result (Unit {0}) DecodeError). GivesWhole r c.args.unit
     (set_for c.args.decoder.now) nalu.header (bytes_of nalu) old new) c.in_default.is c.take_unit.ensures.gives)

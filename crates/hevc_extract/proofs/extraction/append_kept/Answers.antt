@@ -16,16 +16,27 @@ loop-nalu-preserved c =
     let old = c.args.out.now.items in
     let before = c.loop-nalu.invariant in
     let others = units_from kept_bytes (nalu.offset + nalu.size) stream in
-    let keeps : c.is_within-keeps.result ≡ is_within t l nalu.header = c.is_within-keeps.ensures.value ∙ ap (is_within t l) c.header.ensures.value in
-    let first : Left t l stream old c.loop-nalu.out.items c.loop-nalu.kept (unit_of nalu ∷ others) = subst (λ (us : List NalUnit). Left t l stream old c.loop-nalu.out.items c.loop-nalu.kept us) c.in-Ok.ensures.first before.left in
-    let taken = takes t l stream old c.loop-nalu.out.items c.loop-nalu.kept (unit_of nalu) others nalu.header c.in-Ok.ensures.header (rw c.header.ensures.value at c.is_within-keeps.ensures.layer) first in
-    let written : c.append_unit.new.out.items ≡ c.loop-nalu.out.items ++ cond (is_within t l nalu.header) (started (bytes_of nalu)) [] = rw (c.as_ref.ensures.value, keeps) at c.in_ok-append_unit.ensures.bytes in
-    let count : c.count-kept.result ≡ counted (is_within t l nalu.header) c.loop-nalu.kept = rw keeps at c.count-kept.ensures in
+    let keeps : c.is_within-keeps.result ≡ is_within t l nalu.header =
+    c.is_within-keeps.ensures.value ∙ ap (is_within t l) c.header.ensures.value in
+    let first : Left t l stream old c.loop-nalu.out.items c.loop-nalu.kept (unit_of nalu ∷ others) =
+    subst (λ (us : List NalUnit). Left t l stream old c.loop-nalu.out.items c.loop-nalu.kept us)
+    c.in-Ok.ensures.next.first before.left in
+    let taken =
+    takes t l stream old c.loop-nalu.out.items c.loop-nalu.kept (unit_of nalu) others nalu.header
+    c.in-Ok.ensures.next.header (rw c.header.ensures.value at c.is_within-keeps.ensures.layer) first in
+    let written : c.append_unit.new.out.items ≡ c.loop-nalu.out.items
+    ++ cond (is_within t l nalu.header) (started (bytes_of nalu)) [] =
+    rw (c.as_ref.ensures.value, keeps) at c.in_ok-append_unit.ensures.bytes in
+    let count : c.count-kept.result ≡ counted (is_within t l nalu.header) c.loop-nalu.kept =
+    rw keeps at c.count-kept.ensures in
     let sum = counted_sum (is_within t l nalu.header) c.loop-nalu.kept in
-    let more : c.count-kept.result.units + c.count-kept.result.dropped ≡ c.loop-nalu.kept.units + c.loop-nalu.kept.dropped + 1 = ap (λ (k : Kept). k.units + k.dropped) count ∙ sum in
+    let more : c.count-kept.result.units + c.count-kept.result.dropped
+    ≡ c.loop-nalu.kept.units + c.loop-nalu.kept.dropped + 1 = ap (λ (k : Kept). k.units + k.dropped) count ∙ sum in
     record {
       within = search rules;
-      few = omega (arith, more, before.few, c.in-Ok.ensures.ahead, c.offset.ensures.value, c.size.ensures.value);
-      grows = more_grown old c.loop-nalu.out.items c.append_unit.new.out.items before.grows.0 c.append_unit.ensures.grows.0 before.grows.1 c.append_unit.ensures.grows.1;
+      few = omega (arith, more, before.few, c.in-Ok.ensures.next.ahead, c.offset.ensures.value, c.size.ensures.value);
+      grows =
+          more_grown old c.loop-nalu.out.items c.append_unit.new.out.items before.grows.0 c.append_unit.ensures.grows.0
+          before.grows.1 c.append_unit.ensures.grows.1;
       left = rw (c.offset.ensures.value, c.size.ensures.value, written, count) taken;
     }

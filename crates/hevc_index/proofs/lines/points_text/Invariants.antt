@@ -7,4 +7,6 @@ use Rattle.hevc_index.proofs.lines.points_text.Given as goal
 
 -- the lines of the points so far
 abbrev pub invariant-loop-point : goal.invariant-loop-point
-invariant-loop-point l = string_bytes l.text ≡ string_bytes l.initial.text ++ flat_map point_line (map plain_point (take l.point-index l.points))
+invariant-loop-point l =
+    string_bytes l.text ≡ string_bytes l.initial.text
+    ++ flat_map point_line (map plain_point (take l.point-index l.points))

@@ -10,7 +10,9 @@ invariant-loop-shown g l = record {
   within : l.position ≤ length l.stream;
   few : l.unit ≤ l.position;
   empty : (view_of l.decoder).queue ≡ [];
-  collected : Collected g.B.StatelessH265DecoderBackend.log g.B.StatelessH265DecoderBackend.handed g.B.StatelessH265DecoderBackend.frames g.B.StatelessH265DecoderBackend.counts g.B.StatelessH265DecoderBackend.is_faultless l.stream l.position l.unit (map plain_point l.points) l.decoder;
+  collected : Collected g.B.StatelessH265DecoderBackend.log g.B.StatelessH265DecoderBackend.handed
+      g.B.StatelessH265DecoderBackend.frames g.B.StatelessH265DecoderBackend.counts
+      g.B.StatelessH265DecoderBackend.is_faultless l.stream l.position l.unit (map plain_point l.points) l.decoder;
 }
 
 abbrev pub decreases-loop-shown : goal.decreases-loop-shown

@@ -12,6 +12,10 @@ returns-clause-text c =
     let failing = λ (r : Recording). r.failing in
     let free = λ (r : Recording). r.free in
     let log = λ (r : Recording). r.log in
-    ap (λ v. v.items) c.into_bytes.ensures.value ∙ c.in_ok-text.ensures ∙ summary_is (options_of c.new.result) c.args.stream.now c.new-backend.result.log decoded.result.backend.log decoded.result.backend.log c.new-shown.result.items decoded.new.shown.items c.deref.result.now decoded.result.result
-    c.new.ensures (ap log c.new-backend.ensures) refl c.new-shown.ensures.items c.deref.ensures.value (asked.honest.faultless (ap failing c.new-backend.ensures, ap free c.new-backend.ensures)).1
+    ap (λ v. v.items) c.into_bytes.ensures.value ∙ c.in_ok-text.ensures
+    ∙ summary_is (options_of c.new.result) c.args.stream.now c.new-backend.result.log decoded.result.backend.log
+    decoded.result.backend.log c.new-shown.result.items decoded.new.shown.items c.deref.result.now
+    decoded.result.result
+    c.new.ensures (ap log c.new-backend.ensures) refl c.new-shown.ensures.items c.deref.ensures.value
+    (asked.honest.faultless (ap failing c.new-backend.ensures, ap free c.new-backend.ensures)).1
     (λ m. true≢false (sym (c.wants_memory.ensures.1 m) ∙ c.if-wants_memory.false)) asked.cut

@@ -12,7 +12,12 @@ decoded_line-requires c =
     omega (arith, long, short c.args.pictures, c.requires.1)
 
 pub returns-clause-text : goal.returns-clause-text
-returns-clause-text c = subst (λ (s : List ℕ). IfOk c.decoded_line.result (λ report. report.text.items ≡ summary_of s)) (c.deref.ensures.value ∙ c.in_ok-stream.ensures) c.decoded_line.ensures.text
+returns-clause-text c =
+    subst (λ (s : List ℕ). IfOk c.decoded_line.result (λ report. report.text.items ≡ summary_of s))
+    (c.deref.ensures.value ∙ c.in_ok-stream.ensures) c.decoded_line.ensures.text
 
 pub returns-clause-decoded : goal.returns-clause-decoded
-returns-clause-decoded c = subst (λ (s : List ℕ). IfOk c.decoded_line.result (λ report. report.is_decoded ≡ is_ok (ending_of default_options s))) (c.deref.ensures.value ∙ c.in_ok-stream.ensures) c.decoded_line.ensures.decoded
+returns-clause-decoded c =
+    subst (λ (s : List ℕ). IfOk c.decoded_line.result
+    (λ report. report.is_decoded ≡ is_ok (ending_of default_options s)))
+    (c.deref.ensures.value ∙ c.in_ok-stream.ensures) c.decoded_line.ensures.decoded

@@ -14,8 +14,11 @@ returns-clause-text g c =
     (λ s x.
     ap (λ (l : List ℕ). l ++ rest_text shown decoded.result) c.into_text.ensures.lines
     ∙ in_parts decoded.backend.log shown decoded.result
-    ∙ report_is (options_of c.args.options) s c.new-backend.result.log decoded.backend.log decoded.backend.log c.new-shown.result.items shown shown decoded.result
-    c.new-backend.ensures.log refl c.new-shown.ensures.items refl (asked.honest.faultless tt).1 (λ m. true≢false (sym (c.wants_memory.ensures.1 m) ∙ c.if-wants_memory.false)) x.cut c.into_text.ensures.handles)
+    ∙ report_is (options_of c.args.options) s c.new-backend.result.log decoded.backend.log decoded.backend.log
+    c.new-shown.result.items shown shown decoded.result
+    c.new-backend.ensures.log refl c.new-shown.ensures.items refl (asked.honest.faultless tt).1
+    (λ m. true≢false (sym (c.wants_memory.ensures.1 m) ∙ c.if-wants_memory.false)) x.cut
+    c.into_text.ensures.handles)
     asked.decodes
 
 pub returns-clause-tells : goal.returns-clause-tells

@@ -10,5 +10,6 @@ returns-clause-part g c =
     let old = g.K.Sink.written c.args.sink.now in
     let new = g.K.Sink.written c.write_trace.new.sink in
     told_by (g.S.Source.left c.args.source.now) _ _
-    (λ s is. whole_prefix old new _ (subst (λ (text : List ℕ). Appends old new text) is c.in_ok-write_trace.ensures.whole))
+    (λ s is. whole_prefix old new _
+    (subst (λ (text : List ℕ). Appends old new text) is c.in_ok-write_trace.ensures.whole))
     c.in_ok-trace.ensures.text

@@ -12,7 +12,8 @@ returns-in_err-push_rest-clause-less g c =
     let mid = g.K.Sink.written c.write_all.new.sink in
     let trace = c.args.trace in
     on_refusal c.from_residual-in_err-push_rest.result _
-    (front_written old mid trace.calls.items (rest_text trace.shown.items trace.verdict) (some_rest trace.shown.items trace.verdict)
+    (front_written old mid trace.calls.items (rest_text trace.shown.items trace.verdict)
+    (some_rest trace.shown.items trace.verdict)
     (subst (Appends old mid) c.deref.ensures.value c.in_ok-write_all.ensures.all))
 
 -- they were, and a part of the rest

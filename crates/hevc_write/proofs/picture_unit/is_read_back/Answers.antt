@@ -9,7 +9,7 @@ use Rattle.hevc_sequence_set.specs.Sps.{plain_sps}
 use Rattle.hevc_write_units.specs.Values.{only_sequence_set}
 use Rattle.hevc_tables.specs.PpsTable.{picture_parameter_set}
 use Rattle.hevc_picture_slice.specs.Pps.{plain_pps}
-use Rattle.hevc_record_laws.proofs.Values.{pps}
+use Rattle.hevc_record_laws.proofs.Values.PictureSlice.{pps}
 use Rattle.hevc_write_units.specs.Trials.{IsTrial}
 use Rattle.hevc_write.proofs.ReadBack.{same_read, trial_read}
 use Rattle.hevc_write.proofs.picture_unit.is_read_back.Goals as goal

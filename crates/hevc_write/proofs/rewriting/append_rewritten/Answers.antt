@@ -2,7 +2,7 @@ use Rattle.std.proofs.Common.{◌++◌, ℕ, List, [], ap, sym, subst, ◌∙◌
 use Rattle.hevc_spec.specs.Units.{NalUnit, kept_bytes, units_from}
 use Rattle.hevc_parser.specs.Kept.{kept_by}
 use Rattle.hevc_stream.specs.Kept.{Kept}
-use Rattle.hevc_write.specs.Steps.{IsNext}
+use Rattle.hevc_write.specs.Steps.{TakesNextIfAny}
 use Rattle.hevc_write.proofs.Rewritten.{Left, begins, ends, takes}
 use Rattle.hevc_write.proofs.rewriting.append_rewritten.Goals as goal
 
@@ -21,7 +21,7 @@ loop-parser-preserved c =
     let old = (kept_by c.loop-parser.parser).sequence_sets in
     let new = (kept_by c.append_next.new.parser).sequence_sets in
     let n = subst
-    (λ (o : Option ℕ). IsNext stream c.loop-parser.position o c.loop-parser.out.items
+    (λ (o : Option ℕ). TakesNextIfAny stream c.loop-parser.position o c.loop-parser.out.items
     c.append_next.new.out.items old new) c.in-Some.is c.in_ok-next.ensures.next in
     let left = subst
     (λ (us : List NalUnit). Left stream c.args.out.now.items c.loop-parser.out.items old us) n.first before.left in
@@ -44,7 +44,7 @@ returns-clause-ok c =
     let old = (kept_by c.loop-parser.parser).sequence_sets in
     let new = (kept_by c.append_next.new.parser).sequence_sets in
     let n = subst
-    (λ (o : Option ℕ). IsNext stream c.loop-parser.position o c.loop-parser.out.items
+    (λ (o : Option ℕ). TakesNextIfAny stream c.loop-parser.position o c.loop-parser.out.items
     c.append_next.new.out.items old new) c.in_default.is c.in_ok-next.ensures.next in
     let all = ends stream c.args.out.now.items c.loop-parser.out.items old
     (units_from kept_bytes c.loop-parser.position stream) n.0 before.left in

@@ -4,7 +4,7 @@ use Rattle.hevc_spec.specs.UnitHeader.{UnitHeader}
 use Rattle.hevc_tables.specs.SpsTable.{sequence_parameter_set}
 use Rattle.hevc_sequence_set.specs.declared.sps.Sps.{Sps}
 use Rattle.hevc_sequence_set.specs.Sps.{plain_sps}
-use Rattle.hevc_record_laws.proofs.Values.{sps}
+use Rattle.hevc_record_laws.proofs.Values.SequenceSet.{sps}
 use Rattle.hevc_write_units.specs.Trials.{IsTrial}
 use Rattle.hevc_write.proofs.ReadBack.{same_read, trial_read}
 use Rattle.hevc_write.proofs.sequence_set.is_read_back.Goals as goal

@@ -2,7 +2,7 @@ use Rattle.std.proofs.Common.{subst, sym, ap, ◌∙◌, ℕ, List}
 use Rattle.hevc_spec.specs.UnitHeader.{UnitHeader}
 use Rattle.hevc_tables.specs.VpsTable.{video_parameter_set}
 use Rattle.hevc_video_set.specs.Vps.{plain_vps}
-use Rattle.hevc_record_laws.proofs.Values.{vps}
+use Rattle.hevc_record_laws.proofs.Values.VideoSet.{vps}
 use Rattle.hevc_write_units.specs.Trials.{IsTrial}
 use Rattle.hevc_write.proofs.ReadBack.{same_read, trial_read}
 use Rattle.hevc_write.proofs.video_set.is_read_back.Goals as goal

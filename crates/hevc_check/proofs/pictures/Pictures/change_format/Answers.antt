@@ -19,14 +19,19 @@ returns-then-is_accepted c =
     let f = format_of_set (plain_sps c.args.sps.now) in
     let acc = ap (λ (w : Place). w.store.accepted) c.self.view_is in
     let form = ap format_of c.from-format.ensures in
-    let is = ap (is_accepted f) (sym acc) ∙ ap (λ (x : Format). is_accepted x (option_map format_of c.self.inside.accepted)) (sym form) ∙ sym c.is_accepted.ensures ∙ c.if-is_accepted.true in
+    let is =
+    ap (is_accepted f) (sym acc)
+    ∙ ap (λ (x : Format). is_accepted x (option_map format_of c.self.inside.accepted)) (sym form)
+    ∙ sym c.is_accepted.ensures ∙ c.if-is_accepted.true in
     ap (λ (s : Store). record v { store = s }) (sym (same_next f v.store is))
 
 pub invariant_of-self : goal.invariant_of-self
 invariant_of-self c =
     let none = c.set_max_num_pics.ensures.entries ∙ c.clear.ensures.entries in
-    left_sound c.self.inside.accepted (Some c.from-format.result) c.self.inside.dpb c.set_max_num_pics.new.self c.self.inside.out c.self.inside.out c.self.inside.latest c.self.inside.next c.self.invariant
-    c.set_max_num_pics.ensures.size (none_latency _ none) (c.set_max_num_pics.ensures.room ∙ c.clear.ensures.room) refl (none_part (tickets (stored_entries c.self.inside.dpb)) (stored_entries c.set_max_num_pics.new.self) none)
+    left_sound c.self.inside.accepted (Some c.from-format.result) c.self.inside.dpb c.set_max_num_pics.new.self
+    c.self.inside.out c.self.inside.out c.self.inside.latest c.self.inside.next c.self.invariant
+    c.set_max_num_pics.ensures.size (none_latency _ none) (c.set_max_num_pics.ensures.room ∙ c.clear.ensures.room) refl
+    (none_part (tickets (stored_entries c.self.inside.dpb)) (stored_entries c.set_max_num_pics.new.self) none)
 
 pub returns : goal.returns
 returns c =
@@ -34,8 +39,14 @@ returns c =
     let f = format_of_set (plain_sps c.args.sps.now) in
     let acc = ap (λ (w : Place). w.store.accepted) c.self.view_is in
     let form = ap format_of c.from-format.ensures in
-    let isnt = ap (is_accepted f) (sym acc) ∙ ap (λ (x : Format). is_accepted x (option_map format_of c.self.inside.accepted)) (sym form) ∙ sym c.is_accepted.ensures ∙ c.if-is_accepted.false in
+    let isnt =
+    ap (is_accepted f) (sym acc)
+    ∙ ap (λ (x : Format). is_accepted x (option_map format_of c.self.inside.accepted)) (sym form)
+    ∙ sym c.is_accepted.ensures ∙ c.if-is_accepted.false in
     let none = ap plain_entries (c.set_max_num_pics.ensures.entries ∙ c.clear.ensures.entries) in
-    let s : Path Store (record { accepted = Some (format_of c.from-format.result); buffer = buffer_of c.set_max_num_pics.new.self }) (record { accepted = Some f; buffer = [] }) =
-    ap (λ (x : Format). record { accepted = Some x; buffer = buffer_of c.set_max_num_pics.new.self }) form ∙ ap (λ b. record { accepted = Some f; buffer = b }) none in
+    let s : Path Store
+    (record { accepted = Some (format_of c.from-format.result); buffer = buffer_of c.set_max_num_pics.new.self })
+    (record { accepted = Some f; buffer = [] }) =
+    ap (λ (x : Format). record { accepted = Some x; buffer = buffer_of c.set_max_num_pics.new.self }) form
+    ∙ ap (λ b. record { accepted = Some f; buffer = b }) none in
     with_store _ v _ _ c.self.view_is (s ∙ sym (other_next f v.store isnt))

@@ -18,15 +18,20 @@ pub returns-then-head-clause-left : goal.returns-then-head-clause-left
 returns-then-head-clause-left c o pps range =
     let v = c.args.self.now in
     let p = head_of c.args.head.now in
-    ap (λ (s : Store). record v { store = s }) (sym (skipped_next p (slice_of o c.args.slice.now c.args.sps.now pps) v.store (not_decoded p range c.if-head.true)))
+    ap (λ (s : Store). record v { store = s })
+    (sym (skipped_next p (slice_of o c.args.slice.now c.args.sps.now pps) v.store
+    (not_decoded p range c.if-head.true)))
 
 pub invariant_of-self : goal.invariant_of-self
 invariant_of-self c =
     let w = c.self.inside in
     let m = c.reference_set.ensures.kept in
     let r = c.remove_unused.ensures in
-    left_sound w.accepted w.accepted w.dpb c.remove_unused.new.self w.out w.out w.latest w.next c.self.invariant (r.keeps.size ∙ m.size ∙ c.self.invariant.sized) (r.keeps.latency (m.latency c.self.invariant.latency)) (r.keeps.room ∙ m.room) refl
-    (λ x k. keeps_all (tickets (stored_entries w.dpb)) (tickets (stored_entries c.reference_set.new.dpb)) m.handles x (sublist_part r.handles x k))
+    left_sound w.accepted w.accepted w.dpb c.remove_unused.new.self w.out w.out w.latest w.next c.self.invariant
+    (r.leaves.keeps.size ∙ m.size ∙ c.self.invariant.sized)
+    (r.leaves.keeps.latency (m.latency c.self.invariant.latency)) (r.leaves.keeps.room ∙ m.room) refl
+    (λ x k. keeps_all (tickets (stored_entries w.dpb)) (tickets (stored_entries c.reference_set.new.dpb)) m.handles x
+    (sublist_part r.leaves.handles x k))
 
 pub returns-clause-left : goal.returns-clause-left
 returns-clause-left c o pps range =
@@ -35,7 +40,16 @@ returns-clause-left c o pps range =
     let s = slice_of o c.args.slice.now c.args.sps.now pps in
     let decoded = decoded_is p range c.if-head.false in
     let there = c.remove_unused.ensures.buffer ∙ ap needed_entries (c.reference_set.ensures.marks o pps) in
-    let w : Place = record { store = record { accepted = option_map format_of c.self.inside.accepted; buffer = buffer_of c.self.inside.dpb }; latest = v.latest; next = v.next; kept = v.kept } in
+    let w : Place =
+    record {
+      store = record
+          { accepted = option_map format_of c.self.inside.accepted; buffer = buffer_of c.self.inside.dpb };
+      latest =
+          v.latest;
+      next = v.next;
+      kept = v.kept;
+    } in
     c.make_room.ensures
     ∙ with_store _ v _ _ c.self.view_is
-    (ap (λ (es : Buffer). record { accepted = w.store.accepted; buffer = room_left p es }) there ∙ sym (entered_next p s w.store decoded) ∙ ap (λ (x : Place). (begin_picture p s x.store).next) c.self.view_is)
+    (ap (λ (es : Buffer). record { accepted = w.store.accepted; buffer = room_left p es }) there
+    ∙ sym (entered_next p s w.store decoded) ∙ ap (λ (x : Place). (begin_picture p s x.store).next) c.self.view_is)

@@ -11,4 +11,6 @@ pub invariant_of-self-2 : goal.invariant_of-self-2
 invariant_of-self-2 c =
     let w = c.self.inside in
     let b = c.bump_for_room.ensures in
-    left_sound w.accepted w.accepted w.dpb c.bump_for_room.new.dpb w.out c.bump_for_room.new.queue w.latest w.next c.self.invariant (b.size ∙ c.self.invariant.sized) b.latency b.room (b.capacity ∙ c.clear-2.ensures.capacity) b.handles
+    left_sound w.accepted w.accepted w.dpb c.bump_for_room.new.dpb w.out c.bump_for_room.new.queue w.latest w.next
+    c.self.invariant (b.size ∙ c.self.invariant.sized) b.latency b.room (b.capacity ∙ c.clear-2.ensures.capacity)
+    b.handles

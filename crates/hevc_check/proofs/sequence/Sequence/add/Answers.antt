@@ -14,11 +14,17 @@ returns-clause-follows c p next es same f =
     let a = c.in_ok-add_count.ensures.others in
     let b = c.in_ok-add_highest.ensures.others in
     let d = c.in_ok-add_decoded.ensures.others in
-    let high = c.in_ok-add_highest.ensures.highest p es same (high_same q one es (ap (λ (s : Sequence). s.limits) a) (ap (λ (s : Sequence). s.highest.items) a) f.highest) in
+    let high =
+    c.in_ok-add_highest.ensures.highest p es same
+    (high_same q one es (ap (λ (s : Sequence). s.limits) a) (ap (λ (s : Sequence). s.highest.items) a)
+    f.highest) in
     follows_more p next es q all f
     (ap (λ (s : Sequence). s.table) d ∙ ap (λ (s : Sequence). s.table) b ∙ ap (λ (s : Sequence). s.table) a)
     (ap (λ (s : Sequence). s.limits) d ∙ ap (λ (s : Sequence). s.limits) b ∙ ap (λ (s : Sequence). s.limits) a)
     (ap (λ (s : Sequence). s.format) d ∙ ap (λ (s : Sequence). s.format) b ∙ ap (λ (s : Sequence). s.format) a)
-    (λ k. ap (λ (s : Sequence). contains int_cmp s.counts k) d ∙ ap (λ (s : Sequence). contains int_cmp s.counts k) b ∙ c.in_ok-add_count.ensures.counts p es same f k)
+    (λ k. ap (λ (s : Sequence). contains int_cmp s.counts k) d ∙ ap (λ (s : Sequence). contains int_cmp s.counts k) b
+    ∙ c.in_ok-add_count.ensures.counts p es same f k)
     (high_same two all (p ∷ es) (ap (λ (s : Sequence). s.limits) d) (ap (λ (s : Sequence). s.highest.items) d) high)
-    (c.in_ok-add_decoded.ensures.so_far p es same (highest_same es q.so_far two.so_far (ap (λ (s : Sequence). s.so_far) b ∙ ap (λ (s : Sequence). s.so_far) a) f.so_far))
+    (c.in_ok-add_decoded.ensures.so_far p es same
+    (highest_same es q.so_far two.so_far (ap (λ (s : Sequence). s.so_far) b ∙ ap (λ (s : Sequence). s.so_far) a)
+    f.so_far))

@@ -13,4 +13,5 @@ returns-in_ok-insert-clause-counts c p es same f k =
     let is : to_z w32 (of_z w32 x) ≡ x = search rules in
     let count : x ≡ p.order_count = ap (λ (h : Head). h.order_count) same in
     let counted : is_counted q.table p ≡ true = sym (c.is_counted.ensures p same) ∙ c.if-is_counted.true in
-    c.in_ok-insert.ensures.updates.0 k ∙ counted_more q.table k _ p es (contains int_cmp q.counts k) (is ∙ count) counted (f.counts k)
+    c.in_ok-insert.ensures.updates.0 k
+    ∙ counted_more q.table k _ p es (contains int_cmp q.counts k) (is ∙ count) counted (f.counts k)

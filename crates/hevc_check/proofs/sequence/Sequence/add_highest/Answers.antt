@@ -14,7 +14,9 @@ returns-in_ok-keep_if_high-clause-highest c p es same f =
     let count : x ≡ p.order_count = ap (λ (h : Head). h.order_count) same in
     let shown = sym (c.is_for_output.ensures p same) ∙ c.if-is_for_output.true in
     high_in q c.keep_if_high.new.self (p ∷ es) (ap (λ (s : Sequence). s.limits) c.in_ok-keep_if_high.ensures.others)
-    (λ t. c.in_ok-keep_if_high.ensures.highest t (output_above t es) (f t) ∙ ap (λ (y : ℤ). min (q.limits.reorder + 1) (above t (y ∷ []) + output_above t es)) (is ∙ count) ∙ ap (min (q.limits.reorder + 1)) (sym (output_more t p es shown)))
+    (λ t. c.in_ok-keep_if_high.ensures.highest t (output_above t es) (f t)
+    ∙ ap (λ (y : ℤ). min (q.limits.reorder + 1) (above t (y ∷ []) + output_above t es)) (is ∙ count)
+    ∙ ap (min (q.limits.reorder + 1)) (sym (output_more t p es shown)))
 
 pub returns-else-is_for_output-clause-highest : goal.returns-else-is_for_output-clause-highest
 returns-else-is_for_output-clause-highest c p es same f t =

@@ -11,4 +11,5 @@ returns c p es same f =
     let count : x ≡ p.order_count = ap (λ (h : Head). h.order_count) same in
     c.has_higher.ensures es f.so_far
     ∙ ap (λ (k : ℤ). late_by k c.latency_pictures-least.result es) (is ∙ count)
-    ∙ ap (λ (n : ℕ). late_by p.order_count n es) (c.latency_pictures-least.ensures ∙ ap (λ (h : Head). latency_pictures h.limits) same)
+    ∙ ap (λ (n : ℕ). late_by p.order_count n es)
+    (c.latency_pictures-least.ensures ∙ ap (λ (h : Head). latency_pictures h.limits) same)

@@ -1,4 +1,5 @@
-use Rattle.std.proofs.Common.{◌≡◌, ℤ, ◌+◌, ◌≤◌, ◌≤ℤ◌, ◌<ℤ◌, List, [], ◌∷◌, ◌++◌, length, to_z, of_z, w32, ap, ◌∙◌, rules}
+use Rattle.std.proofs.Common.{◌≡◌, ℤ, ◌+◌, ◌≤◌, ◌≤ℤ◌, ◌<ℤ◌, List, [], ◌∷◌, ◌++◌, length, to_z, of_z}
+use Rattle.std.proofs.Common.{w32, ap, ◌∙◌, rules}
 use Rattle.std.specs.Prelude.{min, slice_set}
 use Rattle.hevc_check.specs.Sequences.{above}
 use Rattle.hevc_check.proofs.Follow.{pushed, replaced, left_out}
@@ -9,7 +10,8 @@ returns-then-len-self-clause-highest c t n same =
     let k = c.args.self.now.limits.reorder + 1 in
     let xs = c.args.self.now.highest.items in
     let is : to_z w32 (of_z w32 c.args.count) ≡ c.args.count = search rules in
-    ap (λ (l : List ℤ). min k (above t l)) (c.in_ok-push.ensures.items ∙ ap (λ (y : ℤ). xs ++ y ∷ []) is) ∙ pushed k n t c.args.count xs same
+    ap (λ (l : List ℤ). min k (above t l)) (c.in_ok-push.ensures.items ∙ ap (λ (y : ℤ). xs ++ y ∷ []) is)
+    ∙ pushed k n t c.args.count xs same
 
 pub returns-then-index-count-clause-highest : goal.returns-then-index-count-clause-highest
 returns-then-index-count-clause-highest c t n same =
@@ -22,7 +24,9 @@ returns-then-index-count-clause-highest c t n same =
     let is : to_z w32 (of_z w32 y) ≡ y = search rules in
     let less : x <ℤ y = search rules in
     let many : k ≤ length xs = search rules in
-    ap (λ (z : ℤ). min k (above t (slice_set xs i z))) is ∙ replaced k n t x y xs i many c.place_of_lowest-lowest.ensures.inside c.index.ensures c.place_of_lowest-lowest.ensures.lowest less same
+    ap (λ (z : ℤ). min k (above t (slice_set xs i z))) is
+    ∙ replaced k n t x y xs i many c.place_of_lowest-lowest.ensures.inside c.index.ensures
+    c.place_of_lowest-lowest.ensures.lowest less same
 
 pub returns-else-index-count-clause-highest : goal.returns-else-index-count-clause-highest
 returns-else-index-count-clause-highest c t n same =
@@ -33,4 +37,5 @@ returns-else-index-count-clause-highest c t n same =
     let y = c.args.count in
     let less : y ≤ℤ x = search rules in
     let many : k ≤ length xs = search rules in
-    left_out k n t x y xs i many c.place_of_lowest-lowest.ensures.inside c.index.ensures c.place_of_lowest-lowest.ensures.lowest less same
+    left_out k n t x y xs i many c.place_of_lowest-lowest.ensures.inside c.index.ensures
+    c.place_of_lowest-lowest.ensures.lowest less same

@@ -10,4 +10,7 @@ returns-clause-takes c =
     let old = c.args.self.now in
     let bytes = bytes_of c.args.nalu.now in
     let r = c.requires in
-    on_ok c.take_picture_set.result _ _ (λ kept. idle_set bytes old _ Other (picture_set_other (options_in old.sets) (kept_of old.sets) bytes c.args.nalu.now.header r.parsed r.wanted r.typed) refl refl refl kept) c.take_picture_set.ensures.behind
+    on_ok c.take_picture_set.result _ _
+    (λ kept. idle_set bytes old _ Other
+    (picture_set_other (options_in old.sets) (kept_of old.sets) bytes c.args.nalu.now.header r.parsed r.wanted
+    r.typed) refl refl refl kept) c.take_picture_set.ensures.behind

@@ -22,8 +22,13 @@ returns-in_default c =
     let r = c.requires in
     let e = c.in-Err.error in
     let has = ap (λ (k : Kept). k.has_sequence_set) c.parser-parser.ensures ∙ r.open_ in
-    let why = of_unit {X = ActiveSets} c.args.nalu c.new_slice-slice.result.nalu c.new_slice-slice.ensures.unit (kept_by c.parser-parser.result.now) (plain_slice_header c.read_slice.new.slice.header) (Err e) c.in-Err.ensures.reads.read r.typed in
-    let refused = segment_refused o q bytes c.args.nalu.header r.parsed r.wanted has r.typed e c.in_default.not-NoMemory why c.in-Err.ensures.reads.names in
+    let why =
+    of_unit {X = ActiveSets} c.args.nalu c.new_slice-slice.result.nalu c.new_slice-slice.ensures.unit
+    (kept_by c.parser-parser.result.now) (plain_slice_header c.read_slice.new.slice.header) (Err e)
+    c.in-Err.ensures.reads.read r.typed in
+    let refused =
+    segment_refused o q bytes c.args.nalu.header r.parsed r.wanted has r.typed e c.in_default.not-NoMemory why
+    c.in-Err.ensures.reads.names in
     let is = ap (λ (k : Kept). meaning o k bytes) (sym c.parser-parser.ensures) ∙ refused.1 in
     record { takes = idle_takes _ (Refused refused.0) w w is refl refl; sets = refl }
 
@@ -37,9 +42,17 @@ returns-clause-takes c =
     let h = plain_slice_header c.read_slice.new.slice.header in
     let sets = c.in-Ok.sets in
     let has = ap (λ (k : Kept). k.has_sequence_set) c.parser-parser.ensures ∙ r.open_ in
-    let read = of_unit c.args.nalu c.new_slice-slice.result.nalu c.new_slice-slice.ensures.unit (kept_by c.parser-parser.result.now) h (Ok sets) c.in-Ok.ensures.reads.read r.typed in
-    let means = segment_means o q bytes c.args.nalu.header r.parsed r.wanted has r.typed h read.0 (Some (record { sps = plain_sps sets.sps.now; pps = plain_pps sets.pps.now })) read.1 c.in-Ok.ensures.sets.active in
+    let read =
+    of_unit c.args.nalu c.new_slice-slice.result.nalu c.new_slice-slice.ensures.unit
+    (kept_by c.parser-parser.result.now) h (Ok sets) c.in-Ok.ensures.reads.read r.typed in
+    let means =
+    segment_means o q bytes c.args.nalu.header r.parsed r.wanted has r.typed h read.0
+    (Some (record { sps = plain_sps sets.sps.now; pps = plain_pps sets.pps.now })) read.1
+    c.in-Ok.ensures.sets.active in
     let unit = c.in-Ok.ensures.unit ∙ c.new_slice-slice.ensures.unit in
-    let coded = coded_of c.options-options.result o c.args.nalu c.read_slice.new.slice sets.sps.now sets.pps.now c.options-options.ensures unit in
+    let coded =
+    coded_of c.options-options.result o c.args.nalu c.read_slice.new.slice sets.sps.now sets.pps.now
+    c.options-options.ensures unit in
     let is = ap (λ (k : Kept). meaning o k bytes) (sym c.parser-parser.ensures) ∙ means ∙ ap CodedSlice coded in
-    subst (λ (m : Meaning). Takes c.take_slice.result m w c.take_slice.new.self) (sym is) (c.take_slice.ensures.takes sets.pps.now)
+    subst (λ (m : Meaning). Takes c.take_slice.result m w c.take_slice.new.self) (sym is)
+    (c.take_slice.ensures.takes sets.pps.now)

@@ -10,6 +10,8 @@ returns-in-Ok-clause-takes c =
 
 pub returns-in_default : goal.returns-in_default
 returns-in_default c = record {
-  takes = refused_taken (bytes_of c.args.nalu.now) c.args.self.now _ c.in-Err.error c.in_default.not-NoMemory c.in-Err.ensures.takes refl;
+  takes =
+      refused_taken (bytes_of c.args.nalu.now) c.args.self.now _ c.in-Err.error c.in_default.not-NoMemory
+      c.in-Err.ensures.takes refl;
   options = c.in-Err.ensures.options;
 }

@@ -24,14 +24,6 @@ invariant_of-self-clause-distinct g c =
     (behind_distinct c.args.flush (first_in (in_output_order c.order_if_stale.new.self.entries.items))
     c.order_if_stale.new.self.entries.items c.order_if_stale.new.self.distinct)
 
-pub returns-clause-handles : goal.returns-clause-handles
-returns-clause-handles g c =
-    subst (λ l. IsSublist (tickets c.order_waiting.new.self.entries.items) (tickets l))
-    c.order_if_stale.ensures.entries
-    (subst (λ l. IsSublist (tickets l) (tickets c.order_if_stale.new.self.entries.items))
-    (sym (c.order_waiting.ensures.entries ∙ c.output_first-output.ensures.left))
-    (behind_sublist c.args.flush _ c.order_if_stale.new.self.entries.items))
-
 pub returns-clause-references : goal.returns-clause-references
 returns-clause-references g c flush =
     ap reference_numbers (c.order_waiting.ensures.entries ∙ c.output_first-output.ensures.left)
@@ -45,13 +37,20 @@ returns-clause-buffer g c flush =
     (behind_output c.args.flush (first_in (in_output_order l)) l)) c.order_if_stale.ensures.entries
     ∙ plain_behind c.args.flush c.args.self.now.entries.items flush
 
-pub returns-clause-keeps : goal.returns-clause-keeps
-returns-clause-keeps g c = record {
-  size = search rules;
-  room = search rules;
-  latency = λ h. subst HaveLatency
+pub returns-clause-leaves : goal.returns-clause-leaves
+returns-clause-leaves g c = record {
+  keeps = record {
+    size = search rules;
+    room = search rules;
+    latency = λ h. subst HaveLatency
+        (sym (c.order_waiting.ensures.entries ∙ c.output_first-output.ensures.left))
+        (latency_behind c.args.flush _ _ (subst HaveLatency (sym c.order_if_stale.ensures.entries) h));
+  };
+  handles = subst (λ l. IsSublist (tickets c.order_waiting.new.self.entries.items) (tickets l))
+      c.order_if_stale.ensures.entries
+      (subst (λ l. IsSublist (tickets l) (tickets c.order_if_stale.new.self.entries.items))
       (sym (c.order_waiting.ensures.entries ∙ c.output_first-output.ensures.left))
-      (latency_behind c.args.flush _ _ (subst HaveLatency (sym c.order_if_stale.ensures.entries) h));
+      (behind_sublist c.args.flush _ c.order_if_stale.new.self.entries.items));
 }
 
 pub returns-clause-first : goal.returns-clause-first

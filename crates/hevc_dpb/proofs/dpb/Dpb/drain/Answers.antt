@@ -1,4 +1,4 @@
-use Rattle.std.proofs.Common.{rules, ap, ◌∙◌, sym, subst, length, arith}
+use Rattle.std.proofs.Common.{rules, ap, refl, ◌∙◌, sym, subst, length, arith}
 use Rattle.hevc_dpb.specs.Numbers.{Distinct}
 use Rattle.hevc_dpb.specs.Entries.{numbers, ticket, tickets, waits_not}
 use Rattle.hevc_dpb.specs.Sublists.{IsSublist}
@@ -25,16 +25,11 @@ invariant_of-self-clause-distinct g c =
     (distinct_filter
     (λ e. e.number) waits_not c.order_if_stale.new.self.entries.items c.order_if_stale.new.self.distinct)
 
-pub returns-clause-handles : goal.returns-clause-handles
-returns-clause-handles g c =
-    subst (λ l. IsSublist (tickets c.order_waiting.new.self.entries.items) (tickets l))
-    c.order_if_stale.ensures.entries
-    (subst (λ l. IsSublist (tickets l) (tickets c.order_if_stale.new.self.entries.items))
-    (sym (c.order_waiting.ensures.entries ∙ c.keep_not_waiting.ensures.kept))
-    (filter_sublist ticket waits_not c.order_if_stale.new.self.entries.items))
-
-pub returns-in_err-reserve-clause-handles : goal.returns-in_err-reserve-clause-handles
-returns-in_err-reserve-clause-handles g c = sublist_all _
+pub returns-in_err-reserve-clause-leaves : goal.returns-in_err-reserve-clause-leaves
+returns-in_err-reserve-clause-leaves g c = record {
+  keeps = record { size = refl; room = refl; latency = λ h. h };
+  handles = sublist_all _;
+}
 
 pub append_in_order-requires-clause-room : goal.append_in_order-requires-clause-room
 append_in_order-requires-clause-room g c = let l =
@@ -48,11 +43,18 @@ returns-clause-drained g c = plain_order c.args.self.now.entries.items
 pub returns-in_err-reserve-clause-drained : goal.returns-in_err-reserve-clause-drained
 returns-in_err-reserve-clause-drained g c = plain_order c.args.self.now.entries.items
 
-pub returns-clause-keeps : goal.returns-clause-keeps
-returns-clause-keeps g c = record {
-  size = search rules;
-  room = search rules;
-  latency = λ h. subst HaveLatency (sym (c.order_waiting.ensures.entries ∙ c.keep_not_waiting.ensures.kept))
-      (latency_filter waits_not c.order_if_stale.new.self.entries.items
-      (subst HaveLatency (sym c.order_if_stale.ensures.entries) h));
+pub returns-clause-leaves : goal.returns-clause-leaves
+returns-clause-leaves g c = record {
+  keeps = record {
+    size = search rules;
+    room = search rules;
+    latency = λ h. subst HaveLatency (sym (c.order_waiting.ensures.entries ∙ c.keep_not_waiting.ensures.kept))
+        (latency_filter waits_not c.order_if_stale.new.self.entries.items
+        (subst HaveLatency (sym c.order_if_stale.ensures.entries) h));
+  };
+  handles = subst (λ l. IsSublist (tickets c.order_waiting.new.self.entries.items) (tickets l))
+      c.order_if_stale.ensures.entries
+      (subst (λ l. IsSublist (tickets l) (tickets c.order_if_stale.new.self.entries.items))
+      (sym (c.order_waiting.ensures.entries ∙ c.keep_not_waiting.ensures.kept))
+      (filter_sublist ticket waits_not c.order_if_stale.new.self.entries.items));
 }

@@ -23,11 +23,6 @@ invariant_of-self-clause-few g c =
       c.args.self.now.few,
     )
 
-pub returns-clause-handles : goal.returns-clause-handles
-returns-clause-handles g c = subst (λ l. IsSublist (tickets l) (tickets c.args.self.now.entries.items))
-    (sym (c.order_waiting.ensures.entries ∙ c.keep_needed.ensures.kept))
-    (filter_sublist ticket is_needed c.args.self.now.entries.items)
-
 pub returns-clause-references : goal.returns-clause-references
 returns-clause-references g c =
     ap reference_numbers (c.order_waiting.ensures.entries ∙ c.keep_needed.ensures.kept)
@@ -37,10 +32,15 @@ pub returns-clause-buffer : goal.returns-clause-buffer
 returns-clause-buffer g c = ap plain_entries (c.order_waiting.ensures.entries ∙ c.keep_needed.ensures.kept)
     ∙ plain_needed c.args.self.now.entries.items
 
-pub returns-clause-keeps : goal.returns-clause-keeps
-returns-clause-keeps g c = record {
-  size = search rules;
-  room = search rules;
-  latency = λ h. subst HaveLatency (sym (c.order_waiting.ensures.entries ∙ c.keep_needed.ensures.kept))
-      (latency_filter is_needed c.args.self.now.entries.items h);
+pub returns-clause-leaves : goal.returns-clause-leaves
+returns-clause-leaves g c = record {
+  keeps = record {
+    size = search rules;
+    room = search rules;
+    latency = λ h. subst HaveLatency (sym (c.order_waiting.ensures.entries ∙ c.keep_needed.ensures.kept))
+        (latency_filter is_needed c.args.self.now.entries.items h);
+  };
+  handles = subst (λ l. IsSublist (tickets l) (tickets c.args.self.now.entries.items))
+      (sym (c.order_waiting.ensures.entries ∙ c.keep_needed.ensures.kept))
+      (filter_sublist ticket is_needed c.args.self.now.entries.items);
 }

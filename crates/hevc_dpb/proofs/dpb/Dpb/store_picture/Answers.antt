@@ -23,12 +23,16 @@ invariant_of-self-clause-distinct g c =
     subst Distinct (sym (ap numbers is ∙ numbers_stored es _))
     (distinct_push c.args.number (numbers es) c.args.self.now.distinct c.requires.other)
 
-pub returns-clause-handles : goal.returns-clause-handles
-returns-clause-handles g c =
+pub returns-clause-stored : goal.returns-clause-stored
+returns-clause-stored g c =
     let es = c.args.self.now.entries.items in
     let is = stored_behind es _ c.args.number c.args.picture c.args.handle _ c.store_behind.ensures.stored
     c.stored.ensures in
-    ap tickets (c.order_waiting.ensures.entries ∙ is) ∙ tickets_stored es _
+    record {
+      entries = c.order_waiting.ensures.entries ∙ is;
+      handles = ap tickets (c.order_waiting.ensures.entries ∙ is) ∙ tickets_stored es _;
+      fresh = search rules;
+    }
 
 pub returns-clause-buffer : goal.returns-clause-buffer
 returns-clause-buffer g c p is_stored h =

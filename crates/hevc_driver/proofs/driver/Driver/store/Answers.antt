@@ -58,7 +58,7 @@ returns-clause-part g c t =
       same_number = refl;
       order_count = refl;
       pic_output_flag = refl;
-    }) c.requires.sound.latency) c.in_ok-store_picture.ensures.handles c.bump_additionally.ensures refl refl
+    }) c.requires.sound.latency) c.in_ok-store_picture.ensures.stored.handles c.bump_additionally.ensures refl refl
     refl (cc (c.requires.none, c.tid0_behind-self.ensures))
 
 pub bump_additionally-requires-clause-room : goal.bump_additionally-requires-clause-room
@@ -105,19 +105,19 @@ returns-clause-stays g c =
       sound = record {
         sized = b.size ∙ e.keeps.size ∙ s.sized;
         latency = b.latency;
-        below = below_part _ _ _ _ (stored_below _ _ _ _ s.below c.requires.newest.counted e.handles)
+        below = below_part _ _ _ _ (stored_below _ _ _ _ s.below c.requires.newest.counted e.stored.handles)
             (omega arith) b.handles;
         newest = none_newest _ _ _ c.requires.none;
         announced = record {
           stored = announced_same _ _ _ _ refl (stored_part _ _ b.entries)
               (announced_stored _ _ _ _ _ c.args.opened.head.picture c.in_ok-handle.ensures.handed
               (stored_more _ _ c.args.opened.head.number c.args.opened.head.picture c.in_ok-handle.handle
-              e.stored) c.requires.announced s.announced.stored);
+              e.stored.entries) c.requires.announced s.announced.stored);
           current = none_announced _ _ _ c.requires.none;
         };
         told = told_call (SubmitPicture c.args.opened.head.number c.in_ok-handle.handle)
             c.in_ok-handle.ensures.log s.told (λ t h. record {
-              handles = λ x k. submitted_more _ _ _ _ e.handles h.handles x (b.handles x k);
+              handles = λ x k. submitted_more _ _ _ _ e.stored.handles h.handles x (b.handles x k);
               sequence = h.sequence;
               picture = none_latest _ _ _ c.requires.none;
             });

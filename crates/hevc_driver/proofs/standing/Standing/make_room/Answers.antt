@@ -30,7 +30,7 @@ returns-else-starts_sequence-clause-part g c log handed asked t =
     bumps t _ _ (head_of c.args.head.now) (standing c.args.self.now) c.remove_unused.new.self
     c.bump_for_room.new.dpb c.args.self.now.queue c.bump_for_room.new.queue c.if-head.false
     (sym c.starts_sequence.ensures ∙ c.if-starts_sequence.false) c.remove_unused.ensures.buffer
-    (λ x k. sublist_part c.remove_unused.ensures.handles x k) c.bump_for_room.ensures refl refl refl refl refl refl
+    (λ x k. sublist_part c.remove_unused.ensures.leaves.handles x k) c.bump_for_room.ensures refl refl refl refl refl refl
 
 pub bump_for_room-requires-clause-room : goal.bump_for_room-requires-clause-room
 bump_for_room-requires-clause-room g c =
@@ -44,14 +44,14 @@ returns-else-starts_sequence-clause-leaves g c =
     let kept = ap length (needed_order (buffer_of c.args.self.now.dpb)) in
     let b = c.bump_for_room.ensures in
     record {
-      handles = λ x k. sublist_part c.remove_unused.ensures.handles x (b.handles x k);
+      handles = λ x k. sublist_part c.remove_unused.ensures.leaves.handles x (b.handles x k);
       pictures = λ x k. needed_pictures _ _ c.remove_unused.ensures.entries x (stored_part _ _ b.entries x k);
-      size = b.size ∙ c.remove_unused.ensures.keeps.size;
+      size = b.size ∙ c.remove_unused.ensures.leaves.keeps.size;
       latency = b.latency;
       grows = record {
         few = (let t = bumped_total _ _ _ _ _ b in omega (arith, t, same, kept));
         capacity = b.capacity;
-        stored = b.room ∙ c.remove_unused.ensures.keeps.room;
+        stored = b.room ∙ c.remove_unused.ensures.leaves.keeps.room;
       };
       accepted = refl;
       current = refl;

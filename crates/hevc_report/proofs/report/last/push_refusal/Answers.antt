@@ -8,6 +8,7 @@ pub returns : goal.returns
 returns c =
     let refused = c.args.refused in
     let pieces = refused_pieces (string_bytes c.args.text.now)
-    (codes "refused unit " ++ decimal refused.unit) (codes " ") c.cause_name-cause.result.now (cause_numbers refused.error) (codes "\n")
+    (codes "refused unit " ++ decimal refused.unit) (codes " ") c.cause_name-cause.result.now
+    (cause_numbers refused.error) (codes "\n")
     c.cause_name-cause.ensures c.in_ok-write.ensures.bytes c.in_ok-push_cause_numbers.ensures in
     pieces c.in_ok-push_str.ensures.bytes

@@ -18,7 +18,11 @@ invariant_of-self-2 c =
     let handle = c.self.inside.submitted in
     let log = c.self.inside.history.items in
     let text = c.self.inside.text.items in
-    let added = subst (λ r. OnOk r (c.push_submission-added.new.text.items ≡ text ++ submission_line c.args.number handle)) (sym c.in_ok-whole_or_none.ensures.same) c.push_submission-added.ensures.ok in
-    let lines = lines_more log (SubmitPicture c.args.number handle) c.self.invariant.0 refl (c.in_ok-whole_or_none.ensures.whole ∙ added) in
+    let added =
+    subst (λ r. OnOk r (c.push_submission-added.new.text.items ≡ text ++ submission_line c.args.number handle))
+    (sym c.in_ok-whole_or_none.ensures.same) c.push_submission-added.ensures.ok in
+    let lines =
+    lines_more log (SubmitPicture c.args.number handle) c.self.invariant.0 refl
+    (c.in_ok-whole_or_none.ensures.whole ∙ added) in
     let counted = counted_more log handle c.args.number c.self.invariant.1 in
     rw c.and-self-inside.ensures (lines, counted)
