@@ -48,7 +48,9 @@ static size_t size;
 static fezhalum_event event;
 static fezhalum_read told;
 static fezhalum_picture_structs structs;
-static struct v4l2_ctrl_hevc_slice_params slice;
+static fezhalum_slice_structs slice;
+static uint32_t offsets[440 * 22];
+static size_t count;
 
 static void *nothing(void *given) { return given; }
 
@@ -63,7 +65,10 @@ static void *reading(void *given) {
 static void take_events(fezhalum *decoder) {
     while (fezhalum_next(decoder, &event) && event.kind != FEZHALUM_CHANGED) {
         if (event.kind == FEZHALUM_SETS) fezhalum_picture_controls(decoder, &structs);
-        if (event.kind == FEZHALUM_SLICE) fezhalum_slice_control(decoder, &slice);
+        if (event.kind == FEZHALUM_SLICE) {
+            fezhalum_slice_controls(decoder, &slice);
+            fezhalum_entry_points(decoder, offsets, sizeof offsets / sizeof *offsets, &count);
+        }
     }
 }
 

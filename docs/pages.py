@@ -120,8 +120,8 @@ COMPUTED = (
     (r"row_of\(scope, (\d+)\)", lambda row: [(2, row), (2, 30)]),
     (r"read_chroma_offset\(r, (\d+), ", lambda row: [(14, row), (14, row + 1)]),
 )
-# How the functions of the last two name their rows.
-BY_NUMBER = ("Row(2, number)", "Row(14, number)", "Row(14, number + 1)")
+# How the functions of the last two name their rows; and the row of an error that a reader gave.
+BY_NUMBER = ("Row(2, number)", "Row(14, number)", "Row(14, number + 1)", "Row(table, row)")
 
 
 def rows_of_code():
@@ -322,6 +322,35 @@ def element_names():
     return text + f'\n/// The names of the elements.\npub static NAMES: [u8; {len("".join(names))}] = *b"\\\n{lines}    ";\n'
 
 
+ROW_BOUNDS = CRATES / "hevc_element_names" / "src" / "bounds.rt"
+ROW_BOUNDS_HEAD = """//! The bounds of the rows of the tables. `docs/pages.py` makes this file from docs/TABLES.md.
+"""
+
+
+def bounds_of_rows(table):
+    """The bounds of each row of a table that has some, and of a row that is a condition the condition, with the names of the rows that they tell of."""
+    page = (DOCS / "TABLES.md").read_text()
+    rows = re.search(rf"^### Table {table},.*?(?=^##)", page, re.M | re.S).group()
+    lines = {int(row): (text, bounds or "") for row, text, bounds in re.findall(r"^ {4} ?(\d+)  (.*?)(?: {3}(.*))?$", rows, re.M)}
+    named = next(named for number, _, named in named_rows() if number == table)
+    for row, (text, bounds) in lines.items():
+        told = bounds if elements_of(text) or "sub_layer_" in text else text
+        yield row, re.sub(r"row (\d+)", lambda at: named[int(at.group(1))].replace("[ ", "[").replace(" ]", "]"), told)
+
+
+def row_bounds():
+    """The file of the bounds of rows."""
+    bounds = {(table, row): text for table, _, _ in named_rows() for row, text in bounds_of_rows(table)}
+    texts = [bounds.get((table, row), "") for table, row, _, _ in element_rows()]
+    spans = ", ".join(str(sum(map(len, texts[:n]))) for n in range(len(texts) + 1))
+    lines = "".join(f"    {text}\\\n" for text in texts if text)
+    return (
+        ROW_BOUNDS_HEAD
+        + f"\n/// The place of each row's bounds in the text, and at last its length.\npub static BOUND_SPANS: [u16; {len(texts) + 1}] = [{spans}];\n"
+        + f'\n/// The bounds, or the conditions.\npub static BOUNDS: [u8; {len("".join(texts))}] = *b"\\\n{lines}    ";\n'
+    )
+
+
 def is_same(old, new):
     """The same text but for its layout."""
     bare = [re.sub(r",(?=[}\])])", "", "".join(text.split())) for text in (old, new)]
@@ -404,7 +433,7 @@ def complaints():
 
 
 def main():
-    pages = {ROW_NAMES: row_names(), ELEMENT_NAMES: element_names()}
+    pages = {ROW_NAMES: row_names(), ELEMENT_NAMES: element_names(), ROW_BOUNDS: row_bounds()}
     stale = [path for path, text in pages.items() if not path.exists() or not is_same(path.read_text(), text)]
     if sys.argv[1:] == ["--check"]:
         said = [f"{path.relative_to(TOP)} differs from what docs/pages.py makes" for path in stale] + list(complaints())

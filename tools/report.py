@@ -34,16 +34,17 @@ def listed(text):
 
 @cache
 def rows():
-    """The elements and the clause of each row, by table and row (docs/TABLES.md)."""
-    return {(table, row): (elements, clause) for table, clause, named in pages.named_rows() for row, elements in named.items()}
+    """The elements, the clause and the bounds of each row, by table and row (docs/TABLES.md)."""
+    bounds = {(table, row): text for table, _, _ in pages.named_rows() for row, text in pages.bounds_of_rows(table)}
+    return {(table, row): (elements, clause, bounds[table, row]) for table, clause, named in pages.named_rows() for row, elements in named.items()}
 
 
 def refusal(text):
-    """The cause of a refusal and its numbers, and of an element that is out of range its name and clause."""
+    """The cause of a refusal and its numbers, and of an element that is out of range its name, clause and bounds."""
     name, *words = text.split(" ")
     numbers = [int(word) for word in words]
     row = rows().get(tuple(numbers)) if name == "OutOfRange" else None
-    named = {"element": row[0], "clause": row[1]} if row else {}
+    named = {"element": row[0], "clause": row[1], "bounds": row[2]} if row else {}
     return {"cause": name, "numbers": numbers, **named}
 
 

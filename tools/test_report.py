@@ -42,7 +42,8 @@ class Lines(unittest.TestCase):
 
     def test_a_stream_that_is_refused(self):
         self.assertEqual(report.lines_of("refused unit 3 OutOfRange 14 11\n"), [
-            {"kind": "refused", "cause": "OutOfRange", "numbers": [14, 11], "element": "short_term_ref_pic_set_sps_flag", "clause": "7.3.6.1", "unit": 3}])
+            {"kind": "refused", "cause": "OutOfRange", "numbers": [14, 11], "element": "short_term_ref_pic_set_sps_flag", "clause": "7.3.6.1",
+             "bounds": "0 where N is 0", "unit": 3}])
         self.assertEqual(kinds("refused unit 0 TruncatedNalu\n"), ["refused"])
 
     def test_a_made_stream(self):

@@ -13,11 +13,23 @@ PADDED = (CRATES / "hevc_rewriter" / "stdin").read_bytes()
 # the quick start's
 LONG = (CRATES / "hevc_bench" / "stdin").read_bytes()
 POINTS = b"point 0 unit 2 offset 41 type 19 poc 0\npoint 2 unit 4 offset 57 type 19 poc 0\nend points 2\n"
+# unit 2 of the two sequences
+SLICE = b"""{"unit":2,"offset":41,"size":4,"nal_unit_type":19,"name":"IDR_W_RADL","nuh_layer_id":0,"TemporalId":0}
+{"bit":16,"name":"first_slice_segment_in_pic_flag","form":"u(1)","value":1}
+{"bit":17,"name":"no_output_of_prior_pics_flag","form":"u(1)","value":0}
+{"bit":18,"name":"slice_pic_parameter_set_id","form":"ue(v)","value":0}
+{"bit":19,"name":"slice_type","form":"ue(v)","value":2}
+{"bit":22,"name":"slice_qp_delta","form":"se(v)","value":0}
+{"bit":23,"name":"alignment_bit_equal_to_one","form":"u(1)","value":1}
+{"units":6,"refused":0}
+"""
 RUNS = [
     ("hevc_checker", [], UPPER, b"check yes sequences 1 pictures 3\n"),
     ("hevc_extractor", ["0"], UPPER, UPPER[:54]),
     ("hevc_splicer", [], TWO, POINTS),
     ("hevc_splicer", ["splice", "2"], TWO, TWO[:38] + TWO[54:]),
+    ("hevc_syntax", ["json", "unit", "2", "2"], TWO, SLICE),
+    ("hevc_syntax", ["type", "35"], UPPER, b"end units 5 refused 0\n"),
     ("hevc_rewriter", [], PADDED, PADDED.replace(b"\0\0\0\1", b"\0\0\1")),
     ("hevc_bench", [], LONG, b"pictures 40\n"),
     ("hevc_bench", ["cut"], LONG, b"units 43\n"),

@@ -6,7 +6,7 @@ import time
 import unittest
 
 CRATES = pathlib.Path(__file__).resolve().parent.parent / "crates"
-PROGRAMS = {"hevc_trace": [], "hevc_checker": [], "hevc_splicer": [], "hevc_extractor": ["0"], "hevc_rewriter": [], "hevc_bench": []}
+PROGRAMS = {"hevc_trace": [], "hevc_checker": [], "hevc_syntax": [], "hevc_splicer": [], "hevc_extractor": ["0"], "hevc_rewriter": [], "hevc_bench": []}
 LIMIT = 268435456
 
 
@@ -86,7 +86,7 @@ MP4 = "this is a file of MP4: `ffmpeg -i x.mp4 -c copy -f hevc x.h265` makes a s
 NO_PICTURE = "no picture was found: "
 NO_STREAM = "; the output is no stream"
 LEVEL = (
-    "general_level_idc is out of its range (7.3.3; table 2, row 27): lossless x265 writes 0; "
+    "general_level_idc is out of its range: 30, 60, 63, 90, 93, 120, 123, 150, 153, 156, 180, 183, 186 (Table A.8) (7.3.3; table 2, row 27): lossless x265 writes 0; "
     "`ffmpeg -i x.h265 -c copy -bsf:v hevc_metadata=level=6.2 y.h265` writes another level"
 )
 WRONG = {
@@ -102,15 +102,15 @@ WRONG = {
     "a tail without sets": (stream(IDR, IDR), 0, NO_PICTURE + "are its parameter sets (VPS, SPS, PPS) missing?"),
     "a damaged header": (
         stream(SPS, PPS, bytes.fromhex("2600AF80")), 1,
-        "refused unit 2: nuh_temporal_id_plus1 is out of its range (7.3.1.2; table 0, row 1)"),
+        "refused unit 2: nuh_temporal_id_plus1 is out of its range: 1..7 (7.3.1.2; table 0, row 1)"),
     "a damaged type": (stream(SPS, PPS, bytes.fromhex("7E01AF80")), 1, "refused unit 2: its nal_unit_type is 63, which is unspecified (Table 7-1)"),
     "two layers": (
         stream(LAYERS, SPS, PPS, IDR, UPPER_SPS), 1,
-        "refused unit 4: sps_max_sub_layers_minus1 is out of its range (7.3.2.2.1; table 5, row 2); "
+        "refused unit 4: sps_max_sub_layers_minus1 is out of its range: 0..6 (7.3.2.2.1; table 5, row 2); "
         "the stream has 2 layers, and `hevc_extractor 6 0` takes out the lowest one"),
     "weights out of range": (
         stream(sequence_set(chroma=ue(3) + "0"), picture_set(weighted="1"), IDR, WEIGHTED), 1,
-        "refused unit 3: delta_chroma_offset_l0[ i ][ j ] is out of its range (7.3.6.3; table 16, row 8)"),
+        "refused unit 3: delta_chroma_offset_l0[ i ][ j ] is out of its range: -4C..4C - 1 (7.3.6.3; table 16, row 8)"),
     "a stream that is cut": (stream(SPS, SPS[:10]), 1, "refused unit 1: it ends before its syntax does: is the stream cut there?"),
     "a header that is cut": (stream(SPS, PPS, IDR[:1]), 1, "refused unit 2: it ends within its header: is the stream cut there?"),
 }
@@ -124,6 +124,8 @@ OTHERS = [
     ("hevc_extractor", ["0"], "H.264", 1, "refused unit 0: this looks like H.264" + NO_STREAM),
     ("hevc_extractor", ["0"], "a damaged header", 1, WRONG["a damaged header"][2] + NO_STREAM),
     ("hevc_extractor", ["0"], "PNG", 0, "nothing is written: this is a PNG image"),
+    ("hevc_syntax", [], "weights out of range", 1, "units are refused; the line after each tells why"),
+    ("hevc_syntax", ["json"], "no start code", 0, "no unit was found: " + ANNEX_B),
     ("hevc_rewriter", [], "MP4", 0, "nothing is written: " + MP4),
     ("hevc_bench", [], "level 0", 1, "refused unit 0: hevc_trace tells the cause"),
     ("hevc_bench", ["cut"], "no start code", 0, "no unit was found: " + ANNEX_B),

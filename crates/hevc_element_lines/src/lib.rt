@@ -4,5 +4,5 @@
 mod lines;
 mod style;
 
-pub use lines::push_elements;
+pub use lines::{line_end, place_after, push_elements, push_indices, push_number};
 pub use style::Style;

@@ -97,9 +97,11 @@ fn push_value(text: &mut Vec<u8>, style: Style, value: i64) -> Result<(), AllocE
     text.extend_from_slice(line_end(style))
 }
 
-/// Adds indices.
+/// Adds indices, each in brackets.
+///
+/// Errors: no memory. Some bytes may be added then.
 #[tactic(auto, using(std::proofs::Common::append_assoc))]
-fn push_indices(text: &mut Vec<u8>, indices: Indices) -> Result<(), AllocError>
+pub fn push_indices(text: &mut Vec<u8>, indices: Indices) -> Result<(), AllocError>
     ensures { OnOk result (text.new.items ≡ text.old.items ++ indices_text indices) }
 {
     match indices {
@@ -138,8 +140,10 @@ fn push_descriptor(text: &mut Vec<u8>, descriptor: Descriptor) -> Result<(), All
     }
 }
 
-/// Adds a number.
-fn push_number(text: &mut Vec<u8>, number: u64) -> Result<(), AllocError>
+/// Adds a number in decimal digits.
+///
+/// Errors: no memory. Nothing is added then.
+pub fn push_number(text: &mut Vec<u8>, number: u64) -> Result<(), AllocError>
     ensures { OnOk result (text.new.items ≡ text.old.items ++ decimal number) }
 {
     text.extend_from_slice(Buffer::new().format(number).as_bytes())
@@ -185,8 +189,8 @@ fn before_value(style: Style) -> &'static [u8]
     }
 }
 
-/// What is at the end of its line.
-fn line_end(style: Style) -> &'static [u8]
+/// What is at the end of a line.
+pub fn line_end(style: Style) -> &'static [u8]
     ensures { result.now ≡ line_end style }
 {
     match style {
@@ -195,8 +199,8 @@ fn line_end(style: Style) -> &'static [u8]
     }
 }
 
-/// The place after an element.
-fn place_after(place: u64, told: &Told) -> u64
+/// The place after an element, up to 2^64 - 1.
+pub fn place_after(place: u64, told: &Told) -> u64
     ensures { result ≡ place_after place told.now }
 {
     place.saturating_add(size_by(told.descriptor, told.value))

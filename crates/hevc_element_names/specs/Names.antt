@@ -3,6 +3,7 @@ use Rattle.std.specs.Prelude.{ℕ, ◌+◌, ◌*◌, ◌-◌, ◌/◌, ◌%◌, 
 use Rattle.std.specs.Prelude.{slice_index_or, if◌then◌else◌, nat_le, ◌&&◌, [], length, take, drop}
 use Rattle.hevc_element_names.specs.declared.elements.TheConstants.{STARTS, FIRSTS, RULES, SPANS}
 use Rattle.hevc_element_names.specs.declared.elements.TheConstants.{NAMES}
+use Rattle.hevc_element_names.specs.declared.bounds.TheConstants.{BOUND_SPANS, BOUNDS}
 use Rattle.hevc_element_names.specs.declared.rule.Rule.{Rule}
 use Rattle.hevc_element_names.specs.declared.rule.Rule.TheVariants as rules
 use Rattle.hevc_element_names.specs.declared.name.Indices.{Indices}
@@ -102,9 +103,13 @@ abbrev pub span : List ℕ → ℕ → ℕ → List ℕ
 span text start end =
     if nat_le start end && nat_le end (length text) then take (end - start) (drop start text) else []
 
+-- the text at a place of many, each of which begins where the one before ends
+abbrev pub text_at : List ℕ → List ℕ → ℕ → List ℕ
+text_at texts spans at = span texts (slice_index_or spans at 0) (slice_index_or spans (at + 1) 0)
+
 -- the name of the element at a place
 unfoldable pub name_at : ℕ → List ℕ
-name_at at = span NAMES (slice_index_or SPANS at 0) (slice_index_or SPANS (at + 1) 0)
+name_at at = text_at NAMES SPANS at
 
 -- its name, which is empty where there is no such row
 abbrev pub name_of : Sight → ℕ → ℕ → List ℕ
@@ -115,3 +120,7 @@ unfoldable pub indices_of : Sight → ℕ → ℕ → Indices
 indices_of seen table row =
     let at = row_place table row in
     indices_by (rule_at at) seen table row (count seen table row) (num_elements at)
+
+-- the bounds of a row, of a row that is a condition the condition, and nothing where it has none
+unfoldable pub bounds_of : ℕ → ℕ → List ℕ
+bounds_of table row = text_at BOUNDS BOUND_SPANS (row_place table row)

@@ -1,12 +1,13 @@
 //! What was told of a unit.
 ghost use Rattle.std.specs.Prelude.{◌≡◌, ◌≤◌, ◌<◌, ◌+◌, ◌-◌, ◌/◌, ◌%◌, min, max, length, IfOk, IfSome, replicate, OnOk, option_map, Some, None, slice_index_or, slice_get, if◌then◌else◌, ◌==◌};
 ghost use Rattle.hevc_element_names.specs.Seen.{after, begun_by, cleared, count, counted, due_after, emptied, first_after, marked, members_after, natural, no_numbers, nothing_seen, place, second_after, sight_of, value, with_at};
-ghost use Rattle.hevc_element_names.specs.Names.{indices_by, indices_of, element_place, list_number, matrix_of, name_at, span, name_of, nth, num_elements, profile_indices, row_place, rule_at, which};
+ghost use Rattle.hevc_element_names.specs.Names.{indices_by, indices_of, element_place, list_number, matrix_of, name_at, name_of, nth, num_elements, profile_indices, row_place, rule_at, which};
 
 use crate::elements::{FIRSTS, NAMES, RULES, SPANS, STARTS};
 use crate::layer::Layer;
 use crate::name::{ElementName, Indices};
 use crate::rule::Rule;
+use crate::texts::{place_at, text_at};
 use hevc_elements::Told;
 use hevc_spec::Row;
 use std::alloc::{AllocError, Global};
@@ -359,19 +360,8 @@ fn number_at(numbers: &[u32], at: usize) -> u64
     }
 }
 
-/// The number at a place of a table of numbers, and 0 where there is none.
-fn place_at(numbers: &[u16], at: usize) -> usize
-    ensures value { result ≡ slice_index_or numbers.now at 0 }
-    ensures small { result < 65536 }
-{
-    match numbers.get(at) {
-        Some(number) => usize::from(*number),
-        None => 0,
-    }
-}
-
 /// The place of a row among those of all tables.
-fn row_place(row: Row) -> usize
+pub(crate) fn row_place(row: Row) -> usize
     ensures value { result ≡ row_place row.0 row.1 }
     ensures small { result < 65800 }
 {
@@ -419,18 +409,7 @@ fn name_at(at: usize) -> &'static [u8]
     requires { at < 131072 }
     ensures { result.now ≡ name_at at }
 {
-    span(&NAMES, place_at(&SPANS, at), place_at(&SPANS, at + 1))
-}
-
-/// A part of a text, and nothing where it doesn't have it.
-fn span<'a>(text: &'a [u8], start: usize, end: usize) -> &'a [u8]
-    ensures { result.now ≡ span text.now start end }
-{
-    if start <= end && end <= text.len() {
-        &text[start..end]
-    } else {
-        &[]
-    }
+    text_at(&NAMES, &SPANS, at)
 }
 
 /// The size, less so many, and the matrix of the scaling list of this number.

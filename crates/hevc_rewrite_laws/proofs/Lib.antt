@@ -1,2 +1,3 @@
 pub mod SameMeanings
 pub mod AllSubLayers
+pub mod Sequences

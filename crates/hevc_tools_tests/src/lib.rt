@@ -1,5 +1,5 @@
 //! Tests of the tools above the decoder, over streams in memory: the extractor up to the decoder's report, the splicer up to what is
-//! decoded, and the checker of declared bounds.
+//! decoded, the checker of declared bounds, and the text of syntax elements.
 #![tactic(auto)]
 
 #[cfg(test)]
@@ -12,5 +12,7 @@ mod extract;
 mod index;
 #[cfg(test)]
 mod streams;
+#[cfg(test)]
+mod syntax;
 #[cfg(test)]
 mod words;

@@ -1,5 +1,7 @@
 //! The cause of a refusal in words.
+use hevc_element_names::bounds_of;
 use hevc_row_names::row_name;
+use hevc_spec::Row as TableRow;
 use std::fmt;
 
 /// A cause, as the line of a refusal has it: a name, and its numbers after blanks.
@@ -34,7 +36,8 @@ fn plain_cause(name: &str) -> &str {
         "" => "hevc_trace tells the cause",
         "TruncatedNalu" => "it ends within its header: is the stream cut there?",
         "OutOfBits" => "it ends before its syntax does: is the stream cut there?",
-        "TemporalIdZero" => "nuh_temporal_id_plus1 is out of its range (7.3.1.2; table 0, row 1)",
+        "TemporalIdZero" =>
+            "nuh_temporal_id_plus1 is out of its range: 1..7 (7.3.1.2; table 0, row 1)",
         "NoIndependentSlice" => "its dependent slice segment follows no independent one (7.4.7.1)",
         "ChangedMidPicture" => {
             "its slice names a sequence parameter set of another format than its picture's (7.4.2.4.2)"
@@ -66,9 +69,11 @@ impl fmt::Display for Row<'_> {
         if element.split_once(", ").is_some() {
             write!(f, "one of ")?;
         }
+        let bounds = std::str::from_utf8(bounds_of(TableRow(table, row))).unwrap_or("");
+        let mark = if bounds.is_empty() { "" } else { ": " };
         write!(
             f,
-            "{element} is out of its range ({clause}; table {table}, row {row})"
+            "{element} is out of its range{mark}{bounds} ({clause}; table {table}, row {row})"
         )?;
         write!(f, "{}", remedy(table, row))
     }

@@ -52,7 +52,9 @@ fn missing(line: Option<&str>) -> Option<&'static str> {
             Some("no picture was found")
         }
         "end points 0" => Some("no point was found"),
-        "units 0" => Some("no unit was found"),
+        "units 0" | "end units 0 refused 0" | "{\"units\":0,\"refused\":0}" => {
+            Some("no unit was found")
+        }
         "bytes 0" => Some("no byte was read"),
         _ => None,
     }
@@ -61,7 +63,10 @@ fn missing(line: Option<&str>) -> Option<&'static str> {
 /// Says which unit was refused, and why.
 fn explain_refusal<R: Eprint>(runtime: &R, about: About, head: &[u8], line: &str) {
     let name = about.name;
-    let (unit, text) = refusal(line);
+    let Some((unit, text)) = refusal(line) else {
+        let _ = eprintln!(runtime; "{name}: units are refused; the line after each tells why");
+        return;
+    };
     let ending = if about.writes_stream {
         "; the output is no stream"
     } else {
@@ -82,10 +87,10 @@ fn explain_refusal<R: Eprint>(runtime: &R, about: About, head: &[u8], line: &str
     }
 }
 
-/// The unit and the cause that the line of a refusal names.
-fn refusal(line: &str) -> (&str, &str) {
-    let rest = line.strip_prefix("refused unit ").unwrap_or(line);
-    rest.split_once(" ").unwrap_or((rest, ""))
+/// The unit and the cause that the line of a refusal names, if it is one.
+fn refusal(line: &str) -> Option<(&str, &str)> {
+    let rest = line.strip_prefix("refused unit ")?;
+    Some(rest.split_once(" ").unwrap_or((rest, "")))
 }
 
 /// Says why a program gave up.

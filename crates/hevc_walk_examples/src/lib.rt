@@ -1,5 +1,5 @@
 //! Small streams, computed: what the definitions of `hevc_walk` say of them.
-#![tactic(auto)]
+#![tactic(auto, unfolding(crate::proofs::Computing::whole_walk))]
 
 pub mod changes;
 pub mod clean;

@@ -12,18 +12,6 @@ use Rattle.hevc_walk_examples.specs.OrderStreams.{late_stream}
 use Rattle.hevc_walk_examples.proofs.Small.{few, not_few, latency_of, below}
 use Rattle.hevc_walk_examples.proofs.order.broken_latency.Goals as goal
 
-pub returns-clause-counts : goal.returns-clause-counts
-unfolding head order_count_in_range nearest due_outputs needs_additional_bumping needs_bumping with_stored
-    reference_set with_marks ref_pic_list0 ref_pic_list1 finish store_picture change_format begin_picture
-    make_room start_decoding
-returns-clause-counts c = refl
-
-pub returns-clause-verdict : goal.returns-clause-verdict
-unfolding head order_count_in_range nearest due_outputs needs_additional_bumping needs_bumping with_stored
-    reference_set with_marks ref_pic_list0 ref_pic_list1 finish store_picture change_format begin_picture
-    make_room start_decoding
-returns-clause-verdict c = refl
-
 pub returns-clause-few_precede : goal.returns-clause-few_precede
 unfolding head order_count_in_range nearest due_outputs needs_additional_bumping needs_bumping with_stored
     reference_set with_marks ref_pic_list0 ref_pic_list1 finish store_picture change_format begin_picture
@@ -39,9 +27,3 @@ unfolding head order_count_in_range nearest due_outputs needs_additional_bumping
 returns-clause-breaks c = All-from_recursion (λ q. KeepsOrder (late_stream 1) q
     → ⊥) (sequences (late_stream 1))
     (λ keeps. not_few _ _ refl ((latency_of (late_stream 1) _ keeps (few _ _ refl)).0.1.1.0 (below _ _ refl)), tt)
-
-pub returns-clause-tested : goal.returns-clause-tested
-unfolding head order_count_in_range nearest due_outputs needs_additional_bumping needs_bumping with_stored
-    reference_set with_marks ref_pic_list0 ref_pic_list1 finish store_picture change_format begin_picture
-    make_room start_decoding
-returns-clause-tested c = refl

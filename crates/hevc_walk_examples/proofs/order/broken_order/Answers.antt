@@ -12,18 +12,6 @@ use Rattle.hevc_walk_examples.specs.OrderStreams.{reordered_too_far}
 use Rattle.hevc_walk_examples.proofs.Small.{not_few}
 use Rattle.hevc_walk_examples.proofs.order.broken_order.Goals as goal
 
-pub returns-clause-outputs : goal.returns-clause-outputs
-unfolding head order_count_in_range nearest due_outputs needs_additional_bumping needs_bumping with_stored
-    reference_set with_marks ref_pic_list0 ref_pic_list1 finish store_picture change_format begin_picture
-    make_room start_decoding
-returns-clause-outputs c = refl
-
-pub returns-clause-verdict : goal.returns-clause-verdict
-unfolding head order_count_in_range nearest due_outputs needs_additional_bumping needs_bumping with_stored
-    reference_set with_marks ref_pic_list0 ref_pic_list1 finish store_picture change_format begin_picture
-    make_room start_decoding
-returns-clause-verdict c = refl
-
 pub returns-clause-breaks : goal.returns-clause-breaks
 unfolding head order_count_in_range nearest due_outputs needs_additional_bumping needs_bumping with_stored
     reference_set with_marks ref_pic_list0 ref_pic_list1 finish store_picture change_format begin_picture
@@ -31,9 +19,3 @@ unfolding head order_count_in_range nearest due_outputs needs_additional_bumping
 returns-clause-breaks c =
     All-from_recursion (λ q. FewPrecede q.first.limits.max_num_reorder_pics (pictures_for_output q)
     → ⊥) (sequences reordered_too_far) (λ h. not_few _ _ refl h.0, tt)
-
-pub returns-clause-tested : goal.returns-clause-tested
-unfolding head order_count_in_range nearest due_outputs needs_additional_bumping needs_bumping with_stored
-    reference_set with_marks ref_pic_list0 ref_pic_list1 finish store_picture change_format begin_picture
-    make_room start_decoding
-returns-clause-tested c = refl

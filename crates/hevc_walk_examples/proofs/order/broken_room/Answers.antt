@@ -12,18 +12,6 @@ use Rattle.hevc_walk_examples.specs.OrderStreams.{overfull_stream}
 use Rattle.hevc_walk_examples.proofs.Small.{few, not_few}
 use Rattle.hevc_walk_examples.proofs.order.broken_room.Goals as goal
 
-pub returns-clause-outputs : goal.returns-clause-outputs
-unfolding head order_count_in_range nearest due_outputs needs_additional_bumping needs_bumping with_stored
-    reference_set with_marks ref_pic_list0 ref_pic_list1 finish store_picture change_format begin_picture
-    make_room start_decoding
-returns-clause-outputs c = refl
-
-pub returns-clause-verdict : goal.returns-clause-verdict
-unfolding head order_count_in_range nearest due_outputs needs_additional_bumping needs_bumping with_stored
-    reference_set with_marks ref_pic_list0 ref_pic_list1 finish store_picture change_format begin_picture
-    make_room start_decoding
-returns-clause-verdict c = refl
-
 pub returns-clause-few_precede : goal.returns-clause-few_precede
 unfolding head order_count_in_range nearest due_outputs needs_additional_bumping needs_bumping with_stored
     reference_set with_marks ref_pic_list0 ref_pic_list1 finish store_picture change_format begin_picture
@@ -38,9 +26,3 @@ unfolding head order_count_in_range nearest due_outputs needs_additional_bumping
     make_room start_decoding
 returns-clause-breaks c = All-from_recursion (λ q. KeepsOrder overfull_stream q
     → ⊥) (sequences overfull_stream) (λ keeps. not_few _ _ refl ((keeps.room.0 refl).0 refl), tt)
-
-pub returns-clause-tested : goal.returns-clause-tested
-unfolding head order_count_in_range nearest due_outputs needs_additional_bumping needs_bumping with_stored
-    reference_set with_marks ref_pic_list0 ref_pic_list1 finish store_picture change_format begin_picture
-    make_room start_decoding
-returns-clause-tested c = refl

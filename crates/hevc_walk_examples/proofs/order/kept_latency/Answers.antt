@@ -12,18 +12,6 @@ use Rattle.hevc_walk_examples.specs.OrderStreams.{late_stream}
 use Rattle.hevc_walk_examples.proofs.Small.{keeps_by, unequal, few, not_below}
 use Rattle.hevc_walk_examples.proofs.order.kept_latency.Goals as goal
 
-pub returns-clause-counts : goal.returns-clause-counts
-unfolding head order_count_in_range nearest due_outputs needs_additional_bumping needs_bumping with_stored
-    reference_set with_marks ref_pic_list0 ref_pic_list1 finish store_picture change_format begin_picture
-    make_room start_decoding
-returns-clause-counts c = refl
-
-pub returns-clause-verdict : goal.returns-clause-verdict
-unfolding head order_count_in_range nearest due_outputs needs_additional_bumping needs_bumping with_stored
-    reference_set with_marks ref_pic_list0 ref_pic_list1 finish store_picture change_format begin_picture
-    make_room start_decoding
-returns-clause-verdict c = refl
-
 pub returns-clause-keeps : goal.returns-clause-keeps
 unfolding head order_count_in_range nearest due_outputs needs_additional_bumping needs_bumping with_stored
     reference_set with_marks ref_pic_list0 ref_pic_list1 finish store_picture change_format begin_picture
@@ -60,15 +48,3 @@ returns-clause-keeps c = All-from_recursion (KeepsOrder (late_stream 3)) (sequen
       ) (few _ _ refl, (few _ _ refl, (few _ _ refl, (few _ _ refl, (few _ _ refl, tt))))),
   tt,
 )
-
-pub returns-clause-tested : goal.returns-clause-tested
-unfolding head order_count_in_range nearest due_outputs needs_additional_bumping needs_bumping with_stored
-    reference_set with_marks ref_pic_list0 ref_pic_list1 finish store_picture change_format begin_picture
-    make_room start_decoding
-returns-clause-tested c = refl
-
-pub returns-clause-no_bounds : goal.returns-clause-no_bounds
-unfolding head order_count_in_range nearest due_outputs needs_additional_bumping needs_bumping with_stored
-    reference_set with_marks ref_pic_list0 ref_pic_list1 finish store_picture change_format begin_picture
-    make_room start_decoding
-returns-clause-no_bounds c = refl

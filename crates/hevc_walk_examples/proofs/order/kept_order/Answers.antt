@@ -13,30 +13,6 @@ use Rattle.hevc_walk_examples.specs.OrderStreams.{two_sequences}
 use Rattle.hevc_walk_examples.proofs.Small.{bounds_by, keeps_by, unequal, few, never}
 use Rattle.hevc_walk_examples.proofs.order.kept_order.Goals as goal
 
-pub returns-clause-sequences : goal.returns-clause-sequences
-unfolding head order_count_in_range nearest due_outputs needs_additional_bumping needs_bumping with_stored
-    reference_set with_marks ref_pic_list0 ref_pic_list1 finish store_picture change_format begin_picture
-    make_room start_decoding
-returns-clause-sequences c = refl
-
-pub returns-clause-outputs : goal.returns-clause-outputs
-unfolding head order_count_in_range nearest due_outputs needs_additional_bumping needs_bumping with_stored
-    reference_set with_marks ref_pic_list0 ref_pic_list1 finish store_picture change_format begin_picture
-    make_room start_decoding
-returns-clause-outputs c = refl
-
-pub returns-clause-counts : goal.returns-clause-counts
-unfolding head order_count_in_range nearest due_outputs needs_additional_bumping needs_bumping with_stored
-    reference_set with_marks ref_pic_list0 ref_pic_list1 finish store_picture change_format begin_picture
-    make_room start_decoding
-returns-clause-counts c = refl
-
-pub returns-clause-verdict : goal.returns-clause-verdict
-unfolding head order_count_in_range nearest due_outputs needs_additional_bumping needs_bumping with_stored
-    reference_set with_marks ref_pic_list0 ref_pic_list1 finish store_picture change_format begin_picture
-    make_room start_decoding
-returns-clause-verdict c = refl
-
 pub returns-clause-keeps : goal.returns-clause-keeps
 unfolding head order_count_in_range nearest due_outputs needs_additional_bumping needs_bumping with_stored
     reference_set with_marks ref_pic_list0 ref_pic_list1 finish store_picture change_format begin_picture
@@ -76,9 +52,3 @@ returns-clause-bounds c =
         tt,
       ),
     )
-
-pub returns-clause-tested : goal.returns-clause-tested
-unfolding head order_count_in_range nearest due_outputs needs_additional_bumping needs_bumping with_stored
-    reference_set with_marks ref_pic_list0 ref_pic_list1 finish store_picture change_format begin_picture
-    make_room start_decoding
-returns-clause-tested c = refl

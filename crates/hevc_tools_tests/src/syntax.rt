@@ -1,0 +1,2 @@
+//! Tests of the text of syntax elements.
+mod program;
