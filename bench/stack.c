@@ -56,8 +56,7 @@ static void *nothing(void *given) { return given; }
 
 static void *reading(void *given) {
     fezhalum_sets *sets = fezhalum_sets_new();
-    for (size_t at = 0; fezhalum_read_unit(sets, bytes + at, size - at, &told) != FEZHALUM_NO_UNIT && told.unit.size;)
-        at += told.unit.offset + told.unit.size;
+    for (size_t at = 0; fezhalum_read_unit(sets, bytes + at, size - at, &told) != FEZHALUM_NO_UNIT; at += told.unit.next) {}
     fezhalum_sets_free(sets);
     return given;
 }
@@ -77,7 +76,7 @@ static void *decoding(void *given) {
     fezhalum_decode_call call = { 0 };
     uint32_t status = FEZHALUM_OK;
     fezhalum_want_controls(decoder);
-    for (size_t at = 0; status == FEZHALUM_OK || status == FEZHALUM_FORMAT; at += status == FEZHALUM_OK ? call.taken : 0) {
+    for (size_t at = 0; status == FEZHALUM_OK || status == FEZHALUM_FORMAT; at += status == FEZHALUM_OK ? call.next : 0) {
         call.free_frames = 16;
         status = fezhalum_decode(decoder, bytes + at, size - at, &call);
         take_events(decoder);

@@ -65,6 +65,9 @@ built show -O2
 compare show "$work/show"
 built trials -O2
 each trials "$work/trials"
+built player -O2
+each player "$work/player"
+each "player, with a seek" "$work/player" 7
 built units -O2
 built sets -O2
 each "sets and headers" "$work/sets"

@@ -5,19 +5,19 @@
  * another, and carry each out.
  *
  *     fezhalum *decoder = fezhalum_new();
- *     while (bytes are left) {
- *         call.timestamp = ..; call.free_frames = ..;
- *         status = fezhalum_decode(decoder, bytes, size, &call);
- *         while (fezhalum_next(decoder, &event)) {          whatever the status is
- *             FEZHALUM_CHANGED: fezhalum_accept_format(decoder), or it is told again
- *             ..
- *         }
- *         FEZHALUM_OK:        leave out call.taken bytes
- *         FEZHALUM_FORMAT:    give the same bytes once more
- *         FEZHALUM_NO_FRAMES: give the same bytes once more when a frame is free
- *         FEZHALUM_NO_UNIT:   the bytes are at their end
+ *     fezhalum_decode_call call = { 0 };
+ *     fezhalum_event event;
+ *     uint32_t status = FEZHALUM_OK;
+ *     for (size_t at = 0; status != FEZHALUM_NO_UNIT;) {
+ *         call.free_frames = free_frames();
+ *         status = fezhalum_decode(decoder, bytes + at, size - at, &call);
+ *         while (fezhalum_next(decoder, &event)) carry_out(&event, bytes + at + call.offset);
+ *         if (status == FEZHALUM_FORMAT) fezhalum_accept_format(decoder);       and the same unit is given once more
+ *         else if (status == FEZHALUM_NO_FRAMES) wait_for_a_frame();            and the same unit is given once more
+ *         else at += call.next;                                                 a refused unit is passed over too
  *     }
- *     fezhalum_flush(decoder); while (fezhalum_next(decoder, &event)) ..
+ *     fezhalum_flush(decoder);
+ *     while (fezhalum_next(decoder, &event)) carry_out(&event, NULL);
  *     fezhalum_free(decoder);
  *
  * Ownership. A decoder belongs to who made it. It keeps no pointer that it is given: the bytes, the call and the event are read and
@@ -45,7 +45,7 @@ extern "C" {
 
 /* The version of the calls and structs: 65536 * major + minor. One that has another major number isn't this header's. */
 #define FEZHALUM_API_MAJOR 0
-#define FEZHALUM_API_MINOR 4
+#define FEZHALUM_API_MINOR 5
 uint32_t fezhalum_api_version(void);
 
 /* What a call answers. FEZHALUM_NO_UNIT, FEZHALUM_FORMAT and FEZHALUM_NO_FRAMES refuse nothing of the stream. What is left after each is
@@ -106,7 +106,9 @@ typedef struct fezhalum fezhalum;
 typedef struct fezhalum_decode_call {
     uint64_t timestamp;   /* given: the time at which the unit's picture is to be output, in the caller's unit */
     uint64_t free_frames; /* given: how many frames are free */
-    uint64_t taken;       /* answered: how many bytes were taken, up to the end of the unit; 0 unless FEZHALUM_OK */
+    uint64_t offset;      /* answered, whatever the status is: the place of the unit's first header byte in the bytes */
+    uint64_t size;        /* answered: how many bytes the unit has, its header's among them */
+    uint64_t next;        /* answered: the place after the unit, from which on the next one is sought; 0 where there is no unit */
     uint32_t table;       /* answered: see the statuses */
     uint32_t row;
 } fezhalum_decode_call;
@@ -122,19 +124,25 @@ typedef enum fezhalum_kind {
     FEZHALUM_SEQUENCE = 1, /* pictures of this format follow: make frames */
     FEZHALUM_PICTURE = 2,  /* a picture begins, and takes a free frame */
     FEZHALUM_SETS = 3,     /* its slices come: this is its reference picture set (8.3.2) */
-    FEZHALUM_SLICE = 4,    /* a slice of it: that of the unit that was given, the last `size` of the `taken` bytes */
+    FEZHALUM_SLICE = 4,    /* a slice of it: that of the unit that was given, which is at `offset` of the call */
     FEZHALUM_SUBMIT = 5,   /* it is whole */
     FEZHALUM_OUTPUT = 6,   /* it is output: show it */
-    FEZHALUM_CHANGED = 7   /* a format is to be accepted; told as long as it isn't */
+    FEZHALUM_CHANGED = 7,  /* a format is to be accepted; told once */
+    FEZHALUM_DROP = 8,     /* a picture that was to be output never will be: it was discarded or given up */
+    FEZHALUM_SKIP = 9      /* a picture isn't decoded: it has a number, and no other event */
 } fezhalum_kind;
 
-/* What came of the units. What a kind doesn't have is 0. */
+/* What came of the units. What a kind doesn't have is 0.
+ *
+ * Each picture has one PICTURE event, by which it takes a frame, or one SKIP event. Of one that took a frame, `is_output` is 0, or there
+ * is exactly one OUTPUT or DROP event, after the last fezhalum_flush at the latest. Its frame is free once it was output (and shown) or
+ * dropped or isn't to be, and no later SETS event names it. */
 typedef struct fezhalum_event {
     uint64_t place;                  /* 1 to 5: which call on the hardware it is, counted from 0 */
     uint32_t kind;                   /* a fezhalum_kind */
     uint32_t nal_unit_type;          /* PICTURE: of its first slice (Table 7-1) */
     uint64_t number;                 /* of the picture: from 0 in order of decoding, never used twice */
-    uint64_t timestamp;              /* PICTURE: what came with its first slice */
+    uint64_t timestamp;              /* PICTURE, OUTPUT, DROP, SKIP: what came with its first slice */
     int32_t order_count;             /* PICTURE, OUTPUT: PicOrderCntVal (8.3.1) */
     uint32_t is_output;              /* PICTURE: PicOutputFlag (8.1.3) */
     uint32_t width;                  /* SEQUENCE: in luma samples, as coded */
@@ -153,6 +161,7 @@ typedef struct fezhalum_event {
 typedef struct fezhalum_unit {
     uint64_t offset;        /* the place of its first header byte in the bytes */
     uint64_t size;          /* how many bytes it has, its header's among them */
+    uint64_t next;          /* the place after it, from which on the next unit is sought; 0 where there is no unit */
     uint32_t nal_unit_type; /* Table 7-1 */
     uint32_t layer_id;      /* nuh_layer_id: 0 of the base layer */
     uint32_t temporal_id;   /* TemporalId */
@@ -160,9 +169,10 @@ typedef struct fezhalum_unit {
     uint32_t row;
 } fezhalum_unit;
 
-/* The first unit whose start code is at the place `from` of the bytes or after it. After FEZHALUM_OK the next one is searched from
- * offset + size on; a unit that is refused has neither, and the next one is searched from after its start code on. Needs no decoder. Who wants the base layer alone gives a decoder the units of layer 0 alone. FEZHALUM_OK, FEZHALUM_NO_UNIT,
- * FEZHALUM_TRUNCATED_UNIT, FEZHALUM_INVALID_UNIT_TYPE, FEZHALUM_OUT_OF_RANGE; FEZHALUM_TOO_LONG where `from` is above `size`. */
+/* The first unit whose start code is at the place `from` of the bytes or after it; the next one is sought from `next` on, refused or not.
+ * Needs no decoder. Who wants the base layer alone gives a decoder the units of layer 0 alone. FEZHALUM_OK, FEZHALUM_NO_UNIT,
+ * FEZHALUM_TRUNCATED_UNIT, FEZHALUM_INVALID_UNIT_TYPE, FEZHALUM_OUT_OF_RANGE; FEZHALUM_TOO_LONG where `from` is above `size`: then all
+ * stays. */
 uint32_t fezhalum_next_unit(const uint8_t *bytes, size_t size, size_t from, fezhalum_unit *unit);
 
 /* A decoder in memory of the caller's: fezhalum_size() bytes at a multiple of 16, which nobody else touches from fezhalum_init to

@@ -2,8 +2,8 @@
  *
  *     static fezhalum_read told;
  *     fezhalum_sets *sets = fezhalum_sets_new();
- *     for (at = 0; fezhalum_read_unit(sets, bytes + at, size - at, &told) != FEZHALUM_NO_UNIT; at += told.unit.offset + told.unit.size)
- *         switch (told.unit.nal_unit_type) { case 33: .. told.sps .. }
+ *     for (size_t at = 0; fezhalum_read_unit(sets, bytes + at, size - at, &told) != FEZHALUM_NO_UNIT; at += told.unit.next)
+ *         if (told.unit.nal_unit_type == 33) print_size(&told.sps);
  *     fezhalum_sets_free(sets);
  *
  * Sets are kept, of each id the latest one (7.4.2.4.2): a picture parameter set and a slice segment header are read with them. Fields

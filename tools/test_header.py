@@ -41,7 +41,7 @@ ERRORS = {
 # What the header calls the events of hevc_queue and of hevc_pull: the function that makes them, or the case.
 KINDS = {
     'sequence_event': 'SEQUENCE', 'picture_event': 'PICTURE', 'sets_event': 'SETS', 'slice_event': 'SLICE', 'submission_event': 'SUBMIT',
-    'Output(frame)': 'OUTPUT', 'FormatChanged': 'CHANGED',
+    'Output': 'OUTPUT', 'FormatChanged': 'CHANGED', 'Dropped': 'DROP', 'Skipped': 'SKIP',
 }
 
 
@@ -95,7 +95,8 @@ def code_statuses():
 
 def code_kinds():
     asked = re.findall(r'fn (\w+_event)\((?:(?!^\}).)*?event_of_picture\(place, (\d+)', crate('hevc_queue/src/asked.rt'), re.S | re.M)
-    pulled = re.findall(r'Pulled::(\S+) =>(?:(?!Pulled::).)*?event_of_picture\(0, (\d+)', crate('hevc_pull/src/calls.rt'), re.S)
+    told = r'Pulled::(\w+)(?:\([^)]*\))? =>(?:(?!Pulled::).)*?event_of_(?:picture\(0, |counted\()(\d+)'
+    pulled = re.findall(told, crate('hevc_pull/src/calls.rt'), re.S)
     return {KINDS.get(name, name): int(number) for name, number in asked + pulled}
 
 

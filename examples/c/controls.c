@@ -91,7 +91,7 @@ int main(int argc, char **argv) {
         uint32_t status = fezhalum_decode(decoder, bytes + at, size - at, &call);
         take(decoder);
         if (status == FEZHALUM_FORMAT) fezhalum_accept_format(decoder);
-        else if (status == FEZHALUM_OK) at += (size_t)call.taken;
+        else if (status == FEZHALUM_OK) at += (size_t)call.next;
         else break;
     }
     fezhalum_flush(decoder);

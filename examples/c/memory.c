@@ -44,7 +44,7 @@ static void decode(const uint8_t *bytes, size_t size, uint64_t number, run *so_f
         so_far->status = fezhalum_decode(decoder, bytes + at, size - at, &call);
         take(decoder, so_far);
         if (so_far->status == FEZHALUM_FORMAT) fezhalum_accept_format(decoder);
-        else if (so_far->status == FEZHALUM_OK) at += call.taken;
+        else if (so_far->status == FEZHALUM_OK) at += call.next;
     }
     if (so_far->status == FEZHALUM_NO_UNIT) {
         so_far->status = fezhalum_flush(decoder);

@@ -63,8 +63,7 @@ int main(int argc, char **argv) {
     uint32_t status;
     while ((status = fezhalum_read_unit(sets, bytes + at, size - at, &told)) != FEZHALUM_NO_UNIT) {
         print_read(status, &told);
-        if (!told.unit.size) break;
-        at += (size_t)(told.unit.offset + told.unit.size);
+        at += (size_t)told.unit.next;
     }
     fezhalum_sets_free(sets);
     free(bytes);

@@ -23,17 +23,14 @@ static void add(told *so_far, const fezhalum_event *event) {
 static void take(fezhalum *decoder, told *so_far) {
     fezhalum_event event;
     memset(&event, 0, sizeof event);
-    while (fezhalum_next(decoder, &event)) {
-        if (event.kind == FEZHALUM_CHANGED) return;
-        add(so_far, &event);
-    }
+    while (fezhalum_next(decoder, &event)) add(so_far, &event);
 }
 
 /* Gives the bytes of one unit, or all that are left. */
 static uint32_t give(fezhalum *decoder, const uint8_t *bytes, size_t size, int apart, fezhalum_decode_call *call) {
     fezhalum_unit unit;
     if (!apart || fezhalum_next_unit(bytes, size, 0, &unit) != FEZHALUM_OK) return fezhalum_decode(decoder, bytes, size, call);
-    size_t end = (size_t)(unit.offset + unit.size);
+    size_t end = (size_t)unit.next;
     uint8_t *copy = malloc(end);
     if (!copy) exit(5);
     memcpy(copy, bytes, end);
@@ -55,7 +52,7 @@ static told decode(stream input, way how) {
         take(decoder, &so_far);
         if (so_far.status == FEZHALUM_FORMAT) fezhalum_accept_format(decoder);
         else if (so_far.status == FEZHALUM_NO_FRAMES && how.hungry) waits++;
-        else if (so_far.status == FEZHALUM_OK) { at += call.taken; unit++; waits = 0; }
+        else if (so_far.status == FEZHALUM_OK) { at += call.next; unit++; waits = 0; }
         else break;
     }
     if (so_far.status == FEZHALUM_NO_UNIT || so_far.status == FEZHALUM_OK) so_far.status = fezhalum_flush(decoder);

@@ -19,7 +19,7 @@ int main(int argc, char **argv) {
     while ((status = fezhalum_next_unit(bytes, size, at, &unit)) == FEZHALUM_OK) {
         printf("unit %" PRIu64 " size %" PRIu64 " type %" PRIu32 " layer %" PRIu32 " temporal %" PRIu32 "\n",
             unit.offset, unit.size, unit.nal_unit_type, unit.layer_id, unit.temporal_id);
-        at = (size_t)(unit.offset + unit.size);
+        at = (size_t)unit.next;
     }
     free(bytes);
     if (status != FEZHALUM_NO_UNIT) printf("refused: %s\n", fezhalum_status_string(status));

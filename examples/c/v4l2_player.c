@@ -440,6 +440,12 @@ static void output(uint64_t number) {
     written++;
 }
 
+/* It was discarded or given up. */
+static void leave_unshown(uint64_t number) {
+    frame *dropped = frame_of(number);
+    if (dropped) dropped->waits = false;
+}
+
 /* ---- a picture */
 
 /* What has to be known before the first picture of a format. */
@@ -568,6 +574,7 @@ static void carry_out(fezhalum *decoder, const fezhalum_event *event, const uint
     case FEZHALUM_SLICE: if (unit_end) add_slice(decoder, unit_end - event->size, (size_t)event->size); break;
     case FEZHALUM_SUBMIT: end_picture(); break;
     case FEZHALUM_OUTPUT: output(event->number); break;
+    case FEZHALUM_DROP: leave_unshown(event->number); break;
     default: break;
     }
 }
@@ -577,27 +584,22 @@ static void take_events(fezhalum *decoder, const uint8_t *unit_end) {
     while (fezhalum_next(decoder, &event) && event.kind != FEZHALUM_CHANGED) carry_out(decoder, &event, unit_end);
 }
 
-/* The place of the first start code from this one on. */
-static size_t start_code(const uint8_t *bytes, size_t size, size_t at) {
-    while (at + 3 <= size && (bytes[at] || bytes[at + 1] || bytes[at + 2] != 1)) at++;
-    return at + 3 <= size ? at : size;
-}
-
 /* Gives one unit, as often as it has to be given. The answer is the place after it, `size` where there is none. */
 static size_t give_unit(fezhalum *decoder, const uint8_t *bytes, size_t size, size_t at) {
     for (int times = 0; times < 4; times++) {
         fezhalum_decode_call call = { .free_frames = free_frames() };
         uint32_t status = fezhalum_decode(decoder, bytes + at, size - at, &call);
-        take_events(decoder, status == FEZHALUM_OK ? bytes + at + call.taken : NULL);
-        if (status == FEZHALUM_OK) return at + (size_t)call.taken;
+        take_events(decoder, status == FEZHALUM_OK ? bytes + at + call.next : NULL);
+        if (status == FEZHALUM_OK) return at + (size_t)call.next;
         if (status == FEZHALUM_NO_UNIT) return size;
         if (status == FEZHALUM_FORMAT) { fezhalum_accept_format(decoder); continue; }
         if (status == FEZHALUM_NO_FRAMES) { drain(); continue; }
-        tell("the unit at byte %zu is refused: %s", at, fezhalum_status_string(status));
-        break;
+        tell("the unit at byte %zu is refused: %s", at + (size_t)call.offset, fezhalum_status_string(status));
+        faults = true;
+        return at + (size_t)call.next;
     }
-    faults = true;
-    return start_code(bytes, size, start_code(bytes, size, at) + 3);
+    tell("the unit at byte %zu finds no frame", at);
+    exit(4);
 }
 
 static void flush(fezhalum *decoder) {
@@ -616,11 +618,11 @@ static size_t seek(fezhalum *decoder, const uint8_t *bytes, size_t size, size_t 
     while (at < size) {
         uint32_t status = fezhalum_next_unit(bytes, size, at, &unit);
         if (status == FEZHALUM_NO_UNIT) break;
-        if (status != FEZHALUM_OK) { at = start_code(bytes, size, at) + 3; continue; }
+        at = (size_t)unit.next;
+        if (status != FEZHALUM_OK) continue;
         size_t begin = (size_t)unit.offset - 3;
         if (begin >= place && unit.nal_unit_type >= 16 && unit.nal_unit_type <= 21) return begin;
         if (unit.nal_unit_type >= 32 && unit.nal_unit_type <= 34) give_unit(decoder, bytes, size, begin);
-        at = (size_t)(unit.offset + unit.size);
     }
     tell("there is no IRAP picture from byte %zu on", place);
     return size;

@@ -91,7 +91,7 @@ fn main() {
         let answer = decoder.decode(&bytes[at..], 0, 17);
         take(&mut decoder, &mut latest, &mut counts);
         match answer {
-            Ok(taken) => at += taken,
+            Ok(next) => at += next,
             Err(Refusal { status: 2, .. }) => assert!(decoder.accept_format().is_ok()),
             Err(_) => break,
         }

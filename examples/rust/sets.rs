@@ -94,9 +94,6 @@ fn main() {
             break;
         }
         print_read(&told, read);
-        if told.unit.size == 0 {
-            break;
-        }
-        at += (told.unit.offset + told.unit.size) as usize;
+        at += told.unit.next as usize;
     }
 }

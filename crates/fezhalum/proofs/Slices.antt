@@ -3,15 +3,14 @@
 -- (the `&κ' mut [T]` ((b, o), δ, xs)) ∗ SliceLentAgain δ
 --     slice_comes_back     [†κ'] ∗ SliceLentAgain δ ∗ finally δ ys  ⊢ ⇛ own_val (the `&κ mut [T]`
 -- ((b, o), γ, ys)) ∗ [κ]_q
-use Rattle.std.proofs.Common.{◌≡◌, ℕ, List, [], ◌∷◌, length, sym, ap, subst, MutBor}
+use Rattle.std.proofs.Common.{◌≡◌, ℕ, List, [], ◌∷◌, length, sym, ap, subst}
 use seplogic.Ra.Ura.{Ura}
 use base.Fraction.{full_share}
-use base.Logic.{SProp, ent, sep, ex}
+use base.Logic.{ent, sep, ex}
 use base.Fml.{Fml, Lft, GName, Share, fsep, flft, fdead, fobs, fauth, flent, fobor}
 use mir.Syntax.{Lifetime}
-use mir.Val.{Val}
 use types.Logic.{Logic, sem}
-use types.Kit.{‵, raw, ◌⊛◌, some, later, ◌$◌, ◌∵◌, !, qed, move, use1, use3, split, pick, fsplit, fsplit3, fjoin}
+use types.Kit.{‵, ◌⊛◌, some, later, ◌$◌, ◌∵◌, !, qed, move, use1, use3, split, pick, fsplit, fsplit3, fjoin}
 use types.Kit.{feq_l, frame, await, updating, now as at_once, show, done, drop}
 use types.SemTy.{cells, Arr}
 use denote.RattleType.{RattleType}

@@ -2,14 +2,13 @@
 use Rattle.std.specs.Prelude.{◌≡◌, ℕ, ◌==◌, not, min}
 use Rattle.hevc_stream.specs.Kept.{none_kept}
 use Rattle.hevc_stream.specs.Options.{Options, default_options}
-use Rattle.hevc_stateless.specs.Views.{at_beginning}
-use Rattle.hevc_queue.specs.Queue.{new_queue}
 use Rattle.hevc_pull.specs.declared.decoder.PullDecoder.{PullDecoder}
-use Rattle.hevc_pull.specs.Views.{kept_of, options_for, view_in}
+use Rattle.hevc_pull.specs.Pulling.{nothing_to_tell, telling}
+use Rattle.hevc_pull.specs.Views.{kept_of, options_for}
 
--- It is at the beginning of a stream, keeps no set, and no event waits.
+-- It is at the beginning of a stream, keeps no set, and nothing is to be told.
 pub record IsFreshWith (options : Options) (decoder : PullDecoder) : Type 0 where
-  pub view : view_in decoder ≡ at_beginning new_queue
+  pub telling : telling decoder ≡ nothing_to_tell
   pub kept : kept_of decoder ≡ none_kept
   pub set : options_for decoder ≡ options
 

@@ -40,18 +40,34 @@ numbered_event = record {
 }
 
 abbrev pub numbered_call : DecodeCall
-numbered_call = record { timestamp = 1; free_frames = 2; taken = 3; table = 4; row = 5 }
+numbered_call = record {
+  timestamp = 1;
+  free_frames = 2;
+  offset = 3;
+  size = 4;
+  next = 5;
+  table = 6;
+  row = 7;
+}
 
 abbrev pub numbered_unit : UnitCall
-numbered_unit = record
-    { offset = 1; size = 2; nal_unit_type = 3; layer_id = 4; temporal_id = 5; table = 6; row = 7 }
+numbered_unit = record {
+  offset = 1;
+  size = 2;
+  next = 3;
+  nal_unit_type = 4;
+  layer_id = 5;
+  temporal_id = 6;
+  table = 7;
+  row = 8;
+}
 
 -- the last field of each struct that is in it; the others stay
 abbrev pub numbered_read : UnitRead → UnitRead
 numbered_read told = record {
   unit = numbered_unit;
-  vps = record told.vps { flags = 8 };
-  sps = record told.sps { flags = 9 };
-  pps = record told.pps { flags = 10 };
-  slice = record told.slice { flags = 11 };
+  vps = record told.vps { flags = 9 };
+  sps = record told.sps { flags = 10 };
+  pps = record told.pps { flags = 11 };
+  slice = record told.slice { flags = 12 };
 }

@@ -86,9 +86,11 @@ pub extern "C" fn fezhalum_layout_decode_call(call: &mut DecodeCall) -> usize
     *call = DecodeCall {
         timestamp: 1,
         free_frames: 2,
-        taken: 3,
-        table: 4,
-        row: 5,
+        offset: 3,
+        size: 4,
+        next: 5,
+        table: 6,
+        row: 7,
     };
     std::mem::size_of::<DecodeCall>()
 }
@@ -109,25 +111,26 @@ fn numbered_unit() -> UnitCall
     UnitCall {
         offset: 1,
         size: 2,
-        nal_unit_type: 3,
-        layer_id: 4,
-        temporal_id: 5,
-        table: 6,
-        row: 7,
+        next: 3,
+        nal_unit_type: 4,
+        layer_id: 5,
+        temporal_id: 6,
+        table: 7,
+        row: 8,
     }
 }
 
 /// Fills the unit of what was read as `fezhalum_layout_unit` does, and then the last field of each
-/// set and of the header with 8 to 11. Answers the size of the struct.
+/// set and of the header with 9 to 12. Answers the size of the struct.
 #[unsafe(no_mangle)]
 pub extern "C" fn fezhalum_layout_read(told: &mut UnitRead) -> usize
     ensures fields { told.new ≡ numbered_read told.old }
     ensures size { result ≡ capped (size (layout read_type.the_row)) }
 {
     told.unit = numbered_unit();
-    told.vps.flags = 8;
-    told.sps.flags = 9;
-    told.pps.flags = 10;
-    told.slice.flags = 11;
+    told.vps.flags = 9;
+    told.sps.flags = 10;
+    told.pps.flags = 11;
+    told.slice.flags = 12;
     std::mem::size_of::<UnitRead>()
 }

@@ -22,8 +22,6 @@ use hevc_events::Event;
 use hevc_pull::{
     DecodeCall, PullDecoder, UnitCall, accept_format, decode, flush, next_event, next_unit,
 };
-use hevc_queue::QueueBackend;
-use hevc_stateless::StatelessDecoder;
 use std::alloc::Global;
 
 /// A decoder, at a pointer.
@@ -43,9 +41,9 @@ pub extern "C" fn fezhalum_size() -> usize
 /// The version of the calls and the structs: 65536 times its first number, and its second.
 #[unsafe(no_mangle)]
 pub extern "C" fn fezhalum_api_version() -> u32
-    ensures { result ≡ 4 }
+    ensures { result ≡ 5 }
 {
-    4
+    5
 }
 
 /// A decoder over an empty queue, with the options that are the default.
@@ -76,10 +74,7 @@ fn fresh_with(handle_cra_as_bla: u32, highest_tid: u32, alloc: Global) -> PullDe
             6
         },
     };
-    PullDecoder {
-        alloc,
-        decoder: StatelessDecoder::new_with(alloc, QueueBackend::new(alloc), options),
-    }
+    PullDecoder::new(alloc, options)
 }
 
 /// Makes a decoder at the beginning of a stream, with options: whether CRA pictures are handled as

@@ -10,22 +10,24 @@ ghost use Rattle.hevc_pull.specs.Calls.{answered, Decodes, TakesNext};
 ghost use Rattle.hevc_pull.specs.Controls.{Fills};
 ghost use Rattle.hevc_stateless.specs.States.{is_awaited};
 ghost use Rattle.hevc_pull.specs.Reads.{Reads};
-ghost use Rattle.hevc_pull.specs.Units.{refused_unit};
+ghost use Rattle.hevc_pull.specs.Extents.{no_extent};
+ghost use Rattle.hevc_pull.specs.Units.{lying};
 ghost use Rattle.hevc_pull.specs.Views.{seen_of, view_in, with_free_frames};
 
 /// Of no bytes no unit is taken, which status 1 tells; status 0 doesn't.
 pub fn decoded()
     ensures none { (now : PullDecoder) (given : DecodeCall)
         → with_free_frames given.free_frames (seen_of now) ≡ seen_of now
-        → Decodes [] now now given (answered (Err NoNal) given) 1 }
+        → Decodes [] now now given (answered {T = Unit {0}} [] (Err NoNal) given) 1 }
     ensures taken { (before now : PullDecoder) (given told : DecodeCall)
         → Decodes [] before now given told 0 → ⊥ }
 {}
 
-/// Where nothing waits, no event is told; no answer is 2.
+/// Where nothing waits, and no picture was counted, no event is told; no answer is 2.
 pub fn pulled()
     ensures none { (now : PullDecoder) (event : Event) → (view_in now).backend.waiting ≡ []
-        → (view_in now).queue ≡ [] → is_awaited (view_in now).state ≡ false
+        → (view_in now).queue ≡ [] → now.counted.items ≡ []
+        → is_awaited (view_in now).state ≡ false
         → TakesNext now now event event 0 }
     ensures two { (before now : PullDecoder) (old new : Event)
         → TakesNext before now old new 2 → ⊥ }
@@ -40,7 +42,7 @@ pub fn filled()
 /// Of no bytes no unit is read, which status 1 tells; status 0 doesn't.
 pub fn read()
     ensures none { (now : Parser) (read : UnitRead)
-        → Reads [] now now read (record read { unit = refused_unit NoNal }) 1 }
+        → Reads [] now now read (record read { unit = lying no_extent }) 1 }
     ensures some { (before now : Parser) (old new : UnitRead)
         → Reads [] before now old new 0 → ⊥ }
 {}

@@ -7,17 +7,12 @@ mod v4l2;
 
 use hevc_driver::Options;
 use hevc_pull::PullDecoder;
-use hevc_queue::QueueBackend;
-use hevc_stateless::StatelessDecoder;
 use std::alloc::Global;
 use std::process::Abort;
 
 /// A decoder at the beginning of a stream.
 fn pull_decoder(alloc: Global) -> PullDecoder {
-    PullDecoder {
-        alloc,
-        decoder: StatelessDecoder::new_with(alloc, QueueBackend::new(alloc), Options::new()),
-    }
+    PullDecoder::new(alloc, Options::new())
 }
 
 /// Fails, by its name, where something isn't so.

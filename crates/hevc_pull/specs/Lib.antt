@@ -1,5 +1,7 @@
 pub mod Calls
 pub mod Controls
+pub mod Counting
+pub mod Extents
 pub mod Fields
 pub mod Pulling
 pub mod Reads

@@ -3,6 +3,7 @@ use Rattle.std.specs.Prelude.{◌≡◌, ◌⊎◌, ℕ, ◌-◌, ◌<◌, ◌�
 use Rattle.std.specs.Prelude.{Result, Ok, Err}
 use Rattle.hevc_spec.specs.UnitHeader.{UnitHeader}
 use Rattle.hevc_spec.specs.UnitTypes.{is_slice}
+use Rattle.hevc_spec.specs.Units.{NalUnit, units}
 use Rattle.hevc_spec.specs.Payload.{payload}
 use Rattle.hevc_spec.specs.Table.{Reading, gives, read}
 use Rattle.hevc_records.specs.Vps.{PlainVps}
@@ -25,15 +26,13 @@ use Rattle.hevc_slice_header.specs.Answers.{slice_table}
 use Rattle.hevc_parser.specs.declared.parser.Parser.{Parser}
 use Rattle.hevc_parser.specs.Kept.{kept_by}
 use Rattle.hevc_parser.specs.Slices.{active_of}
-use Rattle.hevc_driver.specs.Errors.{unit_error}
 use Rattle.hevc_pull.specs.Fields.Vps.{fields_of_vps}
 use Rattle.hevc_pull.specs.Fields.Sps.{fields_of_sps}
 use Rattle.hevc_pull.specs.Fields.Pps.{fields_of_pps}
 use Rattle.hevc_pull.specs.Fields.Slice.{fields_of_slice}
 use Rattle.hevc_pull.specs.declared.units.UnitCall.{UnitCall}
 use Rattle.hevc_pull.specs.declared.reads.UnitRead.{UnitRead}
-use Rattle.hevc_pull.specs.Status.{status_of}
-use Rattle.hevc_pull.specs.Units.{IsFirstFrom, refused_unit, told_unit}
+use Rattle.hevc_pull.specs.Units.{GoesOnAt, IsFirstFrom, status_of_first, told_first, told_unit}
 
 -- each refusal has the status that decoding gives it; a sequence set that isn't kept has its own
 abbrev pub status_of_refusal : ParseError → ℕ
@@ -125,20 +124,20 @@ pub record ReadsUnit (u : FoundUnit UnitHeader) (before now : Kept) (old new : U
   pub unit_is : new.unit ≡ told_of_read u answer
   pub status_is : status ≡ status_of_reading answer
 
--- the unit, or why there is none: then nothing is kept, and nothing else is told
-abbrev pub ReadsFound : Result (FoundUnit UnitHeader) UnitError → (before now : Kept)
+-- the unit, or why there is none: then where it lies is told and nothing else, and nothing is kept
+abbrev pub ReadsFound : List NalUnit → Result (FoundUnit UnitHeader) UnitError → (before now : Kept)
     → (old new : UnitRead) → (status : ℕ) → Type 0
-ReadsFound (Ok u) before now old new status = ReadsUnit u before now old new status
-ReadsFound (Err error) before now old new status =
-    (status ≡ status_of (unit_error error)) × (now ≡ before)
-    × (new ≡ record old { unit = refused_unit (unit_error error) })
+ReadsFound us (Ok u) before now old new status = ReadsUnit u before now old new status
+ReadsFound us (Err error) before now old new status =
+    (status ≡ status_of_first us) × (now ≡ before) × (new ≡ record old { unit = told_first us })
 
 pub record ReadsFirst (bytes : List ℕ) (before now : Kept) (old new : UnitRead) (status : ℕ)
     : Type 0 where
   pub few : length bytes < 2 ^ 60
   pub found : Result (FoundUnit UnitHeader) UnitError
   pub is_first : IsFirstFrom 0 bytes found
-  pub reads : ReadsFound found before now old new status
+  pub reads : ReadsFound (units bytes) found before now old new status
+  pub goes_on : GoesOnAt new.unit.next (units bytes) bytes
 
 -- Of too many bytes nothing is read.
 abbrev pub Reads : (bytes : List ℕ) → (before now : Parser) → (old new : UnitRead)

@@ -1,10 +1,20 @@
 //! The calls of a decoder.
-ghost use Rattle.std.specs.Prelude.{◌≡◌};
-ghost use Rattle.hevc_pull.specs.Calls.{Accepts, Decodes, FlushesAll, TakesNext, event_of_pulled};
+ghost use Rattle.std.specs.Prelude.{◌≡◌, ◌<◌, length};
+ghost use Rattle.hevc_bits.specs.declared.stream_limit.TheConstants.{STREAM_LIMIT};
+ghost use Rattle.hevc_spec.specs.Units.{units};
+ghost use Rattle.hevc_pull.specs.Calls.{Accepts, Decodes, DecodesFirst, FlushesAll, TakesNext};
+ghost use Rattle.hevc_pull.specs.Calls.{event_of_counted, event_of_pulled, with_extent};
+ghost use Rattle.hevc_pull.specs.Extents.{first_extent};
+ghost use Rattle.hevc_pull.specs.Pulling.{Counts};
+ghost use Rattle.hevc_pull.specs.Views.{KeepsTold, options_for, seen_of, with_free_frames};
 
+use crate::counted::Counted;
 use crate::decoder::PullDecoder;
+use crate::extent::{Extent, extent_of_found, no_extent};
 use crate::pulled::Pulled;
 use crate::status::{FORMAT_NOT_AWAITED, TOO_LONG, row_of, status_of, table_of};
+use hevc_bits::{Nalu, NaluHeader, UnitError};
+use hevc_driver::DecodeError;
 use hevc_events::{Event, event_of_picture};
 
 /// What a call of `decode` is given, and what it answers.
@@ -15,8 +25,12 @@ pub struct DecodeCall {
     pub timestamp: u64,
     /// Given: how many frames are free.
     pub free_frames: u64,
-    /// Answered: how many bytes were taken, up to the end of the unit.
-    pub taken: u64,
+    /// Answered: the place of the unit's first header byte in the bytes.
+    pub offset: u64,
+    /// Answered: how many bytes the unit has, its header's among them.
+    pub size: u64,
+    /// Answered: the place after the unit, from which on the next one is sought.
+    pub next: u64,
     /// Answered: of an element that is out of range, its table in docs/TABLES.md.
     pub table: u32,
     /// Answered: of such an element its row; of an unspecified unit type, or a picture parameter
@@ -25,26 +39,56 @@ pub struct DecodeCall {
 }
 
 /// Takes the first unit of the bytes. The answer is a status, 0 where it was taken.
+#[tactic(auto, using(crate::proofs::Others::extent_goes_on))]
 pub fn decode(decoder: &mut PullDecoder, bytes: &[u8], call: &mut DecodeCall) -> u32
     ensures { Decodes bytes.now decoder.old decoder.new call.old call.new result }
 {
-    call.taken = 0;
+    tell_extent(no_extent(), call);
     call.table = 0;
     call.row = 0;
     if bytes.len() >= 1 << 60 {
         return TOO_LONG;
     }
-    match decoder.decode(call.free_frames as usize, call.timestamp, bytes) {
-        Ok(taken) => {
-            call.taken = taken as u64;
-            0
-        }
+    match decode_first(decoder, bytes, call) {
+        Ok(()) => 0,
         Err(error) => {
             call.table = table_of(&error);
             call.row = row_of(&error);
             status_of(&error)
         }
     }
+}
+
+/// Takes the first unit of the bytes, and tells where it lies.
+fn decode_first(
+    decoder: &mut PullDecoder,
+    bytes: &[u8],
+    call: &mut DecodeCall,
+) -> Result<(), DecodeError>
+    requires short { length bytes.now < STREAM_LIMIT }
+    ensures takes { DecodesFirst (units bytes.now) result call.old.timestamp
+        (options_for decoder.old) (with_free_frames call.old.free_frames (seen_of decoder.old))
+        (seen_of decoder.new) }
+    ensures told { KeepsTold decoder.old decoder.new }
+    ensures counts { Counts call.old.timestamp decoder.old decoder.new }
+    ensures options { options_for decoder.new ≡ options_for decoder.old }
+    ensures lies { call.new ≡ with_extent (first_extent (units bytes.now)) call.old }
+{
+    let mut position = 0;
+    let found: Result<Nalu<'_, NaluHeader>, UnitError> = Nalu::next(bytes, &mut position);
+    tell_extent(extent_of_found(&found, bytes, 0), call);
+    decoder.set_free_frames(call.free_frames as usize);
+    let nalu = found?;
+    decoder.decode_unit(call.timestamp, &nalu)
+}
+
+/// Tells where a unit lies.
+fn tell_extent(extent: Extent, call: &mut DecodeCall)
+    ensures { call.new ≡ with_extent extent call.old }
+{
+    call.offset = extent.offset;
+    call.size = extent.size;
+    call.next = extent.next;
 }
 
 /// The next of what came of the units. The answer is 1 where there was one, and else 0; then the
@@ -61,19 +105,32 @@ pub fn next_event(decoder: &mut PullDecoder, event: &mut Event) -> u32
     }
 }
 
-/// What came of units as an event: an output has kind 6, and that a format is awaited kind 7.
+/// What came of units as an event: an output has kind 6, and that a format is awaited kind 7; a
+/// picture that will never be output has kind 8, and one that isn't decoded kind 9.
 fn event_of_pulled(pulled: Pulled) -> Event
     ensures { result ≡ event_of_pulled pulled }
 {
     match pulled {
         Pulled::Asked(event) => event,
-        Pulled::Output(frame) => {
+        Pulled::Output(frame, counted) => {
             let mut event = event_of_picture(0, 6, frame.number);
             event.order_count = frame.order_count;
+            event.timestamp = counted.timestamp;
             event
         }
         Pulled::FormatChanged => event_of_picture(0, 7, 0),
+        Pulled::Dropped(counted) => event_of_counted(8, &counted),
+        Pulled::Skipped(counted) => event_of_counted(9, &counted),
     }
+}
+
+/// An event of a picture that was counted.
+fn event_of_counted(kind: u32, counted: &Counted) -> Event
+    ensures { result ≡ event_of_counted kind counted.now }
+{
+    let mut event = event_of_picture(0, kind, counted.number);
+    event.timestamp = counted.timestamp;
+    event
 }
 
 /// The stream ends, or is left: the open picture is over, and all that waits is output. The answer

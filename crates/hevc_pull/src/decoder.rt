@@ -3,22 +3,27 @@ ghost use Rattle.std.specs.Prelude.{◌≡◌, ◌<◌, ◌≤◌, ◌↔◌, []
 ghost use Rattle.std.specs.Prelude.{IfSome, IsOk, OnErr, OnOk, MatchOption};
 ghost use Rattle.std.specs.Option.{option_map};
 ghost use Rattle.hevc_bits.specs.declared.stream_limit.TheConstants.{STREAM_LIMIT};
-ghost use Rattle.hevc_spec.specs.Units.{units};
+ghost use Rattle.hevc_bits.specs.FoundUnit.{bytes_of};
 ghost use Rattle.hevc_driver.specs.Given.{Given};
-ghost use Rattle.hevc_stateless.specs.declared.state.State.TheVariants.{AwaitingFormat, Decoding};
-ghost use Rattle.hevc_stateless.specs.declared.state.State.TheVariants.{Reset};
+ghost use Rattle.hevc_stateless.specs.declared.state.State.TheVariants.{AwaitingFormat};
 ghost use Rattle.hevc_stateless.specs.Flushes.{Flushes};
-ghost use Rattle.hevc_stateless.specs.Steps.{TakesFirst};
+ghost use Rattle.hevc_stateless.specs.Steps.{StepsIn};
 ghost use Rattle.hevc_stateless.specs.Views.{OutputsFew, PopsFrame};
 ghost use Rattle.hevc_queue.specs.Controls.{latest_offsets_minus1, latest_picture_controls};
 ghost use Rattle.hevc_queue.specs.Controls.{latest_slice_controls};
 ghost use Rattle.hevc_queue.specs.Queue.{given_wanted, with_controls};
-ghost use Rattle.hevc_pull.specs.Views.{options_for, seen_of, pulled_traces};
+ghost use Rattle.hevc_stream.specs.Kept.{none_kept};
+ghost use Rattle.hevc_options.specs.Options.{options_of};
+ghost use Rattle.hevc_pull.specs.Views.{options_for, seen_of, pulled_traces, kept_of};
 ghost use Rattle.hevc_pull.specs.Views.{KeepsSets, KeepsTold, view_in, with_free_frames};
-ghost use Rattle.hevc_pull.specs.Pulling.{PullsNext, TakesEvent, outputs_are_due};
+ghost use Rattle.hevc_pull.specs.Pulling.{AreTaken, Asks, Counts, KeepsCounted, PullsNext};
+ghost use Rattle.hevc_pull.specs.Pulling.{TakesEvent, change_behind, decoding_on, nothing_to_tell};
+ghost use Rattle.hevc_pull.specs.Pulling.{outputs_are_due, state_after_flush, telling};
 
+use crate::counted::{Counted, counted_of, first_ended, remove, tell};
 use crate::pulled::Pulled;
-use hevc_driver::{DecodeError, Frame};
+use hevc_bits::{Nalu, NaluHeader};
+use hevc_driver::{DecodeError, Frame, Options};
 use hevc_events::Event;
 use hevc_queue::{PictureControls, QueueBackend};
 use hevc_stateless::{DecoderEvent, StatelessDecoder};
@@ -32,18 +37,37 @@ use thiserror::Error;
 pub struct NotAwaited;
 
 /// The decoder of a stream, which is given unit by unit and calls nobody: what it asks a backend
-/// for, and the pictures that are output, wait until they are taken.
+/// for, and what becomes of the pictures, wait until they are taken.
 ///
-/// It is made of its two parts. Pictures and handles are numbers, from 0 in order of decoding.
+/// It is made of its parts. Pictures and handles are numbers, from 0 in order of decoding.
 #[derive(Drop)]
 pub struct PullDecoder {
     /// The memory of the queues that stand in for its own.
     pub alloc: Global,
     /// The decoder, over a queue of its calls.
     pub decoder: StatelessDecoder<QueueBackend>,
+    /// The pictures that were counted, and whose end wasn't told yet.
+    pub counted: Vec<Counted>,
+    /// Whether it was told that the format that is awaited is.
+    pub change_told: bool,
 }
 
 impl PullDecoder {
+    /// A decoder at the beginning of a stream, with what is set for decoding by external means
+    /// (8.1.2, 8.1.3).
+    pub fn new(alloc: Global, options: Options) -> PullDecoder
+        ensures telling { telling result ≡ nothing_to_tell }
+        ensures kept { kept_of result ≡ none_kept }
+        ensures options { options_for result ≡ options_of options }
+    {
+        PullDecoder {
+            alloc,
+            decoder: StatelessDecoder::new_with(alloc, QueueBackend::new(alloc), options),
+            counted: Vec::new(alloc),
+            change_told: false,
+        }
+    }
+
     /// Drops the decoder, with all that waits. The answer is how many calls weren't taken.
     pub fn end(self) -> usize
         ensures { result ≡ length (view_in self).backend.waiting }
@@ -51,27 +75,37 @@ impl PullDecoder {
         self.decoder.backend().num_waiting()
     }
 
-    /// Takes the first unit of the input, of less than 2^60 bytes, with the time at which its
-    /// picture is to be output, in the caller's unit, while so many frames are free. The answer is
-    /// the place after the unit, in bytes: 3 at least.
+    /// Takes a unit that was found in a stream of less than 2^60 bytes, with the time at which its
+    /// picture is to be output, in the caller's unit, while so many frames are free as was told.
     ///
-    /// Errors: those of `decode` of `StatelessDecoder`.
-    pub fn decode(
+    /// Errors: those of `decode_unit` of `StatelessDecoder`.
+    pub fn decode_unit(
         &mut self,
-        free_frames: usize,
         timestamp: u64,
-        bitstream: &[u8],
-    ) -> Result<usize, DecodeError>
-        requires short { length bitstream.now < STREAM_LIMIT }
-        ensures takes { TakesFirst (units bitstream.now) result timestamp (options_for self.old)
-            (with_free_frames free_frames (seen_of self.old)) (seen_of self.new) }
+        nalu: &Nalu<'_, NaluHeader>,
+    ) -> Result<(), DecodeError>
+        requires short { length nalu.now.stream < STREAM_LIMIT }
+        ensures takes { StepsIn result timestamp (options_for self.old) nalu.now.header
+            (bytes_of nalu.now) (seen_of self.old) (seen_of self.new) }
         ensures few { OutputsFew (view_in self.old) (view_in self.new) }
-        ensures inside { IfOk result (λ place. (3 ≤ place) × (place ≤ length bitstream.now)) }
         ensures told { KeepsTold self.old self.new }
+        ensures counts { Counts timestamp self.old self.new }
         ensures options { options_for self.new ≡ options_for self.old }
     {
-        self.set_free_frames(free_frames);
-        self.decoder.decode(timestamp, bitstream)
+        if self.decoder.awaiting_format() {
+            return Err(DecodeError::CheckEvents);
+        }
+        let number = self.decoder.num_pictures();
+        self.counted.push(Counted {
+            number,
+            timestamp,
+            is_begun: false,
+        })?;
+        let result = self.decoder.decode_unit(timestamp, nalu);
+        if self.decoder.num_pictures() == number {
+            let _none = self.counted.pop();
+        }
+        result
     }
 
     /// The stream ends, or is left: the open picture is over, and all that waits is output.
@@ -83,42 +117,78 @@ impl PullDecoder {
             (view_in self.old).state (view_in self.old).standing (view_in self.new).standing }
         ensures few { OutputsFew (view_in self.old) (view_in self.new) }
         ensures latest { (view_in self.new).latest ≡ (view_in self.old).latest }
-        ensures state { OnOk result ((view_in self.new).state ≡ Reset) }
-        ensures stays { OnErr result ((view_in self.new).state ≡ (view_in self.old).state) }
+        ensures state { (view_in self.new).state ≡ state_after_flush result (view_in self.old).state }
         ensures told { KeepsTold self.old self.new }
+        ensures counted { self.new.counted ≡ self.old.counted }
+        ensures change { self.new.change_told ≡ change_behind result self.old.change_told }
         ensures keeps { KeepsSets self.old self.new }
     {
-        self.decoder.flush()
+        self.decoder.flush()?;
+        self.change_told = false;
+        Ok(())
     }
 
-    /// The next of what came of the units: calls in their order, the pictures that are output, and
-    /// that a format is awaited. Pictures come after the calls, but those that are output before a
-    /// sequence begins come before that.
+    /// The next of what came of the units: calls in their order, the pictures that are output, those
+    /// that never will be, and that a format is awaited. Pictures come after the calls, but those
+    /// that are output before a sequence begins come before that.
     pub fn next(&mut self) -> Option<Pulled>
-        ensures next { PullsNext result (view_in self.old) (view_in self.new) }
+        ensures next { PullsNext result (telling self.old) (telling self.new) }
         ensures keeps { KeepsSets self.old self.new }
     {
         if !self.decoder.backend().is_sequence_next() {
-            if let Some(event) = self.take_event() {
+            if let Some(event) = self.next_asked() {
                 return Some(Pulled::Asked(event));
             }
         }
         self.next_output()
     }
 
+    /// The next call.
+    fn next_asked(&mut self) -> Option<Event>
+        ensures event { MatchOption result
+            (((view_in self.old).backend.waiting ≡ []) × (telling self.new ≡ telling self.old))
+            (λ event. Asks event (telling self.old) (telling self.new)) }
+        ensures keeps { KeepsSets self.old self.new }
+    {
+        let event = self.take_event()?;
+        tell(&mut self.counted, &event);
+        Some(event)
+    }
+
     /// The next, where outputs are due.
     fn next_output(&mut self) -> Option<Pulled>
         requires { outputs_are_due (view_in self.old).backend.waiting ≡ true }
-        ensures next { PullsNext result (view_in self.old) (view_in self.new) }
+        ensures next { PullsNext result (telling self.old) (telling self.new) }
         ensures keeps { KeepsSets self.old self.new }
     {
         if let Some(frame) = self.next_frame() {
-            return Some(Pulled::Output(frame));
+            let counted = counted_of(&self.counted, frame.number);
+            remove(&mut self.counted, frame.number);
+            return Some(Pulled::Output(frame, counted));
         }
-        if let Some(event) = self.take_event() {
+        if let Some(event) = self.next_asked() {
             return Some(Pulled::Asked(event));
         }
-        if self.decoder.awaiting_format() {
+        self.next_ended()
+    }
+
+    /// The next, where all calls and outputs were taken.
+    fn next_ended(&mut self) -> Option<Pulled>
+        requires { AreTaken (view_in self.old) }
+        ensures next { PullsNext result (telling self.old) (telling self.new) }
+        ensures keeps { KeepsSets self.old self.new }
+    {
+        if let Some(counted) = first_ended(&self.counted, &self.decoder) {
+            let counted = *counted;
+            remove(&mut self.counted, counted.number);
+            return Some(if counted.is_begun {
+                Pulled::Dropped(counted)
+            } else {
+                Pulled::Skipped(counted)
+            });
+        }
+        if self.decoder.awaiting_format() && !self.change_told {
+            self.change_told = true;
             return Some(Pulled::FormatChanged);
         }
         None
@@ -131,6 +201,7 @@ impl PullDecoder {
             ≡ record (view_in self.old) { queue = (view_in self.new).queue } }
         ensures unchanged { IfNone result (view_in self.new ≡ view_in self.old) }
         ensures keeps { KeepsSets self.old self.new }
+        ensures counted { KeepsCounted self.old self.new }
     {
         match self.decoder.next_event() {
             Some(DecoderEvent::FrameReady(frame)) => Some(frame),
@@ -146,6 +217,7 @@ impl PullDecoder {
         ensures others { view_in self.new
             ≡ record (view_in self.old) { backend = (view_in self.new).backend } }
         ensures keeps { KeepsSets self.old self.new }
+        ensures counted { KeepsCounted self.old self.new }
     {
         let stand_in = self.decoder.backend().stand_in(self.alloc);
         let mut backend = self.decoder.replace_backend(stand_in);
@@ -155,12 +227,14 @@ impl PullDecoder {
     }
 
     /// So many frames are free.
-    fn set_free_frames(&mut self, free_frames: usize)
+    pub fn set_free_frames(&mut self, free_frames: usize)
         ensures view { view_in self.new ≡ record (view_in self.old) {
           backend = record (view_in self.old).backend { free_frames = free_frames };
         } }
         ensures keeps { KeepsSets self.old self.new }
         ensures seen { seen_of self.new ≡ with_free_frames free_frames (seen_of self.old) }
+        ensures told { KeepsTold self.old self.new }
+        ensures counted { KeepsCounted self.old self.new }
     {
         let stand_in = self.decoder.backend().stand_in(self.alloc);
         let mut backend = self.decoder.replace_backend(stand_in);
@@ -178,6 +252,7 @@ impl PullDecoder {
         }) }
         ensures unchanged { OnErr result (view_in self.new ≡ view_in self.old) }
         ensures keeps { KeepsSets self.old self.new }
+        ensures counted { KeepsCounted self.old self.new }
     {
         let stand_in = self.decoder.backend().stand_in(self.alloc);
         let mut backend = self.decoder.replace_backend(stand_in);
@@ -214,7 +289,7 @@ impl PullDecoder {
     /// Errors: none is.
     pub fn accept_format(&mut self) -> Result<(), NotAwaited>
         ensures accepted { IsOk result ↔ ((view_in self.old).state ≡ AwaitingFormat) }
-        ensures view { OnOk result (view_in self.new ≡ record (view_in self.old) { state = Decoding }) }
+        ensures view { OnOk result (telling self.new ≡ decoding_on (telling self.old)) }
         ensures unchanged { OnErr result (self.new ≡ self.old) }
         ensures keeps { KeepsSets self.old self.new }
     {
@@ -222,6 +297,7 @@ impl PullDecoder {
             return Err(NotAwaited);
         }
         self.decoder.accept_format();
+        self.change_told = false;
         Ok(())
     }
 }

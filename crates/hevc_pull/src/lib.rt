@@ -5,7 +5,9 @@
 
 mod calls;
 mod controls;
+mod counted;
 mod decoder;
+mod extent;
 mod fields;
 mod pulled;
 mod reads;
@@ -14,6 +16,7 @@ mod units;
 
 pub use calls::{DecodeCall, accept_format, decode, flush, next_event};
 pub use controls::{entry_points, picture_controls, slice_controls, want_controls};
+pub use counted::Counted;
 pub use decoder::{NotAwaited, PullDecoder};
 pub use fields::{
     PpsFields, ProfileFields, SliceFields, SpsFields, VpsFields, VuiFields, pps_fields,

@@ -11,14 +11,14 @@ ghost use Rattle.hevc_slice_header.specs.Answers.{slice_table};
 ghost use Rattle.hevc_pull.specs.Reads.{Reads, ReadsContent, ReadsUnit, Takes, keep_nothing};
 ghost use Rattle.hevc_pull.specs.Reads.{row_of_refusal, status_of_reading, status_of_refusal};
 ghost use Rattle.hevc_pull.specs.Reads.{table_of_refusal, with_slice};
+ghost use Rattle.hevc_pull.specs.Units.{told_unit};
 
 use crate::fields::{
     PpsFields, SliceFields, SpsFields, VpsFields, pps_fields, slice_fields, sps_fields, vps_fields,
 };
-use crate::status::{MISSING_SPS, NO_MEMORY, TOO_LONG, row_of, status_of, table_of};
-use crate::units::{UnitCall, refused_unit, type_number, unit_of};
-use hevc_bits::{Nalu, NaluHeader};
-use hevc_driver::DecodeError;
+use crate::status::{MISSING_SPS, NO_MEMORY, TOO_LONG};
+use crate::units::{UnitCall, tell_found, type_number};
+use hevc_bits::{Nalu, NaluHeader, UnitError};
 use hevc_elements::ParseError;
 use hevc_parser::Parser;
 
@@ -49,23 +49,20 @@ pub fn read_unit(sets: &mut Parser, bytes: &[u8], told: &mut UnitRead) -> u32
         return TOO_LONG;
     }
     let mut position = 0;
-    let found: Result<Nalu<'_, NaluHeader>, _> = Nalu::next(bytes, &mut position);
+    let found: Result<Nalu<'_, NaluHeader>, UnitError> = Nalu::next(bytes, &mut position);
+    let status = tell_found(&found, bytes, 0, &mut told.unit);
     match found {
         Ok(nalu) => read_found(sets, nalu, told),
-        Err(error) => {
-            let error = DecodeError::from(error);
-            told.unit = refused_unit(&error);
-            status_of(&error)
-        }
+        Err(_) => status,
     }
 }
 
-/// Tells of a unit, and reads its content.
+/// Reads the content of a unit that was told.
 fn read_found(sets: &mut Parser, nalu: Nalu<'_, NaluHeader>, told: &mut UnitRead) -> u32
-    requires { length nalu.stream < STREAM_LIMIT }
+    requires short { length nalu.stream < STREAM_LIMIT }
+    requires told { told.old.unit ≡ told_unit nalu }
     ensures { ReadsUnit nalu.entry (kept_by sets.old) (kept_by sets.new) told.old told.new result }
 {
-    told.unit = unit_of(&nalu);
     match read_content(sets, nalu, told) {
         Ok(()) => 0,
         Err(error) => {

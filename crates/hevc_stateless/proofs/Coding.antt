@@ -22,7 +22,7 @@ use Rattle.hevc_backend.specs.declared.call.Call.{Call}
 use Rattle.hevc_walk_units.specs.Units.{Standing}
 use Rattle.hevc_driver.specs.declared.decode_error.DecodeError.{DecodeError}
 use Rattle.hevc_driver.specs.declared.decode_error.DecodeError.TheVariants as errors
-use Rattle.hevc_backend.specs.Handed.{Handed, Segment}
+use Rattle.hevc_backend.specs.Handed.{Handed}
 use Rattle.hevc_driver.specs.Given.{Given}
 use Rattle.hevc_driver.specs.Does.{Traces}
 use Rattle.hevc_driver.specs.Moments.{step_part}

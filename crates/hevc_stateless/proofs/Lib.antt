@@ -6,3 +6,4 @@ mod Passing
 mod Setting
 mod Slicing
 mod Starting
+pub mod Waiting

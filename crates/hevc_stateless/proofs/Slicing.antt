@@ -1,5 +1,5 @@
 -- The units of slice segments.
-use Rattle.std.proofs.Common.{◌≡◌, inl, ℕ, ◌≤◌, List, refl, sym, ◌∙◌, ap, subst, Option, Result, Ok, Err, Bool, true}
+use Rattle.std.proofs.Common.{◌≡◌, ℕ, ◌≤◌, List, refl, sym, ◌∙◌, ap, subst, Option, Result, Ok, Err, Bool, true}
 use Rattle.std.specs.Prelude.{IsTrue, drop}
 use Rattle.hevc_spec.specs.UnitTypes.{is_slice}
 use Rattle.hevc_spec.specs.UnitHeader.{UnitHeader, unit_header}

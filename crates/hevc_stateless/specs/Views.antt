@@ -1,5 +1,9 @@
 -- What contracts see of a stream that is being decoded.
-use Rattle.std.specs.Prelude.{◌≡◌, ℕ, ◌+◌, ◌≤◌, List, [], ◌∷◌, length, Option, Some, None, Result}
+use Rattle.std.specs.Prelude.{◌≡◌, ℕ, ◌+◌, ◌≤◌, ◌==◌, ◌&&◌, Bool, List, [], ◌∷◌, length, Option, Some}
+use Rattle.std.specs.Prelude.{None, Result}
+use Rattle.std.specs.List.{list_any}
+use Rattle.hevc_walk.specs.Buffer.{Buffer}
+use Rattle.hevc_dpb.specs.declared.entry.DpbEntry.{DpbEntry}
 use Rattle.hevc_walk_units.specs.Units as units
 use Rattle.hevc_walk_units.specs.Units.{Standing, at_first}
 use Rattle.hevc_bumping.specs.declared.frame.Frame.{Frame}
@@ -80,6 +84,14 @@ OutputsFew old new = length new.queue ≤ length old.queue + 17
 abbrev pub IsIdleBefore : State → units.Current → Type 0
 IsIdleBefore AwaitingStreamInfo current = current ≡ units.NoPicture
 IsIdleBefore state current = Unit {0}
+
+-- an entry has this number, and is needed for output
+abbrev pub waits_as : {T : Type 0} → (number : ℕ) → DpbEntry T → Bool
+waits_as number e = e.number == number && e.picture.needed_for_output
+
+-- a picture of this number is stored, and needed for output
+abbrev pub is_waiting : (number : ℕ) → Buffer → Bool
+is_waiting number buffer = list_any (λ e. e.number == number && e.needed_for_output) buffer
 
 -- the front of the queue leaves it
 abbrev pub PopsFrame : {H : Type 0} → Option (Frame H) → List (Frame H) → List (Frame H) → Type 0

@@ -14,7 +14,7 @@ ghost use Rattle.hevc_stateless.specs.Events.{TellsNext};
 ghost use Rattle.hevc_stateless.specs.Flushes.{Flushes};
 ghost use Rattle.hevc_bits.specs.FoundUnit.{bytes_of};
 ghost use Rattle.hevc_stateless.specs.Steps.{StepsIn, TakesFirst};
-ghost use Rattle.hevc_stateless.specs.Views.{at_beginning, traces_at, OutputsFew};
+ghost use Rattle.hevc_stateless.specs.Views.{at_beginning, is_waiting, traces_at, OutputsFew};
 ghost use Rattle.hevc_stateless.specs.Decoders.{IsFairOver, view_of, kept_in, set_for, seen_by};
 ghost use Rattle.hevc_bits.specs.declared.stream_limit.TheConstants.{STREAM_LIMIT};
 
@@ -187,6 +187,13 @@ impl<B: StatelessH265DecoderBackend> StatelessDecoder<B> {
             ≡ open_head (view_of self.now).standing.current }
     {
         self.session.open_picture()
+    }
+
+    /// Whether a picture of this number is stored, and needed for output (C.5.2.2).
+    pub fn is_waiting(&self, number: u64) -> bool
+        ensures { result ≡ is_waiting number (view_of self.now).standing.store.buffer }
+    {
+        self.session.is_waiting(number)
     }
 
     /// What the backend tells of the sequence.

@@ -22,10 +22,12 @@ ghost use Rattle.hevc_stateless.specs.Flushes.{Flushes};
 ghost use Rattle.hevc_stateless.specs.Steps.{Acts, TakesIn};
 ghost use Rattle.hevc_records.specs.SliceHeader.{PlainSliceSegmentHeader};
 ghost use Rattle.hevc_stateless.specs.Views.{IsFairSeen, at_beginning, traces_at, moment_at, PopsFrame};
-ghost use Rattle.hevc_stateless.specs.Views.{OutputsFew};
+ghost use Rattle.hevc_stateless.specs.Views.{OutputsFew, is_waiting, waits_as};
+ghost use Rattle.std.specs.List.{list_any};
 
 use crate::state::State;
 use hevc_bits::NaluType;
+use hevc_dpb::DpbEntry;
 use hevc_driver::{DecodeError, Driver, Frame, Head, Options, StatelessH265DecoderBackend};
 use hevc_picture_slice::{Pps, Slice};
 use hevc_sequence_set::Sps;
@@ -65,6 +67,19 @@ fn behind_unit(state: State, nalu_type: NaluType) -> State
         State::Reset if nalu_type.is_idr() => State::Decoding,
         state => state,
     }
+}
+
+/// Whether one of these has this number, and is needed for output.
+fn any_waiting<T: Copy>(entries: &[DpbEntry<T>], number: u64) -> bool
+    ensures { result ≡ list_any (waits_as number) entries.now }
+{
+    entries.iter().any(|entry| waits_as(entry, number))
+}
+
+fn waits_as<T: Copy>(entry: &DpbEntry<T>, number: u64) -> bool
+    ensures { result ≡ waits_as number entry.now }
+{
+    entry.number == number && entry.picture.needed_for_output
 }
 
 impl<B: StatelessH265DecoderBackend> Session<B> {
@@ -161,6 +176,14 @@ impl<B: StatelessH265DecoderBackend> Session<B> {
         ensures { option_map (λ h. head_of h.now) result ≡ open_head self.now.standing.current }
     {
         self.driver.open_picture()
+    }
+
+    /// Whether a picture of this number is stored, and needed for output.
+    #[tactic(auto, using(crate::proofs::Waiting::waits_stored))]
+    pub(crate) fn is_waiting(&self, number: u64) -> bool
+        ensures { result ≡ is_waiting number self.now.standing.store.buffer }
+    {
+        any_waiting(self.driver.standing.dpb.entries(), number)
     }
 
     /// The next picture that was output.

@@ -20,7 +20,7 @@ fn accept(decoder: &mut PullDecoder) -> u32 {
     accept_format(decoder)
 }
 
-/// Decodes a unit, or accepts a format. The answer is how many bytes were taken.
+/// Decodes a unit, or accepts a format. The answer is where the next one is sought.
 fn decode_next(
     rt: &impl Abort,
     decoder: &mut PullDecoder,
@@ -33,7 +33,7 @@ fn decode_next(
         return 0;
     }
     check(rt, status == 0, "refused");
-    call.taken as usize
+    call.next as usize
 }
 
 /// Decodes the units of a stream up to the third picture.
@@ -41,7 +41,9 @@ fn decode_some(rt: &impl Abort, decoder: &mut PullDecoder, stream: &[u8]) {
     let mut call = DecodeCall {
         timestamp: 0,
         free_frames: 16,
-        taken: 0,
+        offset: 0,
+        size: 0,
+        next: 0,
         table: 0,
         row: 0,
     };

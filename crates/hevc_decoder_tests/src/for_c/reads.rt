@@ -16,6 +16,7 @@ fn nothing_read(rt: &impl Abort, alloc: Global) -> UnitRead {
         unit: UnitCall {
             offset: 0,
             size: 0,
+            next: 0,
             nal_unit_type: 0,
             layer_id: 0,
             temporal_id: 0,
@@ -88,6 +89,15 @@ fn read_refused(rt: &impl Abort, sets: &mut Parser, stream: &[u8], told: &mut Un
         (
             status_of(sets, &[0, 0, 1, 0x42, 1, 1], told) == 7,
             "a sequence set that ends",
+        ),
+        (told.unit.next == 6, "where the next is sought"),
+        (
+            status_of(sets, &[0, 0, 0, 1, 0x7C, 1, 5], told) == 6,
+            "an unspecified type",
+        ),
+        (
+            told.unit.offset == 4 && told.unit.size == 3 && told.unit.next == 7,
+            "its place, and where the next is sought",
         ),
         (
             status_of(sets, &[0, 0, 1, 0x46, 1, 0x50], told) == 0,
