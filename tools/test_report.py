@@ -1,7 +1,11 @@
 """Tests of report.py: a report of each kind, each form of a line, and lines that no report has."""
 import json
+import os
+import tempfile
 import unittest
 import xml.etree.ElementTree as xml
+from pathlib import Path
+from unittest import mock
 
 import report
 
@@ -45,6 +49,18 @@ class Lines(unittest.TestCase):
             {"kind": "refused", "cause": "OutOfRange", "numbers": [14, 11], "element": "short_term_ref_pic_set_sps_flag", "clause": "7.3.6.1",
              "bounds": "0 where N is 0", "unit": 3}])
         self.assertEqual(kinds("refused unit 0 TruncatedNalu\n"), ["refused"])
+
+    def test_a_refused_element_has_its_value(self):
+        refused = {"refused": "OutOfRange", "table": 14, "row": 11, "name": "short_term_ref_pic_set_sps_flag", "value": 1}
+        with tempfile.TemporaryDirectory() as folder:
+            program = Path(folder) / "hevc_syntax"
+            program.write_text(f"#!/bin/sh\n[ \"$*\" = 'json unit 3 3' ] && echo '{json.dumps(refused)}'\n")
+            program.chmod(0o700)
+            with mock.patch.dict(os.environ, HEVC_SYNTAX=str(program)):
+                line = json.loads(report.main(["json", os.devnull], "refused unit 3 OutOfRange 14 11\n"))
+                other = json.loads(report.main(["json", os.devnull], "refused unit 4 OutOfRange 14 11\n"))
+        self.assertEqual((line["element"], line["value"], line["bounds"]), ("short_term_ref_pic_set_sps_flag", 1, "0 where N is 0"))
+        self.assertNotIn("value", other)
 
     def test_a_made_stream(self):
         self.assertEqual(report.lines_of("made 9 shown 9 lowest 0 highest 8 falls 0\n"), [
