@@ -1,7 +1,7 @@
 /* The stack that calls take, by painted stacks: each stream is decoded, with structs, and its sets and headers are read, each in a thread
  * whose stack is painted first. With -shared -DPROGRAM it is for LD_PRELOAD, and says the same of a program. bench/stack.sh builds both.
  *
- *     stack STREAM..        prints the most bytes that decoding and reading took, and the stream that took most
+ *     stack STREAM..        prints the most bytes that decoding and reading took, and the stream that took most; fails above FEZHALUM_STACK
  */
 #define _GNU_SOURCE
 #include <stdint.h>
@@ -62,7 +62,7 @@ static void *reading(void *given) {
 }
 
 static void take_events(fezhalum *decoder) {
-    while (fezhalum_next(decoder, &event) && event.kind != FEZHALUM_CHANGED) {
+    while (fezhalum_next(decoder, &event)) {
         if (event.kind == FEZHALUM_SETS) fezhalum_picture_controls(decoder, &structs);
         if (event.kind == FEZHALUM_SLICE) {
             fezhalum_slice_controls(decoder, &slice);
@@ -76,14 +76,16 @@ static void *decoding(void *given) {
     fezhalum_decode_call call = { 0 };
     uint32_t status = FEZHALUM_OK;
     fezhalum_want_controls(decoder);
-    for (size_t at = 0; status == FEZHALUM_OK || status == FEZHALUM_FORMAT; at += status == FEZHALUM_OK ? call.next : 0) {
+    for (size_t at = 0; status != FEZHALUM_NO_UNIT;) {
         call.free_frames = 16;
         status = fezhalum_decode(decoder, bytes + at, size - at, &call);
         take_events(decoder);
         if (status == FEZHALUM_FORMAT) fezhalum_accept_format(decoder);
+        else at += call.next;
     }
-    if (status == FEZHALUM_NO_UNIT) fezhalum_flush(decoder);
+    fezhalum_seek(decoder);
     take_events(decoder);
+    fezhalum_flush(decoder);
     fezhalum_free(decoder);
     return given;
 }
@@ -120,6 +122,7 @@ int main(int count, char **names) {
     void *(*runs[])(void *) = { decoding, reading };
     const char *words[] = { "decoding", "reading sets and headers" };
     size_t alone = depth(nothing);
+    int wrong = 0;
     for (int kind = 0; kind < 2; kind++) {
         size_t most = 0;
         const char *at = "";
@@ -130,7 +133,8 @@ int main(int count, char **names) {
             free(bytes);
         }
         printf("%zu bytes of stack: %s, %s\n", most, words[kind], at);
+        if (most > FEZHALUM_STACK) wrong = 1;
     }
-    return 0;
+    return wrong;
 }
 #endif

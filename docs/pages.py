@@ -1,8 +1,8 @@
-"""Makes the names of rows and of elements, and checks the pages.
+"""Makes the names of rows and of elements and the header's version, and checks the pages.
 
-pages.py          writes them, in hevc_row_names and hevc_element_names
+pages.py          writes them, in hevc_row_names, hevc_element_names and include/fezhalum.h, of VERSION
 pages.py --check  says what differs, and ends with 1 where anything does:
-                  those names; that each row that code can answer is in TABLES.md; each bound of TABLES.md that is two numbers, beside the table's own in hevc_tables; that
+                  those names and that version; the version of the library and of the latest entry of CHANGELOG.md; that each row that code can answer is in TABLES.md; each bound of TABLES.md that is two numbers, beside the table's own in hevc_tables; that
                   each field of a record that TABLES.md names is an element of its table; that MAP.md has each crate of
                   crates.txt, in its order and no other; the numbers of edits in STRENGTH.md; that files and headings which
                   the pages name or link to are there
@@ -183,6 +183,7 @@ ABOUT = {
     (14, 38): "slice_cb_qp_offset",
     (14, 40): "slice_cr_qp_offset",
 }
+HEADER = TOP / "include" / "fezhalum.h"
 ROW_NAMES = CRATES / "hevc_row_names" / "src" / "rows.rt"
 ROW_NAMES_HEAD = """//! The elements of the rows of each table. `docs/pages.py` makes this file from docs/TABLES.md.
 """
@@ -420,6 +421,30 @@ def wrong_files(path):
             yield f"{path.name}: no file {name}"
 
 
+def version():
+    """The version: three numbers, of which the header has the first two."""
+    return [int(number) for number in (TOP / "VERSION").read_text().strip().split(".")]
+
+
+def versioned_header():
+    """The header, with the version's first two numbers."""
+    text = HEADER.read_text()
+    for name, number in zip(("MAJOR", "MINOR"), version()):
+        text = re.sub(rf"(#define FEZHALUM_API_{name}) \d+", rf"\1 {number}", text)
+    return text
+
+
+def wrong_versions():
+    """Where the version is another one."""
+    major, minor, _ = version()
+    library = (CRATES / "fezhalum" / "src" / "lib.rt").read_text()
+    if not re.search(rf"fn fezhalum_api_version\(\).*?\n{{\n    {65536 * major + minor}\n}}", library, re.S):
+        yield "crates/fezhalum: fezhalum_api_version isn't that of VERSION"
+    latest = re.search(r"^## \[([\d.]+)\]", (TOP / "CHANGELOG.md").read_text(), re.M)
+    if not latest or latest[1] != (TOP / "VERSION").read_text().strip():
+        yield "CHANGELOG.md: its latest entry isn't that of VERSION"
+
+
 def complaints():
     yield from wrong_bounds()
     yield from wrong_rows()
@@ -428,12 +453,13 @@ def complaints():
     yield from wrong_fields()
     yield from wrong_crates((DOCS / "MAP.md").read_text())
     yield from wrong_edits((DOCS / "STRENGTH.md").read_text())
+    yield from wrong_versions()
     for path in [TOP / "README.md", *sorted(DOCS.glob("*.md"))]:
         yield from wrong_files(path)
 
 
 def main():
-    pages = {ROW_NAMES: row_names(), ELEMENT_NAMES: element_names(), ROW_BOUNDS: row_bounds()}
+    pages = {ROW_NAMES: row_names(), ELEMENT_NAMES: element_names(), ROW_BOUNDS: row_bounds(), HEADER: versioned_header()}
     stale = [path for path, text in pages.items() if not path.exists() or not is_same(path.read_text(), text)]
     if sys.argv[1:] == ["--check"]:
         said = [f"{path.relative_to(TOP)} differs from what docs/pages.py makes" for path in stale] + list(complaints())

@@ -20,10 +20,10 @@ built() { # NAME FLAGS..: an example with a compiler's checks
     gcc -std=c11 -Wall -Wextra -Werror -Iinclude "$@" "examples/c/${name%%-*}.c" $library -o "$work/$name"
 }
 
-compare() { # NAME COMMAND..: the report of each stream
+compare() { # NAME COMMAND..: the report of each stream, and of hevc_trace with these words
     local name=$1 stream status wanted; shift
     for stream in "${streams[@]}"; do
-        wanted=0; "$program" < "$stream" > "$work/wanted" || wanted=$?
+        wanted=0; "$program" ${words:-} < "$stream" > "$work/wanted" || wanted=$?
         status=0; "$@" "$stream" > "$work/given" 2> "$work/said" || status=$?
         if [ $status != $wanted ] || ! cmp -s "$work/given" "$work/wanted"; then
             echo "$name: $stream: another report (status $status, wanted $wanted)"; head -5 "$work/said"; exit 1
@@ -63,6 +63,28 @@ built layout -O2
 "$work/layout"
 built show -O2
 compare show "$work/show"
+words=cra compare "show, CRA pictures as BLA pictures" "$work/show" cra
+words="layer 0" compare "show, the lowest sub-layer" "$work/show" layer 0
+archive=crates/fezhalum/out/libfezhalum.a
+cp "$archive" "$work/first.a"
+if (cd crates/fezhalum && rt lib --backend rattle) > "$work/said" 2>&1; then
+    gcc -std=c11 -O2 -Iinclude examples/c/show.c "$archive" "$kit/c/liblibc_c.a" -o "$work/show-second"
+    cp "$work/first.a" "$archive"
+    compare "show, by the second compiler" "$work/show-second"
+else
+    cp "$work/first.a" "$archive"
+    echo "the second compiler built no library:"; tail -3 "$work/said"; exit 1
+fi
+python3 examples/blocks.py "$work" > "$work/blocks"
+while read -r name; do
+    gcc -std=c11 -Wall -Wextra -Werror -Iinclude "$work/block-$name.c" $library -o "$work/block-$name"
+    timeout 20 "$work/block-$name" crates/hevc_bench/stdin || { echo "$name: the block doesn't run to its end"; exit 1; }
+done < "$work/blocks"
+echo "code blocks: $(wc -l < "$work/blocks") of $(wc -l < "$work/blocks") run to their end"
+mkdir "$work/large"
+python3 bench/stack.py "$work/large"
+gcc -std=c11 -O1 -Wall -Wextra -Werror -Iinclude bench/stack.c $library -pthread -o "$work/stack"
+"$work/stack" "$work"/large/* "${streams[@]}"
 built trials -O2
 each trials "$work/trials"
 built player -O2
@@ -92,6 +114,8 @@ if built show-sanitized -g -fsanitize=address,undefined -fno-sanitize-recover=al
     compare "show with AddressSanitizer" "$work/show-sanitized"
     built trials-sanitized -g -fsanitize=address,undefined -fno-sanitize-recover=all
     each "trials with AddressSanitizer" "$work/trials-sanitized"
+    built player-sanitized -g -fsanitize=address,undefined -fno-sanitize-recover=all
+    each "player with AddressSanitizer" "$work/player-sanitized" 7
     built sets-sanitized -g -fsanitize=address,undefined -fno-sanitize-recover=all
     each "sets and headers with AddressSanitizer" "$work/sets-sanitized"
     built controls-sanitized -g -fsanitize=address,undefined -fno-sanitize-recover=all
@@ -106,7 +130,7 @@ else
 fi
 if command -v valgrind > /dev/null; then
     compare "show under valgrind" valgrind -q --leak-check=full --error-exitcode=9 "$work/show"
-    for name in trials sets controls; do
+    for name in trials player sets controls; do
         each "$name under valgrind" valgrind -q --leak-check=full --error-exitcode=9 "$work/$name"
     done
     RUNNER="valgrind -q --leak-check=full --error-exitcode=9" SHOW="$work/show" python3 tools/clients/compare.py \

@@ -1,7 +1,7 @@
 #!/usr/bin/env bash
 # Makes streams with x265 (a Debian package) in a folder, each below 300 kB: B pyramids, wavefronts, many slices, two sub-layers,
-# weights, scaling lists, a cut unit, a unit of no type, changed bytes, and a changed format. Runs run.sh on them and
-# on the stream of hevc_trace.
+# weights, scaling lists, a cut unit, a unit of no type, changed bytes, a changed format, and a last picture that is skipped. Runs run.sh
+# on them and on the stream of hevc_trace.
 #
 #     examples/streams.sh [FOLDER]
 set -eu
@@ -46,6 +46,13 @@ def change(unit):
 for number in range(4):
     changed = [change(unit) if i > 1 and dice.randrange(6) == 0 else unit for i, unit in enumerate(units)]
     (folder / f'changed-bytes-{number}.h265').write_bytes(b'\0\0\1'.join(changed))
+# A CRA picture comes first, so the RASL pictures after it are skipped (8.1.3); with one of them the stream ends.
+parts = (folder / 'open-gop.h265').read_bytes().split(b'\0\0\1')[1:]
+types = [part[0] >> 1 & 63 for part in parts]
+point = types.index(21, types.index(21) + 1) if types[:5].count(21) else types.index(21)
+last = next(place for place in range(point, len(parts)) if types[place] in (8, 9))
+kept = [part for part, kind in zip(parts, types) if kind in (32, 33, 34)][:3] + parts[point:last + 1]
+(folder / 'skipped-last.h265').write_bytes(b''.join(b'\0\0\1' + part.rstrip(b'\0') for part in kept))
 (folder / 'changed-format.h265').write_bytes(stream + (folder / 'wavefronts.h265').read_bytes() + (folder / 'layers.h265').read_bytes())
 PYTHON
 examples/run.sh crates/hevc_trace/stdin "$folder"/*.h265

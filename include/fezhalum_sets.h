@@ -6,7 +6,8 @@
  *         if (told.unit.nal_unit_type == 33) print_size(&told.sps);
  *     fezhalum_sets_free(sets);
  *
- * Sets are kept, of each id the latest one (7.4.2.4.2): a picture parameter set and a slice segment header are read with them. Fields
+ * Sets are kept, of each id the latest one (7.4.2.4.2), whatever its layer: who reads a stream with layers gives the units of one layer, or
+ * has sets for each. A picture parameter set and a slice segment header are read with them. Fields
  * have the names of H.265, and each is the element of its name. Ownership, threads, pointers and memory are as fezhalum.h says, with
  * sets for a decoder. */
 #ifndef FEZHALUM_SETS_H

@@ -1,9 +1,15 @@
 /* fezhalum_v4l2.h: the structs of the stateless decoders of Linux (V4L2_CID_STATELESS_HEVC_*), filled over a decoder of fezhalum.h.
  *
- *     fezhalum_want_controls(decoder);                              once, after fezhalum_init
- *     ..
- *     FEZHALUM_SETS:  fezhalum_picture_controls(decoder, &picture)
- *     FEZHALUM_SLICE: fezhalum_slice_controls(decoder, &slice), fezhalum_entry_points(decoder, offsets, room, &count)
+ *     fezhalum_want_controls(decoder);                              // once, after fezhalum_init
+ *     while (fezhalum_decode(decoder, bytes + at, size - at, &call) != FEZHALUM_NO_UNIT) {
+ *         while (fezhalum_next(decoder, &event)) {
+ *             if (event.kind == FEZHALUM_SETS) status = fezhalum_picture_controls(decoder, &picture);
+ *             if (event.kind == FEZHALUM_SLICE) status = fezhalum_slice_controls(decoder, &slice);
+ *             if (event.kind == FEZHALUM_SLICE) status = fezhalum_entry_points(decoder, offsets, room, &count);
+ *             carry_out(&event, bytes + at + call.offset);
+ *         }
+ *         at += fezhalum_accept_format(decoder) == FEZHALUM_OK ? 0 : call.next;      // and so on, as fezhalum.h has it
+ *     }
  *
  * They are those of the latest picture that began and of its latest slice segment, so ask when its event is taken, before the next
  * fezhalum_decode. Who never calls fezhalum_want_controls pays nothing for them.

@@ -11,6 +11,8 @@ STRUCTS = {
     'fezhalum_decode_call': ('hevc_pull/src/calls.rt', 'DecodeCall'),
     'fezhalum_unit': ('hevc_pull/src/units.rt', 'UnitCall'),
     'fezhalum_places': ('hevc_events/src/event.rt', 'Places'),
+    'fezhalum_window': ('hevc_events/src/event.rt', 'Window'),
+    'fezhalum_sequence': ('hevc_events/src/event.rt', 'Sequence'),
     'fezhalum_event': ('hevc_events/src/event.rt', 'Event'),
     'fezhalum_profile': ('hevc_pull/src/fields/profile.rt', 'ProfileFields'),
     'fezhalum_vui': ('hevc_pull/src/fields/vui.rt', 'VuiFields'),
@@ -32,6 +34,15 @@ TYPES = {
 }
 TYPES.update({theirs: ours for theirs, (_, ours) in STRUCTS.items()})
 
+# In the crates options are numbers, and slices are two parameters.
+TYPES['fezhalum_options'] = 'u32'
+SLICES = {
+    ('bytes', '&[u8]'): [('bytes', '*const u8'), ('size', 'usize')],
+    ('options', '&[u32]'): [('options', '*const u32'), ('num_options', 'usize')],
+    ('offsets', '&mut [u32]'): [('offsets', '*mut u32'), ('room', 'usize')],
+    ('alloc', 'Global'): [],
+}
+
 # What the header calls an error of another name there.
 ERRORS = {
     'NO_NAL': 'NO_UNIT', 'CHECK_EVENTS': 'FORMAT', 'NOT_ENOUGH_OUTPUT_BUFFERS': 'NO_FRAMES', 'TRUNCATED_NALU': 'TRUNCATED_UNIT',
@@ -40,7 +51,7 @@ ERRORS = {
 
 # What the header calls the events of hevc_queue and of hevc_pull: the function that makes them, or the case.
 KINDS = {
-    'sequence_event': 'SEQUENCE', 'picture_event': 'PICTURE', 'sets_event': 'SETS', 'slice_event': 'SLICE', 'submission_event': 'SUBMIT',
+    'format_event': 'SEQUENCE', 'picture_event': 'PICTURE', 'sets_event': 'SETS', 'slice_event': 'SLICE', 'submission_event': 'SUBMIT',
     'Output': 'OUTPUT', 'FormatChanged': 'CHANGED', 'Dropped': 'DROP', 'Skipped': 'SKIP',
 }
 
@@ -61,6 +72,14 @@ def header_structs(text):
         fields = [re.fullmatch(r'(?:struct )?(\w+) (\w+)(?:\[(\d+)\])?', ' '.join(field.split())) for field in body.split(';') if field.strip()]
         structs[name] = [(field[2], TYPES.get(field[1], field[1]), field[3] or '') for field in fields]
     return structs
+
+
+def split_options(structs):
+    """The names of the options, which are numbers in the crates, and the other structs."""
+    others = dict(structs)
+    options = others.pop('fezhalum_options')
+    assert all(field[1:] == ('u32', '') for field in options), 'an option is no uint32_t'
+    return [field[0] for field in options], others
 
 
 def code_fields(path, name):
@@ -89,6 +108,7 @@ def code_statuses():
     found += re.findall(r'pub const (\w+): u32 = (\d+);', text)
     controls = re.search(r'fn status_of_control\(.*?^\}', crate('hevc_pull/src/controls.rt'), re.S | re.M)[0]
     found += re.findall(r'ControlError::(\w+) => (\d+)', controls)
+    found += re.findall(r'const (\w+): u32 = (\d+);', crate('fezhalum/src/lib.rt'))
     names = {in_capitals(name) if not name.isupper() else name: int(number) for name, number in found}
     return {'OK': 0} | {ERRORS.get(name, name): number for name, number in names.items()}
 
@@ -112,11 +132,11 @@ def code_flags(name):
 
 
 def header_calls(text):
-    """Each function's result and its parameters' types, without those that the header defines itself."""
+    """Each function's result and its parameters' names and types, without those that the header defines itself."""
     calls = {}
     for result, name, given in re.findall(r'^(\w+) (fezhalum_\w+)\(([^)]*)\);', text, re.M):
-        kinds = [] if given == 'void' else [re.sub(r'\w+$', '', one.strip()).strip() for one in given.split(',')]
-        calls[name] = (TYPES.get(result, result), [named(kind) for kind in kinds])
+        found = [] if given == 'void' else [re.fullmatch(r'(.*?)(\w+)', one.strip()) for one in given.split(',')]
+        calls[name] = (TYPES.get(result, result), [(one[2], named(one[1].strip())) for one in found])
     return calls
 
 
@@ -127,14 +147,14 @@ def named(kind):
 
 
 def code_calls():
-    """The same of the exports. Bytes are a pointer and a size; an allocator is nothing."""
+    """The same of the exports. A slice is a pointer and a number; an allocator is nothing."""
     calls = {}
     for path in ('lib.rt', 'layout.rt', 'sets.rt', 'controls.rt'):
         exports = re.findall(r'pub (?:unsafe )?extern "C" fn (\w+)\(([^)]*)\)(?: -> (\w+))?', crate('fezhalum/src/' + path))
         for name, given, result in exports:
-            kinds = [one.split(':')[1].strip() for one in given.split(',') if one.strip()]
-            kinds = [part for kind in kinds for part in {'&[u8]': ['*const u8', 'usize'], '&mut [u32]': ['*mut u32', 'usize'], 'Global': []}.get(kind, [kind])]
-            calls[name] = (result or 'void', [kind.replace('&mut ', '*mut ') for kind in kinds])
+            found = [tuple(part.strip() for part in one.split(':')) for one in given.split(',') if one.strip()]
+            parts = [part for one in found for part in SLICES.get(one, [one])]
+            calls[name] = (result or 'void', [(word, kind.replace('&mut ', '*mut ')) for word, kind in parts])
     return calls
 
 
@@ -163,14 +183,37 @@ class Header(unittest.TestCase):
                 self.assertEqual(header[name], code[name], f'{what} {name}: first the header, second the crates')
 
     def test_structs(self):
-        self.same(header_structs(header_text()), {theirs: code_fields(*ours) for theirs, ours in STRUCTS.items()}, 'struct')
+        options, structs = split_options(header_structs(header_text()))
+        self.same(structs, {theirs: code_fields(*ours) for theirs, ours in STRUCTS.items()}, 'struct')
+        text = crate('fezhalum/src/lib.rt')
+        body = re.search(r'fn options_given\(.*?^\}', text, re.S | re.M)[0]
+        read = re.findall(r'(\w+): .*?option_at\(options, (\d+), (\d+)\)', body)
+        # The crates' name of a layer's number is shorter.
+        self.assertEqual([name.removesuffix('_id') for name in options], [name for name, _, _ in read], 'options')
+        self.assertEqual(list(range(len(options))), [int(place) for _, place, _ in read], 'places of options')
+        default = re.search(r'#define FEZHALUM_DEFAULT_OPTIONS \{ (.*?) \}', header_text())[1]
+        self.assertEqual(default.split(', '), [number for _, _, number in read], 'FEZHALUM_DEFAULT_OPTIONS')
+        self.assertEqual(len(options), int(re.search(r'options\.len\(\) <= (\d+)', text)[1]), 'how many options are known')
 
     def test_statuses(self):
         self.same(header_numbers(header_text(), 'fezhalum_status'), code_statuses(), 'status')
 
-    def test_each_status_has_a_text(self):
+    def test_each_status_has_its_text(self):
         texts = re.search(r'texts\[\] = \{(.*?)\};', header_text(), re.S)[1]
-        self.assertEqual(len(re.findall(r'"[^"]*"', texts)), len(code_statuses()), 'fezhalum_status_string')
+        body = re.search(r'typedef enum fezhalum_status \{(.*?)\}', (TOP / 'include/fezhalum.h').read_text(), re.S)[1]
+        said = re.findall(r'FEZHALUM_\w+ = (\d+),? *\/\* ([^:*]*?) *(?::[^*]*)?\*\/', body)
+        self.assertEqual([text for _, text in said], re.findall(r'"([^"]*)"', texts), 'fezhalum_status_string')
+        self.assertEqual([int(number) for number, _ in said], sorted(code_statuses().values()), 'statuses with a comment')
+
+    def test_kinds_of_places(self):
+        comment = re.search(r'uint8_t kinds\[16\]; +\/\* (.*?) \*\/', (TOP / 'include/fezhalum.h').read_text())[1]
+        said = {word: int(re.search(r'(\d) [^\d]*' + word, comment)[1]) for word in ('stored', 'no such picture', 'current picture')}
+        text = crate('hevc_queue/src/places.rt')
+        member, entry = (re.search(r'fn ' + name + r'_kind.*?^\}', text, re.S | re.M)[0] for name in ('member', 'entry'))
+        for body, stored in ((member, r'Some\(_\)'), (entry, r'DpbEntry\(_\)\)')):
+            self.assertEqual(int(re.search(stored + r' => (\d)', body)[1]), said['stored'])
+            self.assertEqual(int(re.search(r'None => (\d)', body)[1]), said['no such picture'])
+        self.assertEqual(int(re.search(r'CurrentPicture\) => (\d)', entry)[1]), said['current picture'])
 
     def test_kinds(self):
         self.same(header_numbers(header_text(), 'fezhalum_kind'), code_kinds(), 'kind of event')
@@ -188,8 +231,8 @@ class Header(unittest.TestCase):
         code = struct_lines(in_rust(''.join(map(crate, sorted(files)))))
         self.same({name: lines for name, lines in struct_lines(text).items() if '_opaque: [u8; 0]' not in lines}, code, 'struct in Rust')
         calls = re.findall(r'pub fn (\w+)\(([^)]*)\)(?: -> (\w+))?;', text)
-        given = {name: (result or 'void', re.findall(r': ([^,]+)', kinds)) for name, kinds, result in calls}
-        code = {name: (result, [in_rust(kind) for kind in kinds]) for name, (result, kinds) in code_calls().items() if '_layout_' not in name}
+        given = {name: (result or 'void', re.findall(r'(\w+): ([^,]+)', kinds)) for name, kinds, result in calls}
+        code = {name: (result, [(word, in_rust(kind)) for word, kind in kinds]) for name, (result, kinds) in code_calls().items() if '_layout_' not in name}
         self.same(given, code, 'call in Rust')
 
     def test_version(self):

@@ -21,6 +21,8 @@ SLICE = b"""{"unit":2,"offset":41,"size":4,"nal_unit_type":19,"name":"IDR_W_RADL
 {"bit":19,"name":"slice_type","form":"ue(v)","value":2}
 {"bit":22,"name":"slice_qp_delta","form":"se(v)","value":0}
 {"bit":23,"name":"alignment_bit_equal_to_one","form":"u(1)","value":1}
+{"variable":"PicOrderCntVal","value":0}
+{"variable":"SliceQpY","value":26}
 {"units":6,"refused":0}
 """
 RUNS = [

@@ -102,15 +102,16 @@ WRONG = {
     "a tail without sets": (stream(IDR, IDR), 0, NO_PICTURE + "are its parameter sets (VPS, SPS, PPS) missing?"),
     "a damaged header": (
         stream(SPS, PPS, bytes.fromhex("2600AF80")), 1,
-        "refused unit 2: nuh_temporal_id_plus1 is out of its range: 1..7 (7.3.1.2; table 0, row 1)"),
+        "refused unit 2: nuh_temporal_id_plus1 is out of its range: 1..7 (7.3.1.2; table 0, row 1): it is 0"),
     "a damaged type": (stream(SPS, PPS, bytes.fromhex("7E01AF80")), 1, "refused unit 2: its nal_unit_type is 63, which is unspecified (Table 7-1)"),
     "two layers": (
         stream(LAYERS, SPS, PPS, IDR, UPPER_SPS), 1,
-        "refused unit 4: sps_max_sub_layers_minus1 is out of its range: 0..6 (7.3.2.2.1; table 5, row 2); "
+        "refused unit 4: sps_max_sub_layers_minus1 is out of its range: 0..6 (7.3.2.2.1; table 5, row 2); `hevc_syntax unit 4 4` tells what was read; "
         "the stream has 2 layers, and `hevc_extractor 6 0` takes out the lowest one"),
     "weights out of range": (
         stream(sequence_set(chroma=ue(3) + "0"), picture_set(weighted="1"), IDR, WEIGHTED), 1,
-        "refused unit 3: delta_chroma_offset_l0[ i ][ j ] is out of its range: -4C..4C - 1 (7.3.6.3; table 16, row 8)"),
+        "refused unit 3: delta_chroma_offset_l0[ i ][ j ] is out of its range: -4C..4C - 1 (7.3.6.3; table 16, row 8); "
+        "`hevc_syntax unit 3 3` tells what was read"),
     "a stream that is cut": (stream(SPS, SPS[:10]), 1, "refused unit 1: it ends before its syntax does: is the stream cut there?"),
     "a header that is cut": (stream(SPS, PPS, IDR[:1]), 1, "refused unit 2: it ends within its header: is the stream cut there?"),
 }

@@ -1,7 +1,7 @@
 /* The loop of a player, without samples and without a screen: frames with references counted, refused units passed over, frames that stay
  * on the screen for a while, and a seek. It checks what fezhalum.h says of the events of a picture, and of frames.
  *
- *     player FILE [PICTURES]      after so many pictures the stream is left, and played from its beginning once more
+ *     player [PICTURES] FILE      after so many pictures it seeks: the middle of the file, and the next picture from there on
  */
 #include "fezhalum.h"
 
@@ -110,6 +110,13 @@ static void turn(const fezhalum_event *event, int from, int to) {
     player.counts[to]++;
 }
 
+/* What is shown lies within the picture. */
+static void check_window(const fezhalum_event *event) {
+    const fezhalum_window *shown = &event->window;
+    if (!shown->width || !shown->height || shown->x + shown->width > event->width || shown->y + shown->height > event->height)
+        fault("it shows no part of it", event->number);
+}
+
 static void carry_out(const fezhalum_event *event) {
     switch (event->kind) {
     case FEZHALUM_SEQUENCE: make_frames(event->max_num_pics); break;
@@ -117,7 +124,7 @@ static void carry_out(const fezhalum_event *event) {
     case FEZHALUM_SETS: name_frames(event); break;
     case FEZHALUM_SLICE: break;  /* its bytes, and the frames of its lists, go to the hardware */
     case FEZHALUM_SUBMIT: break; /* the hardware begins */
-    case FEZHALUM_OUTPUT: turn(event, COMING, SHOWN); show(event->number); break;
+    case FEZHALUM_OUTPUT: turn(event, COMING, SHOWN); check_window(event); show(event->number); break;
     case FEZHALUM_CHANGED: break;
     case FEZHALUM_DROP: turn(event, COMING, DROPPED); frame_of(event->number)->coming = 0; break;
     case FEZHALUM_SKIP: turn(event, NOTHING, SKIPPED); break;
@@ -133,8 +140,8 @@ static void take_events(fezhalum *decoder) {
 }
 
 /* The stream ends, or is left. No picture is coming any more. */
-static void flush(fezhalum *decoder) {
-    for (int tries = 0; fezhalum_flush(decoder) != FEZHALUM_OK && tries < 2; tries++) take_events(decoder);
+static void leave(fezhalum *decoder, uint32_t (*how)(fezhalum *)) {
+    for (int tries = 0; how(decoder) != FEZHALUM_OK && tries < 2; tries++) take_events(decoder);
     take_events(decoder);
     for (uint64_t number = 0; number < player.num_pictures; number++)
         if (player.pictures[number].fate == NOTHING || player.pictures[number].fate == COMING) fault("it has no end", number);
@@ -147,10 +154,10 @@ static void wait_for_a_frame(void) {
     else make_frames(16);
 }
 
-/* Plays until the stream ends, or until so many pictures have begun. */
-static void play(fezhalum *decoder, const uint8_t *bytes, size_t size, uint64_t pictures) {
+/* Plays from a place on until the stream ends, or until so many pictures have begun. */
+static void play(fezhalum *decoder, const uint8_t *bytes, size_t size, size_t at, uint64_t pictures) {
     fezhalum_decode_call call = { 0 };
-    for (size_t at = 0; player.num_pictures < pictures;) {
+    while (player.num_pictures < pictures) {
         call.timestamp++;
         call.free_frames = (uint64_t)(player.num_frames - frames_in_use());
         if (!player.num_frames) call.free_frames = 1;
@@ -163,13 +170,12 @@ static void play(fezhalum *decoder, const uint8_t *bytes, size_t size, uint64_t 
         if (status == FEZHALUM_DPB_FULL) player.is_within_buffer = 0;
         at += (size_t)call.next;
     }
-    flush(decoder);
 }
 
 int main(int argc, char **argv) {
-    if (argc < 2 || argc > 3) return fprintf(stderr, "usage: player FILE [PICTURES]\n"), 2;
-    FILE *file = fopen(argv[1], "rb");
-    if (!file || fseek(file, 0, SEEK_END)) return fprintf(stderr, "player: %s can't be read\n", argv[1]), 3;
+    if (argc < 2 || argc > 3) return fprintf(stderr, "usage: player [PICTURES] FILE\n"), 2;
+    FILE *file = fopen(argv[argc - 1], "rb");
+    if (!file || fseek(file, 0, SEEK_END)) return fprintf(stderr, "player: %s can't be read\n", argv[argc - 1]), 3;
     long length = ftell(file);
     rewind(file);
     uint8_t *bytes = malloc(length > 0 ? (size_t)length : 1);
@@ -177,8 +183,12 @@ int main(int argc, char **argv) {
     if (!bytes || length < 0 || !decoder) return 5;
     size_t size = fread(bytes, 1, (size_t)length, file);
     fclose(file);
-    if (argc == 3) play(decoder, bytes, size, strtoull(argv[2], NULL, 10));
-    play(decoder, bytes, size, UINT64_MAX);
+    if (argc == 3) {
+        play(decoder, bytes, size, 0, strtoull(argv[1], NULL, 10));
+        leave(decoder, fezhalum_seek);
+    }
+    play(decoder, bytes, size, argc == 3 ? size / 2 : 0, UINT64_MAX);
+    leave(decoder, fezhalum_flush);
     fezhalum_free(decoder);
     printf("player: %" PRIu64 " pictures, %" PRIu64 " shown, %" PRIu64 " dropped, %" PRIu64 " skipped, %" PRIu64 " refused units, "
         "%d of %d frames in use\n", player.num_pictures, player.counts[SHOWN], player.counts[DROPPED], player.counts[SKIPPED],

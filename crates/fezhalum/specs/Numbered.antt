@@ -1,6 +1,7 @@
 -- Structs whose fields are numbered from 1 on.
 use Rattle.std.specs.Prelude.{ℕ, pos, [], ◌∷◌, ◌++◌, replicate}
 use Rattle.hevc_events.specs.declared.event.Event.{Event}
+use Rattle.hevc_events.specs.declared.event.Sequence.{Sequence}
 use Rattle.hevc_events.specs.declared.event.Places.{Places}
 use Rattle.hevc_events.specs.Plain.{no_places}
 use Rattle.hevc_pull.specs.declared.calls.DecodeCall.{DecodeCall}
@@ -15,6 +16,23 @@ numbered_places count number kind = record {
   count = count;
 }
 
+abbrev pub numbered_sequence : Sequence
+numbered_sequence = record {
+  general_level_idc = 14;
+  sps_max_dec_pic_buffering_minus1 = 15;
+  sps_max_num_reorder_pics = 16;
+  sps_max_latency_increase_plus1 = 17;
+  aspect_ratio_idc = 18;
+  sar_width = 19;
+  sar_height = 20;
+  video_full_range_flag = 21;
+  colour_primaries = 22;
+  transfer_characteristics = 23;
+  matrix_coeffs = 24;
+  vui_num_units_in_tick = 25;
+  vui_time_scale = 26;
+}
+
 abbrev pub numbered_event : Event
 numbered_event = record {
   place = 1;
@@ -26,17 +44,19 @@ numbered_event = record {
   is_output = 7;
   width = 8;
   height = 9;
-  general_profile_idc = 10;
-  bit_depth_luma_minus8 = 11;
-  bit_depth_chroma_minus8 = 12;
-  chroma_format_idc = 13;
-  max_num_pics = 14;
-  address = 15;
-  size = 16;
+  window = record { x = 10; y = 11; width = 12; height = 13 };
+  sequence = numbered_sequence;
+  general_profile_idc = 27;
+  bit_depth_luma_minus8 = 28;
+  bit_depth_chroma_minus8 = 29;
+  chroma_format_idc = 30;
+  max_num_pics = 31;
+  address = 32;
+  size = 33;
   lists =
-      numbered_places 17 18 19 ∷
+      numbered_places 34 35 36 ∷
       no_places ∷ no_places ∷ no_places ∷
-      numbered_places 20 21 22 ∷ [];
+      numbered_places 37 38 39 ∷ [];
 }
 
 abbrev pub numbered_call : DecodeCall

@@ -21,12 +21,12 @@ fn want_controls_in(decoder: &mut PullDecoder) -> u32
 /// From here on, the structs of Linux's stateless decoders are filled with each picture that
 /// begins. Answers the status.
 #[unsafe(no_mangle)]
-pub unsafe extern "C" fn fezhalum_want_controls(d: *mut Fezhalum) -> u32
+pub unsafe extern "C" fn fezhalum_want_controls(decoder: *mut Fezhalum) -> u32
     ghost x: { the_row.Denot }
-    requires* { sem 𝓛 (lies_at the_row full_share d x) }
-    ensures* { sem 𝓛 (Becomes the_row d (λ now. WantsControls x now result)) }
+    requires* { sem 𝓛 (lies_at the_row full_share decoder x) }
+    ensures* { sem 𝓛 (Becomes the_row decoder (λ now. WantsControls x now result)) }
 {
-    want_controls_in(&mut *(d as *mut PullDecoder))
+    want_controls_in(&mut *(decoder as *mut PullDecoder))
 }
 
 fn picture_controls_in(decoder: &mut PullDecoder, structs: &mut PictureControls) -> u32
@@ -38,15 +38,15 @@ fn picture_controls_in(decoder: &mut PullDecoder, structs: &mut PictureControls)
 /// The structs of the latest picture that began. Answers the status.
 #[unsafe(no_mangle)]
 pub unsafe extern "C" fn fezhalum_picture_controls(
-    d: *mut Fezhalum,
+    decoder: *mut Fezhalum,
     structs: &mut PictureControls,
 ) -> u32
     ghost x: { the_row.Denot }
-    requires* { sem 𝓛 (lies_at the_row full_share d x) }
-    ensures* { sem 𝓛 (Becomes the_row d
+    requires* { sem 𝓛 (lies_at the_row full_share decoder x) }
+    ensures* { sem 𝓛 (Becomes the_row decoder
         (λ now. FillsPicture x now structs.old structs.new result)) }
 {
-    picture_controls_in(&mut *(d as *mut PullDecoder), structs)
+    picture_controls_in(&mut *(decoder as *mut PullDecoder), structs)
 }
 
 fn slice_controls_in(decoder: &mut PullDecoder, structs: &mut SliceControls) -> u32
@@ -58,15 +58,15 @@ fn slice_controls_in(decoder: &mut PullDecoder, structs: &mut SliceControls) -> 
 /// The struct of the latest slice segment of that picture. Answers the status.
 #[unsafe(no_mangle)]
 pub unsafe extern "C" fn fezhalum_slice_controls(
-    d: *mut Fezhalum,
+    decoder: *mut Fezhalum,
     structs: &mut SliceControls,
 ) -> u32
     ghost x: { the_row.Denot }
-    requires* { sem 𝓛 (lies_at the_row full_share d x) }
-    ensures* { sem 𝓛 (Becomes the_row d
+    requires* { sem 𝓛 (lies_at the_row full_share decoder x) }
+    ensures* { sem 𝓛 (Becomes the_row decoder
         (λ now. FillsSlice x now structs.old structs.new result)) }
 {
-    slice_controls_in(&mut *(d as *mut PullDecoder), structs)
+    slice_controls_in(&mut *(decoder as *mut PullDecoder), structs)
 }
 
 fn entry_points_in(decoder: &mut PullDecoder, offsets: &mut [u32], count: &mut usize) -> u32
@@ -79,14 +79,14 @@ fn entry_points_in(decoder: &mut PullDecoder, offsets: &mut [u32], count: &mut u
 /// The entry points of that slice segment, and how many there are. Answers the status.
 #[unsafe(no_mangle)]
 pub unsafe extern "C" fn fezhalum_entry_points(
-    d: *mut Fezhalum,
+    decoder: *mut Fezhalum,
     offsets: &mut [u32],
     count: &mut usize,
 ) -> u32
     ghost x: { the_row.Denot }
-    requires* { sem 𝓛 (lies_at the_row full_share d x) }
-    ensures* { sem 𝓛 (Becomes the_row d (λ now. TellsLatestEntryPoints x now
+    requires* { sem 𝓛 (lies_at the_row full_share decoder x) }
+    ensures* { sem 𝓛 (Becomes the_row decoder (λ now. TellsLatestEntryPoints x now
         offsets.old offsets.new count.old count.new result)) }
 {
-    entry_points_in(&mut *(d as *mut PullDecoder), offsets, count)
+    entry_points_in(&mut *(decoder as *mut PullDecoder), offsets, count)
 }

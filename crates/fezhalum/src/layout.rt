@@ -9,9 +9,9 @@ ghost use Rattle.hevc_pull.specs.contracts.units.UnitCall as unit_type;
 ghost use Rattle.hevc_pull.specs.contracts.reads.UnitRead as read_type;
 ghost use Rattle.hevc_events.specs.Plain.{no_places};
 ghost use Rattle.fezhalum.specs.Numbered.{numbered_call, numbered_event, numbered_places};
-ghost use Rattle.fezhalum.specs.Numbered.{numbered_read, numbered_unit};
+ghost use Rattle.fezhalum.specs.Numbered.{numbered_read, numbered_sequence, numbered_unit};
 
-use hevc_events::{Event, Places};
+use hevc_events::{Event, Places, Sequence, Window};
 use hevc_pull::{DecodeCall, UnitCall, UnitRead};
 
 /// Fills an event: its fields with 1, 2, 3 and so on, and of its first and its last list the last
@@ -38,20 +38,47 @@ fn numbered_event() -> Event
         is_output: 7,
         width: 8,
         height: 9,
-        general_profile_idc: 10,
-        bit_depth_luma_minus8: 11,
-        bit_depth_chroma_minus8: 12,
-        chroma_format_idc: 13,
-        max_num_pics: 14,
-        address: 15,
-        size: 16,
+        window: Window {
+            x: 10,
+            y: 11,
+            width: 12,
+            height: 13,
+        },
+        sequence: numbered_sequence(),
+        general_profile_idc: 27,
+        bit_depth_luma_minus8: 28,
+        bit_depth_chroma_minus8: 29,
+        chroma_format_idc: 30,
+        max_num_pics: 31,
+        address: 32,
+        size: 33,
         lists: [
-            numbered_places(17, 18, 19),
+            numbered_places(34, 35, 36),
             no_places(),
             no_places(),
             no_places(),
-            numbered_places(20, 21, 22),
+            numbered_places(37, 38, 39),
         ],
+    }
+}
+
+fn numbered_sequence() -> Sequence
+    ensures { result ≡ numbered_sequence }
+{
+    Sequence {
+        general_level_idc: 14,
+        sps_max_dec_pic_buffering_minus1: 15,
+        sps_max_num_reorder_pics: 16,
+        sps_max_latency_increase_plus1: 17,
+        aspect_ratio_idc: 18,
+        sar_width: 19,
+        sar_height: 20,
+        video_full_range_flag: 21,
+        colour_primaries: 22,
+        transfer_characteristics: 23,
+        matrix_coeffs: 24,
+        vui_num_units_in_tick: 25,
+        vui_time_scale: 26,
     }
 }
 

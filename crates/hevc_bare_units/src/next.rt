@@ -8,8 +8,8 @@ use crate::piece::Piece;
 use hevc_bits::{Nalu, NaluType};
 
 /// The first unit whose start code is at `position` or after it, whatever its header is, with all
-/// bytes up to the next start code but the zeros at their end. Those of them that are the unit's own
-/// are `own_bytes`.
+/// bytes up to the next start code but the zeros at their end. Those of them that are the unit's
+/// own are `own_bytes`.
 pub fn next_piece(stream: &[u8], position: usize) -> Option<Nalu<'_, Piece>>
     requires { position ≤ length stream.now }
     ensures none { IfNone result (units_from kept_bytes position stream.now ≡ []) }
@@ -22,8 +22,8 @@ pub fn next_piece(stream: &[u8], position: usize) -> Option<Nalu<'_, Piece>>
     }
 }
 
-/// The bytes of a unit that are its own, of those up to the next start code: the two header bytes of
-/// an end of sequence or of bitstream (7.3.2.6, 7.3.2.7), and all bytes of another.
+/// The bytes of a unit that are its own, of those up to the next start code: the two header bytes
+/// of an end of sequence or of bitstream (7.3.2.6, 7.3.2.7), and all bytes of another.
 pub fn own_bytes(piece: &[u8]) -> &[u8]
     ensures { result.now ≡ kept_bytes piece.now }
 {

@@ -3,26 +3,4 @@
 #![tactic(auto)]
 
 #[cfg(test)]
-mod bit_writer;
-#[cfg(test)]
-mod bits;
-#[cfg(test)]
-mod element_lines;
-#[cfg(test)]
-mod elements;
-#[cfg(test)]
-mod expect;
-#[cfg(test)]
-mod io;
-#[cfg(test)]
-mod made;
-#[cfg(test)]
-mod picture_slice;
-#[cfg(test)]
-mod row_names;
-#[cfg(test)]
-mod sequence_set;
-#[cfg(test)]
-mod set_parts;
-#[cfg(test)]
-mod video_set;
+mod tests;

@@ -1,7 +1,7 @@
 -- What the units of a stream do to the walk.
 use Rattle.std.proofs.Common.{◌≡◌, ℕ, ◌≤◌, Bool, true, false, List, refl, sym, ap, ◌∙◌, subst}
 use Rattle.std.proofs.Common.{arith, Option, Some, None, Result, Ok, Err}
-use Rattle.std.specs.Prelude.{nat_le, drop, ◌==◌, ◌||◌, if◌then◌else◌, OnOk, IsSome, IsTrue, is_some, option_map}
+use Rattle.std.specs.Prelude.{drop, ◌==◌, ◌||◌, if◌then◌else◌, OnOk, IsSome, IsTrue, is_some, option_map}
 use Rattle.std.proofs.lemmas.Bool.Decides.{nat_tests}
 use Rattle.hevc_spec.specs.UnitTypes.{is_slice}
 use Rattle.hevc_spec.specs.UnitHeader.{UnitHeader, unit_header}
@@ -45,7 +45,7 @@ use Rattle.hevc_stream.specs.Options.{Options}
 use Rattle.hevc_stream.specs.Kept.{Kept, with_sequence_set}
 use Rattle.hevc_stream.specs.Slices.{temporal_id, coded_slice, slice_segment_meaning}
 use Rattle.hevc_stream.specs.Contents.{Content, refused, video_set, sequence_set, picture_set_read}
-use Rattle.hevc_stream.specs.Contents.{slice, content_read, nothing, content}
+use Rattle.hevc_stream.specs.Contents.{slice, content_read, nothing, content, wants}
 use Rattle.hevc_stream.specs.Stream.{meaning_of, meaning, kept_behind, with_content, with_all_waited}
 use Rattle.hevc_stream_laws.proofs.ByType.{of_picture_set, of_slice}
 use Rattle.hevc_kept_sets.specs.Kept.{kept_of, options_in}
@@ -78,7 +78,7 @@ module _ (o : Options) (k : Kept) (bytes : List ℕ) where
   read_or_not (refuses fault rest) = refl
 
   -- a picture set asks nothing of the pictures
-  pub picture_set_other : (h : UnitHeader) → unit_header bytes ≡ Ok h → temporal_id h ≤ o.highest_tid
+  pub picture_set_other : (h : UnitHeader) → unit_header bytes ≡ Ok h → wants o h ≡ true
       → h.nal_unit_type ≡ 34 → meaning o k bytes ≡ Other
   picture_set_other h parsed wanted t =
       let r = read (picture_parameter_set (temporal_id h) k.sequence_sets) (payload bytes) in
@@ -124,7 +124,7 @@ refused_taken bytes old new e isnt h same =
     (r.2 ∙ sym (keeps o k bytes (refused r.0) r.1))
 
 pub sequence_taken : (bytes : List ℕ) (old new : Walk) (h : UnitHeader) (set : PlainSps) (mid : Kept)
-    → unit_header bytes ≡ Ok h → temporal_id h ≤ (options_in old.sets).highest_tid
+    → unit_header bytes ≡ Ok h → wants (options_in old.sets) h ≡ true
     → content (options_in old.sets) (kept_of old.sets) bytes ≡ sequence_set set
     → new.pictures ≡ after_unit (SequenceSet (format_of_set set)) old.pictures
     → mid ≡ with_sequence_set set (kept_of old.sets) → kept_of new.sets ≡ with_all_waited (options_in old.sets) mid
@@ -181,7 +181,7 @@ coded_of options o nalu s sps pps same unit =
     (plain_slice_header s.header) (record { sps = plain_sps sps; pps = plain_pps pps })) (sym unit)
 
 module _ (o : Options) (k : Kept) (bytes : List ℕ) (h : UnitHeader) (parsed : unit_header bytes ≡ Ok h)
-    (wanted : temporal_id h ≤ o.highest_tid) where
+    (wanted : wants o h ≡ true) where
   module _ (has : k.has_sequence_set ≡ true) (typed : is_slice h.nal_unit_type ≡ true) where
     abbrev reading : Reading PlainSliceSegmentHeader
     reading =
@@ -225,9 +225,9 @@ module _ (o : Options) (k : Kept) (bytes : List ℕ) (h : UnitHeader) (parsed : 
         → meaning o k bytes ≡ m
     started_means m is has = sym (ap (λ (b : Bool). meaning o (record k { has_sequence_set = b }) bytes) (sym has)) ∙ is
 
--- a unit of a sub-layer that isn't wanted
+-- a unit that isn't wanted
 pub unwanted_means : (o : Options) (k : Kept) (bytes : List ℕ) (h : UnitHeader) → unit_header bytes ≡ Ok h
-    → nat_le (temporal_id h) o.highest_tid ≡ false → (meaning o k bytes ≡ Other) × (k ≡ kept_behind o k bytes)
+    → wants o h ≡ false → (meaning o k bytes ≡ Other) × (k ≡ kept_behind o k bytes)
 unwanted_means o k bytes h parsed above =
     let c = of_unwanted o k bytes h parsed above k in (means o k bytes nothing c, sym (keeps o k bytes nothing c))
 
@@ -311,13 +311,13 @@ set_taken bytes old new h parsed started t = record {
 }
 
 pub unwanted_taken : (bytes : List ℕ) (old : Walk) (h : UnitHeader) → unit_header bytes ≡ Ok h → HasStarted old
-    → nat_le (temporal_id h) (options_in old.sets).highest_tid ≡ false → TakesUnit (Ok None) bytes old old
+    → wants (options_in old.sets) h ≡ false → TakesUnit (Ok None) bytes old old
 unwanted_taken bytes old h parsed started above =
     let u = unwanted_means (options_in old.sets) (kept_of old.sets) bytes h parsed above in
     record { takes = idle_takes _ Other old.pictures old.pictures u.0 refl refl; kept = (u.1, started) }
 
 pub coded_taken : (r : Result (Option Begun) Unlike) (bytes : List ℕ) (old new : Walk) (h : UnitHeader)
-    → unit_header bytes ≡ Ok h → temporal_id h ≤ (options_in old.sets).highest_tid
+    → unit_header bytes ≡ Ok h → wants (options_in old.sets) h ≡ true
     → is_parameter_set h.nal_unit_type ≡ false → HasStarted old
     → Takes r (meaning (options_in old.sets) (kept_of old.sets) bytes) old.pictures new.pictures → new.sets ≡ old.sets
     → TakesUnit r bytes old new

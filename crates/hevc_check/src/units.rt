@@ -4,7 +4,7 @@ ghost use Rattle.hevc_spec.specs.UnitHeader.{unit_header};
 ghost use Rattle.hevc_spec.specs.UnitTypes.{is_slice};
 ghost use Rattle.hevc_bits.specs.FoundUnit.{bytes_of};
 ghost use Rattle.hevc_bits.specs.declared.stream_limit.TheConstants.{STREAM_LIMIT};
-ghost use Rattle.hevc_stream.specs.Slices.{temporal_id};
+ghost use Rattle.hevc_stream.specs.Contents.{wants};
 ghost use Rattle.hevc_stream.specs.Stream.{meaning};
 ghost use Rattle.hevc_stream.specs.Kept.{none_kept};
 ghost use Rattle.hevc_stream.specs.Options.{default_options};
@@ -56,7 +56,7 @@ impl Walk {
         requires short { length nalu.now.stream < STREAM_LIMIT }
         requires parsed { unit_header (bytes_of nalu.now) ≡ Ok nalu.now.header }
         requires typed { nalu.now.header.nal_unit_type ≡ 32 }
-        requires wanted { temporal_id nalu.now.header ≤ (options_in self.old.sets).highest_tid }
+        requires wanted { wants (options_in self.old.sets) nalu.now.header ≡ true }
         ensures takes { OnOk result (TakesSet (bytes_of nalu.now) self.old self.new) }
         ensures options { options_in self.new.sets ≡ options_in self.old.sets }
     {
@@ -75,7 +75,7 @@ impl Walk {
         requires short { length nalu.now.stream < STREAM_LIMIT }
         requires parsed { unit_header (bytes_of nalu.now) ≡ Ok nalu.now.header }
         requires typed { nalu.now.header.nal_unit_type ≡ 33 }
-        requires wanted { temporal_id nalu.now.header ≤ (options_in self.old.sets).highest_tid }
+        requires wanted { wants (options_in self.old.sets) nalu.now.header ≡ true }
         ensures takes { OnOk result (TakesSet (bytes_of nalu.now) self.old self.new) }
         ensures options { options_in self.new.sets ≡ options_in self.old.sets }
     {
@@ -96,7 +96,7 @@ impl Walk {
         requires short { length nalu.now.stream < STREAM_LIMIT }
         requires parsed { unit_header (bytes_of nalu.now) ≡ Ok nalu.now.header }
         requires typed { nalu.now.header.nal_unit_type ≡ 34 }
-        requires wanted { temporal_id nalu.now.header ≤ (options_in self.old.sets).highest_tid }
+        requires wanted { wants (options_in self.old.sets) nalu.now.header ≡ true }
         ensures takes { OnOk result (TakesSet (bytes_of nalu.now) self.old self.new) }
         ensures options { options_in self.new.sets ≡ options_in self.old.sets }
     {
@@ -108,7 +108,7 @@ impl Walk {
         requires short { length nalu.stream < STREAM_LIMIT }
         requires parsed { unit_header (bytes_of nalu) ≡ Ok nalu.header }
         requires typed { is_slice nalu.header.nal_unit_type ≡ true }
-        requires wanted { temporal_id nalu.header ≤ (options_in self.old.sets).highest_tid }
+        requires wanted { wants (options_in self.old.sets) nalu.header ≡ true }
         requires open_ { (kept_of self.old.sets).has_sequence_set ≡ true }
         requires few { self.old.pictures.next.number < 2 ^ 64 - 1 }
         ensures takes { Takes result
@@ -134,7 +134,7 @@ impl Walk {
         requires short { length nalu.stream < STREAM_LIMIT }
         requires parsed { unit_header (bytes_of nalu) ≡ Ok nalu.header }
         requires other { is_parameter_set nalu.header.nal_unit_type ≡ false }
-        requires wanted { temporal_id nalu.header ≤ (options_in self.old.sets).highest_tid }
+        requires wanted { wants (options_in self.old.sets) nalu.header ≡ true }
         requires started { HasStarted self.old }
         requires few { self.old.pictures.next.number < 2 ^ 64 - 1 }
         ensures takes { Takes result
@@ -169,7 +169,7 @@ impl Walk {
         ensures options { options_in self.new.sets ≡ options_in self.old.sets }
     {
         let header = nalu.header();
-        if header.temporal_id_plus1() - 1 > self.sets.options().highest_tid {
+        if !self.sets.options().wants(header) {
             return Ok(None);
         }
         match header.nalu_type() {

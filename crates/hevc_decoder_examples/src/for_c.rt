@@ -12,6 +12,7 @@ ghost use Rattle.hevc_stateless.specs.States.{is_awaited};
 ghost use Rattle.hevc_pull.specs.Reads.{Reads};
 ghost use Rattle.hevc_pull.specs.Extents.{no_extent};
 ghost use Rattle.hevc_pull.specs.Units.{lying};
+ghost use Rattle.hevc_pull.specs.Pulling.{AreTaken};
 ghost use Rattle.hevc_pull.specs.Views.{seen_of, view_in, with_free_frames};
 
 /// Of no bytes no unit is taken, which status 1 tells; status 0 doesn't.
@@ -23,11 +24,10 @@ pub fn decoded()
         → Decodes [] before now given told 0 → ⊥ }
 {}
 
-/// Where nothing waits, and no picture was counted, no event is told; no answer is 2.
+/// Where all was taken, and no picture is counted, no event is told; no answer is 2.
 pub fn pulled()
-    ensures none { (now : PullDecoder) (event : Event) → (view_in now).backend.waiting ≡ []
-        → (view_in now).queue ≡ [] → now.counted.items ≡ []
-        → is_awaited (view_in now).state ≡ false
+    ensures none { (now : PullDecoder) (event : Event) → AreTaken (view_in now)
+        → now.counted.items ≡ [] → is_awaited (view_in now).state ≡ false
         → TakesNext now now event event 0 }
     ensures two { (before now : PullDecoder) (old new : Event)
         → TakesNext before now old new 2 → ⊥ }

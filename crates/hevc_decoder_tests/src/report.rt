@@ -3,26 +3,12 @@ use crate::expect::{expect, expect_eq, ok};
 use hevc_io::{MemorySink, MemorySource, Word};
 use hevc_report::run;
 use hevc_stream_maker::make_stream;
+use hevc_worked_units::units::{
+    CRA, DISCARDING_IDR, END_OF_BITSTREAM, END_OF_SEQUENCE, IDR, LARGE_SPS, P2, P4, P8, PPS, SPS,
+    T0, UPPER_P2, WIDE_SPS,
+};
 use std::alloc::Global;
 use std::process::Abort;
-
-/// 16 by 16 luma samples, one picture may be needed for output.
-const SPS: &[u8] = &[
-    0x42, 0x01, 0x01, 0x01, 0x60, 0x00, 0x00, 0x03, 0x00, 0x90, 0x00, 0x00, 0x03, 0x00, 0x00, 0x03,
-    0x00, 0x3c, 0xa0, 0x88, 0x45, 0xe5, 0x5a, 0xbc, 0x20, 0x80,
-];
-
-/// 32 by 16 luma samples.
-const WIDE_SPS: &[u8] = &[
-    0x42, 0x01, 0x01, 0x01, 0x60, 0x00, 0x00, 0x03, 0x00, 0x90, 0x00, 0x00, 0x03, 0x00, 0x00, 0x03,
-    0x00, 0x3c, 0xa0, 0x42, 0x11, 0x79, 0x56, 0xaf, 0x08, 0x20,
-];
-
-/// 192 by 192 luma samples at level 1: 16 pictures may be needed for output, and the buffer has room for 6.
-const LARGE_SPS: &[u8] = &[
-    0x42, 0x01, 0x01, 0x01, 0x60, 0x00, 0x00, 0x03, 0x00, 0x90, 0x00, 0x00, 0x03, 0x00, 0x00, 0x03,
-    0x00, 0x1e, 0xa0, 0x18, 0x20, 0x30, 0x5e, 0x11, 0x08, 0xea, 0xf0, 0x82,
-];
 
 /// With 10 bits of luma.
 const TEN_BIT_LUMA: &[u8] = &[
@@ -56,8 +42,6 @@ const VPS: &[u8] = &[
     0x00, 0x00, 0x03, 0x00, 0x3c, 0x95, 0x40, 0x90,
 ];
 
-const PPS: &[u8] = &[0x44, 0x01, 0xc0, 0x71, 0x80, 0x12];
-
 /// With `dependent_slice_segments_enabled_flag`.
 const DEPENDENT_SLICES_PPS: &[u8] = &[0x44, 0x01, 0xe0, 0x71, 0x80, 0x12];
 
@@ -66,11 +50,6 @@ const OUTPUT_FLAG_PPS: &[u8] = &[0x44, 0x01, 0xd0, 0x71, 0x80, 0x12];
 
 /// With `pps_curr_pic_ref_enabled_flag`.
 const CURRENT_PICTURE_PPS: &[u8] = &[0x44, 0x01, 0xc0, 0x71, 0x80, 0x14, 0x42, 0x40];
-
-const IDR: &[u8] = &[0x26, 0x01, 0xaf, 0x80];
-
-/// An IDR picture with `no_output_of_prior_pics_flag`.
-const DISCARDING_IDR: &[u8] = &[0x26, 0x01, 0xef, 0x80];
 
 /// An IDR picture whose `pic_output_flag` is 0.
 const HIDDEN_IDR: &[u8] = &[0x26, 0x01, 0xad, 0x80];
@@ -90,30 +69,11 @@ const QUANTISER_MINUS_6: &[u8] = &[0x26, 0x01, 0xac, 0x08, 0x30, 0x80];
 /// A dependent slice of an IDR picture.
 const DEPENDENT_SLICE: &[u8] = &[0x26, 0x01, 0x38, 0x80];
 
-/// A P picture of order count 4, which refers to 0.
-const P4: &[u8] = &[0x02, 0x01, 0xd2, 0x14, 0x97, 0x80];
-
-/// A P picture of order count 2, which refers to 0, and keeps 4.
-const P2: &[u8] = &[0x02, 0x01, 0xd1, 0x12, 0x55, 0x70, 0x80];
-
-/// The same in sub-layer 1, to which no picture of its sub-layer refers.
-const UPPER_P2: &[u8] = &[0x04, 0x02, 0xd1, 0x12, 0x55, 0x70, 0x80];
+/// The same in layer 1.
+const LAYER_1_P2: &[u8] = &[0x02, 0x09, 0xd1, 0x12, 0x55, 0x70, 0x80];
 
 /// A B picture of order count 2, which refers to 0 and 4.
 const B2: &[u8] = &[0x02, 0x01, 0xe4, 0x49, 0x54, 0xe0, 0x80];
-
-/// A P picture of order count 8, which refers to 4 and 0.
-const P8: &[u8] = &[0x02, 0x01, 0xd4, 0x1c, 0x92, 0x6b, 0x80, 0x80];
-
-/// A picture of order count 0 that refers to none.
-const T0: &[u8] = &[0x02, 0x01, 0xd8, 0x3c, 0x80];
-
-/// A CRA picture of order count 8.
-const CRA: &[u8] = &[0x2a, 0x01, 0xae, 0x1e, 0x80];
-
-const END_OF_SEQUENCE: &[u8] = &[0x48, 0x01];
-
-const END_OF_BITSTREAM: &[u8] = &[0x4a, 0x01];
 
 const START: &[u8] = &[0x00, 0x00, 0x01];
 
@@ -689,6 +649,26 @@ fn upper_sub_layers_are_left_out(rt: HostRuntime) {
 }
 
 #[test]
+fn upper_layers_are_left_out(rt: HostRuntime) {
+    let rt = &rt;
+    let alloc = rt.alloc();
+    let units = [SPS, PPS, IDR, P4, LAYER_1_P2];
+    let end =
+        "submit 1 handle 1\nshow 0 poc 0 unit 5\nshow 1 poc 4 unit 5\nend pictures 2 shown 2\n";
+    for words in [
+        ["base"].as_slice(),
+        &["cra", "base"],
+        &["layer", "6", "base"],
+        &["base", "layer", "0", "cra"],
+        &["cra", "layer", "0", "base"],
+    ] {
+        ends(rt, alloc, words, &units, 0, end);
+    }
+    let end = "show 2 poc 2 unit 5\nshow 1 poc 4 unit 5\nend pictures 3 shown 3\n";
+    ends(rt, alloc, &["layer", "6"], &units, 0, end);
+}
+
+#[test]
 fn other_words_are_no_command(rt: HostRuntime) {
     let rt = &rt;
     let alloc = rt.alloc();
@@ -701,6 +681,10 @@ fn other_words_are_no_command(rt: HostRuntime) {
         &["layer", "0", "cra", "cra"],
         &["cra", "layer", "7"],
         &["cra", "cra", "0"],
+        &["base", "cra", "base"],
+        &["base", "0"],
+        &["base", "layer"],
+        &["layer", "0", "layer", "1"],
         &["make"],
         &["make", ""],
         &["make", "0"],

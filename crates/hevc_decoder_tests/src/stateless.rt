@@ -2,13 +2,8 @@
 use crate::expect::{expect, expect_eq, ok};
 use hevc_backend::{Backend, Call};
 use hevc_stateless::{DecodeError, DecoderEvent, Options, StatelessDecoder};
+use hevc_worked_units::streams::{INTRA, P_SLICE, PICTURE_SET, SEQUENCE_SET};
 use std::process::Abort;
-
-/// A sequence set: 16 by 16 luma samples.
-const SEQUENCE_SET: &[u8] = &[
-    0x00, 0x00, 0x01, 0x42, 0x01, 0x01, 0x01, 0x60, 0x00, 0x00, 0x03, 0x00, 0x90, 0x00, 0x00, 0x03,
-    0x00, 0x00, 0x03, 0x00, 0x3c, 0xa0, 0x88, 0x45, 0xe5, 0x5a, 0xbc, 0x20, 0x80,
-];
 
 /// The same of 32 by 16 luma samples.
 const WIDE_SET: &[u8] = &[
@@ -16,17 +11,15 @@ const WIDE_SET: &[u8] = &[
     0x00, 0x00, 0x03, 0x00, 0x3c, 0xa0, 0x42, 0x11, 0x79, 0x56, 0xaf, 0x08, 0x20,
 ];
 
-/// A picture set.
-const PICTURE_SET: &[u8] = &[0x00, 0x00, 0x01, 0x44, 0x01, 0xc0, 0x71, 0x80, 0x12];
-
-/// An IDR picture.
-const IDR: &[u8] = &[0x00, 0x00, 0x01, 0x26, 0x01, 0xaf, 0x80];
-
-/// A picture of order count 4.
-const LATER: &[u8] = &[0x00, 0x00, 0x01, 0x02, 0x01, 0xd2, 0x14, 0x97, 0x80];
-
 /// The same of temporal sub-layer 1.
 const UPPER: &[u8] = &[0x00, 0x00, 0x01, 0x02, 0x02, 0xd2, 0x14, 0x97, 0x80];
+
+/// The same in layer 0, in layer 1 and in layer 32.
+const IN_LAYERS: [&[u8]; 3] = [
+    &[0x00, 0x00, 0x01, 0x02, 0x01, 0xd2, 0x14, 0x97, 0x80],
+    &[0x00, 0x00, 0x01, 0x02, 0x09, 0xd2, 0x14, 0x97, 0x80],
+    &[0x00, 0x00, 0x01, 0x03, 0x01, 0xd2, 0x14, 0x97, 0x80],
+];
 
 /// An end of sequence.
 const END: &[u8] = &[0x00, 0x00, 0x01, 0x48, 0x01];
@@ -99,7 +92,7 @@ fn the_first_sequence_set_is_negotiated_and_given_again(rt: HostRuntime) {
     let rt = &rt;
     let alloc = rt.alloc();
     let mut decoder = StatelessDecoder::new(alloc, Backend::new(alloc));
-    takes(rt, &mut decoder, &[IDR]);
+    takes(rt, &mut decoder, &[INTRA]);
     expect(
         rt,
         decoder.decode(0, SEQUENCE_SET) == Err(DecodeError::CheckEvents),
@@ -131,10 +124,10 @@ fn a_picture_set_waits_for_its_sequence_set(rt: HostRuntime) {
     expect(rt, accept(&mut decoder));
     expect(
         rt,
-        decoder.decode(0, IDR) == Err(DecodeError::MissingPps(0)),
+        decoder.decode(0, INTRA) == Err(DecodeError::MissingPps(0)),
     );
     takes(rt, &mut decoder, &[SEQUENCE_SET]);
-    expect(rt, decoder.decode(5, IDR) == Ok(7));
+    expect(rt, decoder.decode(5, INTRA) == Ok(7));
     expect(rt, decoder.flush() == Ok(()));
     come_out(rt, &mut decoder, &[0]);
     expect(rt, next_number(&mut decoder).is_none());
@@ -146,12 +139,12 @@ fn behind_a_flush_an_idr_picture_is_waited_for(rt: HostRuntime) {
     let alloc = rt.alloc();
     let mut decoder = StatelessDecoder::new(alloc, Backend::new(alloc));
     expect(rt, begin(&mut decoder) == Ok(9));
-    takes(rt, &mut decoder, &[IDR, LATER, END]);
+    takes(rt, &mut decoder, &[INTRA, P_SLICE, END]);
     expect(rt, decoder.flush() == Ok(()));
     let calls = decoder.backend().calls().len();
-    takes(rt, &mut decoder, &[LATER]);
+    takes(rt, &mut decoder, &[P_SLICE]);
     expect_eq(rt, decoder.backend().calls().len(), calls);
-    takes(rt, &mut decoder, &[IDR, LATER]);
+    takes(rt, &mut decoder, &[INTRA, P_SLICE]);
     expect(rt, decoder.flush() == Ok(()));
     come_out(rt, &mut decoder, &[0, 1, 2, 3]);
 }
@@ -168,9 +161,12 @@ fn a_flush_forgets_a_format_that_is_awaited(rt: HostRuntime) {
     expect(rt, decoder.flush() == Ok(()));
     expect(rt, !decoder.awaiting_format());
     takes(rt, &mut decoder, &[PICTURE_SET, SEQUENCE_SET]);
-    expect(rt, decoder.decode(0, IDR) == Err(DecodeError::CheckEvents));
+    expect(
+        rt,
+        decoder.decode(0, INTRA) == Err(DecodeError::CheckEvents),
+    );
     expect(rt, accept(&mut decoder));
-    takes(rt, &mut decoder, &[IDR]);
+    takes(rt, &mut decoder, &[INTRA]);
 }
 
 #[test]
@@ -181,10 +177,33 @@ fn sub_layers_above_the_wanted_ones_are_passed_over(rt: HostRuntime) {
     options.highest_tid = 0;
     let mut decoder = StatelessDecoder::new_with(alloc, Backend::new(alloc), options);
     expect(rt, begin(&mut decoder) == Ok(9));
-    takes(rt, &mut decoder, &[IDR]);
+    takes(rt, &mut decoder, &[INTRA]);
     let calls = decoder.backend().calls().len();
     takes(rt, &mut decoder, &[UPPER]);
     expect_eq(rt, decoder.backend().calls().len(), calls);
+}
+
+#[test]
+fn layers_above_the_wanted_ones_are_passed_over(rt: HostRuntime) {
+    let rt = &rt;
+    let alloc = rt.alloc();
+    for (highest_layer, wanted) in [(0, 1), (1, 2), (31, 2), (32, 3)] {
+        let options = Options {
+            highest_layer,
+            ..Options::new()
+        };
+        let mut decoder = StatelessDecoder::new_with(alloc, Backend::new(alloc), options);
+        expect(rt, begin(&mut decoder) == Ok(9));
+        takes(rt, &mut decoder, &[INTRA]);
+        for (layer, unit) in IN_LAYERS.iter().enumerate() {
+            let calls = decoder.backend().calls().len();
+            takes(rt, &mut decoder, &[*unit]);
+            expect(
+                rt,
+                (decoder.backend().calls().len() == calls) == (layer >= wanted),
+            );
+        }
+    }
 }
 
 #[test]
@@ -209,10 +228,10 @@ fn a_refusal_leaves_the_decoder_where_it_stood(rt: HostRuntime) {
         decoder.decode(0, SEQUENCE_SET) == Err(DecodeError::Backend),
     );
     expect(rt, begin(&mut decoder) == Ok(9));
-    takes(rt, &mut decoder, &[IDR]);
+    takes(rt, &mut decoder, &[INTRA]);
     let full = Err(DecodeError::NotEnoughOutputBuffers(1));
-    expect(rt, decoder.decode(0, LATER) == full);
-    takes(rt, &mut decoder, &[LATER]);
+    expect(rt, decoder.decode(0, P_SLICE) == full);
+    takes(rt, &mut decoder, &[P_SLICE]);
     expect(rt, decoder.flush() == Ok(()));
     come_out(rt, &mut decoder, &[0, 1]);
 }
@@ -223,9 +242,12 @@ fn another_format_is_negotiated_behind_what_waits(rt: HostRuntime) {
     let alloc = rt.alloc();
     let mut decoder = StatelessDecoder::new(alloc, Backend::new(alloc));
     expect(rt, begin(&mut decoder) == Ok(9));
-    takes(rt, &mut decoder, &[IDR, WIDE_SET]);
+    takes(rt, &mut decoder, &[INTRA, WIDE_SET]);
     expect(rt, next_number(&mut decoder).is_none());
-    expect(rt, decoder.decode(0, IDR) == Err(DecodeError::CheckEvents));
+    expect(
+        rt,
+        decoder.decode(0, INTRA) == Err(DecodeError::CheckEvents),
+    );
     come_out(rt, &mut decoder, &[0]);
     expect(
         rt,
@@ -233,7 +255,7 @@ fn another_format_is_negotiated_behind_what_waits(rt: HostRuntime) {
     );
     expect(rt, accept(&mut decoder));
     let calls = decoder.backend().calls().len();
-    takes(rt, &mut decoder, &[IDR]);
+    takes(rt, &mut decoder, &[INTRA]);
     expect_eq(rt, decoder.backend().calls().len(), calls + 3);
 }
 
@@ -244,9 +266,9 @@ fn a_picture_whose_call_failed_is_given_again_as_another(rt: HostRuntime) {
     let backend = Backend::with_plan(alloc, ok(rt, vec![in alloc; 3]), Vec::new(alloc));
     let mut decoder = StatelessDecoder::new(alloc, backend);
     expect(rt, begin(&mut decoder) == Ok(9));
-    expect(rt, decoder.decode(0, IDR) == Err(DecodeError::Backend));
+    expect(rt, decoder.decode(0, INTRA) == Err(DecodeError::Backend));
     got(rt, &decoder, &[("NewSequence", 0), ("NewPicture", 0)]);
-    takes(rt, &mut decoder, &[IDR]);
+    takes(rt, &mut decoder, &[INTRA]);
     let calls = [
         ("NewSequence", 0),
         ("NewPicture", 0),
@@ -267,9 +289,9 @@ fn a_picture_without_a_frame_is_given_again_as_itself(rt: HostRuntime) {
     let backend = Backend::with_plan(alloc, Vec::new(alloc), ok(rt, vec![in alloc; 16, 0]));
     let mut decoder = StatelessDecoder::new(alloc, backend);
     expect(rt, begin(&mut decoder) == Ok(9));
-    takes(rt, &mut decoder, &[IDR]);
+    takes(rt, &mut decoder, &[INTRA]);
     let full = Err(DecodeError::NotEnoughOutputBuffers(1));
-    expect(rt, decoder.decode(0, LATER) == full);
+    expect(rt, decoder.decode(0, P_SLICE) == full);
     let calls = [
         ("NewSequence", 0),
         ("NewPicture", 0),
@@ -278,14 +300,14 @@ fn a_picture_without_a_frame_is_given_again_as_itself(rt: HostRuntime) {
         ("SubmitPicture", 0),
     ];
     got(rt, &decoder, &calls);
-    takes(rt, &mut decoder, &[LATER]);
+    takes(rt, &mut decoder, &[P_SLICE]);
     expect(rt, decoder.flush() == Ok(()));
     come_out(rt, &mut decoder, &[0, 1]);
     expect(rt, next_number(&mut decoder).is_none());
     let calls = decoder.backend().calls().len();
-    takes(rt, &mut decoder, &[LATER]);
+    takes(rt, &mut decoder, &[P_SLICE]);
     expect_eq(rt, decoder.backend().calls().len(), calls);
-    takes(rt, &mut decoder, &[IDR]);
+    takes(rt, &mut decoder, &[INTRA]);
     expect_eq(rt, decoder.backend().calls().len(), calls + 3);
     expect(rt, decoder.flush() == Ok(()));
     come_out(rt, &mut decoder, &[2]);

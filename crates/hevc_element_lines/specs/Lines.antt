@@ -87,7 +87,7 @@ lines_from style place seen (told ∷ more) =
     element_line style place seen told
     ++ lines_from style (place_after place told) (after seen told) more
 
--- The lines of a unit's elements. The first is after the 16 bits of the header, and places are those
--- of bits without emulation prevention bytes.
+-- The lines of a unit's elements. The first is after the 16 bits of the header, and places are
+-- those of bits without emulation prevention bytes.
 abbrev pub element_lines : Style → List Told → List ℕ
 element_lines style all = lines_from style 16 nothing_seen all

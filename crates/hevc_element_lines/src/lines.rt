@@ -2,7 +2,11 @@
 ghost use Rattle.std.specs.Prelude.{◌≡◌, ◌++◌, ◌+◌, ◌-◌, ◌*◌, ◌<◌, ◌≤◌, decimal, OnOk, drop, codes};
 ghost use Rattle.std.specs.Fmt.{signed_decimal};
 ghost use Rattle.hevc_element_names.specs.Seen.{natural, sight_of};
-ghost use Rattle.hevc_element_lines.specs.Lines.{before_form, before_name, before_place, before_value, code_number, element_line, element_lines, form_text, golomb_size, index_text, indices_text, line_end, lines_from, place_after, size_by};
+ghost use Rattle.hevc_element_lines.specs.Lines.{before_form, before_name, before_place};
+ghost use Rattle.hevc_element_lines.specs.Lines.{before_value, code_number, element_line};
+ghost use Rattle.hevc_element_lines.specs.Lines.{element_lines, form_text, golomb_size, index_text};
+ghost use Rattle.hevc_element_lines.specs.Lines.{indices_text, line_end, lines_from, place_after};
+ghost use Rattle.hevc_element_lines.specs.Lines.{size_by};
 
 use crate::style::Style;
 use hevc_element_names::{ElementName, Indices, Seen};
@@ -69,7 +73,8 @@ fn push_name(
     indices: Indices,
 ) -> Result<(), AllocError>
     ensures { OnOk result
-        (text.new.items ≡ text.old.items ++ (before_name style ++ name.now ++ indices_text indices)) }
+        (text.new.items ≡ text.old.items
+        ++ (before_name style ++ name.now ++ indices_text indices)) }
 {
     text.extend_from_slice(before_name(style))?;
     text.extend_from_slice(name)?;

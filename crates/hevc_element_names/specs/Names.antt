@@ -101,7 +101,9 @@ element_place seen table row =
 -- a part of a text, and nothing where it doesn't have it
 abbrev pub span : List ℕ → ℕ → ℕ → List ℕ
 span text start end =
-    if nat_le start end && nat_le end (length text) then take (end - start) (drop start text) else []
+    if nat_le start end && nat_le end (length text)
+    then take (end - start) (drop start text)
+    else []
 
 -- the text at a place of many, each of which begins where the one before ends
 abbrev pub text_at : List ℕ → List ℕ → ℕ → List ℕ

@@ -50,8 +50,9 @@ layer_after table row n v layer =
     if table == 2 && row == 30 then with_element (n % 83) v layer else layer
 
 -- Of each row, at 64 times its table and its number, how many elements there were since its
--- structure began, and the last value; the members of a predicted short-term set so far, and whether
--- the last one's use_delta_flag is due; and which flags of two kinds are set, by their indices.
+-- structure began, and the last value; the members of a predicted short-term set so far, and
+-- whether the last one's use_delta_flag is due; and which flags of two kinds are set, by their
+-- indices.
 pub record Sight : Type 0 where
   pub layer : Layer
   pub counts : List ℕ

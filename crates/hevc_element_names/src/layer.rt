@@ -1,7 +1,8 @@
 //! Which elements the profile of a sub-layer has.
 ghost use Rattle.std.specs.Prelude.{◌≡◌, ◌<◌, ◌||◌};
 ghost use Rattle.hevc_element_names.specs.Names.{constraint, profile_element, range_constraint};
-ghost use Rattle.hevc_element_names.specs.Seen.{is_14bit, is_inbld, is_range, no_layer, own_layer, with_element, with_profile};
+ghost use Rattle.hevc_element_names.specs.Seen.{is_14bit, is_inbld, is_range, no_layer, own_layer};
+ghost use Rattle.hevc_element_names.specs.Seen.{with_element, with_profile};
 
 /// Which elements the profile of a sub-layer has (7.3.3), by the profiles to which it conforms:
 /// those of the range extensions' profiles, and of these `max_14bit_constraint_flag`, those of Main

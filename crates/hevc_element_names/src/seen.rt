@@ -1,7 +1,15 @@
 //! What was told of a unit.
-ghost use Rattle.std.specs.Prelude.{◌≡◌, ◌≤◌, ◌<◌, ◌+◌, ◌-◌, ◌/◌, ◌%◌, min, max, length, IfOk, IfSome, replicate, OnOk, option_map, Some, None, slice_index_or, slice_get, if◌then◌else◌, ◌==◌};
-ghost use Rattle.hevc_element_names.specs.Seen.{after, begun_by, cleared, count, counted, due_after, emptied, first_after, marked, members_after, natural, no_numbers, nothing_seen, place, second_after, sight_of, value, with_at};
-ghost use Rattle.hevc_element_names.specs.Names.{indices_by, indices_of, element_place, list_number, matrix_of, name_at, name_of, nth, num_elements, profile_indices, row_place, rule_at, which};
+ghost use Rattle.std.specs.Prelude.{◌≡◌, ◌≤◌, ◌<◌, ◌+◌, ◌-◌, ◌/◌, ◌%◌, min, max, length, IfOk};
+ghost use Rattle.std.specs.Prelude.{IfSome, replicate, OnOk, option_map, Some, None};
+ghost use Rattle.std.specs.Prelude.{slice_index_or, slice_get, if◌then◌else◌, ◌==◌};
+ghost use Rattle.hevc_element_names.specs.Seen.{after, begun_by, cleared, count, counted};
+ghost use Rattle.hevc_element_names.specs.Seen.{due_after, emptied, first_after, marked};
+ghost use Rattle.hevc_element_names.specs.Seen.{members_after, natural, no_numbers, nothing_seen};
+ghost use Rattle.hevc_element_names.specs.Seen.{place, second_after, sight_of, value, with_at};
+ghost use Rattle.hevc_element_names.specs.Names.{indices_by, indices_of, element_place};
+ghost use Rattle.hevc_element_names.specs.Names.{list_number, matrix_of, name_at, name_of, nth};
+ghost use Rattle.hevc_element_names.specs.Names.{num_elements, profile_indices, row_place, rule_at};
+ghost use Rattle.hevc_element_names.specs.Names.{which};
 
 use crate::elements::{FIRSTS, NAMES, RULES, SPANS, STARTS};
 use crate::layer::Layer;

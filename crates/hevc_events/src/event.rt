@@ -1,6 +1,7 @@
 //! What a backend was asked for, as plain structs.
 ghost use Rattle.std.specs.Prelude.{◌≡◌};
-ghost use Rattle.hevc_events.specs.Plain.{bare_event, event_of_picture, no_places};
+ghost use Rattle.hevc_events.specs.Plain.{bare_event, event_of_picture, no_places, no_sequence};
+ghost use Rattle.hevc_events.specs.Plain.{no_window};
 
 /// A list of pictures, of at most 16 places (8.3.2, 8.3.4).
 #[repr(C)]
@@ -13,6 +14,45 @@ pub struct Places {
     pub kinds: [u8; 16],
     /// How many places the list has.
     pub count: u32,
+}
+
+/// A rectangle of luma samples within a picture.
+#[repr(C)]
+#[derive(Clone, Copy)]
+pub struct Window {
+    /// Its left column.
+    pub x: u32,
+    /// Its upper row.
+    pub y: u32,
+    /// How many columns it has.
+    pub width: u32,
+    /// How many rows it has.
+    pub height: u32,
+}
+
+/// What a sequence parameter set says of a sequence. What is absent has the value that H.265
+/// infers, or 0.
+#[repr(C)]
+#[derive(Clone, Copy)]
+pub struct Sequence {
+    /// Thirty times the level (A.4.1).
+    pub general_level_idc: u32,
+    /// The three ordering numbers are those of the highest sub-layer (7.4.3.2.1).
+    pub sps_max_dec_pic_buffering_minus1: u32,
+    pub sps_max_num_reorder_pics: u32,
+    pub sps_max_latency_increase_plus1: u32,
+    /// The shape of a sample (Table E.1): 255 where `sar_width` and `sar_height` tell it.
+    pub aspect_ratio_idc: u32,
+    pub sar_width: u32,
+    pub sar_height: u32,
+    /// The colours (E.3.1): whether samples have their full range, and Tables E.3 to E.5.
+    pub video_full_range_flag: u32,
+    pub colour_primaries: u32,
+    pub transfer_characteristics: u32,
+    pub matrix_coeffs: u32,
+    /// A tick has so many units, of which `vui_time_scale` are a second.
+    pub vui_num_units_in_tick: u32,
+    pub vui_time_scale: u32,
 }
 
 /// A call of the decoder on its backend. What a kind doesn't have is 0.
@@ -34,10 +74,14 @@ pub struct Event {
     pub order_count: i32,
     /// Of kind 2, PicOutputFlag.
     pub is_output: u32,
-    /// Of kind 1, `pic_width_in_luma_samples`.
+    /// Of kinds 1 and 3, `pic_width_in_luma_samples`.
     pub width: u32,
-    /// Of kind 1, `pic_height_in_luma_samples`.
+    /// Of kinds 1 and 3, `pic_height_in_luma_samples`.
     pub height: u32,
+    /// Of kinds 1 and 3, the conformance cropping window (7.4.3.2.1): what is shown of a picture.
+    pub window: Window,
+    /// Of kind 1, what else is known of the sequence.
+    pub sequence: Sequence,
     /// Of kind 1, `general_profile_idc`.
     pub general_profile_idc: u32,
     /// Of kind 1, `bit_depth_luma_minus8`.
@@ -68,6 +112,39 @@ pub fn no_places() -> Places
     }
 }
 
+/// A window of no sample.
+pub fn no_window() -> Window
+    ensures { result ≡ no_window }
+{
+    Window {
+        x: 0,
+        y: 0,
+        width: 0,
+        height: 0,
+    }
+}
+
+/// A sequence of which nothing is known.
+fn no_sequence() -> Sequence
+    ensures { result ≡ no_sequence }
+{
+    Sequence {
+        general_level_idc: 0,
+        sps_max_dec_pic_buffering_minus1: 0,
+        sps_max_num_reorder_pics: 0,
+        sps_max_latency_increase_plus1: 0,
+        aspect_ratio_idc: 0,
+        sar_width: 0,
+        sar_height: 0,
+        video_full_range_flag: 0,
+        colour_primaries: 0,
+        transfer_characteristics: 0,
+        matrix_coeffs: 0,
+        vui_num_units_in_tick: 0,
+        vui_time_scale: 0,
+    }
+}
+
 /// An event of a kind, at a place, and nothing else.
 fn bare_event(place: u64, kind: u32) -> Event
     ensures { result ≡ bare_event place kind }
@@ -82,6 +159,8 @@ fn bare_event(place: u64, kind: u32) -> Event
         is_output: 0,
         width: 0,
         height: 0,
+        window: no_window(),
+        sequence: no_sequence(),
         general_profile_idc: 0,
         bit_depth_luma_minus8: 0,
         bit_depth_chroma_minus8: 0,

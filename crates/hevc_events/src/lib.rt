@@ -8,7 +8,7 @@ mod queue;
 mod raster;
 mod scan;
 
-pub use event::{Event, Places, event_of_picture, no_places};
+pub use event::{Event, Places, Sequence, Window, event_of_picture, no_places, no_window};
 pub use flags::flag_bits;
 pub use queue::EventQueue;
 pub use raster::{raster_list, raster_lists};

@@ -2,8 +2,6 @@
 use Rattle.std.proofs.Common.{◌≡◌, ℕ, ◌+◌, ◌≤◌, Bool, true, false, cond, List, [], ◌∷◌, ◌++◌}
 use Rattle.std.proofs.Common.{length, sym, ap, subst, ◌∙◌, arith, Some, None, Result, Ok, Err}
 use Rattle.std.proofs.Common.{append_assoc, append-nil}
-use Rattle.std.specs.Prelude.{All}
-use Rattle.std.proofs.lemmas.List.Elements.{All-cons, All-nil}
 use Rattle.hevc_spec.specs.UnitHeader.{UnitHeader, HeaderFault, unit_header}
 use Rattle.hevc_spec.specs.Units.{NalUnit, units}
 use Rattle.hevc_bits.specs.declared.header.UnitError.{UnitError}
@@ -11,15 +9,14 @@ use Rattle.hevc_bits.specs.ParsedHeader.{answer_of, parsed_header}
 use Rattle.hevc_bit_writer.specs.WrittenUnits.{started, stream_of}
 use Rattle.hevc_extract.specs.declared.extraction.Kept.{Kept}
 use Rattle.hevc_extract.specs.Extracting.{bytes_of_all, counted, extracted, first_refused}
-use Rattle.hevc_extract.specs.Extracting.{refused_or, is_kept, is_kept_by, is_within, kept_units}
-use Rattle.hevc_extract.specs.Extracting.{HasLayer}
+use Rattle.hevc_extract.specs.Extracting.{refused_or, is_kept, is_kept_by, kept_units, up_to}
+use Rattle.hevc_stream.specs.Contents.{wants}
 
 -- What is kept so far and what the units that are left give are the whole.
 pub record Left (t l : ℕ) (stream old out : List ℕ) (kept : Kept) (us : List NalUnit) : Type 0 where
   pub bytes : out ++ stream_of (bytes_of_all (kept_units t l us)) ≡ old ++ extracted t l stream
   pub count : kept.units + length (kept_units t l us) ≡ length (kept_units t l (units stream))
   pub all : kept.units + kept.dropped + length us ≡ length (units stream)
-  pub layers : All HasLayer us → All HasLayer (units stream)
   pub refused : first_refused 0 (units stream) ≡ first_refused (kept.units + kept.dropped) us
 
 pub header_is : (bytes : List ℕ) (h : UnitHeader) → parsed_header bytes ≡ Ok h → unit_header bytes ≡ Ok h
@@ -31,24 +28,14 @@ header_is bytes h e = by_result (unit_header bytes) e
 
 -- one more unit is taken
 pub takes : (t l : ℕ) (stream old out : List ℕ) (kept : Kept) (u : NalUnit) (others : List NalUnit) (h : UnitHeader)
-    → parsed_header u.bytes ≡ Ok h → h.nuh_layer_id ≤ 63
+    → parsed_header u.bytes ≡ Ok h
     → Left t l stream old out kept (u ∷ others)
-    → Left t l stream old (out ++ cond (is_within t l h) (started u.bytes) []) (counted (is_within t l h) kept)
+    → Left t l stream old (out ++ cond (wants (up_to t l) h) (started u.bytes) []) (counted (wants (up_to t l) h) kept)
     others
-takes t l stream old out kept u others h parsed low left =
+takes t l stream old out kept u others h parsed left =
     let is = header_is u.bytes h parsed in
-    by_test (is_within t l h) (ap (is_kept_by t l) is) left.bytes left.count
+    by_test (wants (up_to t l) h) (ap (is_kept_by t l) is) left.bytes left.count
   where
-    same_layer : (g : UnitHeader) → Path (Result UnitHeader HeaderFault) (Ok h) (Ok g) → g.nuh_layer_id ≤ 63
-    same_layer g e =
-        let same : h ≡ g = cc e in
-        subst (λ (x : UnitHeader). x.nuh_layer_id ≤ 63) same low
-
-    of_all : All HasLayer others → All HasLayer (units stream)
-    of_all rest =
-        let here : HasLayer u = λ g e. same_layer g (sym (header_is u.bytes h parsed) ∙ e) in
-        left.layers (All-cons HasLayer u others here rest)
-
     none_here : first_refused 0 (units stream) ≡ first_refused (kept.units + kept.dropped + 1) others
     none_here =
         left.refused
@@ -64,7 +51,6 @@ takes t l stream old out kept u others h parsed low left =
       bytes = append_assoc out (started u.bytes) (stream_of (bytes_of_all (kept_units t l others))) ∙ rw e at bytes;
       count = let more = rw e at count in omega (arith, more);
       all = omega (arith, left.all);
-      layers = of_all;
       refused = none_here ∙ ap (λ (n : ℕ). first_refused n others) (omega arith);
     }
     by_test false e bytes count = record {
@@ -72,7 +58,6 @@ takes t l stream old out kept u others h parsed low left =
           ap (λ (x : List ℕ). x ++ stream_of (bytes_of_all (kept_units t l others))) (append-nil out) ∙ rw e at bytes;
       count = rw e at count;
       all = omega (arith, left.all);
-      layers = of_all;
       refused = none_here ∙ ap (λ (n : ℕ). first_refused n others) (omega arith);
     }
 
@@ -88,7 +73,6 @@ pub record Done (t l : ℕ) (stream old out : List ℕ) (kept : Kept) : Type 0 w
   pub bytes : out ≡ old ++ extracted t l stream
   pub count : kept.units ≡ length (kept_units t l (units stream))
   pub all : kept.units + kept.dropped ≡ length (units stream)
-  pub layers : All HasLayer (units stream)
   pub refused : first_refused 0 (units stream) ≡ None
 
 pub done : (t l : ℕ) (stream old out : List ℕ) (kept : Kept) (us : List NalUnit) → us ≡ []
@@ -102,7 +86,6 @@ done t l stream old out kept us e left =
       bytes = sym (append-nil out) ∙ rest.bytes;
       count = omega (arith, none);
       all = omega (arith, all);
-      layers = rest.layers (All-nil HasLayer);
       refused = rest.refused;
     }
 

@@ -22,12 +22,12 @@ pub line_written : (targets : Targets) (s : List ℕ) (unit : ℕ) (error : Unit
 line_written targets s unit error some = ap (bytes_or_line (extracted targets.highest_tid targets.highest_layer s)) some
 
 pub alike_written : (targets : Targets) (s : List ℕ) → first_refused 0 (units s) ≡ None
-    → (targets.highest_layer ≡ 63 → DecodesAlike targets.highest_tid s (extracted targets.highest_tid 63 s))
-    → targets.highest_layer ≡ 63 → DecodesAlike targets.highest_tid s (written_of targets s)
-alike_written targets s none alike all =
-    let same : written_of targets s ≡ extracted targets.highest_tid 63 s =
-    units_written targets s none ∙ ap (λ (l : ℕ). extracted targets.highest_tid l s) all in
-    subst (λ (x : List ℕ). DecodesAlike targets.highest_tid s x) (sym same) (alike all)
+    → DecodesAlike targets.highest_tid targets.highest_layer s
+    (extracted targets.highest_tid targets.highest_layer s)
+    → DecodesAlike targets.highest_tid targets.highest_layer s (written_of targets s)
+alike_written targets s none alike =
+    subst (λ (x : List ℕ). DecodesAlike targets.highest_tid targets.highest_layer s x)
+    (sym (units_written targets s none)) alike
 
 pub prefix_written : (a b : Option (List ℕ)) (text : List ℕ) → Appends a b text → AppendsPrefix a b text
 prefix_written a b text all = (length text, subst (λ (x : List ℕ). Appends a b x) (sym (take-length text)) all)

@@ -1,24 +1,29 @@
 -- The units of a stream up to a temporal sub-layer and a layer (clause 10, but that all SEI units of
 -- these stay).
-use Rattle.std.specs.Prelude.{◌≡◌, ℕ, ◌+◌, ◌≤◌, nat_le, ◌&&◌, Bool, false, List, [], ◌∷◌, filter, map, Option, Some, None, Result, Ok, Err, if◌then◌else◌}
+use Rattle.std.specs.Prelude.{◌≡◌, ℕ, ◌+◌, Bool, false, List, [], ◌∷◌, filter, map, Option}
+use Rattle.std.specs.Prelude.{Some, None, Result, Ok, Err, if◌then◌else◌}
 use Rattle.hevc_spec.specs.UnitHeader.{UnitHeader, HeaderFault, unit_header}
 use Rattle.hevc_spec.specs.Units.{NalUnit, units}
 use Rattle.hevc_bits.specs.declared.header.UnitError.{UnitError}
 use Rattle.hevc_bits.specs.ParsedHeader.{parsed_header}
 use Rattle.hevc_bit_writer.specs.WrittenUnits.{stream_of}
-use Rattle.hevc_stream.specs.Slices.{temporal_id}
+use Rattle.hevc_stream.specs.Contents.{wants}
+use Rattle.hevc_stream.specs.Options.{Options}
 use Rattle.hevc_extract.specs.declared.extraction.ExtractError.{ExtractError}
 use Rattle.hevc_extract.specs.declared.extraction.ExtractError.TheVariants.{Refused, NoMemory}
 use Rattle.hevc_extract.specs.declared.extraction.Kept.{Kept}
 
--- TemporalId and nuh_layer_id are at most the highest that are wanted (clause 10)
-abbrev pub is_within : ℕ → ℕ → UnitHeader → Bool
-is_within highest_tid highest_layer header =
-    nat_le (temporal_id header) highest_tid && nat_le header.nuh_layer_id highest_layer
+-- sub-layers and layers up to these are wanted (8.1.2)
+abbrev pub up_to : ℕ → ℕ → Options
+up_to highest_tid highest_layer = record {
+  handle_cra_as_bla = false;
+  highest_tid = highest_tid;
+  highest_layer = highest_layer;
+}
 
--- a unit is kept by its header, and not where that is faulty
+-- a unit is kept where it is wanted (clause 10), and not where its header is faulty
 abbrev pub is_kept_by : ℕ → ℕ → Result UnitHeader HeaderFault → Bool
-is_kept_by highest_tid highest_layer (Ok header) = is_within highest_tid highest_layer header
+is_kept_by highest_tid highest_layer (Ok header) = wants (up_to highest_tid highest_layer) header
 is_kept_by highest_tid highest_layer (Err fault) = false
 
 abbrev pub is_kept : ℕ → ℕ → NalUnit → Bool
@@ -61,8 +66,3 @@ abbrev pub counted : Bool → Kept → Kept
 counted keeps kept =
     if keeps then record kept { units = kept.units + 1 }
     else record kept { dropped = kept.dropped + 1 }
-
--- nuh_layer_id has six bits
-abbrev pub HasLayer : NalUnit → Type 0
-HasLayer unit =
-    (header : UnitHeader) → unit_header unit.bytes ≡ Ok header → header.nuh_layer_id ≤ 63

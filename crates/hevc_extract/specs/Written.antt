@@ -36,12 +36,11 @@ status_of None = 0
 status_of (Some refused) = 1
 
 -- what is known of a stream of which no unit is refused: the kept units are found in the bytes that
--- are written, and, where no layer is dropped, are decoded as in the stream
+-- are written, and are decoded as in the stream
 abbrev pub HoldsAsAsked : Targets → List ℕ → Type 0
 HoldsAsAsked targets stream =
     HoldsKept targets.highest_tid targets.highest_layer stream (written_of targets stream)
-    × (targets.highest_layer ≡ 63
-    → DecodesAlike targets.highest_tid stream (written_of targets stream))
+    × DecodesAlike targets.highest_tid targets.highest_layer stream (written_of targets stream)
 
 -- the extractor, as a program, whose statuses with a text are 0 and 1
 abbrev pub extract_program : Program Targets

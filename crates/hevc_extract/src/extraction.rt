@@ -3,10 +3,11 @@ ghost use Rattle.std.specs.Prelude.{◌≡◌, ◌≤◌, ◌<◌, ◌+◌, ◌-
 ghost use Rattle.hevc_spec.specs.Units.{units};
 ghost use Rattle.hevc_bits.specs.FoundUnit.{bytes_of};
 ghost use Rattle.hevc_bit_writer.specs.WrittenUnits.{started};
-ghost use Rattle.hevc_extract.specs.Extracting.{counted, extracted, first_refused, is_kept, is_within, kept_units, HasLayer, TellsRefusal};
+ghost use Rattle.hevc_extract.specs.Extracting.{counted, extracted, first_refused, is_kept, kept_units, TellsRefusal};
 ghost use Rattle.hevc_extract.specs.Alike.{DecodesAlike, HoldsKept};
 
-use hevc_bits::{Nalu, NaluHeader, UnitError};
+use hevc_bits::{Nalu, UnitError};
+use hevc_options::Options;
 use std::alloc::AllocError;
 use thiserror::Error;
 
@@ -39,8 +40,9 @@ impl From<AllocError> for ExtractError {
 
 /// Adds the units of `stream` whose temporal id is at most `highest_tid`, 0 to 6, to `out`, each
 /// after 00 00 01, byte for byte and in order: the sub-bitstream of clause 10 of H.265 with all
-/// layers, but that all SEI units of these sub-layers stay. What is decoded from them with `highest_tid` as the highest sub-layer that is wanted is
-/// what is decoded so from `stream` (`DecodesAlike`).
+/// layers, but that all SEI units of these sub-layers stay. What is decoded from them with
+/// `highest_tid` as the highest sub-layer that is wanted is what is decoded so from `stream`
+/// (`DecodesAlike`).
 ///
 /// `Refused` tells of the first unit whose header is refused. After a refusal `out` is as before.
 pub fn extract(stream: &[u8], highest_tid: u8, out: &mut Vec<u8>) -> Result<Kept, ExtractError>
@@ -54,7 +56,7 @@ pub fn extract(stream: &[u8], highest_tid: u8, out: &mut Vec<u8>) -> Result<Kept
     ensures holds { OnOk result
         (HoldsKept highest_tid 63 stream.now (extracted highest_tid 63 stream.now)) }
     ensures alike { OnOk result
-        (DecodesAlike highest_tid stream.now (extracted highest_tid 63 stream.now)) }
+        (DecodesAlike highest_tid 63 stream.now (extracted highest_tid 63 stream.now)) }
     ensures refused { TellsRefusal result (first_refused 0 (units stream.now)) }
     ensures unchanged { OnErr result (out.new.items ≡ out.old.items) }
 {
@@ -62,7 +64,8 @@ pub fn extract(stream: &[u8], highest_tid: u8, out: &mut Vec<u8>) -> Result<Kept
 }
 
 /// The same of the units whose layer id, besides, is at most `highest_layer`, 0 to 63: the
-/// sub-bitstream of clause 10 of H.265, but that all SEI units of these layers stay.
+/// sub-bitstream of clause 10 of H.265, but that all SEI units of these layers stay. What is decoded
+/// from them is what is decoded from `stream` where this is the highest layer that is wanted.
 pub fn extract_layer(
     stream: &[u8],
     highest_tid: u8,
@@ -79,13 +82,19 @@ pub fn extract_layer(
     ensures holds { OnOk result
         (HoldsKept highest_tid highest_layer stream.now
         (extracted highest_tid highest_layer stream.now)) }
-    ensures alike { OnOk result (highest_layer ≡ 63
-        → DecodesAlike highest_tid stream.now (extracted highest_tid 63 stream.now)) }
+    ensures alike { OnOk result
+        (DecodesAlike highest_tid highest_layer stream.now
+        (extracted highest_tid highest_layer stream.now)) }
     ensures refused { TellsRefusal result (first_refused 0 (units stream.now)) }
     ensures unchanged { OnErr result (out.new.items ≡ out.old.items) }
 {
     let before = out.len();
-    let kept = append_kept(stream, highest_tid, highest_layer, out);
+    let wanted = Options {
+        highest_tid,
+        highest_layer,
+        ..Options::new()
+    };
+    let kept = append_kept(stream, wanted, out);
     if kept.is_err() {
         out.truncate(before);
     }
@@ -93,19 +102,13 @@ pub fn extract_layer(
 }
 
 /// Adds the units that are kept. After a refusal some of them are in `out`.
-fn append_kept(
-    stream: &[u8],
-    highest_tid: u8,
-    highest_layer: u8,
-    out: &mut Vec<u8>,
-) -> Result<Kept, ExtractError>
-    ensures bytes { OnOk result
-        (out.new.items ≡ out.old.items ++ extracted highest_tid highest_layer stream.now) }
-    ensures units { IfOk result (λ kept.
-        kept.units ≡ length (kept_units highest_tid highest_layer (units stream.now))) }
+fn append_kept(stream: &[u8], wanted: Options, out: &mut Vec<u8>) -> Result<Kept, ExtractError>
+    ensures bytes { OnOk result (out.new.items
+        ≡ out.old.items ++ extracted wanted.highest_tid wanted.highest_layer stream.now) }
+    ensures units { IfOk result (λ kept. kept.units
+        ≡ length (kept_units wanted.highest_tid wanted.highest_layer (units stream.now))) }
     ensures dropped { IfOk result (λ kept.
         kept.units + kept.dropped ≡ length (units stream.now)) }
-    ensures layers { OnOk result (All HasLayer (units stream.now)) }
     ensures refused { TellsRefusal result (first_refused 0 (units stream.now)) }
     ensures grows { (added : List ℕ) × (out.new.items ≡ out.old.items ++ added) }
 {
@@ -123,20 +126,11 @@ fn append_kept(
                 return Err(ExtractError::Refused { unit, error });
             }
         };
-        let keeps = is_within(nalu.header(), highest_tid, highest_layer);
+        let keeps = wanted.wants(nalu.header());
         append_unit(keeps, nalu.as_ref(), out)?;
         kept = kept.count(keeps);
         position = nalu.offset() + nalu.size();
     }
-}
-
-/// Whether a unit with this header is kept (clause 10).
-fn is_within(header: &NaluHeader, highest_tid: u8, highest_layer: u8) -> bool
-    ensures value { result ≡ is_within highest_tid highest_layer header.now }
-    ensures layer { header.now.nuh_layer_id ≤ 63 }
-{
-    let layer = header.layer_id();
-    header.temporal_id_plus1() - 1 <= highest_tid && layer <= highest_layer
 }
 
 /// Adds a unit that is kept.

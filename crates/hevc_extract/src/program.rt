@@ -47,8 +47,8 @@ pub fn run_extract<S: Source, K: Sink>(
         → IfSome (S.left source.old) (λ s.
         HoldsKept targets.highest_tid targets.highest_layer s (written_of targets s))) }
     ensures alike { IfSome (asked_targets words.now) (λ targets. result ≡ 0
-        → targets.highest_layer ≡ 63 → IfSome (S.left source.old) (λ s.
-        DecodesAlike targets.highest_tid s (written_of targets s))) }
+        → IfSome (S.left source.old) (λ s.
+        DecodesAlike targets.highest_tid targets.highest_layer s (written_of targets s))) }
 {
     run_asked(alloc, read_targets(words), source, sink)
 }

@@ -17,7 +17,7 @@ use Rattle.hevc_stream.specs.Kept.{Kept, with_set, with_sequence_set, with_waiti
 use Rattle.hevc_stream.specs.Slices.{temporal_id}
 use Rattle.hevc_stream.specs.Contents.{Content, refused, video_set, sequence_set, picture_set}
 use Rattle.hevc_stream.specs.Contents.{unread_picture_set, slice, end_of_sequence, end_of_bitstream}
-use Rattle.hevc_stream.specs.Contents.{nothing, content}
+use Rattle.hevc_stream.specs.Contents.{nothing, content, wants}
 use Rattle.hevc_stream.specs.Stream.{with_picture_set_unit, with_waited, with_all_waited}
 use Rattle.hevc_stream_laws.specs.UnitMeans.{spells, breaks_off, is_video_set, is_sequence_set}
 use Rattle.hevc_stream_laws.specs.UnitMeans.{is_picture_set, is_slice_segment, ends_sequence}
@@ -72,19 +72,18 @@ all_push p [] x all one = rw one refl
 all_push p (y ∷ xs) x all one = both (p y) (p y) (list_all p xs) (list_all p (xs ++ x ∷ [])) (λ e. e)
     (λ more. all_push p xs x more one) all
 
--- ---- a unit of a wanted sub-layer waits after others
+-- ---- a wanted unit waits after others
 
-pub wanted_pushed : (highest_tid : ℕ) (units items : List (List ℕ)) (unit bytes : List ℕ)
-    (header : UnitHeader) (pushed : Bool) → list_all (cut.is_wanted highest_tid) units ≡ true
-    → unit_header bytes ≡ Ok header → temporal_id header ≤ highest_tid → unit ≡ bytes
-    → items ≡ (if pushed then units ++ unit ∷ [] else units) → list_all (cut.is_wanted highest_tid) items ≡ true
-wanted_pushed highest_tid units items unit bytes header true all parsed low same to =
-    let this : cut.is_wanted highest_tid bytes ≡ true = ap (cut.is_wanted_header highest_tid) parsed
-    ∙ grind (arith, nat_tests) in
-    ap (list_all (cut.is_wanted highest_tid)) (to ∙ ap (λ (u : List ℕ). units ++ u ∷ []) same)
-    ∙ all_push (cut.is_wanted highest_tid) units bytes all this
-wanted_pushed highest_tid units items unit bytes header false all parsed low same to =
-    ap (list_all (cut.is_wanted highest_tid)) to ∙ all
+pub wanted_pushed : (options : Options) (units items : List (List ℕ)) (unit bytes : List ℕ)
+    (header : UnitHeader) (pushed : Bool) → list_all (cut.is_wanted options) units ≡ true
+    → unit_header bytes ≡ Ok header → wants options header ≡ true → unit ≡ bytes
+    → items ≡ (if pushed then units ++ unit ∷ [] else units) → list_all (cut.is_wanted options) items ≡ true
+wanted_pushed options units items unit bytes header true all parsed low same to =
+    let this : cut.is_wanted options bytes ≡ true = ap (cut.is_wanted_header options) parsed ∙ low in
+    ap (list_all (cut.is_wanted options)) (to ∙ ap (λ (u : List ℕ). units ++ u ∷ []) same)
+    ∙ all_push (cut.is_wanted options) units bytes all this
+wanted_pushed options units items unit bytes header false all parsed low same to =
+    ap (list_all (cut.is_wanted options)) to ∙ all
 
 -- ---- the ids that units name
 

@@ -1,7 +1,7 @@
 -- What reading the unit of a set answers, as what is kept after it.
 use Rattle.std.proofs.Common.{◌≡◌, ℕ, ◌≤◌, ◌-◌, Bool, true, false, List, [], ◌∷◌, ◌++◌, Option}
 use Rattle.std.proofs.Common.{Some, Result, Ok, Err, refl, ap, sym, ◌∙◌, arith}
-use Rattle.std.specs.Prelude.{nat_le, ◌&&◌, option_to_list}
+use Rattle.std.specs.Prelude.{◌&&◌, option_to_list}
 use Rattle.std.specs.List.{list_all}
 use Rattle.std.proofs.lemmas.Bool.Decides.{nat_tests}
 use Rattle.hevc_spec.specs.UnitHeader.{UnitHeader, HeaderFault, unit_header}
@@ -19,9 +19,8 @@ use Rattle.hevc_elements.specs.declared.parse_error.ParseError.TheVariants as er
 use Rattle.hevc_elements.specs.Sets.{RefusesSet, NamesNoSet}
 use Rattle.hevc_stream.specs.Options.{Options}
 use Rattle.hevc_stream.specs.Kept.{Kept, with_video_set, with_sequence_set}
-use Rattle.hevc_stream.specs.Slices.{temporal_id}
 use Rattle.hevc_stream.specs.Contents.{Content, video_set, sequence_set, unread_picture_set}
-use Rattle.hevc_stream.specs.Contents.{content_read, picture_set_read, content}
+use Rattle.hevc_stream.specs.Contents.{content_read, picture_set_read, content, wants}
 use Rattle.hevc_stream.specs.Stream.{with_picture_set_unit, with_waited, with_all_waited, with_content, kept_behind}
 use Rattle.hevc_stream_laws.proofs.ByType.{of_video_set, of_sequence_set, of_picture_set}
 use Rattle.hevc_parser.specs.declared.parser.Parser.{Parser}
@@ -58,7 +57,7 @@ refused_by means reading options bytes old new (errors.MissingPps id) is why nam
 refused_by means reading options bytes old new errors.NoMemory is why names same = same
 
 module _ (options : Options) (bytes : List ℕ) (header : UnitHeader) (parsed : unit_header bytes ≡ Ok header)
-    (wanted : temporal_id header ≤ options.highest_tid) where
+    (wanted : wants options header ≡ true) where
   behind_video_set : (old : Kept) (set : PlainVps) → content options old bytes ≡ video_set set
       → kept_behind options old bytes ≡ with_video_set set old
   unfolding kept_behind
@@ -187,27 +186,25 @@ first_tried options items others left bytes found old new split is tried =
     let all : items ≡ bytes ∷ others = split ∙ ap (λ (o : Option (List ℕ)). option_to_list o ++ others) is in
     tried ∙ ap (λ (ws : List (List ℕ)). first_waited options ws (waited_by ws old)) (sym all)
 
-wanted_by_test : (highest_tid : ℕ) (header : UnitHeader) (r : Result UnitHeader HeaderFault) → r ≡ Ok header
-    → is_wanted_header highest_tid r ≡ true → temporal_id header ≤ highest_tid
-wanted_by_test highest_tid header (Ok h) is wanted =
+wanted_by_test : (options : Options) (header : UnitHeader) (r : Result UnitHeader HeaderFault) → r ≡ Ok header
+    → is_wanted_header options r ≡ true → wants options header ≡ true
+wanted_by_test options header (Ok h) is wanted =
     let same : h ≡ header = cc is in
-    let at : nat_le (temporal_id header) highest_tid ≡ true =
-    ap (λ (k : UnitHeader). nat_le (temporal_id k) highest_tid) (sym same) ∙ wanted in
-    grind (arith, nat_tests, at)
-wanted_by_test highest_tid header (Err fault) is wanted = absurd (cc is)
+    ap (λ (k : UnitHeader). wants options k) (sym same) ∙ wanted
+wanted_by_test options header (Err fault) is wanted = absurd (cc is)
 
 first_by_test : (b c : Bool) → (b && c) ≡ true → b ≡ true
 first_by_test true c e = refl
 first_by_test false c e = e
 
--- a unit that waits is of a wanted sub-layer
-pub first_is_wanted : (highest_tid : ℕ) (items others : List (List ℕ)) (bytes : List ℕ)
+-- a unit that waits is wanted
+pub first_is_wanted : (options : Options) (items others : List (List ℕ)) (bytes : List ℕ)
     (found : Option (List ℕ)) (header : UnitHeader) → items ≡ option_to_list found ++ others
     → found ≡ Some bytes → unit_header bytes ≡ Ok header
-    → list_all (is_wanted highest_tid) items ≡ true → temporal_id header ≤ highest_tid
-first_is_wanted highest_tid items others bytes found header split is parsed all =
+    → list_all (is_wanted options) items ≡ true → wants options header ≡ true
+first_is_wanted options items others bytes found header split is parsed all =
     let whole : items ≡ bytes ∷ others = split ∙ ap (λ (o : Option (List ℕ)). option_to_list o ++ others) is in
-    let first : (is_wanted highest_tid bytes && list_all (is_wanted highest_tid) others) ≡ true =
-    ap (list_all (is_wanted highest_tid)) (sym whole) ∙ all in
-    wanted_by_test highest_tid header (unit_header bytes) parsed
-    (first_by_test (is_wanted highest_tid bytes) (list_all (is_wanted highest_tid) others) first)
+    let first : (is_wanted options bytes && list_all (is_wanted options) others) ≡ true =
+    ap (list_all (is_wanted options)) (sym whole) ∙ all in
+    wanted_by_test options header (unit_header bytes) parsed
+    (first_by_test (is_wanted options bytes) (list_all (is_wanted options) others) first)

@@ -1,12 +1,12 @@
 //! Sets that are kept, and units of picture sets that wait.
 ghost use Rattle.std.specs.Prelude.{◌≡◌, ◌<◌, ◌≤◌, ◌^◌, ◌∷◌, ℕ, List, length, drop, IsTrue, IsSome};
-ghost use Rattle.std.specs.Prelude.{IfSome, OnOk, OnErr, Some, Ok};
+ghost use Rattle.std.specs.Prelude.{IfSome, OnOk, OnErr, Some, Ok, true};
 ghost use Rattle.std.specs.List.{list_all};
 ghost use Rattle.hevc_spec.specs.UnitHeader.{unit_header};
 ghost use Rattle.hevc_bits.specs.FoundUnit.{bytes_of};
 ghost use Rattle.hevc_records.specs.Sps.{PlainSps};
 ghost use Rattle.hevc_stream.specs.Kept.{none_kept};
-ghost use Rattle.hevc_stream.specs.Slices.{temporal_id};
+ghost use Rattle.hevc_stream.specs.Contents.{wants};
 ghost use Rattle.hevc_stream.specs.Stream.{kept_behind, with_all_waited};
 ghost use Rattle.hevc_options.specs.Options.{options_of};
 ghost use Rattle.hevc_parser.specs.Kept.{kept_by};
@@ -44,7 +44,7 @@ pub struct KeptSets {
     /// The unit of the sequence set that was read last, if there was room for a copy.
     last_read: Option<ReadUnit>,
     ghost repeated: { IsKeptAsRead (kept_by parser) last_read } by { IsKeptAsRead-prop (kept_by parser) last_read },
-    ghost wanted: { IsTrue (list_all (is_wanted options.highest_tid) waiting.items) },
+    ghost wanted: { IsTrue (list_all (is_wanted (options_of options)) waiting.items) },
     ghost covered: { IsTrue (list_all (names_no_other named) waiting.items) },
     ghost settled: { IsTrue (list_all (is_settled changed (options_of options) (kept_by parser)) waiting.items) },
 }
@@ -92,7 +92,7 @@ impl KeptSets {
         self.options
     }
 
-    /// Reads the video set of a unit, of a wanted sub-layer and a stream of less than 2^60 bytes,
+    /// Reads the video set of a wanted unit, in a stream of less than 2^60 bytes,
     /// by table 1 (7.3.2.1), and keeps it.
     ///
     /// Errors: `OutOfBits` where the payload ends within an element; `OutOfRange` with table and
@@ -100,7 +100,7 @@ impl KeptSets {
     pub fn take_video_set(&mut self, nalu: &Nalu<'_, NaluHeader>) -> Result<(), ParseError>
         requires short { length nalu.now.stream < STREAM_LIMIT }
         requires typed { nalu.now.header.nal_unit_type ≡ 32 }
-        requires wanted { temporal_id nalu.now.header ≤ (options_in self.old).highest_tid }
+        requires wanted { wants (options_in self.old) nalu.now.header ≡ true }
         ensures takes { TakesVideoSet (options_in self.old) (bytes_of nalu.now) result
             (kept_of self.old) (kept_of self.new) }
         ensures options { options_in self.new ≡ options_in self.old }
@@ -111,15 +111,15 @@ impl KeptSets {
         Ok(())
     }
 
-    /// Reads the sequence set of a unit, of a wanted sub-layer and a stream of less than 2^60
-    /// bytes, by table 5 (7.3.2.2.1), keeps it, and gives its id. No waiting unit is tried again:
+    /// Reads the sequence set of a wanted unit, in a stream of less than 2^60 bytes,
+    /// by table 5 (7.3.2.2.1), keeps it, and gives its id. No waiting unit is tried again:
     /// that is `read_waiting`.
     ///
     /// Errors: those of `take_video_set`. What is kept then stays.
     pub fn keep_sequence_set(&mut self, nalu: &Nalu<'_, NaluHeader>) -> Result<u8, ParseError>
         requires short { length nalu.now.stream < STREAM_LIMIT }
         requires typed { nalu.now.header.nal_unit_type ≡ 33 }
-        requires wanted { temporal_id nalu.now.header ≤ (options_in self.old).highest_tid }
+        requires wanted { wants (options_in self.old) nalu.now.header ≡ true }
         ensures keeps { KeepsSequenceSet (options_in self.old) (bytes_of nalu.now) result
             (kept_of self.old) (kept_of self.new) }
         ensures options { options_in self.new ≡ options_in self.old }
@@ -136,7 +136,7 @@ impl KeptSets {
     fn read_sequence_set(&mut self, nalu: &Nalu<'_, NaluHeader>) -> Result<u8, ParseError>
         requires short { length nalu.now.stream < STREAM_LIMIT }
         requires typed { nalu.now.header.nal_unit_type ≡ 33 }
-        requires wanted { temporal_id nalu.now.header ≤ (options_in self.old).highest_tid }
+        requires wanted { wants (options_in self.old) nalu.now.header ≡ true }
         requires parsed { unit_header (bytes_of nalu.now) ≡ Ok nalu.now.header }
         ensures keeps { KeepsSequenceSet (options_in self.old) (bytes_of nalu.now) result
             (kept_of self.old) (kept_of self.new) }
@@ -187,7 +187,7 @@ impl KeptSets {
         Ok(())
     }
 
-    /// Reads the picture set of a unit, of a wanted sub-layer and a stream of less than 2^60 bytes,
+    /// Reads the picture set of a wanted unit, in a stream of less than 2^60 bytes,
     /// by table 11 (7.3.2.3.1), and keeps it. Where it can't be read, a copy of the unit waits
     /// after the others.
     ///
@@ -195,7 +195,7 @@ impl KeptSets {
     pub fn take_picture_set(&mut self, nalu: &Nalu<'_, NaluHeader>) -> Result<(), AllocError>
         requires short { length nalu.now.stream < STREAM_LIMIT }
         requires typed { nalu.now.header.nal_unit_type ≡ 34 }
-        requires wanted { temporal_id nalu.now.header ≤ (options_in self.old).highest_tid }
+        requires wanted { wants (options_in self.old) nalu.now.header ≡ true }
         ensures behind { OnOk result (kept_of self.new
             ≡ kept_behind (options_in self.old) (kept_of self.old) (bytes_of nalu.now)) }
         ensures stays { OnErr result (kept_of self.new ≡ kept_of self.old) }

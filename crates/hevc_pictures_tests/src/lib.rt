@@ -2,12 +2,4 @@
 #![tactic(auto)]
 
 #[cfg(test)]
-mod bumping;
-#[cfg(test)]
-mod dpb;
-#[cfg(test)]
-mod expect;
-#[cfg(test)]
-mod pictures;
-#[cfg(test)]
-mod refs;
+mod tests;

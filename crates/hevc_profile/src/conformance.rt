@@ -31,7 +31,8 @@ pub fn has_range_extensions(profile_idc: u8, compatibility_flags: &[bool; 32]) -
         || conforms_to(profile_idc, compatibility_flags, 11)
 }
 
-pub(crate) fn layer_conforms_to(layer: &LayerProfile, number: u8) -> bool
+/// Whether a layer conforms to the profile of a number.
+pub fn layer_conforms_to(layer: &LayerProfile, number: u8) -> bool
     requires { number < 32 }
     ensures { result ≡ table.layer_conforms_to (plain_layer_profile layer.now) number }
 {
@@ -39,7 +40,7 @@ pub(crate) fn layer_conforms_to(layer: &LayerProfile, number: u8) -> bool
 }
 
 /// Whether constraint flags of the range extensions' profiles are there.
-pub(crate) fn has_extensions(layer: &LayerProfile) -> bool
+pub fn has_extensions(layer: &LayerProfile) -> bool
     ensures { result
         ≡ has_range_extensions_flags layer.now.profile_idc layer.now.profile_compatibility_flag }
 {
@@ -47,7 +48,7 @@ pub(crate) fn has_extensions(layer: &LayerProfile) -> bool
 }
 
 /// Whether `max_14bit_constraint_flag` is among them.
-pub(crate) fn has_14bit(layer: &LayerProfile) -> bool
+pub fn has_14bit(layer: &LayerProfile) -> bool
     ensures { result ≡ table.has_14bit_flag (plain_layer_profile layer.now) }
 {
     layer_conforms_to(layer, 5)
@@ -57,7 +58,7 @@ pub(crate) fn has_14bit(layer: &LayerProfile) -> bool
 }
 
 /// Whether `inbld_flag` is there.
-pub(crate) fn has_inbld(layer: &LayerProfile) -> bool
+pub fn has_inbld(layer: &LayerProfile) -> bool
     ensures { result ≡ has_inbld_flag layer.now.profile_idc layer.now.profile_compatibility_flag }
 {
     layer_conforms_to(layer, 1)

@@ -1,4 +1,4 @@
-//! What is told of the profile of a layer (7.3.3, rows 1 to 15 of table 2).
+//! What a set tells of the profile of a layer (7.3.3, rows 1 to 15 of table 2).
 ghost use Rattle.std.specs.Prelude.{◌≡◌, ◌<◌};
 ghost use Rattle.hevc_tables.specs.ProfileTierLevelTable as table;
 ghost use Rattle.hevc_set_parts.specs.ProfileTierLevel.{plain_profile_tier_level};
@@ -9,7 +9,7 @@ use hevc_set_parts::ProfileTierLevel;
 /// The profile of the whole stream, or of a sub-layer. Fields have the names of their syntax
 /// elements, without `general_` and `sub_layer_`.
 #[derive(Clone, Copy)]
-pub(crate) struct LayerProfile {
+pub struct LayerProfile {
     /// 0 to 3.
     pub profile_space: u8,
     pub tier_flag: bool,

@@ -10,5 +10,8 @@ mod profile_tier_level;
 mod scope;
 mod sub_layers;
 
-pub use conformance::{conforms_to, has_range_extensions};
+pub use conformance::{
+    conforms_to, has_14bit, has_extensions, has_inbld, has_range_extensions, layer_conforms_to,
+};
+pub use layer_profile::LayerProfile;
 pub use profile_tier_level::read_profile_tier_level;

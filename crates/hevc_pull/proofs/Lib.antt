@@ -1,2 +1,3 @@
 mod Extents
 mod Others
+mod Told

@@ -1,6 +1,6 @@
 -- What the calls of a decoder do, as C sees them.
 use Rattle.std.specs.Prelude.{◌≡◌, ◌⊎◌, ℕ, ◌≤◌, ◌<◌, ◌^◌, List, [], ◌∷◌, length, Option, Some, None}
-use Rattle.std.specs.Prelude.{Result, Ok, Err}
+use Rattle.std.specs.Prelude.{Bool, Result, Ok, Err}
 use Rattle.hevc_spec.specs.Units.{NalUnit, units}
 use Rattle.hevc_spec.specs.UnitHeader.{unit_header}
 use Rattle.hevc_stream.specs.Options.{Options}
@@ -9,7 +9,8 @@ use Rattle.hevc_driver.specs.declared.decode_error.DecodeError.TheVariants.{NoNa
 use Rattle.hevc_driver.specs.Given.{Given}
 use Rattle.hevc_stateless.specs.declared.state.State.TheVariants.{AwaitingFormat}
 use Rattle.hevc_stateless.specs.Flushes.{Flushes}
-use Rattle.hevc_stateless.specs.Steps.{Seen, StepsBehind}
+use Rattle.hevc_stateless.specs.Steps.{Seen}
+use Rattle.hevc_pull.specs.Seeking.{SoughtBehind, seeks_after, seeks_behind}
 use Rattle.hevc_events.specs.declared.event.Event.{Event}
 use Rattle.hevc_events.specs.Plain.{bare_event, event_of_picture}
 use Rattle.hevc_pull.specs.declared.decoder.PullDecoder.{PullDecoder}
@@ -45,12 +46,17 @@ answered us (Err error) call =
       row = row_of error;
     }
 
--- The first of these units was taken; or there is none, and nothing else has changed.
+-- The first of these units was given; or there is none, and nothing else has changed.
 abbrev pub DecodesFirst : {B H T : Type 0} → List NalUnit → Result T DecodeError → (timestamp : ℕ)
-    → Options → Seen B H → Seen B H → Type 0
-DecodesFirst [] result timestamp options old new = (result ≡ Err NoNal) × (new ≡ old)
-DecodesFirst (u ∷ others) result timestamp options old new =
-    StepsBehind (unit_header u.bytes) result timestamp options u.bytes old new
+    → Options → (seeking : Bool) → Seen B H → Seen B H → Type 0
+DecodesFirst [] result timestamp options seeking old new = (result ≡ Err NoNal) × (new ≡ old)
+DecodesFirst (u ∷ others) result timestamp options seeking old new =
+    SoughtBehind (unit_header u.bytes) result timestamp options seeking u.bytes old new
+
+-- whether an IRAP picture is sought after it
+abbrev pub seeks_first : List NalUnit → Bool → Bool
+seeks_first [] seeking = seeking
+seeks_first (u ∷ others) seeking = seeks_behind (unit_header u.bytes) seeking
 
 -- The first unit of the bytes was taken; the status is that of the answer, and the call tells where
 -- the unit lies, and from where on the others do.
@@ -59,7 +65,8 @@ pub record DecodesUnit (bytes : List ℕ) (before now : PullDecoder) (given told
   pub answer : Result (Unit {0}) DecodeError
   pub few : length bytes < 2 ^ 60
   pub takes : DecodesFirst (units bytes) answer given.timestamp (options_for before)
-      (with_free_frames given.free_frames (seen_of before)) (seen_of now)
+      before.seeking (with_free_frames given.free_frames (seen_of before)) (seen_of now)
+  pub seeking : now.seeking ≡ seeks_first (units bytes) before.seeking
   pub keeps : KeepsTold before now
   pub counts : Counts given.timestamp before now
   pub options : options_for now ≡ options_for before
@@ -86,6 +93,9 @@ event_of_pulled (Output frame counted) =
     record (event_of_picture 0 6 frame.number) {
       order_count = frame.order_count;
       timestamp = counted.timestamp;
+      width = counted.width;
+      height = counted.height;
+      window = counted.window;
     }
 event_of_pulled FormatChanged = bare_event 0 7
 event_of_pulled (Dropped counted) = event_of_counted 8 counted
@@ -103,11 +113,11 @@ pub record TakesNext (before now : PullDecoder) (old new : Event) (answer : ℕ)
   pub kept : kept_of now ≡ kept_of before
   pub options : options_for now ≡ options_for before
 
-pub record FlushesAll (before now : PullDecoder) (status : ℕ) : Type 0 where
-  pub answer : Result (Unit {0}) DecodeError
+-- The open picture is over, and all that waits is output; what was told stays.
+pub record IsFlushed (answer : Result (Unit {0}) DecodeError) (before now : PullDecoder)
+    : Type 0 where
   pub flushes : (given : Given) → Flushes answer given (pulled_traces before) (pulled_traces now)
       (view_in before).state (view_in before).standing (view_in now).standing
-  pub status_is : status ≡ status_in answer
   pub latest : (view_in now).latest ≡ (view_in before).latest
   pub state : (view_in now).state ≡ state_after_flush answer (view_in before).state
   pub keeps : KeepsTold before now
@@ -115,6 +125,20 @@ pub record FlushesAll (before now : PullDecoder) (status : ℕ) : Type 0 where
   pub change : now.change_told ≡ change_behind answer before.change_told
   pub kept : kept_of now ≡ kept_of before
   pub options : options_for now ≡ options_for before
+
+-- All is output, and a sequence parameter set or an IDR picture is waited for.
+pub record FlushesAll (before now : PullDecoder) (status : ℕ) : Type 0 where
+  pub answer : Result (Unit {0}) DecodeError
+  pub flushed : IsFlushed answer before now
+  pub seeking : now.seeking ≡ before.seeking
+  pub status_is : status ≡ status_in answer
+
+-- All is output, and an IRAP picture is sought.
+pub record SeeksNext (before now : PullDecoder) (status : ℕ) : Type 0 where
+  pub answer : Result (Unit {0}) DecodeError
+  pub flushed : IsFlushed answer before now
+  pub seeking : now.seeking ≡ seeks_after answer before.seeking
+  pub status_is : status ≡ status_in answer
 
 -- a format that is awaited is accepted, and else nothing is changed
 pub record Accepts (before now : PullDecoder) (status : ℕ) : Type 0 where

@@ -14,6 +14,7 @@ use Rattle.hevc_queue.specs.Controls.{latest_offsets_minus1, latest_picture_cont
 use Rattle.hevc_queue.specs.Controls.{latest_slice_controls}
 use Rattle.hevc_queue.specs.Queue.{given_wanted, with_controls}
 use Rattle.hevc_pull.specs.declared.decoder.PullDecoder.{PullDecoder}
+use Rattle.hevc_pull.specs.Pulling.{KeepsCounted}
 use Rattle.hevc_pull.specs.Views.{kept_of, options_for, view_in}
 
 -- each thing that can't be held has a status of its own
@@ -83,5 +84,6 @@ pub record WantsControls (before now : PullDecoder) (status : ℕ) : Type 0 wher
   pub view : ((status ≡ 0) × (view_in now ≡ record (view_in before)
       { backend = with_controls (view_in before).backend }))
       ⊎ ((status ≡ 4) × (view_in now ≡ view_in before))
+  pub counted : KeepsCounted before now
   pub kept : kept_of now ≡ kept_of before
   pub options : options_for now ≡ options_for before

@@ -1,10 +1,12 @@
 pub mod Calls
 pub mod Controls
 pub mod Counting
+pub mod Ends
 pub mod Extents
 pub mod Fields
 pub mod Pulling
 pub mod Reads
+pub mod Seeking
 pub mod Status
 pub mod Units
 pub mod Views

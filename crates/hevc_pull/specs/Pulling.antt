@@ -1,14 +1,14 @@
 -- The order in which what came of units is taken.
 use Rattle.std.specs.Prelude.{◌≡◌, ℕ, ◌+◌, ◌==◌, ◌&&◌, Bool, true, false, not, List, [], ◌∷◌}
-use Rattle.std.specs.Prelude.{slice_index_or, Option, Some, None, Result, Ok, Err}
-use Rattle.hevc_backend.specs.declared.call.Call.{Call}
+use Rattle.std.specs.Prelude.{slice_index_or, length, Option, Some, None, Result, Ok, Err}
+use Rattle.hevc_queue.specs.declared.given.Given.{Given}
 use Rattle.hevc_stateless.specs.States.{is_awaited}
 use Rattle.hevc_stateless.specs.Views.{View, at_beginning}
 use Rattle.hevc_stateless.specs.declared.state.State.{State}
 use Rattle.hevc_stateless.specs.declared.state.State.TheVariants.{Decoding, Reset}
 use Rattle.hevc_events.specs.declared.event.Event.{Event}
 use Rattle.hevc_queue.specs.Events.{event_of}
-use Rattle.hevc_queue.specs.Queue.{Queue, log_of, new_queue, with_taken}
+use Rattle.hevc_queue.specs.Queue.{Queue, new_queue, with_taken}
 use Rattle.hevc_pull.specs.declared.decoder.PullDecoder.{PullDecoder}
 use Rattle.hevc_pull.specs.Views.{view_in}
 use Rattle.hevc_pull.specs.declared.counted.Counted.{Counted}
@@ -25,15 +25,25 @@ pub record Telling : Type 0 where
   pub counted : List Counted
   -- it was told that the format that is awaited, if any, is
   pub change_told : Bool
+  -- an IRAP picture is sought
+  pub seeking : Bool
 
 abbrev pub telling : PullDecoder → Telling
-telling p =
-    record { view = view_in p; counted = p.counted.items; change_told = p.change_told }
+telling p = record {
+  view = view_in p;
+  counted = p.counted.items;
+  change_told = p.change_told;
+  seeking = p.seeking;
+}
 
 -- at the beginning of a stream
 abbrev pub nothing_to_tell : Telling
-nothing_to_tell =
-    record { view = at_beginning new_queue; counted = []; change_told = false }
+nothing_to_tell = record {
+  view = at_beginning new_queue;
+  counted = [];
+  change_told = false;
+  seeking = false;
+}
 
 -- the format that is awaited was accepted
 abbrev pub decoding_on : Telling → Telling
@@ -47,10 +57,11 @@ pub record Counts (timestamp : ℕ) (before now : PullDecoder) : Type 0 where
       (view_in now).standing.next.number before.counted.items
   pub change : now.change_told ≡ before.change_told
 
--- The pictures that were counted, and what was told, stay.
+-- The pictures that were counted, what was told, and what is sought stay.
 pub record KeepsCounted (before now : PullDecoder) : Type 0 where
   pub counted : now.counted ≡ before.counted
   pub change : now.change_told ≡ before.change_told
+  pub seeking : now.seeking ≡ before.seeking
 
 -- a flush forgets the format that was awaited, and waits for the next sequence
 abbrev pub change_behind : {T E : Type 0} → Result T E → Bool → Bool
@@ -79,9 +90,9 @@ outputs_are_due (event ∷ events) = event.kind == 1
 -- the first event that waits is taken, and all else stays
 pub record TakesEvent (event : Event) (before now : Queue) : Type 0 where
   pub first : before.waiting ≡ event ∷ now.waiting
-  -- it is the event of the call at its place in the log
-  pub told : (d : Call ℕ) → event
-      ≡ event_of before.counts.taken (slice_index_or (log_of before) before.counts.taken d)
+  -- it is the event of what the call at its place in the log was given
+  pub told : (d : Given) → event
+      ≡ event_of before.counts.taken (slice_index_or before.given before.counts.taken d)
   pub others : now ≡ with_taken (before.counts.taken + 1) now.waiting before
 
 -- it is told: then its picture has begun
@@ -89,9 +100,14 @@ pub record Asks (event : Event) (before now : Telling) : Type 0 where
   pub takes : TakesEvent event before.view.backend now.view.backend
   pub others : now ≡ with_backend now.view.backend (counted_after event before.counted) before
 
+-- All events of its calls were taken.
+pub record IsEmptied (q : Queue) : Type 0 where
+  pub none : q.waiting ≡ []
+  pub all : q.counts.taken ≡ length q.given
+
 -- no call waits, and no picture that was output
 pub record AreTaken (v : View Queue ℕ) : Type 0 where
-  pub calls : v.backend.waiting ≡ []
+  pub calls : IsEmptied v.backend
   pub outputs : v.queue ≡ []
 
 -- the picture whose end is told now, if there is one

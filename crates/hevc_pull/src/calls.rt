@@ -3,7 +3,8 @@ ghost use Rattle.std.specs.Prelude.{◌≡◌, ◌<◌, length};
 ghost use Rattle.hevc_bits.specs.declared.stream_limit.TheConstants.{STREAM_LIMIT};
 ghost use Rattle.hevc_spec.specs.Units.{units};
 ghost use Rattle.hevc_pull.specs.Calls.{Accepts, Decodes, DecodesFirst, FlushesAll, TakesNext};
-ghost use Rattle.hevc_pull.specs.Calls.{event_of_counted, event_of_pulled, with_extent};
+ghost use Rattle.hevc_pull.specs.Calls.{SeeksNext, event_of_counted, event_of_pulled, seeks_first};
+ghost use Rattle.hevc_pull.specs.Calls.{with_extent};
 ghost use Rattle.hevc_pull.specs.Extents.{first_extent};
 ghost use Rattle.hevc_pull.specs.Pulling.{Counts};
 ghost use Rattle.hevc_pull.specs.Views.{KeepsTold, options_for, seen_of, with_free_frames};
@@ -67,8 +68,10 @@ fn decode_first(
 ) -> Result<(), DecodeError>
     requires short { length bytes.now < STREAM_LIMIT }
     ensures takes { DecodesFirst (units bytes.now) result call.old.timestamp
-        (options_for decoder.old) (with_free_frames call.old.free_frames (seen_of decoder.old))
-        (seen_of decoder.new) }
+        (options_for decoder.old) decoder.old.seeking
+        (with_free_frames call.old.free_frames (seen_of decoder.old)) (seen_of decoder.new) }
+    ensures seeking { decoder.new.seeking
+        ≡ seeks_first (units bytes.now) decoder.old.seeking }
     ensures told { KeepsTold decoder.old decoder.new }
     ensures counts { Counts call.old.timestamp decoder.old decoder.new }
     ensures options { options_for decoder.new ≡ options_for decoder.old }
@@ -116,6 +119,9 @@ fn event_of_pulled(pulled: Pulled) -> Event
             let mut event = event_of_picture(0, 6, frame.number);
             event.order_count = frame.order_count;
             event.timestamp = counted.timestamp;
+            event.width = counted.width;
+            event.height = counted.height;
+            event.window = counted.window;
             event
         }
         Pulled::FormatChanged => event_of_picture(0, 7, 0),
@@ -139,6 +145,17 @@ pub fn flush(decoder: &mut PullDecoder) -> u32
     ensures { FlushesAll decoder.old decoder.new result }
 {
     match decoder.flush() {
+        Ok(()) => 0,
+        Err(error) => status_of(&error),
+    }
+}
+
+/// The stream is left: all that waits is output, and decoding goes on at the next IRAP picture. The
+/// answer is a status.
+pub fn seek(decoder: &mut PullDecoder) -> u32
+    ensures { SeeksNext decoder.old decoder.new result }
+{
+    match decoder.seek() {
         Ok(()) => 0,
         Err(error) => status_of(&error),
     }

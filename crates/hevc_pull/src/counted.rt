@@ -3,10 +3,11 @@ ghost use Rattle.std.specs.Prelude.{◌≡◌, map, not, option_copied};
 ghost use Rattle.std.specs.List.{find};
 ghost use Rattle.hevc_walk_units.specs.Units.{open_head};
 ghost use Rattle.hevc_stateless.specs.Decoders.{view_of};
-ghost use Rattle.hevc_pull.specs.Counting.{begun, counted_after, counted_of, first_ended};
-ghost use Rattle.hevc_pull.specs.Counting.{has_ended, has_number, is_coming, is_open, without};
+ghost use Rattle.hevc_pull.specs.Counting.{counted_after, counted_of, counted_with, first_ended};
+ghost use Rattle.hevc_pull.specs.Counting.{has_ended, has_number, told_by, told_if_own, without};
+ghost use Rattle.hevc_walk_frames.specs.Coming.{is_coming, is_open};
 
-use hevc_events::Event;
+use hevc_events::{Event, Window, no_window};
 use hevc_queue::QueueBackend;
 use hevc_stateless::StatelessDecoder;
 
@@ -19,6 +20,27 @@ pub struct Counted {
     pub timestamp: u64,
     /// Whether it was told that it began.
     pub is_begun: bool,
+    /// Its width, and its height in luma samples, once its slices come.
+    pub width: u32,
+    pub height: u32,
+    /// What is shown of it (7.4.3.2.1).
+    pub window: Window,
+}
+
+impl Counted {
+    /// A picture of which this is known, and no more.
+    pub(crate) fn new(number: u64, timestamp: u64) -> Counted
+        ensures { result ≡ counted_with number timestamp }
+    {
+        Counted {
+            number,
+            timestamp,
+            is_begun: false,
+            width: 0,
+            height: 0,
+            window: no_window(),
+        }
+    }
 }
 
 /// Whether a picture has this number.
@@ -41,11 +63,7 @@ pub(crate) fn counted_of(counted: &[Counted], number: u64) -> Counted
 {
     match find_number(counted, number) {
         Some(one) => *one,
-        None => Counted {
-            number,
-            timestamp: 0,
-            is_begun: false,
-        },
+        None => Counted::new(number, 0),
     }
 }
 
@@ -56,35 +74,45 @@ pub(crate) fn remove(counted: &mut Vec<Counted>, number: u64)
     counted.retain(|one| one.number != number);
 }
 
-/// The picture of this number has begun.
-fn begin(counted: &mut [Counted], number: u64)
-    ensures { counted.new ≡ map (begun number) counted.old }
-{
-    for one in counted.iter_mut() {
-        begin_if(one, number);
-    }
-}
-
-/// A picture has begun, if it is the one of this number.
-fn begin_if(counted: &mut Counted, number: u64)
-    ensures { counted.new ≡ begun number counted.old }
-{
-    if counted.number == number {
-        counted.is_begun = true;
-    }
-}
-
 /// An event is told.
 pub(crate) fn tell(counted: &mut Vec<Counted>, event: &Event)
     ensures { counted.new.items ≡ counted_after event.now counted.old.items }
 {
-    if event.kind != 2 {
-        return;
-    }
-    if event.is_output == 0 {
+    if event.kind == 2 && event.is_output == 0 {
         remove(counted, event.number);
     } else {
-        begin(counted, event.number);
+        tell_each(counted, event);
+    }
+}
+
+/// An event is told that a picture may be known by.
+fn tell_each(counted: &mut [Counted], event: &Event)
+    ensures { counted.new ≡ map (told_if_own event.now) counted.old }
+{
+    for one in counted.iter_mut() {
+        tell_if_own(one, event);
+    }
+}
+
+/// An event is told, if it is this picture's.
+fn tell_if_own(counted: &mut Counted, event: &Event)
+    ensures { counted.new ≡ told_if_own event.now counted.old }
+{
+    if counted.number == event.number {
+        tell_of(counted, event);
+    }
+}
+
+/// An event of this picture is told.
+fn tell_of(counted: &mut Counted, event: &Event)
+    ensures { counted.new ≡ told_by event.now counted.old }
+{
+    if event.kind == 2 {
+        counted.is_begun = true;
+    } else if event.kind == 3 {
+        counted.width = event.width;
+        counted.height = event.height;
+        counted.window = event.window;
     }
 }
 
@@ -99,11 +127,11 @@ pub(crate) fn first_ended<'a>(
     counted.iter().find(|one| has_ended(one, decoder))
 }
 
-/// Whether a picture never began, or isn't to come any more.
+/// Whether a picture isn't to come any more.
 fn has_ended(counted: &Counted, decoder: &StatelessDecoder<QueueBackend>) -> bool
     ensures { result ≡ has_ended (view_of decoder.now).standing counted.now }
 {
-    !(counted.is_begun && is_coming(counted.number, decoder))
+    !is_coming(counted.number, decoder)
 }
 
 /// Whether a picture isn't output yet and may be.

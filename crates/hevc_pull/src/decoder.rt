@@ -1,5 +1,5 @@
 //! The decoder and its calls.
-ghost use Rattle.std.specs.Prelude.{◌≡◌, ◌<◌, ◌≤◌, ◌↔◌, [], true, length, Some, IfOk, IfNone};
+ghost use Rattle.std.specs.Prelude.{◌≡◌, ◌<◌, ◌≤◌, ◌↔◌, [], true, false, Ok, length, Some, IfOk, IfNone};
 ghost use Rattle.std.specs.Prelude.{IfSome, IsOk, OnErr, OnOk, MatchOption};
 ghost use Rattle.std.specs.Option.{option_map};
 ghost use Rattle.hevc_bits.specs.declared.stream_limit.TheConstants.{STREAM_LIMIT};
@@ -16,12 +16,16 @@ ghost use Rattle.hevc_stream.specs.Kept.{none_kept};
 ghost use Rattle.hevc_options.specs.Options.{options_of};
 ghost use Rattle.hevc_pull.specs.Views.{options_for, seen_of, pulled_traces, kept_of};
 ghost use Rattle.hevc_pull.specs.Views.{KeepsSets, KeepsTold, view_in, with_free_frames};
-ghost use Rattle.hevc_pull.specs.Pulling.{AreTaken, Asks, Counts, KeepsCounted, PullsNext};
-ghost use Rattle.hevc_pull.specs.Pulling.{TakesEvent, change_behind, decoding_on, nothing_to_tell};
-ghost use Rattle.hevc_pull.specs.Pulling.{outputs_are_due, state_after_flush, telling};
+ghost use Rattle.hevc_pull.specs.Pulling.{AreTaken, Asks, Counts, IsEmptied, KeepsCounted};
+ghost use Rattle.hevc_pull.specs.Pulling.{PullsNext};
+ghost use Rattle.hevc_pull.specs.Pulling.{TakesEvent, decoding_on, nothing_to_tell};
+ghost use Rattle.hevc_pull.specs.Pulling.{outputs_are_due, telling};
+ghost use Rattle.hevc_pull.specs.Calls.{IsFlushed};
+ghost use Rattle.hevc_pull.specs.Seeking.{Sought, found, seeks_after, seeks_behind};
 
 use crate::counted::{Counted, counted_of, first_ended, remove, tell};
 use crate::pulled::Pulled;
+use crate::seeking::{is_irap_slice, is_other_slice};
 use hevc_bits::{Nalu, NaluHeader};
 use hevc_driver::{DecodeError, Frame, Options};
 use hevc_events::Event;
@@ -50,6 +54,8 @@ pub struct PullDecoder {
     pub counted: Vec<Counted>,
     /// Whether it was told that the format that is awaited is.
     pub change_told: bool,
+    /// Whether an IRAP picture is sought, at which decoding goes on.
+    pub seeking: bool,
 }
 
 impl PullDecoder {
@@ -65,6 +71,7 @@ impl PullDecoder {
             decoder: StatelessDecoder::new_with(alloc, QueueBackend::new(alloc), options),
             counted: Vec::new(alloc),
             change_told: false,
+            seeking: false,
         }
     }
 
@@ -85,22 +92,53 @@ impl PullDecoder {
         nalu: &Nalu<'_, NaluHeader>,
     ) -> Result<(), DecodeError>
         requires short { length nalu.now.stream < STREAM_LIMIT }
+        ensures takes { Sought result timestamp (options_for self.old) self.old.seeking
+            nalu.now.header (bytes_of nalu.now) (seen_of self.old) (seen_of self.new) }
+        ensures seeking { self.new.seeking
+            ≡ seeks_behind (Ok nalu.now.header) self.old.seeking }
+        ensures few { OutputsFew (view_in self.old) (view_in self.new) }
+        ensures told { KeepsTold self.old self.new }
+        ensures counts { Counts timestamp self.old self.new }
+        ensures options { options_for self.new ≡ options_for self.old }
+    {
+        if self.seeking && is_other_slice(nalu) {
+            return Ok(());
+        }
+        if self.seeking && is_irap_slice(nalu) {
+            self.go_on();
+        }
+        self.count_unit(timestamp, nalu)
+    }
+
+    /// Decoding goes on at the IRAP picture that was sought.
+    fn go_on(&mut self)
+        ensures seen { seen_of self.new ≡ found true (seen_of self.old) }
+        ensures told { KeepsTold self.old self.new }
+        ensures counted { self.new.counted ≡ self.old.counted }
+        ensures change { self.new.change_told ≡ self.old.change_told }
+        ensures seeking { self.new.seeking ≡ false }
+        ensures options { options_for self.new ≡ options_for self.old }
+    {
+        self.decoder.begin_again();
+        self.seeking = false;
+    }
+
+    /// Takes a unit that isn't passed over, and counts its picture.
+    fn count_unit(&mut self, timestamp: u64, nalu: &Nalu<'_, NaluHeader>) -> Result<(), DecodeError>
+        requires short { length nalu.now.stream < STREAM_LIMIT }
         ensures takes { StepsIn result timestamp (options_for self.old) nalu.now.header
             (bytes_of nalu.now) (seen_of self.old) (seen_of self.new) }
         ensures few { OutputsFew (view_in self.old) (view_in self.new) }
         ensures told { KeepsTold self.old self.new }
         ensures counts { Counts timestamp self.old self.new }
+        ensures seeking { self.new.seeking ≡ self.old.seeking }
         ensures options { options_for self.new ≡ options_for self.old }
     {
         if self.decoder.awaiting_format() {
             return Err(DecodeError::CheckEvents);
         }
         let number = self.decoder.num_pictures();
-        self.counted.push(Counted {
-            number,
-            timestamp,
-            is_begun: false,
-        })?;
+        self.counted.push(Counted::new(number, timestamp))?;
         let result = self.decoder.decode_unit(timestamp, nalu);
         if self.decoder.num_pictures() == number {
             let _none = self.counted.pop();
@@ -112,19 +150,26 @@ impl PullDecoder {
     ///
     /// Errors: those of `flush` of `StatelessDecoder`.
     pub fn flush(&mut self) -> Result<(), DecodeError>
-        ensures flushes { (given : Given) → Flushes result given
-            (pulled_traces self.old) (pulled_traces self.new)
-            (view_in self.old).state (view_in self.old).standing (view_in self.new).standing }
+        ensures flushed { IsFlushed result self.old self.new }
         ensures few { OutputsFew (view_in self.old) (view_in self.new) }
-        ensures latest { (view_in self.new).latest ≡ (view_in self.old).latest }
-        ensures state { (view_in self.new).state ≡ state_after_flush result (view_in self.old).state }
-        ensures told { KeepsTold self.old self.new }
-        ensures counted { self.new.counted ≡ self.old.counted }
-        ensures change { self.new.change_told ≡ change_behind result self.old.change_told }
-        ensures keeps { KeepsSets self.old self.new }
+        ensures seeking { self.new.seeking ≡ self.old.seeking }
     {
         self.decoder.flush()?;
         self.change_told = false;
+        Ok(())
+    }
+
+    /// The stream is left, as by `flush`, and decoding goes on at the next IRAP picture with the
+    /// parameter sets that are kept.
+    ///
+    /// Errors: those of `flush` of `StatelessDecoder`.
+    pub fn seek(&mut self) -> Result<(), DecodeError>
+        ensures flushed { IsFlushed result self.old self.new }
+        ensures few { OutputsFew (view_in self.old) (view_in self.new) }
+        ensures seeking { self.new.seeking ≡ seeks_after result self.old.seeking }
+    {
+        self.flush()?;
+        self.seeking = true;
         Ok(())
     }
 
@@ -146,7 +191,7 @@ impl PullDecoder {
     /// The next call.
     fn next_asked(&mut self) -> Option<Event>
         ensures event { MatchOption result
-            (((view_in self.old).backend.waiting ≡ []) × (telling self.new ≡ telling self.old))
+            (IsEmptied (view_in self.old).backend × (telling self.new ≡ telling self.old))
             (λ event. Asks event (telling self.old) (telling self.new)) }
         ensures keeps { KeepsSets self.old self.new }
     {
@@ -212,7 +257,7 @@ impl PullDecoder {
     /// Takes the first event that waits.
     fn take_event(&mut self) -> Option<Event>
         ensures event { MatchOption result
-            (((view_in self.old).backend.waiting ≡ []) × (view_in self.new ≡ view_in self.old))
+            (IsEmptied (view_in self.old).backend × (view_in self.new ≡ view_in self.old))
             (λ event. TakesEvent event (view_in self.old).backend (view_in self.new).backend) }
         ensures others { view_in self.new
             ≡ record (view_in self.old) { backend = (view_in self.new).backend } }

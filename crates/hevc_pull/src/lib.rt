@@ -9,12 +9,14 @@ mod counted;
 mod decoder;
 mod extent;
 mod fields;
+mod laws;
 mod pulled;
 mod reads;
+mod seeking;
 mod status;
 mod units;
 
-pub use calls::{DecodeCall, accept_format, decode, flush, next_event};
+pub use calls::{DecodeCall, accept_format, decode, flush, next_event, seek};
 pub use controls::{entry_points, picture_controls, slice_controls, want_controls};
 pub use counted::Counted;
 pub use decoder::{NotAwaited, PullDecoder};
@@ -22,6 +24,7 @@ pub use fields::{
     PpsFields, ProfileFields, SliceFields, SpsFields, VpsFields, VuiFields, pps_fields,
     profile_fields, slice_fields, sps_fields, vps_fields, vui_fields,
 };
+pub use laws::{all_ends_are_told, told_ends_are_so};
 pub use pulled::Pulled;
 pub use reads::{UnitRead, read_unit};
 pub use status::{FORMAT_NOT_AWAITED, MISSING_SPS, NO_CONTROLS, TOO_LONG};

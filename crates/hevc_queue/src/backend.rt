@@ -4,7 +4,7 @@ ghost use Rattle.std.specs.Prelude.{slice_index_or, None, Some, IsNone, IfSome, 
 ghost use Rattle.std.specs.Prelude.{OnErr};
 ghost use Rattle.std.specs.Option.{option_map};
 ghost use Rattle.hevc_backend.specs.Trait.{CountsFaults};
-ghost use Rattle.hevc_backend.specs.declared.call.Call.{Call};
+ghost use Rattle.hevc_queue.specs.declared.given.Given.{Given as Told};
 ghost use Rattle.hevc_events.specs.Waiting.{sequence_is_next};
 ghost use Rattle.hevc_queue.specs.Events.{event_of, events_of};
 ghost use Rattle.hevc_queue.specs.Controls.{latest_offsets_minus1, latest_picture_controls};
@@ -17,7 +17,7 @@ use crate::controls::{
     Controls, PictureControls, fill_picture, fill_slice, no_controls, wanted_offsets,
 };
 use crate::given::Given;
-use hevc_backend::{BackendError, NegotiationInfo, StatelessH265DecoderBackend, StreamInfo};
+use hevc_backend::{BackendError, StatelessH265DecoderBackend, StreamInfo};
 use hevc_dpb::{Dpb, PictureData};
 use hevc_events::{Event, EventQueue};
 use hevc_history::History;
@@ -53,12 +53,11 @@ pub struct QueueBackend {
 }
 
 impl Model for QueueBackend {
-    ghost use Rattle.std.specs.Prelude.{◌≡◌, drop, length, map, Some};
+    ghost use Rattle.std.specs.Prelude.{◌≡◌, drop, length, Some};
     ghost use Rattle.std.specs.Option.{option_map};
     ghost use Rattle.hevc_events.specs.Waiting.{next_place};
     ghost use Rattle.hevc_queue.specs.Controls.{AreOfCalls, wanted};
     ghost use Rattle.hevc_queue.specs.Events.{events_of};
-    ghost use Rattle.hevc_queue.specs.Given.{call_of};
     ghost use Rattle.hevc_queue.specs.Queue.{Queue};
     ghost use Rattle.hevc_queue.specs.QueueCode.{queue_code};
 
@@ -80,7 +79,7 @@ impl Model for QueueBackend {
     } };
 
     ghost invariant = { λ b. (next_place b.queue ≡ length b.history.items)
-        × (b.queue.events ≡ drop b.queue.taken (events_of (map call_of b.history.items)))
+        × (b.queue.events ≡ drop b.queue.taken (events_of b.history.items))
         × AreOfCalls (wanted b.controls) b.before.items b.history.items };
 }
 
@@ -139,7 +138,7 @@ impl QueueBackend {
     /// in order.
     pub fn num_waiting(&self) -> usize
         ensures value { result ≡ length self.now.waiting }
-        ensures events { self.now.waiting ≡ drop self.now.counts.taken (events_of (log_of self.now)) }
+        ensures events { self.now.waiting ≡ drop self.now.counts.taken (events_of self.now.given) }
         ensures all { self.now.counts.taken + length self.now.waiting ≡ length self.now.given }
     {
         self.queue.num_waiting()
@@ -150,11 +149,12 @@ impl QueueBackend {
     pub fn take_event(&mut self) -> Option<Event>
         ensures none { IsNone result ↔ (self.old.waiting ≡ []) }
         ensures first { IfSome result (λ event. self.old.waiting ≡ event ∷ self.new.waiting) }
-        ensures told { IfSome result (λ event. (d : Call ℕ)
+        ensures told { IfSome result (λ event. (d : Told)
             → event ≡ event_of self.old.counts.taken
-            (slice_index_or (log_of self.old) self.old.counts.taken d)) }
+            (slice_index_or self.old.given self.old.counts.taken d)) }
         ensures taken { IfSome result (λ _. self.new
             ≡ with_taken (self.old.counts.taken + 1) self.new.waiting self.old) }
+        ensures all { IfNone result (self.old.counts.taken ≡ length self.old.given) }
         ensures unchanged { IfNone result (self.new ≡ self.old) }
     {
         self.queue.take()
@@ -243,7 +243,7 @@ impl StatelessH265DecoderBackend for QueueBackend {
 
     fn new_sequence(&mut self, sps: &Sps) -> Result<(), BackendError> {
         let place = self.next_place()?;
-        let event = sequence_event(place, &NegotiationInfo::from(sps));
+        let event = sequence_event(place, sps);
         self.queue.put(event)?;
         self.history = self.history.and(sps);
         Ok(())
@@ -276,7 +276,7 @@ impl StatelessH265DecoderBackend for QueueBackend {
         slice: &Slice<'_>,
     ) -> Result<(), BackendError> {
         let place = self.next_place()?;
-        let event = sets_event(place, number, rps);
+        let event = sets_event(place, number, sps, rps);
         self.queue.put(event)?;
         self.history = self
             .history

@@ -3,14 +3,4 @@
 #![tactic(auto)]
 
 #[cfg(test)]
-mod bounds;
-#[cfg(test)]
-mod expect;
-#[cfg(test)]
-mod kept_sets;
-#[cfg(test)]
-mod sets;
-#[cfg(test)]
-mod slice;
-#[cfg(test)]
-mod streams;
+mod tests;

@@ -3,32 +3,99 @@ ghost use Rattle.std.specs.Prelude.{◌≡◌, ◌≤◌, IfSome, IsSome, option
 ghost use Rattle.std.specs.declared.option.Option.TheVariants.{None};
 ghost use Rattle.std.specs.Str.{bytes_eq};
 ghost use Rattle.hevc_options.specs.Options.{options_of};
-ghost use Rattle.hevc_report.specs.Command.{command, number_of_pictures, pictures_to_make, sub_layer, with_both, with_cra, with_layer};
+ghost use Rattle.hevc_report.specs.Command.{asked_options, command, number_of_pictures};
+ghost use Rattle.hevc_report.specs.Command.{nothing_asked, pictures_to_make, sub_layer, with_word};
 
 use hevc_decoder::Options;
 use hevc_io::Word;
 
-/// The options with which the words ask for a report, or none where they are no command:
-///
-/// | words | options |
-/// |---|---|
-/// | none | `Options::new` |
-/// | `cra` | CRA pictures are handled as BLA pictures |
-/// | `layer T` | the highest sub-layer that is wanted is T, one digit from 0 to 6 |
-/// | `layer T cra`, `cra layer T` | both |
-pub(crate) fn read_command(words: &[Word]) -> Option<Options>
-    ensures { option_map options_of result ≡ command words.now }
-{
-    match words {
-        [] => Some(Options::new()),
-        [cra] => add_cra(cra, Options::new()),
-        [layer, digit] => read_layer(layer, digit),
-        [first, second, third] => read_both(first, second, third),
-        _ => None,
+/// What words ask for: each of the three at most once.
+#[derive(Clone, Copy)]
+struct Asked {
+    /// `cra`: CRA pictures are handled as BLA pictures (8.1.3).
+    cra: bool,
+    /// `base`: the base layer alone is wanted (8.1.2).
+    base: bool,
+    /// `layer` was the last word.
+    awaits_digit: bool,
+    /// `layer T`: the sub-layers up to T, 0 to 6, are wanted (8.1.2).
+    sub_layer: Option<u8>,
+}
+
+impl Asked {
+    /// Where no word asks for anything.
+    fn nothing() -> Asked
+        ensures { result ≡ nothing_asked }
+    {
+        Asked {
+            cra: false,
+            base: false,
+            awaits_digit: false,
+            sub_layer: None,
+        }
+    }
+
+    /// With what one more word asks for.
+    fn with_word(self, word: &Word) -> Option<Asked>
+        ensures { result ≡ with_word self word.now }
+    {
+        if self.awaits_digit {
+            let sub_layer = Some(read_sub_layer(word)?);
+            Some(Asked {
+                awaits_digit: false,
+                sub_layer,
+                ..self
+            })
+        } else if is_text(word, "cra") && !self.cra {
+            Some(Asked { cra: true, ..self })
+        } else if is_text(word, "base") && !self.base {
+            Some(Asked { base: true, ..self })
+        } else if is_text(word, "layer") && self.sub_layer.is_none() {
+            Some(Asked {
+                awaits_digit: true,
+                ..self
+            })
+        } else {
+            None
+        }
+    }
+
+    /// The options that are asked for, where no digit is missing.
+    fn options(&self) -> Option<Options>
+        ensures { option_map options_of result ≡ asked_options self.now }
+    {
+        if self.awaits_digit {
+            return None;
+        }
+        let default = Options::new();
+        Some(Options {
+            handle_cra_as_bla: self.cra,
+            highest_tid: self.sub_layer.unwrap_or(default.highest_tid),
+            highest_layer: if self.base { 0 } else { default.highest_layer },
+        })
     }
 }
 
-/// The number of pictures that the words `make N` ask for, from 1 to 100000, or none where they are other words.
+/// The options with which the words ask for a report, or none where they are no command. The words
+/// are any of these, in any order, each at most once:
+///
+/// | words | options |
+/// |---|---|
+/// | `cra` | CRA pictures are handled as BLA pictures |
+/// | `base` | the base layer alone is wanted |
+/// | `layer T` | the highest sub-layer that is wanted is T, one digit from 0 to 6 |
+pub(crate) fn read_command(words: &[Word]) -> Option<Options>
+    ensures { option_map options_of result ≡ command words.now }
+{
+    let mut asked = Asked::nothing();
+    for word in words {
+        asked = asked.with_word(word)?;
+    }
+    asked.options()
+}
+
+/// The number of pictures that the words `make N` ask for, from 1 to 100000, or none where they are
+/// other words.
 pub(crate) fn read_make(words: &[Word]) -> Option<u32>
     ensures number { result ≡ pictures_to_make words.now }
     ensures apart { IsSome result → command words.now ≡ None }
@@ -63,31 +130,6 @@ fn read_number(digits: &[u8]) -> Option<u32>
     Some(number)
 }
 
-/// The options of `layer T cra` or `cra layer T`.
-fn read_both(first: &Word, second: &Word, third: &Word) -> Option<Options>
-    ensures { option_map options_of result ≡ with_both first.now second.now third.now }
-{
-    if is_text(first, "cra") {
-        add_cra(first, read_layer(second, third)?)
-    } else {
-        add_cra(third, read_layer(first, second)?)
-    }
-}
-
-/// The options of `layer T`.
-fn read_layer(layer: &Word, digit: &Word) -> Option<Options>
-    ensures { option_map options_of result ≡ with_layer layer.now digit.now }
-{
-    if !is_text(layer, "layer") {
-        return None;
-    }
-    let highest_tid = read_sub_layer(digit)?;
-    Some(Options {
-        highest_tid,
-        ..Options::new()
-    })
-}
-
 /// The number that a word of one digit spells, from 0 to 6.
 fn read_sub_layer(word: &Word) -> Option<u8>
     ensures { result ≡ sub_layer word.now }
@@ -96,19 +138,6 @@ fn read_sub_layer(word: &Word) -> Option<u8>
         return None;
     };
     Some(*digit - b'0')
-}
-
-/// These options with what `cra` asks for.
-fn add_cra(word: &Word, options: Options) -> Option<Options>
-    ensures { option_map options_of result ≡ with_cra word.now (options_of options) }
-{
-    if !is_text(word, "cra") {
-        return None;
-    }
-    Some(Options {
-        handle_cra_as_bla: true,
-        ..options
-    })
 }
 
 /// Whether a word is this text.

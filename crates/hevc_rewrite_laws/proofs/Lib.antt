@@ -1,3 +1,3 @@
 pub mod SameMeanings
-pub mod AllSubLayers
+pub mod AllWanted
 pub mod Sequences

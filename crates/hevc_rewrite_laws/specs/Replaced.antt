@@ -1,10 +1,15 @@
 -- Units in whose place others are that mean the same.
-use Rattle.std.specs.Prelude.{◌≡◌, ◌⊎◌, Bool, true, false, ℕ, List, [], ◌∷◌}
+use Rattle.std.specs.Prelude.{◌≡◌, ◌≤◌, ◌⊎◌, Bool, true, false, ℕ, List, [], ◌∷◌}
 use Rattle.hevc_spec.specs.Units.{NalUnit}
 use Rattle.hevc_stream.specs.Options.{Options}
 use Rattle.hevc_stream.specs.Kept.{Kept}
 use Rattle.hevc_stream.specs.Contents.{Content, unread_picture_set, slice, content}
 use Rattle.hevc_stream.specs.Stream.{kept_behind}
+
+-- all sub-layers and layers are wanted (8.1.2)
+pub record WantsAll (options : Options) : Type 0 where
+  pub sub_layers : 6 ≤ options.highest_tid
+  pub layers : 63 ≤ options.highest_layer
 
 -- The content of a unit is all that counts of it. Of a slice its bytes count too, and those of a
 -- picture set that waits, since it is read later on.

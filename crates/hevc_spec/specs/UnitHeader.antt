@@ -11,7 +11,7 @@ pub record UnitHeader : Type 0 where
 abbrev pub header_fields : ℕ → ℕ → UnitHeader
 header_fields first second = record {
   nal_unit_type = first / 2 % 64;
-  nuh_layer_id = first % 2 * 32 + second / 8;
+  nuh_layer_id = first % 2 * 32 + second / 8 % 32;
   nuh_temporal_id_plus1 = second % 8;
 }
 

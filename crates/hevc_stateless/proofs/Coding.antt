@@ -1,7 +1,7 @@
 -- Units that are no parameter sets.
 use Rattle.std.proofs.Common.{◌≡◌, inl, ℕ, ◌≤◌, List, refl, sym, ◌∙◌, ap, subst, arith, Option}
 use Rattle.std.proofs.Common.{Some, None, Result, Ok, Err, Bool, true, false, not}
-use Rattle.std.specs.Prelude.{nat_le, nat_lt, drop, ◌==◌, ◌&&◌, ◌||◌, if◌then◌else◌}
+use Rattle.std.specs.Prelude.{drop, ◌==◌, ◌&&◌, ◌||◌, if◌then◌else◌}
 use Rattle.std.proofs.lemmas.Bool.Decides.{nat_tests}
 use Rattle.hevc_spec.specs.UnitTypes.{is_slice, is_idr}
 use Rattle.hevc_spec.specs.UnitHeader.{UnitHeader, unit_header}
@@ -13,9 +13,9 @@ use Rattle.hevc_walk.specs.Meanings.{UnitCause, Meaning, SequenceSet, CodedSlice
 use Rattle.hevc_walk.specs.Meanings.{EndOfBitstream, Other, Refused}
 use Rattle.hevc_stream.specs.Options.{Options}
 use Rattle.hevc_stream.specs.Kept.{Kept}
-use Rattle.hevc_stream.specs.Slices.{temporal_id, slice_segment_meaning}
+use Rattle.hevc_stream.specs.Slices.{slice_segment_meaning}
 use Rattle.hevc_stream.specs.Contents.{Content, refused, slice, end_of_sequence, end_of_bitstream}
-use Rattle.hevc_stream.specs.Contents.{nothing, content_read, coded_content, slice_content, content}
+use Rattle.hevc_stream.specs.Contents.{nothing, content_read, coded_content, slice_content, content, wants}
 use Rattle.hevc_stream.specs.Stream.{meaning_of, meaning, kept_behind, with_content}
 use Rattle.hevc_stream_laws.proofs.ByType.{of_end_of_sequence, of_end_of_bitstream}
 use Rattle.hevc_backend.specs.declared.call.Call.{Call}
@@ -78,19 +78,18 @@ segment_isnt o bytes g segment (Some sets) = refl
 segment_isnt o bytes g segment None = refl
 
 module _ (o : Options) (k : Kept) (bytes : List ℕ) (h : UnitHeader) (parsed : unit_header bytes ≡ Ok h) where
-  -- a unit of a sub-layer that isn't wanted
-  pub of_unwanted : nat_le (temporal_id h) o.highest_tid ≡ false → (kk : Kept) → content o kk bytes ≡ nothing
+  -- a unit that isn't wanted
+  pub of_unwanted : wants o h ≡ false → (kk : Kept) → content o kk bytes ≡ nothing
   unfolding content
-  of_unwanted above kk = let t : nat_lt o.highest_tid (temporal_id h) ≡ true =
-      grind (arith, nat_tests, above) in rw (parsed, t) refl
+  of_unwanted above kk = rw (parsed, above) refl
 
-  module _ (wanted : temporal_id h ≤ o.highest_tid) (other : is_parameter_set h.nal_unit_type ≡ false) where
+  module _ (wanted : wants o h ≡ true) (other : is_parameter_set h.nal_unit_type ≡ false) where
     of_other : (kk : Kept) → content o kk bytes ≡ coded_content kk h bytes
     unfolding content
-    of_other kk = let t : nat_lt o.highest_tid (temporal_id h) ≡ false = grind (arith, nat_tests, wanted) in
+    of_other kk =
         rw (
           parsed,
-          t,
+          wanted,
           isnt h.nal_unit_type 32 other refl,
           isnt h.nal_unit_type 33 other refl,
           isnt h.nal_unit_type 34 other refl,
@@ -274,15 +273,15 @@ module _ (o : Options) (k : Kept) (bytes : List ℕ) (h : UnitHeader) (parsed : 
   abbrev u : Unit
   u = unit_at o k h bytes
 
-  -- ---- a sub-layer that isn't wanted
+  -- ---- a unit that isn't wanted
 
-  unwanted_means : nat_le (temporal_id h) o.highest_tid ≡ false → u.meaning ≡ Other
+  unwanted_means : wants o h ≡ false → u.meaning ≡ Other
   unfolding meaning
   unwanted_means above =
       ap (meaning_of o (record k { has_sequence_set = true }) bytes)
       (of_unwanted o k bytes h parsed above (record k { has_sequence_set = true }))
 
-  unwanted_behind : (st : State) → nat_le (temporal_id h) o.highest_tid ≡ false → state_behind st u ≡ st
+  unwanted_behind : (st : State) → wants o h ≡ false → state_behind st u ≡ st
   unwanted_behind AwaitingStreamInfo above = refl
   unwanted_behind AwaitingFormat above = refl
   unwanted_behind Decoding above = refl
@@ -301,13 +300,13 @@ module _ (o : Options) (k : Kept) (bytes : List ℕ) (h : UnitHeader) (parsed : 
   unwanted_when Reset is =
       other_either (is_parameter_set h.nal_unit_type) (later_meaning u.meaning) (ap later_meaning is)
 
-  unwanted_kept : nat_le (temporal_id h) o.highest_tid ≡ false → k ≡ kept_behind o k bytes
+  unwanted_kept : wants o h ≡ false → k ≡ kept_behind o k bytes
   unfolding kept_behind
   unwanted_kept above = sym (ap (λ (c : Content). with_content o bytes c k) (of_unwanted o k bytes h parsed above k))
 
   pub unwanted_step : {B H T : Type 0} (value : T) (t : Given) (log : Option (List (Call H)))
       (handed : Option (List Handed)) (asked : Option ℕ) (view : View B H)
-      → nat_le (temporal_id h) o.highest_tid ≡ false
+      → wants o h ≡ false
       → Step (Ok value) t o h bytes (record {
         log = log;
         handed = handed;
@@ -334,10 +333,9 @@ module _ (o : Options) (k : Kept) (bytes : List ℕ) (h : UnitHeader) (parsed : 
 
   -- ---- units that are no parameter sets
 
-  module _ (wanted : temporal_id h ≤ o.highest_tid) (other : is_parameter_set h.nal_unit_type ≡ false) where
+  module _ (wanted : wants o h ≡ true) (other : is_parameter_set h.nal_unit_type ≡ false) where
     behind : (st : State) → state_behind st u ≡ state_at (is_idr h.nal_unit_type) st
-    behind st = let w : nat_le (temporal_id h) o.highest_tid ≡ true = grind (arith, nat_tests, wanted) in
-        coded_behind st u w (coded_isnt o k bytes h parsed wanted other)
+    behind st = coded_behind st u wanted (coded_isnt o k bytes h parsed wanted other)
 
     pub passed_step : {B H T : Type 0} (value : T) (t : Given) (log : Option (List (Call H)))
         (handed : Option (List Handed)) (asked : Option ℕ) (view : View B H) (at : Bool)

@@ -14,7 +14,7 @@ use Rattle.hevc_elements.specs.declared.parse_error.ParseError.{ParseError}
 use Rattle.hevc_elements.specs.declared.parse_error.ParseError.TheVariants as parse
 use Rattle.hevc_stream.specs.Options.{Options}
 use Rattle.std.proofs.Common.{arith}
-use Rattle.std.specs.Prelude.{IsSome, option_map, nat_le, ◌==◌, if◌then◌else◌}
+use Rattle.std.specs.Prelude.{IsSome, option_map, ◌==◌, if◌then◌else◌}
 use Rattle.std.specs.Result.{IsErrAnd}
 use Rattle.std.proofs.lemmas.Bool.Decides.{nat_tests}
 use Rattle.std.proofs.lemmas.Result.{err_from_is_err_and}
@@ -22,7 +22,7 @@ use Rattle.hevc_walk_inputs.specs.Sequences.{format_of_set}
 use Rattle.hevc_walk.specs.Meanings.{Format}
 use Rattle.hevc_stream.specs.Kept.{Kept, with_sequence_set}
 use Rattle.hevc_stream.specs.Slices.{temporal_id}
-use Rattle.hevc_stream.specs.Contents.{Content, refused, sequence_set, picture_set_read, content}
+use Rattle.hevc_stream.specs.Contents.{Content, refused, sequence_set, picture_set_read, content, wants}
 use Rattle.hevc_stream.specs.Stream.{meaning_of, meaning, kept_behind, with_all_waited}
 use Rattle.hevc_stream_laws.proofs.ByType.{of_video_set, of_sequence_set, of_picture_set}
 use Rattle.hevc_kept_sets.specs.Takes as sets
@@ -100,7 +100,7 @@ set_error o bytes old new (parse.MissingPps id) h = let i =
 -- ---- steps
 
 module _ (o : Options) (k : Kept) (bytes : List ℕ) (h : UnitHeader) (parsed : unit_header bytes ≡ Ok h)
-    (wanted : temporal_id h ≤ o.highest_tid) where
+    (wanted : wants o h ≡ true) where
   -- where some sequence set is kept
   abbrev sure : Kept
   sure = record k { has_sequence_set = true }
@@ -230,11 +230,8 @@ module _ (o : Options) (k : Kept) (bytes : List ℕ) (h : UnitHeader) (parsed : 
     sequence_means : (unit_at o k h bytes).meaning ≡ SequenceSet (format_of_set set)
     sequence_means = means (sequence_set set) (same_sequence_set typed ∙ is)
 
-    wants : nat_le (temporal_id h) o.highest_tid ≡ true
-    wants = grind (arith, nat_tests, wanted)
-
     resumed : resumes (unit_at o k h bytes) ≡ true
-    resumed = rw (wants, typed, sequence_means) refl
+    resumed = rw (wanted, typed, sequence_means) refl
 
     kept_as_read : (new : Kept) → new ≡ with_sequence_set set k → new ≡ with_read_set (content o k bytes) k
     kept_as_read new kept = kept ∙ ap (λ (c : Content). with_read_set c k) (sym is)

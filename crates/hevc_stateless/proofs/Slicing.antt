@@ -17,8 +17,8 @@ use Rattle.hevc_elements.specs.Sets.{RefusesSet, ReadsSet}
 use Rattle.hevc_slice_header.specs.Answers.{slice_table, NamesNoSequenceSet}
 use Rattle.hevc_stream.specs.Options.{Options}
 use Rattle.hevc_stream.specs.Kept.{Kept}
-use Rattle.hevc_stream.specs.Slices.{temporal_id, coded_slice, slice_segment_meaning}
-use Rattle.hevc_stream.specs.Contents.{slice, content_read}
+use Rattle.hevc_stream.specs.Slices.{coded_slice, slice_segment_meaning}
+use Rattle.hevc_stream.specs.Contents.{slice, content_read, wants}
 use Rattle.hevc_stream.specs.Stream.{meaning_of}
 use Rattle.hevc_stream_laws.proofs.ByType.{of_slice}
 use Rattle.hevc_walk_units.specs.Units.{Standing}
@@ -72,7 +72,7 @@ of_slice_unit (parse.MissingPps id) reading why names = tt
 of_slice_unit parse.NoMemory reading why names = tt
 
 module _ (o : Options) (k : Kept) (bytes : List ℕ) (h : UnitHeader) (parsed : unit_header bytes ≡ Ok h)
-    (wanted : temporal_id h ≤ o.highest_tid) (typed : is_slice h.nal_unit_type ≡ true) where
+    (wanted : wants o h ≡ true) (typed : is_slice h.nal_unit_type ≡ true) where
   abbrev reading : Reading PlainSliceSegmentHeader
   reading = read
       (slice_segment_header h.nal_unit_type (drop 2 bytes) (active_sets k.sequence_sets k.picture_sets)) (payload bytes)

@@ -6,7 +6,7 @@ use Rattle.hevc_spec.specs.UnitHeader.{UnitHeader}
 use Rattle.hevc_walk.specs.Meanings.{Meaning, SequenceSet, Other}
 use Rattle.hevc_stream.specs.Kept.{Kept}
 use Rattle.hevc_stream.specs.Options.{Options}
-use Rattle.hevc_stream.specs.Slices.{temporal_id}
+use Rattle.hevc_stream.specs.Contents.{wants}
 use Rattle.hevc_stream.specs.Stream.{meaning}
 use Rattle.hevc_driver.specs.declared.decode_error.DecodeError.{DecodeError}
 use Rattle.hevc_driver.specs.declared.decode_error.DecodeError.TheVariants as errors
@@ -17,7 +17,7 @@ use Rattle.hevc_stateless.specs.declared.state.State.TheVariants.{AwaitingFormat
 -- What a decoder takes: a unit whose header isn't refused.
 pub record Unit : Type 0 where
   pub nal_unit_type : ℕ
-  -- it is of a sub-layer that is wanted (8.1.2)
+  -- it is of a sub-layer and a layer that are wanted (8.1.2)
   pub is_wanted : Bool
   -- what it means where some sequence set is kept
   pub meaning : Meaning
@@ -25,7 +25,7 @@ pub record Unit : Type 0 where
 abbrev pub unit_at : Options → Kept → UnitHeader → List ℕ → Unit
 unit_at options kept header bytes = record {
   nal_unit_type = header.nal_unit_type;
-  is_wanted = nat_le (temporal_id header) options.highest_tid;
+  is_wanted = wants options header;
   meaning = meaning options (record kept { has_sequence_set = true }) bytes;
 }
 
@@ -73,6 +73,11 @@ is_awaited state = false
 abbrev pub awaits_stream_info : State → Bool
 awaits_stream_info AwaitingStreamInfo = true
 awaits_stream_info state = false
+
+-- the wait after `flush` is over
+abbrev pub decoding_again : State → State
+decoding_again Reset = Decoding
+decoding_again state = state
 
 abbrev pub is_decoding : State → Bool
 is_decoding Decoding = true

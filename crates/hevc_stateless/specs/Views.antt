@@ -1,6 +1,6 @@
 -- What contracts see of a stream that is being decoded.
 use Rattle.std.specs.Prelude.{◌≡◌, ℕ, ◌+◌, ◌≤◌, ◌==◌, ◌&&◌, Bool, List, [], ◌∷◌, length, Option, Some}
-use Rattle.std.specs.Prelude.{None, Result}
+use Rattle.std.specs.Prelude.{None, Result, true}
 use Rattle.std.specs.List.{list_any}
 use Rattle.hevc_walk.specs.Buffer.{Buffer}
 use Rattle.hevc_dpb.specs.declared.entry.DpbEntry.{DpbEntry}
@@ -15,6 +15,7 @@ use Rattle.hevc_driver.specs.Answers.{IsFair}
 use Rattle.hevc_driver.specs.Does.{Traces}
 use Rattle.hevc_driver.specs.declared.decode_error.DecodeError.{DecodeError}
 use Rattle.hevc_stateless.specs.declared.state.State.{State}
+use Rattle.hevc_stateless.specs.States.{decoding_again}
 use Rattle.hevc_stateless.specs.declared.state.State.TheVariants.{AwaitingStreamInfo}
 
 pub record View (B H : Type 0) : Type 0 where
@@ -47,6 +48,13 @@ abbrev pub traces_of : {B H : Type 0} → Option (List (Call H)) → Option (Lis
     → (asked : Option ℕ) → View B H → Traces H
 traces_of log handed asked v =
     record { log = log; handed = handed; asked = asked; queue = v.queue; tickets = v.tickets }
+
+-- the next picture begins a coded video sequence, as after an end of sequence (8.1.3)
+abbrev pub begun_again : {B H : Type 0} → View B H → View B H
+begun_again v = record v {
+  state = decoding_again v.state;
+  standing = record v.standing { next = record v.standing.next { first_after_end = true } };
+}
 
 -- What taking a unit may change: the traces, what the pictures so far mean, the state, and what
 -- dependent slice segments take (7.4.7.1).

@@ -14,7 +14,7 @@ ghost use Rattle.hevc_stateless.specs.Events.{TellsNext};
 ghost use Rattle.hevc_stateless.specs.Flushes.{Flushes};
 ghost use Rattle.hevc_bits.specs.FoundUnit.{bytes_of};
 ghost use Rattle.hevc_stateless.specs.Steps.{StepsIn, TakesFirst};
-ghost use Rattle.hevc_stateless.specs.Views.{at_beginning, is_waiting, traces_at, OutputsFew};
+ghost use Rattle.hevc_stateless.specs.Views.{at_beginning, begun_again, is_waiting, traces_at, OutputsFew};
 ghost use Rattle.hevc_stateless.specs.Decoders.{IsFairOver, view_of, kept_in, set_for, seen_by};
 ghost use Rattle.hevc_bits.specs.declared.stream_limit.TheConstants.{STREAM_LIMIT};
 
@@ -169,6 +169,17 @@ impl<B: StatelessH265DecoderBackend> StatelessDecoder<B> {
         ensures options { set_for self.new ≡ set_for self.old }
     {
         self.session.resume();
+    }
+
+    /// The wait after `flush` is over, if there is one, and the next picture begins a coded video
+    /// sequence, as after an end of sequence (8.1.3).
+    pub fn begin_again(&mut self)
+        ensures view { view_of self.new ≡ begun_again (view_of self.old) }
+        ensures kept { kept_in self.new ≡ kept_in self.old }
+        ensures options { set_for self.new ≡ set_for self.old }
+    {
+        self.session.begin_again();
+        self.session.end_sequence();
     }
 
     /// How many pictures have begun so far, those included that are passed over (8.1.3): the number

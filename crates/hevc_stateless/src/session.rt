@@ -16,7 +16,8 @@ ghost use Rattle.hevc_driver.specs.Sound.{AreNamed};
 ghost use Rattle.hevc_stateless.specs.declared.state.State.TheVariants.{AwaitingStreamInfo};
 ghost use Rattle.hevc_stateless.specs.declared.state.State.TheVariants.{AwaitingFormat, Decoding};
 ghost use Rattle.hevc_stateless.specs.declared.state.State.TheVariants.{Reset};
-ghost use Rattle.hevc_stateless.specs.States.{is_awaited, awaits_stream_info, is_decoding};
+ghost use Rattle.hevc_stateless.specs.States.{is_awaited, awaits_stream_info, decoding_again};
+ghost use Rattle.hevc_stateless.specs.States.{is_decoding};
 ghost use Rattle.hevc_stateless.specs.States.{state_at};
 ghost use Rattle.hevc_stateless.specs.Flushes.{Flushes};
 ghost use Rattle.hevc_stateless.specs.Steps.{Acts, TakesIn};
@@ -155,6 +156,15 @@ impl<B: StatelessH265DecoderBackend> Session<B> {
         ensures { result ≡ is_awaited self.now.state }
     {
         matches!(self.state, State::AwaitingFormat)
+    }
+
+    /// The wait after `flush` is over, if there is one.
+    pub(crate) fn begin_again(&mut self)
+        ensures { self.new ≡ record self.old { state = decoding_again self.old.state } }
+    {
+        if matches!(self.state, State::Reset) {
+            self.state = State::Decoding;
+        }
     }
 
     /// Nothing is waited for any more.

@@ -4,7 +4,7 @@ ghost use Rattle.std.specs.Prelude.{IsSome, IfErr};
 ghost use Rattle.hevc_spec.specs.UnitHeader.{unit_header};
 ghost use Rattle.hevc_spec.specs.UnitTypes.{is_idr, is_slice};
 ghost use Rattle.hevc_bits.specs.FoundUnit.{bytes_of};
-ghost use Rattle.hevc_stream.specs.Slices.{temporal_id};
+ghost use Rattle.hevc_stream.specs.Contents.{wants};
 ghost use Rattle.hevc_kept_sets.specs.Kept.{kept_of, options_in};
 ghost use Rattle.hevc_driver.specs.Given.{Given};
 ghost use Rattle.hevc_stateless.specs.States.{is_awaited, is_decoding, is_parameter_set, state_at};
@@ -34,7 +34,7 @@ impl<B: StatelessH265DecoderBackend> StatelessDecoder<B> {
         requires short { length nalu.now.stream < STREAM_LIMIT }
         requires parsed { unit_header (bytes_of nalu.now) ≡ Ok nalu.now.header }
         requires typed { nalu.now.header.nal_unit_type ≡ 32 }
-        requires wanted { temporal_id nalu.now.header ≤ (options_in self.old.kept).highest_tid }
+        requires wanted { wants (options_in self.old.kept) nalu.now.header ≡ true }
         ensures same { self.new.session ≡ self.old.session }
         ensures options { options_in self.new.kept ≡ options_in self.old.kept }
         ensures step { (given : Given) → Step result given (options_in self.old.kept)
@@ -58,7 +58,7 @@ impl<B: StatelessH265DecoderBackend> StatelessDecoder<B> {
         requires short { length nalu.now.stream < STREAM_LIMIT }
         requires parsed { unit_header (bytes_of nalu.now) ≡ Ok nalu.now.header }
         requires typed { nalu.now.header.nal_unit_type ≡ 33 }
-        requires wanted { temporal_id nalu.now.header ≤ (options_in self.old.kept).highest_tid }
+        requires wanted { wants (options_in self.old.kept) nalu.now.header ≡ true }
         requires going { is_awaited self.old.session.state ≡ false }
         ensures few { OutputsFew self.old.session self.new.session }
         ensures fair { IsFairOver B.counts B.is_faultless B.info self.old self.new result }
@@ -108,7 +108,7 @@ impl<B: StatelessH265DecoderBackend> StatelessDecoder<B> {
         requires short { length nalu.now.stream < STREAM_LIMIT }
         requires parsed { unit_header (bytes_of nalu.now) ≡ Ok nalu.now.header }
         requires typed { nalu.now.header.nal_unit_type ≡ 34 }
-        requires wanted { temporal_id nalu.now.header ≤ (options_in self.old.kept).highest_tid }
+        requires wanted { wants (options_in self.old.kept) nalu.now.header ≡ true }
         ensures same { self.new.session ≡ self.old.session }
         ensures options { options_in self.new.kept ≡ options_in self.old.kept }
         ensures step { (given : Given) → Step result given (options_in self.old.kept)
@@ -126,7 +126,7 @@ impl<B: StatelessH265DecoderBackend> StatelessDecoder<B> {
         requires short { length nalu.now.stream < STREAM_LIMIT }
         requires parsed { unit_header (bytes_of nalu.now) ≡ Ok nalu.now.header }
         requires typed { is_slice nalu.now.header.nal_unit_type ≡ true }
-        requires wanted { temporal_id nalu.now.header ≤ (options_in self.old.kept).highest_tid }
+        requires wanted { wants (options_in self.old.kept) nalu.now.header ≡ true }
         requires decoding { is_decoding (state_at (is_idr nalu.now.header.nal_unit_type)
             self.old.session.state) ≡ true }
         ensures few { OutputsFew self.old.session self.new.session }
@@ -168,7 +168,7 @@ impl<B: StatelessH265DecoderBackend> StatelessDecoder<B> {
         requires parsed { unit_header (bytes_of nalu.now) ≡ Ok nalu.now.header }
         requires other { is_parameter_set nalu.now.header.nal_unit_type ≡ false }
         requires no_slice { is_slice nalu.now.header.nal_unit_type ≡ false }
-        requires wanted { temporal_id nalu.now.header ≤ (options_in self.old.kept).highest_tid }
+        requires wanted { wants (options_in self.old.kept) nalu.now.header ≡ true }
         ensures kept { self.new.kept ≡ self.old.kept }
         ensures others { self.new.session
             ≡ record self.old.session { standing = self.new.session.standing } }
@@ -191,7 +191,7 @@ impl<B: StatelessH265DecoderBackend> StatelessDecoder<B> {
         requires short { length nalu.now.stream < STREAM_LIMIT }
         requires parsed { unit_header (bytes_of nalu.now) ≡ Ok nalu.now.header }
         requires other { is_parameter_set nalu.now.header.nal_unit_type ≡ false }
-        requires wanted { temporal_id nalu.now.header ≤ (options_in self.old.kept).highest_tid }
+        requires wanted { wants (options_in self.old.kept) nalu.now.header ≡ true }
         requires going { is_awaited self.old.session.state ≡ false }
         ensures few { OutputsFew self.old.session self.new.session }
         ensures fair { IsFairOver B.counts B.is_faultless B.info self.old self.new result }
@@ -237,7 +237,7 @@ impl<B: StatelessH265DecoderBackend> StatelessDecoder<B> {
             (seen_by B.log B.handed B.frames self.new) }
     {
         let header = nalu.header();
-        if header.temporal_id_plus1() - 1 > self.kept.options().highest_tid {
+        if !self.kept.options().wants(header) {
             return Ok(());
         }
         match header.nalu_type() {

@@ -1,7 +1,7 @@
 -- What units mean and keep, one after the other.
 use Rattle.std.proofs.Common.{drop, ◌≡◌, ℕ, List, [], ◌∷◌, ◌++◌, length, suc, refl, sym, ◌∙◌, ap}
 use Rattle.std.proofs.Common.{arith, Option, Some, None, Ok, Bool, true, false, not, Result, Err}
-use Rattle.std.specs.Prelude.{nat_lt, fold, ◌==◌, ◌||◌, if◌then◌else◌}
+use Rattle.std.specs.Prelude.{fold, ◌==◌, ◌||◌, if◌then◌else◌}
 use Rattle.std.proofs.lemmas.Bool.Decides.{nat_tests}
 use Rattle.hevc_spec.specs.Units.{NalUnit}
 use Rattle.hevc_spec.specs.UnitHeader.{UnitHeader, unit_header, HeaderFault}
@@ -26,7 +26,7 @@ use Rattle.hevc_tables.specs.SliceHeaderTable.{ActiveSets, active_sets, slice_se
 use Rattle.hevc_stream.specs.Contents.{Content, refused, video_set, sequence_set, picture_set}
 use Rattle.hevc_stream.specs.Contents.{unread_picture_set, slice, end_of_sequence, end_of_bitstream}
 use Rattle.hevc_stream.specs.Contents.{nothing, content_read, picture_set_read, content_by_type}
-use Rattle.hevc_stream.specs.Contents.{content, coded_content}
+use Rattle.hevc_stream.specs.Contents.{content, coded_content, wants}
 use Rattle.hevc_stream.specs.Stream.{with_picture_set_unit, with_waited, with_content, meaning_of}
 use Rattle.hevc_stream.specs.Stream.{meaning, meanings_behind, kept_behind, kept_behind_all}
 use Rattle.hevc_stream.specs.Stream.{with_all_waited}
@@ -113,15 +113,15 @@ module _ (o : Options) (k : Kept) (bytes : List ℕ) (h : UnitHeader) (parsed : 
       absurd (grind (arith, nat_tests, video, sequence, picture, set))
 
   wanted_or_not : (b : Bool) → content_by_type sure h bytes ≡ content_by_type k h bytes
-      → (if b then nothing else content_by_type sure h bytes) ≡ (if b then nothing else content_by_type k h bytes)
-  wanted_or_not true same = refl
-  wanted_or_not false same = same
+      → (if b then content_by_type sure h bytes else nothing) ≡ (if b then content_by_type k h bytes else nothing)
+  wanted_or_not true same = same
+  wanted_or_not false same = refl
 
   -- the unit of a parameter set is the same whether a sequence set is kept or not
   pub set_is_same : is_parameter_set h.nal_unit_type ≡ true → content o sure bytes ≡ content o k bytes
   unfolding content
   set_is_same set =
-      rw parsed (wanted_or_not (nat_lt o.highest_tid (temporal_id h))
+      rw parsed (wanted_or_not (wants o h)
       (by_type (h.nal_unit_type == 32) (h.nal_unit_type == 33) (h.nal_unit_type == 34) refl refl refl set))
 
   -- any other means nothing before it
@@ -135,7 +135,7 @@ module _ (o : Options) (k : Kept) (bytes : List ℕ) (h : UnitHeader) (parsed : 
         isnt h.nal_unit_type 33 other refl,
         isnt h.nal_unit_type 34 other refl,
         none,
-      ) (by (nat_lt o.highest_tid (temporal_id h)))
+      ) (by (wants o h))
     where
       by : (b : Bool) → (if b then nothing else nothing) ≡ nothing
       by true = refl
@@ -173,11 +173,11 @@ module _ (o : Options) (k : Kept) (bytes : List ℕ) (h : UnitHeader) (parsed : 
   -- before the first sequence set there is none
   pub none_coded : k.has_sequence_set ≡ false → is_coded (meaning o k bytes) ≡ false
   unfolding meaning content
-  none_coded none = rw parsed (by (nat_lt o.highest_tid (temporal_id h)))
+  none_coded none = rw parsed (by (wants o h))
     where
-      by : (b : Bool) → is_coded (meaning_of o k bytes (if b then nothing else content_by_type k h bytes)) ≡ false
-      by true = refl
-      by false = typed_isnt (h.nal_unit_type == 32) (h.nal_unit_type == 33) (h.nal_unit_type == 34) refl refl refl none
+      by : (b : Bool) → is_coded (meaning_of o k bytes (if b then content_by_type k h bytes else nothing)) ≡ false
+      by true = typed_isnt (h.nal_unit_type == 32) (h.nal_unit_type == 33) (h.nal_unit_type == 34) refl refl refl none
+      by false = refl
 
 -- ---- a sequence set that is read twice
 
@@ -201,8 +201,8 @@ pub record IsReadAgain (o : Options) (k : Kept) (bytes : List ℕ) : Type 0 wher
 module _ (o : Options) (k : Kept) (bytes : List ℕ) (h : UnitHeader) (parsed : unit_header bytes ≡ Ok h) where
   -- the content of a sequence set's unit
   abbrev set_content : Content
-  set_content = if nat_lt o.highest_tid (temporal_id h) then nothing else content_read sequence_set
-      (read sequence_parameter_set (payload bytes))
+  set_content = if wants o h then content_read sequence_set
+      (read sequence_parameter_set (payload bytes)) else nothing
 
   is_set_content : h.nal_unit_type ≡ 33 → (kk : Kept) → content o kk bytes ≡ set_content
   unfolding content
@@ -309,10 +309,10 @@ module _ (o : Options) (k : Kept) (bytes : List ℕ) (h : UnitHeader) (parsed : 
   not_typed : (h.nal_unit_type == 33) ≡ false → is_sequence_set (meaning o k bytes) ≡ false
   unfolding meaning content
   not_typed typed =
-      rw parsed (choice (nat_lt o.highest_tid (temporal_id h)) nothing _ refl
+      rw parsed (choice (wants o h) _ nothing
       (choice (h.nal_unit_type == 32) _ _ (video_other (read video_parameter_set (payload bytes)))
       (rw typed (choice (h.nal_unit_type == 34) _ _
-      (picture_other (read (picture_parameter_set (temporal_id h) k.sequence_sets) (payload bytes))) coded_other))))
+      (picture_other (read (picture_parameter_set (temporal_id h) k.sequence_sets) (payload bytes))) coded_other))) refl)
 
   pub read_again : (b : Bool) → is_sequence_set (meaning o k bytes) ≡ b
       → (b ≡ false → k.has_sequence_set ≡ true) → IsReadAgain o k bytes

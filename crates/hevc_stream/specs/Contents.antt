@@ -1,6 +1,6 @@
 -- The content of a unit (7.4.2.2, Table 7-1) where it is in a stream: what it means after the
 -- parameter sets that are kept there.
-use Rattle.std.specs.Prelude.{ℕ, ◌==◌, nat_lt, not, List, drop, if◌then◌else◌, Result, Ok, Err}
+use Rattle.std.specs.Prelude.{ℕ, ◌==◌, nat_le, not, Bool, ◌&&◌, List, drop, if◌then◌else◌, Result, Ok, Err}
 use Rattle.hevc_spec.specs.UnitTypes.{is_slice}
 use Rattle.hevc_spec.specs.UnitHeader.{UnitHeader, HeaderFault, truncated, unspecified_type}
 use Rattle.hevc_spec.specs.UnitHeader.{temporal_id_zero, unit_header}
@@ -88,11 +88,16 @@ content_by_type kept header bytes =
     (read (picture_parameter_set (temporal_id header) kept.sequence_sets) (payload bytes))
     else coded_content kept header bytes
 
--- a unit of a sub-layer above those that are wanted is passed over (8.1.2)
+-- a unit of a sub-layer and a layer that are wanted (8.1.2)
+abbrev pub wants : Options → UnitHeader → Bool
+wants options header =
+    nat_le (temporal_id header) options.highest_tid
+    && nat_le header.nuh_layer_id options.highest_layer
+
+-- a unit that isn't wanted is passed over (8.1.2)
 abbrev pub wanted_content : Options → Kept → UnitHeader → List ℕ → Content
 wanted_content options kept header bytes =
-    if nat_lt options.highest_tid (temporal_id header) then nothing
-    else content_by_type kept header bytes
+    if wants options header then content_by_type kept header bytes else nothing
 
 -- a unit whose header is faulty is refused before all else (7.3.1.2)
 abbrev pub headed_content : Options → Kept → List ℕ → Result UnitHeader HeaderFault → Content

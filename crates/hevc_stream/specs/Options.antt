@@ -6,7 +6,9 @@ pub record Options : Type 0 where
   pub handle_cra_as_bla : Bool
   -- the TemporalId of the highest sub-layer that is wanted (8.1.2)
   pub highest_tid : ℕ
+  -- the nuh_layer_id of the highest layer that is wanted (8.1.2)
+  pub highest_layer : ℕ
 
--- where nothing is set: CRA pictures are handled as such, and all sub-layers are wanted
+-- where nothing is set: CRA pictures are handled as such, and all sub-layers and layers are wanted
 abbrev pub default_options : Options
-default_options = record { handle_cra_as_bla = false; highest_tid = 6 }
+default_options = record { handle_cra_as_bla = false; highest_tid = 6; highest_layer = 63 }

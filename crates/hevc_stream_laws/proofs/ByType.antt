@@ -1,7 +1,6 @@
 -- The content of a unit of each type, where its header is good and its sub-layer is wanted.
-use Rattle.std.proofs.Common.{◌≡◌, ℕ, ◌≤◌, true, false, List, Ok, refl, arith}
-use Rattle.std.specs.Prelude.{drop, nat_lt}
-use Rattle.std.proofs.lemmas.Bool.Decides.{nat_tests}
+use Rattle.std.proofs.Common.{◌≡◌, ℕ, true, false, List, Ok, refl, arith}
+use Rattle.std.specs.Prelude.{drop}
 use Rattle.hevc_spec.specs.UnitHeader.{UnitHeader, unit_header}
 use Rattle.hevc_spec.specs.UnitTypes.{is_slice}
 use Rattle.hevc_spec.specs.Payload.{payload}
@@ -15,15 +14,14 @@ use Rattle.hevc_stream.specs.Kept.{Kept}
 use Rattle.hevc_stream.specs.Slices.{temporal_id}
 use Rattle.hevc_stream.specs.Contents.{video_set, sequence_set, slice, end_of_sequence}
 use Rattle.hevc_stream.specs.Contents.{end_of_bitstream, content_read, picture_set_read}
-use Rattle.hevc_stream.specs.Contents.{content_by_type, content}
+use Rattle.hevc_stream.specs.Contents.{content_by_type, content, wants}
 use Rattle.hevc_stream_laws.proofs.OneContent.{slice_isnt}
 
 module _ (options : Options) (kept : Kept) (bytes : List ℕ) (h : UnitHeader)
-    (header : unit_header bytes ≡ Ok h) (wanted : temporal_id h ≤ options.highest_tid) where
+    (header : unit_header bytes ≡ Ok h) (wanted : wants options h ≡ true) where
   typed : content options kept bytes ≡ content_by_type kept h bytes
   unfolding content
-  typed = let t : nat_lt options.highest_tid (temporal_id h) ≡ false = grind (arith, nat_tests, wanted) in
-      rw (header, t) refl
+  typed = rw (header, wanted) refl
 
   pub of_video_set : h.nal_unit_type ≡ 32
       → content options kept bytes ≡ content_read video_set (read video_parameter_set (payload bytes))

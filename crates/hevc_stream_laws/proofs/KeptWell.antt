@@ -1,6 +1,6 @@
 -- What holds of the sets that are kept, and how they change.
 use Rattle.std.proofs.Common.{◌≡◌, ℕ, ◌<◌, Bool, true, false, List, [], ◌∷◌, Some, None, Ok, refl, arith}
-use Rattle.std.specs.Prelude.{IfSome, IsSome, Option, ◌==◌, if◌then◌else◌, fold, nat_lt}
+use Rattle.std.specs.Prelude.{IfSome, IsSome, Option, ◌==◌, if◌then◌else◌, fold}
 use Rattle.std.proofs.lemmas.Bool.Decides.{nat_tests}
 use mathlib.Core.Path.{fun_ext}
 use Rattle.hevc_spec.specs.UnitHeader.{UnitHeader, unit_header}
@@ -15,7 +15,7 @@ use Rattle.hevc_stream.specs.Kept.{Kept, none_kept, with_set, with_sequence_set}
 use Rattle.hevc_stream.specs.Slices.{temporal_id}
 use Rattle.hevc_stream.specs.Contents.{Content, refused, video_set, sequence_set, picture_set}
 use Rattle.hevc_stream.specs.Contents.{unread_picture_set, slice, end_of_sequence, end_of_bitstream}
-use Rattle.hevc_stream.specs.Contents.{nothing, content}
+use Rattle.hevc_stream.specs.Contents.{nothing, content, wants}
 use Rattle.hevc_stream.specs.Stream.{with_picture_set_unit, with_waited, with_content, kept_behind, kept_behind_all}
 use Rattle.hevc_stream_laws.specs.UnitMeans.{spells, breaks_off, is_parameter_set, is_video_set}
 use Rattle.hevc_stream_laws.specs.UnitMeans.{is_sequence_set, is_picture_set, is_slice_segment}
@@ -188,15 +188,14 @@ kept_twice options kept bytes set e =
 pub before_first : (options : Options) (kept : Kept) (bytes : List ℕ) (h : UnitHeader)
     → unit_header bytes ≡ Ok h → kept.has_sequence_set ≡ false → is_parameter_set h.nal_unit_type ≡ false
     → content options kept bytes ≡ nothing
-before_first options kept bytes h e none n = by_layer (nat_lt options.highest_tid (temporal_id h)) refl
+before_first options kept bytes h e none n = by_layer (wants options h) refl
   where
-    by_layer : (b : Bool) → nat_lt options.highest_tid (temporal_id h) ≡ b → content options kept bytes ≡ nothing
-    by_layer true t = only_content options kept bytes nothing (is_unwanted h e (grind (arith, nat_tests, t)) refl)
-    by_layer false t =
-        only_content options kept bytes nothing (is_wanted h e (grind (arith, nat_tests, t)) (comes_first none n refl))
+    by_layer : (b : Bool) → wants options h ≡ b → content options kept bytes ≡ nothing
+    by_layer true t = only_content options kept bytes nothing (is_wanted h e t (comes_first none n refl))
+    by_layer false t = only_content options kept bytes nothing (is_unwanted h e t refl)
 
 pub above_wanted : (options : Options) (kept : Kept) (bytes : List ℕ) (h : UnitHeader)
-    → unit_header bytes ≡ Ok h → options.highest_tid < temporal_id h → content options kept bytes ≡ nothing
+    → unit_header bytes ≡ Ok h → wants options h ≡ false → content options kept bytes ≡ nothing
 above_wanted options kept bytes h e above = only_content options kept bytes nothing (is_unwanted h e above refl)
 
 -- ---- what a picture set depends on

@@ -2,7 +2,7 @@
 use Rattle.std.proofs.Common.{◌≡◌, ℕ, ◌+◌, ◌^◌, ◌≤◌, ◌<◌, Bool, true, false, List, [], ◌∷◌, length}
 use Rattle.std.proofs.Common.{Some, None, Ok, Err, refl, arith, pow_pos}
 use Rattle.std.specs.Prelude.{All, IfSome, Option, Result, option_map, option_and_then, ◌==◌}
-use Rattle.std.specs.Prelude.{if◌then◌else◌, fold, nat_lt, not, drop}
+use Rattle.std.specs.Prelude.{if◌then◌else◌, fold, not, drop}
 use Rattle.std.proofs.lemmas.Bool.Decides.{nat_tests}
 use Rattle.std.proofs.lemmas.List.{length-map}
 use Rattle.std.proofs.lemmas.List.Elements.{All-nil, All-cons, All-map, All-weaker}
@@ -33,7 +33,7 @@ use Rattle.hevc_stream.specs.Slices.{coded_slice, temporal_id}
 use Rattle.hevc_stream.specs.Contents.{Content, refused, video_set, sequence_set, picture_set}
 use Rattle.hevc_stream.specs.Contents.{unread_picture_set, slice, end_of_sequence, end_of_bitstream}
 use Rattle.hevc_stream.specs.Contents.{nothing, content_read, picture_set_read, slice_content}
-use Rattle.hevc_stream.specs.Contents.{coded_content, content_by_type, headed_content, content}
+use Rattle.hevc_stream.specs.Contents.{coded_content, content_by_type, headed_content, content, wants}
 use Rattle.hevc_stream.specs.Stream.{with_picture_set_unit, with_waited, with_content, kept_behind}
 use Rattle.hevc_stream.specs.Stream.{meaning_of, meaning, meanings_behind, meanings}
 use Rattle.hevc_stream_laws.proofs.Gives.{Gives}
@@ -243,7 +243,7 @@ module _ (kept : Kept) (are : AreKept kept) where
   headed_is : (options : Options) (bytes : List ℕ) (r : Result UnitHeader HeaderFault)
       → IsContent kept (headed_content options kept bytes r)
   headed_is options bytes (Ok header) =
-      chosen (nat_lt options.highest_tid (temporal_id header)) _ _ tt (typed_is header bytes)
+      chosen (wants options header) _ _ (typed_is header bytes) tt
   headed_is options bytes (Err fault) = tt
 
   pub content_is : (options : Options) (bytes : List ℕ) → IsContent kept (content options kept bytes)

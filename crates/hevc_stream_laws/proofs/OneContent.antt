@@ -1,6 +1,6 @@
 -- The content of a unit is what its payload spells.
 use Rattle.std.proofs.Common.{◌≡◌, ℕ, ◌≤◌, Bool, true, false, List, Ok, Err, refl, ap, ◌∙◌, arith}
-use Rattle.std.specs.Prelude.{◌||◌, ◌==◌, nat_lt, not, Result, if◌then◌else◌, drop}
+use Rattle.std.specs.Prelude.{◌||◌, ◌==◌, not, Result, if◌then◌else◌, drop}
 use Rattle.std.proofs.lemmas.Bool.Decides.{nat_tests}
 use Rattle.hevc_spec.specs.UnitHeader.{UnitHeader, HeaderFault, unit_header}
 use Rattle.hevc_spec.specs.UnitTypes.{is_slice, is_end}
@@ -18,7 +18,7 @@ use Rattle.hevc_stream.specs.Slices.{temporal_id}
 use Rattle.hevc_stream.specs.Contents.{Content, video_set, sequence_set, picture_set, slice}
 use Rattle.hevc_stream.specs.Contents.{end_of_sequence, end_of_bitstream, nothing, content_read}
 use Rattle.hevc_stream.specs.Contents.{picture_set_read, slice_content, coded_content}
-use Rattle.hevc_stream.specs.Contents.{content_by_type, headed_content, content}
+use Rattle.hevc_stream.specs.Contents.{content_by_type, headed_content, content, wants}
 use Rattle.hevc_stream_laws.specs.UnitMeans.{MeansBy, spells, breaks_off, refused_for, unread}
 use Rattle.hevc_stream_laws.specs.UnitMeans.{is_parameter_set, MeansByType, is_video_set}
 use Rattle.hevc_stream_laws.specs.UnitMeans.{is_sequence_set, is_picture_set, is_slice_segment}
@@ -145,14 +145,14 @@ module _ (kept : Kept) (h : UnitHeader) (bytes : List ℕ) where
 
 module _ (options : Options) (kept : Kept) (bytes : List ℕ) where
   by_layer : (h : UnitHeader) → unit_header bytes ≡ Ok h → (b : Bool)
-      → nat_lt options.highest_tid (temporal_id h) ≡ b
-      → Means options kept bytes (if b then nothing else content_by_type kept h bytes)
-  by_layer h e true t = is_unwanted h e (grind (arith, nat_tests, t)) refl
-  by_layer h e false t = is_wanted h e (grind (arith, nat_tests, t)) (means_typed kept h bytes)
+      → wants options h ≡ b
+      → Means options kept bytes (if b then content_by_type kept h bytes else nothing)
+  by_layer h e true t = is_wanted h e t (means_typed kept h bytes)
+  by_layer h e false t = is_unwanted h e t refl
 
   by_header : (r : Result UnitHeader HeaderFault) → unit_header bytes ≡ r
       → Means options kept bytes (headed_content options kept bytes r)
-  by_header (Ok h) e = by_layer h e (nat_lt options.highest_tid (temporal_id h)) refl
+  by_header (Ok h) e = by_layer h e (wants options h) refl
   by_header (Err fault) e = is_faulty fault e refl
 
   pub means_content : Means options kept bytes (content options kept bytes)
@@ -162,7 +162,5 @@ module _ (options : Options) (kept : Kept) (bytes : List ℕ) where
   pub only_content : (c : Content) → Means options kept bytes c → content options kept bytes ≡ c
   unfolding content
   only_content c (is_faulty fault e m) = rw e m
-  only_content c (is_unwanted h e above m) = let t : nat_lt options.highest_tid (temporal_id h) ≡ true =
-      grind (arith, nat_tests, above) in rw (e, t) m
-  only_content c (is_wanted h e below m) = let t : nat_lt options.highest_tid (temporal_id h) ≡ false =
-      grind (arith, nat_tests, below) in rw (e, t) (only_typed kept h bytes c m)
+  only_content c (is_unwanted h e above m) = rw (e, above) m
+  only_content c (is_wanted h e below m) = rw (e, below) (only_typed kept h bytes c m)

@@ -15,7 +15,7 @@ use Rattle.hevc_stream.specs.Kept.{Kept}
 use Rattle.hevc_stream.specs.Slices.{temporal_id}
 use Rattle.hevc_stream.specs.Contents.{Content, refused, video_set, sequence_set, picture_set}
 use Rattle.hevc_stream.specs.Contents.{unread_picture_set, slice, end_of_sequence, end_of_bitstream}
-use Rattle.hevc_stream.specs.Contents.{nothing, header_cause, fault_cause}
+use Rattle.hevc_stream.specs.Contents.{nothing, header_cause, fault_cause, wants}
 
 -- The beginning of a payload spells a record of a table, and the content is what that means; or the
 -- payload breaks off at a line, and the content is what that means.
@@ -69,7 +69,7 @@ pub data MeansByType (kept : Kept) (h : UnitHeader) (bytes : List ℕ) (c : Cont
 pub data Means (options : Options) (kept : Kept) (bytes : List ℕ) (c : Content) : Type 0 where
   is_faulty : (fault : HeaderFault) → unit_header bytes ≡ Err fault
       → refused (header_cause fault) ≡ c → Means options kept bytes c
-  is_unwanted : (h : UnitHeader) → unit_header bytes ≡ Ok h → options.highest_tid < temporal_id h
+  is_unwanted : (h : UnitHeader) → unit_header bytes ≡ Ok h → wants options h ≡ false
       → nothing ≡ c → Means options kept bytes c
-  is_wanted : (h : UnitHeader) → unit_header bytes ≡ Ok h → temporal_id h ≤ options.highest_tid
+  is_wanted : (h : UnitHeader) → unit_header bytes ≡ Ok h → wants options h ≡ true
       → MeansByType kept h bytes c → Means options kept bytes c

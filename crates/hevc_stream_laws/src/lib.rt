@@ -11,7 +11,7 @@ ghost use Rattle.hevc_stream.specs.Options.{Options};
 ghost use Rattle.hevc_stream.specs.Kept.{Kept, none_kept, with_sequence_set};
 ghost use Rattle.hevc_stream.specs.Slices.{temporal_id};
 ghost use Rattle.hevc_stream.specs.Contents.{Content, sequence_set, unread_picture_set, nothing};
-ghost use Rattle.hevc_stream.specs.Contents.{content};
+ghost use Rattle.hevc_stream.specs.Contents.{content, wants};
 ghost use Rattle.hevc_stream.specs.Stream.{kept_behind, kept_behind_all, meanings_behind, meanings};
 ghost use Rattle.hevc_stream_laws.specs.UnitMeans.{Means, is_parameter_set};
 ghost use Rattle.hevc_stream_laws.specs.KeptWell.{IsKeptWell, sequence_set_named};
@@ -57,12 +57,12 @@ pub fn kept_twice_is_kept_once()
         → kept_behind options (with_sequence_set set kept) bytes ≡ kept_behind options kept bytes }
 {}
 
-/// Units that ask for nothing: those of sub-layers above the wanted ones, and before the first
+/// Units that ask for nothing: those of sub-layers or layers above the wanted ones, and before the first
 /// sequence set all but parameter sets.
 pub fn unasked_units()
     ensures above { (options : Options) (kept : Kept) (bytes : List ℕ) (h : UnitHeader)
         → unit_header bytes ≡ Ok h
-        → options.highest_tid < temporal_id h → content options kept bytes ≡ nothing }
+        → wants options h ≡ false → content options kept bytes ≡ nothing }
     ensures first { (options : Options) (kept : Kept) (bytes : List ℕ) (h : UnitHeader)
         → unit_header bytes ≡ Ok h
         → kept.has_sequence_set ≡ false → is_parameter_set h.nal_unit_type ≡ false

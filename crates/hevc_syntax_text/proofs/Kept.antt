@@ -1,8 +1,7 @@
 -- What is kept after a unit.
-use Rattle.std.proofs.Common.{◌≡◌, ◌≢◌, ℕ, ◌≤◌, Bool, true, false, cond, List, refl, sym, ap, ◌∙◌, subst}
+use Rattle.std.proofs.Common.{◌≡◌, ◌≢◌, ℕ, Bool, true, false, cond, List, refl, sym, ap, ◌∙◌, subst}
 use Rattle.std.proofs.Common.{arith, Option, Result, Ok, Err}
-use Rattle.std.specs.Prelude.{◌==◌, IfOk, OnOk, nat_lt, not, drop}
-use Rattle.std.proofs.lemmas.Bool.{le-ltb}
+use Rattle.std.specs.Prelude.{◌==◌, IfOk, OnOk, not, drop}
 use Rattle.hevc_spec.specs.Payload.{payload}
 use Rattle.hevc_spec.specs.Table.{Fault, Reading, gives, refuses, read}
 use Rattle.hevc_spec.specs.UnitHeader.{UnitHeader, HeaderFault, unit_header}
@@ -23,10 +22,10 @@ use Rattle.hevc_stream.specs.Slices.{temporal_id}
 use Rattle.hevc_stream.specs.Kept.{Kept, with_sequence_set, with_set}
 use Rattle.hevc_stream.specs.Contents.{Content, refused, video_set, sequence_set, slice, end_of_sequence}
 use Rattle.hevc_stream.specs.Contents.{end_of_bitstream, nothing, content_read, picture_set_read}
-use Rattle.hevc_stream.specs.Contents.{slice_content, coded_content, headed_content, content}
+use Rattle.hevc_stream.specs.Contents.{slice_content, coded_content, headed_content, content, wants}
 use Rattle.hevc_stream.specs.Stream.{with_content, with_all_waited, kept_behind}
 use Rattle.hevc_stream_laws.proofs.ByType.{of_video_set, of_sequence_set, of_picture_set}
-use Rattle.hevc_rewrite_laws.proofs.AllSubLayers.{low_header}
+use Rattle.hevc_rewrite_laws.proofs.AllWanted.{all_wanted, by_default}
 use Rattle.hevc_rewrite_laws.proofs.Sequences.{is_sequence_set, other_sequences, own_sequences}
 use Rattle.hevc_kept_sets.specs.Takes.{Refuses}
 use Rattle.hevc_kept_sets.proofs.Sets.{behind_sequence_set}
@@ -55,11 +54,12 @@ header_is bytes h e = by_result (unit_header bytes) e
     by_result (Ok g) e = ap Ok (cc e)
     by_result (Err fault) e = absurd (cc e)
 
--- units of all sub-layers are wanted
+-- units of all sub-layers and layers are wanted
 pub wanted : (o : Options) (bytes : List ℕ) (h : UnitHeader) → o ≡ default_options → parsed_header bytes ≡ Ok h
-    → temporal_id h ≤ o.highest_tid
+    → wants o h ≡ true
 wanted o bytes h all parsed =
-    subst (λ (p : Options). temporal_id h ≤ p.highest_tid) (sym all) (low_header bytes h (header_is bytes h parsed))
+    subst (λ (p : Options). wants p h ≡ true) (sym all)
+    (all_wanted default_options by_default bytes h (header_is bytes h parsed))
 
 module _ (o : Options) (k : Kept) (bytes : List ℕ) where
   -- what is kept, by the content
@@ -108,11 +108,11 @@ pub other_keeps : (kept : Kept) (bytes : List ℕ) (h : UnitHeader) → parsed_h
 unfolding kept_behind content
 other_keeps kept bytes h parsed video sequence picture =
     let is = header_is bytes h parsed in
-    let low : nat_lt 6 (temporal_id h) ≡ false = le-ltb 6 (temporal_id h) (low_header bytes h is) in
+    let all : wants default_options h ≡ true = all_wanted default_options by_default bytes h is in
     let v : (h.nal_unit_type == 32) ≡ false = grind (arith, video) in
     let s : (h.nal_unit_type == 33) ≡ false = grind (arith, sequence) in
     let p : (h.nal_unit_type == 34) ≡ false = grind (arith, picture) in
-    rw (is, low, v, s, p) (coded_keeps kept h bytes)
+    rw (is, all, v, s, p) (coded_keeps kept h bytes)
 
 -- nor does one whose header is refused
 pub bare_keeps : (kept : Kept) (bytes : List ℕ) (e : UnitError) → parsed_header bytes ≡ Err e
@@ -143,8 +143,8 @@ module _ (bytes : List ℕ) (h : UnitHeader) (parsed : parsed_header bytes ≡ O
   is : unit_header bytes ≡ Ok h
   is = header_is bytes h parsed
 
-  low : temporal_id h ≤ default_options.highest_tid
-  low = low_header bytes h is
+  all : wants default_options h ≡ true
+  all = all_wanted default_options by_default bytes h is
 
   -- the sequence sets stay after a video set
   pub video_follows : h.nal_unit_type ≡ 32 → Follow bytes sets sets
@@ -152,7 +152,7 @@ module _ (bytes : List ℕ) (h : UnitHeader) (parsed : parsed_header bytes ≡ O
       let r = read video_parameter_set (payload bytes) in
       before
       ∙ sym (other_sequences bytes kept (content_read video_set r)
-      (of_video_set default_options kept bytes h is low typed) (no_sequence_in video_set (λ _. refl) r))
+      (of_video_set default_options kept bytes h is all typed) (no_sequence_in video_set (λ _. refl) r))
 
   -- after a picture set
   pub picture_follows : h.nal_unit_type ≡ 34 → Follow bytes sets sets
@@ -160,7 +160,7 @@ module _ (bytes : List ℕ) (h : UnitHeader) (parsed : parsed_header bytes ≡ O
       let r = read (picture_parameter_set (temporal_id h) kept.sequence_sets) (payload bytes) in
       before
       ∙ sym (other_sequences bytes kept (picture_set_read r)
-      (of_picture_set default_options kept bytes h is low typed) (no_sequence_waits r))
+      (of_picture_set default_options kept bytes h is all typed) (no_sequence_waits r))
 
   -- and after a unit that is no set
   pub other_follows : h.nal_unit_type ≢ 32 → h.nal_unit_type ≢ 33 → h.nal_unit_type ≢ 34 → Follow bytes sets sets
@@ -173,7 +173,7 @@ module _ (bytes : List ℕ) (h : UnitHeader) (parsed : parsed_header bytes ≡ O
       → Follow bytes sets (with_set set.seq_parameter_set_id set sets)
   sequence_follows set rest typed reads kept before =
       let c : content default_options kept bytes ≡ sequence_set set =
-      of_sequence_set default_options kept bytes h is low typed ∙ ap (content_read sequence_set) reads in
+      of_sequence_set default_options kept bytes h is all typed ∙ ap (content_read sequence_set) reads in
       ap (with_set set.seq_parameter_set_id set) before ∙ sym (own_sequences bytes kept set c)
 
   -- and one that is refused changes nothing
@@ -182,7 +182,7 @@ module _ (bytes : List ℕ) (h : UnitHeader) (parsed : parsed_header bytes ≡ O
   unread_follows fault rest typed reads kept before =
       before
       ∙ sym (other_sequences bytes kept (content_read sequence_set (refuses fault rest))
-      (of_sequence_set default_options kept bytes h is low typed ∙ ap (content_read sequence_set) reads) refl)
+      (of_sequence_set default_options kept bytes h is all typed ∙ ap (content_read sequence_set) reads) refl)
 
 -- ---- a sequence set is kept, and the units that wait are tried
 

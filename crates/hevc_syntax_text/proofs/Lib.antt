@@ -5,3 +5,5 @@ pub mod Skipping
 pub mod Steps
 pub mod Last
 pub mod Chains
+pub mod Following
+pub mod Counted

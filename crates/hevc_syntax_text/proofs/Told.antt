@@ -1,5 +1,5 @@
 -- The cause that an error tells of is the one of the reading.
-use Rattle.std.proofs.Common.{◌≡◌, ◌≢◌, ◌-◌, ℕ, List, Bool, true, false, None, refl, sym, ap, arith}
+use Rattle.std.proofs.Common.{◌≡◌, ◌≢◌, ◌-◌, ◌∙◌, ℕ, List, Bool, true, false, None, refl, sym, ap, arith}
 use Rattle.std.specs.Prelude.{◌==◌}
 use Rattle.std.proofs.lemmas.Bool.Decides.{nat_tests}
 use Rattle.hevc_spec.specs.Payload.{payload}
@@ -17,7 +17,10 @@ use Rattle.hevc_parser.specs.Slices.{active_of}
 use Rattle.hevc_elements.specs.declared.parse_error.ParseError.{ParseError}
 use Rattle.hevc_elements.specs.declared.parse_error.ParseError.TheVariants as errors
 use Rattle.hevc_elements.specs.Sets.{RefusesSet}
+use Rattle.hevc_syntax_text.specs.declared.counting.Counting.{Counting}
 use Rattle.hevc_syntax_text.specs.Causes.{cause_in, cause_of_unit, error_cause}
+use Rattle.hevc_syntax_text.specs.Order.{behind_end, behind_slice, counting_behind}
+use Rattle.hevc_syntax_text.specs.Variables.{set_variables_in, slice_variables, variables_of_unit}
 
 -- what is read has none
 pub none_in : {A : Type 0} (reading : Reading A) (x : A) (rest : List Bool) → reading ≡ gives x rest
@@ -85,3 +88,36 @@ module _ (kept : Kept) (n : FoundUnit UnitHeader) where
       let q : (n.header.nal_unit_type == 33) ≡ false = grind (arith, sequence) in
       let p : (n.header.nal_unit_type == 34) ≡ false = grind (arith, picture) in
       rw (v, q, p, s) refl
+
+-- ---- its variables and the order counts after it
+
+module _ (c : Counting) (kept : Kept) (n : FoundUnit UnitHeader) where
+  pub no_variables : (n.header.nal_unit_type == 33) ≡ false → is_slice n.header.nal_unit_type ≡ false
+      → None ≡ variables_of_unit c kept n
+  unfolding variables_of_unit
+  no_variables t s = rw (t, s) refl
+
+  pub sequence_variables : n.header.nal_unit_type ≡ 33
+      → variables_of_unit c kept n ≡ set_variables_in (read sequence_parameter_set (payload (bytes_of n)))
+  unfolding variables_of_unit
+  sequence_variables t = rw t refl
+
+  pub picture_variables : is_slice n.header.nal_unit_type ≡ true
+      → variables_of_unit c kept n ≡ slice_variables c kept n
+  unfolding variables_of_unit
+  picture_variables s = rw (slice_isnt n.header.nal_unit_type 33 s (omega arith), s) refl
+
+  pub behind_first : is_slice n.header.nal_unit_type ≡ true → counting_behind c kept n ≡ behind_slice c kept n
+  unfolding counting_behind
+  behind_first s = rw s refl
+
+  pub behind_another : is_slice n.header.nal_unit_type ≡ false
+      → counting_behind c kept n ≡ behind_end n.header.nal_unit_type c
+  unfolding counting_behind
+  behind_another s = rw s refl
+
+  -- a parameter set changes no order count
+  pub behind_plain : (t : ℕ) → n.header.nal_unit_type ≡ t → is_slice t ≡ false → behind_end t c ≡ c
+      → c ≡ counting_behind c kept n
+  behind_plain t typed slice same =
+      sym (behind_another (ap is_slice typed ∙ slice) ∙ ap (λ (k : ℕ). behind_end k c) typed ∙ same)

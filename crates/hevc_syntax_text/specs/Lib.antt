@@ -2,7 +2,12 @@ pub mod Requests
 pub mod Causes
 pub mod Fields
 pub mod UnitLines
+pub mod Messages
+pub mod FoundMessages
 pub mod Refusals
+pub mod Order
+pub mod Variables
+pub mod Before
 pub mod Written
 pub mod Standing
 pub mod Steps

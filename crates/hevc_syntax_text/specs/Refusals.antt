@@ -1,6 +1,7 @@
--- The line of a refusal: the cause, and of an element that isn't allowed its name, its value and its
--- bounds.
-use Rattle.std.specs.Prelude.{ℕ, ◌-◌, ◌==◌, ◌&&◌, not, Bool, true, false, List, [], ◌∷◌, ◌++◌, codes}
+-- The line of a refusal: the cause, and of an element that isn't allowed its name, its value and
+-- its bounds.
+use Rattle.std.specs.Prelude.{ℕ, ◌-◌, ◌==◌, ◌&&◌, not, Bool, true, false, List, [], ◌∷◌, ◌++◌}
+use Rattle.std.specs.Prelude.{codes}
 use Rattle.std.specs.Prelude.{length, take, drop, fold, slice_get, Option, Some, None}
 use Rattle.std.specs.Prelude.{if◌then◌else◌}
 use Rattle.hevc_spec.specs.declared.Row.{Row}
@@ -66,8 +67,8 @@ is_out_of_bounds out_of_bounds = true
 is_out_of_bounds (found v rest) = false
 is_out_of_bounds ended = false
 
--- An Exp-Golomb number above 2147483647 comes after the elements of a payload. It is refused without
--- a value, and isn't told.
+-- An Exp-Golomb number above 2147483647 comes after the elements of a payload. It is refused
+-- without a value, and isn't told.
 abbrev pub comes_before_long : List Bool → List Told → Bool
 comes_before_long bits told = is_out_of_bounds (ue_at (drop (place_behind told - 16) bits))
 

@@ -7,10 +7,15 @@ use Rattle.hevc_stream.specs.Stream.{kept_behind}
 use Rattle.hevc_parser.specs.Kept.{kept_by}
 use Rattle.hevc_kept_sets.specs.Kept.{kept_of, options_in}
 use Rattle.hevc_syntax_text.specs.declared.sets.Sets.{Sets}
+use Rattle.hevc_syntax_text.specs.Before.{Before}
 
 -- the sets that are kept
 abbrev pub sets_of : Sets → Kept
 sets_of sets = kept_of sets.kept
+
+-- and the order counts so far
+abbrev pub before_of : Sets → Before
+before_of sets = record { kept = sets_of sets; counting = sets.counting }
 
 -- all sub-layers are wanted, and the parser has the sequence sets that are kept
 pub record AreAlike (sets : Sets) : Type 0 where

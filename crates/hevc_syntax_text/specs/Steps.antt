@@ -1,25 +1,25 @@
 -- A stream that is told unit by unit.
-use Rattle.std.specs.Prelude.{◌≡◌, ℕ, ◌+◌, ◌<◌, ◌≤◌, Bool, List, [], ◌∷◌, ◌++◌, length, Option, Some}
+use Rattle.std.specs.Prelude.{◌≡◌, ℕ, ◌+◌, ◌<◌, ◌≤◌, Bool, List, [], ◌∷◌, ◌++◌, length, Option}
+use Rattle.std.specs.Prelude.{Some}
 use Rattle.std.specs.Prelude.{None, Err, is_some, if◌then◌else◌}
 use Rattle.hevc_spec.specs.Units.{NalUnit, kept_bytes, units_from}
 use Rattle.hevc_bits.specs.ParsedHeader.{parsed_header}
 use Rattle.hevc_bits.specs.declared.header.UnitError.{UnitError}
 use Rattle.hevc_elements.specs.declared.told.Told.{Told}
-use Rattle.hevc_stream.specs.Options.{default_options}
-use Rattle.hevc_stream.specs.Stream.{kept_behind}
 use Rattle.hevc_syntax_text.specs.declared.stream.StreamText.{StreamText}
 use Rattle.hevc_syntax_text.specs.declared.cause.Cause.{Cause}
-use Rattle.hevc_syntax_text.specs.Standing.{sets_of, AreAlike}
+use Rattle.hevc_syntax_text.specs.Before.{behind}
+use Rattle.hevc_syntax_text.specs.Standing.{before_of, AreAlike}
 use Rattle.hevc_syntax_text.specs.Written.{text_if_chosen, count_if_chosen, refusal_if_any}
 
 -- a unit of a stream was taken
 pub record TakesUnit (stream : List ℕ) (u : NalUnit) (old new : StreamText) : Type 0 where
   pub bytes : new.bytes.items ≡ old.bytes.items
-      ++ text_if_chosen old.request old.units (sets_of old.sets) stream u
+      ++ text_if_chosen old.request old.units (before_of old.sets) stream u
   pub units : new.units ≡ old.units + 1
   pub refused : new.refused ≡ old.refused
-      + count_if_chosen old.request old.units (sets_of old.sets) stream u
-  pub kept : sets_of new.sets ≡ kept_behind default_options (sets_of old.sets) u.bytes
+      + count_if_chosen old.request old.units (before_of old.sets) stream u
+  pub behind : before_of new.sets ≡ behind (before_of old.sets) stream u
   pub alike : AreAlike new.sets
   pub request : new.request ≡ old.request
 

@@ -1,7 +1,9 @@
 //! The fields of a line.
 ghost use Rattle.std.specs.Prelude.{◌≡◌, ◌++◌, OnOk};
 ghost use Rattle.hevc_element_lines.specs.Lines.{indices_text};
-ghost use Rattle.hevc_syntax_text.specs.Fields.{after_text, before_name, before_number, before_text, number_field, signed_field, text_field};
+ghost use Rattle.hevc_syntax_text.specs.Fields.{after_text, before_name, before_number};
+ghost use Rattle.hevc_syntax_text.specs.Fields.{before_text, number_field, signed_field};
+ghost use Rattle.hevc_syntax_text.specs.Fields.{text_field};
 
 use hevc_element_lines::{Style, push_indices, push_number};
 use hevc_element_names::ElementName;

@@ -4,14 +4,20 @@
 mod answer;
 mod cause;
 mod causes;
+mod counting;
 mod fields;
 mod keeping;
+mod message_names;
+mod messages;
+mod outcome;
 mod program;
+mod rbsp;
 mod refusal;
 mod sets;
 mod stream;
 mod unit_line;
 mod unit_types;
+mod variables;
 mod words;
 
 pub use program::run_syntax;

@@ -9,12 +9,13 @@ use hevc_io::{INPUT_LIMIT, Sink, Source, Word};
 use hevc_program_answers::run_asked;
 use std::alloc::Global;
 
-/// Reads the source's stream to its end, and writes for each unit a line with its number, place, size
-/// and header, a line for each syntax element of a parameter set or slice segment header as it was
-/// read, with the sets that are kept there, and where the unit is refused, a line with the cause; and
-/// a last line with the number of units and of refusals. `words` are those of the command line after
-/// the program's name: `json` first for lines of JSON, then `type N` for the units of that
-/// nal_unit_type alone, or `unit A B` for those from number A to B. Answers the status of the program:
+/// Reads the source's stream to its end, and writes for each unit a line with its number, place,
+/// size and header, one for each message, one for each syntax element of a parameter set or slice
+/// segment header as it was read, with the sets that are kept there, one for each variable that
+/// follows, and where the unit is refused, one with the cause; and a last line with the number of
+/// units and of refusals. `words` are those of the command line after the program's name: `json`
+/// first for lines of JSON, then `type N` for the units of that nal_unit_type alone, or `unit A B`
+/// for those from number A to B. Answers the status of the program:
 ///
 /// | status | where |
 /// |---|---|

@@ -5,7 +5,11 @@ ghost use Rattle.hevc_spec.specs.Bits.{ue_at};
 ghost use Rattle.hevc_bits.specs.declared.stream_limit.TheConstants.{STREAM_LIMIT};
 ghost use Rattle.hevc_element_names.specs.Seen.{sight_of};
 ghost use Rattle.hevc_syntax_text.specs.Fields.{number_field};
-ghost use Rattle.hevc_syntax_text.specs.Refusals.{after_cause, before_cause, bounds_field, cause_name, cause_text, comes_before_long, details, element_fields, header_cause, is_of_row, is_out_of_bounds, place_behind, refusal_line, refused_fields, seen_after};
+ghost use Rattle.hevc_syntax_text.specs.Refusals.{after_cause, before_cause, bounds_field};
+ghost use Rattle.hevc_syntax_text.specs.Refusals.{cause_name, cause_text, comes_before_long};
+ghost use Rattle.hevc_syntax_text.specs.Refusals.{details, element_fields, header_cause, is_of_row};
+ghost use Rattle.hevc_syntax_text.specs.Refusals.{is_out_of_bounds, place_behind, refusal_line};
+ghost use Rattle.hevc_syntax_text.specs.Refusals.{refused_fields, seen_after};
 
 use crate::cause::Cause;
 use crate::fields::{push_byte_field, push_name_field, push_signed_field, push_text_field};

@@ -1,21 +1,25 @@
 //! The text of a stream, unit by unit.
-ghost use Rattle.std.specs.Prelude.{◌≡◌, ◌≤◌, ◌<◌, ◌++◌, ◌==◌, [], length, true, Ok, Err, IfOk, OnOk, Some, if◌then◌else◌};
+ghost use Rattle.std.specs.Prelude.{◌≡◌, ◌≤◌, ◌<◌, ◌++◌, ◌==◌, [], length, true, Ok, Err, IfOk};
+ghost use Rattle.std.specs.Prelude.{OnOk, Some, if◌then◌else◌};
 ghost use Rattle.hevc_spec.specs.Payload.{payload_bits};
 ghost use Rattle.hevc_bits.specs.FoundUnit.{bytes_of, unit_of};
 ghost use Rattle.hevc_bits.specs.ParsedHeader.{parsed_header};
 ghost use Rattle.hevc_bits.specs.declared.stream_limit.TheConstants.{STREAM_LIMIT};
 ghost use Rattle.hevc_bare_units.specs.Pieces.{own_unit};
-ghost use Rattle.hevc_stream.specs.Kept.{none_kept};
 ghost use Rattle.hevc_syntax_text.specs.Requests.{is_chosen};
-ghost use Rattle.hevc_syntax_text.specs.Standing.{sets_of, AreAlike};
-ghost use Rattle.hevc_syntax_text.specs.Steps.{EndsUnit, Fits, IsRefusedNext, TakesNextIfAny, TakesUnit};
+ghost use Rattle.hevc_syntax_text.specs.Before.{at_beginning};
+ghost use Rattle.hevc_syntax_text.specs.Standing.{before_of, AreAlike};
+ghost use Rattle.hevc_syntax_text.specs.Steps.{EndsUnit, Fits, IsRefusedNext, TakesNextIfAny};
+ghost use Rattle.hevc_syntax_text.specs.Steps.{TakesUnit};
 ghost use Rattle.hevc_syntax_text.specs.Written.{before_units, last_line, status_of, written_of};
 
 use crate::cause::Cause;
 use crate::fields::push_number_field;
+use crate::messages::push_messages;
 use crate::refusal::push_refusal;
 use crate::sets::Sets;
 use crate::unit_line::{push_bare_line, push_unit_line};
+use crate::variables::push_variables;
 use crate::words::Request;
 use hevc_bare_units::{Piece, next_piece, own_bytes};
 use hevc_bits::{Nalu, NaluHeader, UnitError};
@@ -58,7 +62,7 @@ impl StreamText {
     fn new(alloc: Global, request: Request) -> StreamText
         ensures bytes { result.bytes.items ≡ [] }
         ensures counts { (result.units ≡ 0) × (result.refused ≡ 0) }
-        ensures none { sets_of result.sets ≡ none_kept }
+        ensures first { before_of result.sets ≡ at_beginning }
         ensures alike { AreAlike result.sets }
         ensures request { result.request ≡ request }
     {
@@ -72,8 +76,8 @@ impl StreamText {
         }
     }
 
-    /// Takes the first unit whose start code is at `position` or after it, if there is one, and gives
-    /// the place after it.
+    /// Takes the first unit whose start code is at `position` or after it, if there is one, and
+    /// gives the place after it.
     fn take_next(&mut self, stream: &[u8], position: usize) -> Result<Option<usize>, AllocError>
         requires short { length stream.now < STREAM_LIMIT }
         requires within { position ≤ length stream.now }
@@ -105,7 +109,7 @@ impl StreamText {
         if self.request.chosen.has(self.units, nalu.as_ref()) {
             self.tell_unit(nalu)
         } else {
-            let _cause = self.sets.take(nalu)?;
+            let _outcome = self.sets.take(nalu)?;
             self.units += 1;
             Ok(())
         }
@@ -118,15 +122,18 @@ impl StreamText {
         requires alike { AreAlike self.old.sets }
         requires parsed { parsed_header (bytes_of nalu.now) ≡ Ok nalu.now.header }
         requires long { length (bytes_of nalu.now) ≡ nalu.now.size }
-        requires chosen { is_chosen self.old.request.chosen self.old.units (bytes_of nalu.now) ≡ true }
+        requires chosen { is_chosen self.old.request.chosen self.old.units (bytes_of nalu.now)
+            ≡ true }
         ensures { OnOk result (TakesUnit nalu.now.stream (unit_of nalu.now) self.old self.new) }
     {
         let style = self.request.style;
         push_unit_line(&mut self.bytes, style, self.units, nalu)?;
+        push_messages(self.alloc, &mut self.bytes, style, nalu)?;
         let told = self.sets.tell(nalu)?;
         push_elements(self.alloc, &mut self.bytes, style, &told)?;
-        let cause = self.sets.take(nalu)?;
-        self.end_unit(nalu.payload(), &told, cause)
+        let outcome = self.sets.take(nalu)?;
+        push_variables(&mut self.bytes, style, outcome.variables)?;
+        self.end_unit(nalu.payload(), &told, outcome.cause)
     }
 
     /// Adds the refusal of a unit, if it is refused, and counts the unit.

@@ -33,14 +33,14 @@ output_units os = map (λ o. o.unit) os
 
 -- the same decoding, of two lists of meanings
 pub record MeanAlike (stream : List ℕ) (us vs : List Meaning) : Type 0 where
-  pub calls : calls vs ≡ map (renumbered_call (flags_of 6 stream)) (calls us)
-  pub outputs : outputs vs ≡ map (renumbered_output (flags_of 6 stream)) (outputs us)
-  pub verdict : verdict vs ≡ renumbered_verdict (flags_of 6 stream) (verdict us)
+  pub calls : calls vs ≡ map (renumbered_call (flags_of 6 63 stream)) (calls us)
+  pub outputs : outputs vs ≡ map (renumbered_output (flags_of 6 63 stream)) (outputs us)
+  pub verdict : verdict vs ≡ renumbered_verdict (flags_of 6 63 stream) (verdict us)
 
 module _ (stream bytes : List ℕ) (us vs : List Meaning)
     (e : meanings default_options stream ≡ us) (f : meanings default_options bytes ≡ vs)
   where
-    pub mean_alike : DecodesAlike 6 stream bytes → MeanAlike stream us vs
+    pub mean_alike : DecodesAlike 6 63 stream bytes → MeanAlike stream us vs
     mean_alike alike =
         let of_stream = meanings default_options stream in
         let whole : MeanAlike stream of_stream (meanings default_options bytes) = record {
@@ -51,7 +51,7 @@ module _ (stream bytes : List ℕ) (us vs : List Meaning)
         let meant = subst (λ (ms : List Meaning). MeanAlike stream of_stream ms) f whole in
         subst (λ (ms : List Meaning). MeanAlike stream ms vs) e meant
 
-    pub decode_alike : MeanAlike stream us vs → DecodesAlike 6 stream bytes
+    pub decode_alike : MeanAlike stream us vs → DecodesAlike 6 63 stream bytes
     decode_alike alike =
         let of_bytes = meanings default_options bytes in
         let meant = subst (λ (ms : List Meaning). MeanAlike stream us ms) (sym f) alike in

@@ -10,7 +10,7 @@ ghost use Rattle.hevc_tools_examples.specs.Extracts.{keeps, refuses, refused_fir
 /// All of a stream is kept; the second unit is refused.
 pub fn right_extracts()
     ensures holds { HoldsKept 6 63 idr_stream idr_stream }
-    ensures alike { DecodesAlike 6 idr_stream idr_stream }
+    ensures alike { DecodesAlike 6 63 idr_stream idr_stream }
     ensures refused { TellsRefusal (refuses 1) (refused_first 1) }
     ensures kept { TellsRefusal (keeps 3 1) None }
 {}
@@ -24,9 +24,9 @@ pub fn wrong_units()
 
 /// A slice of other bytes; an output at another unit; a stream that isn't refused.
 pub fn wrong_decodings()
-    ensures calls { DecodesAlike 6 idr_stream longer_idr_stream → ⊥ }
-    ensures outputs { DecodesAlike 6 ended_stream ended_twice_stream → ⊥ }
-    ensures verdict { DecodesAlike 6 truncated_stream [] → ⊥ }
+    ensures calls { DecodesAlike 6 63 idr_stream longer_idr_stream → ⊥ }
+    ensures outputs { DecodesAlike 6 63 ended_stream ended_twice_stream → ⊥ }
+    ensures verdict { DecodesAlike 6 63 truncated_stream [] → ⊥ }
 {}
 
 /// Another unit is refused, none where one is, and one where none is.

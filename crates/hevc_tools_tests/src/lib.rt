@@ -3,16 +3,4 @@
 #![tactic(auto)]
 
 #[cfg(test)]
-mod check;
-#[cfg(test)]
-mod expect;
-#[cfg(test)]
-mod extract;
-#[cfg(test)]
-mod index;
-#[cfg(test)]
-mod streams;
-#[cfg(test)]
-mod syntax;
-#[cfg(test)]
-mod words;
+mod tests;

@@ -4,17 +4,20 @@ use hevc_row_names::row_name;
 use hevc_spec::Row as TableRow;
 use std::fmt;
 
-/// A cause, as the line of a refusal has it: a name, and its numbers after blanks.
+/// A cause, as the line of a refusal has it, a name and its numbers after blanks, and the number of
+/// the unit.
 #[derive(Clone, Copy)]
 pub(crate) struct Cause<'a> {
     pub(crate) text: &'a str,
+    pub(crate) unit: &'a str,
 }
 
 impl fmt::Display for Cause<'_> {
     fn fmt<W: fmt::Write>(&self, f: &mut fmt::Formatter<W>) -> fmt::Result {
         let text = self.text;
+        let unit = self.unit;
         match text.split_once(" ") {
-            Some(("OutOfRange", row)) => write!(f, "{}", Row { text: row }),
+            Some(("OutOfRange", row)) => write!(f, "{}", Row { text: row, unit }),
             Some(("InvalidNaluType", number)) => {
                 write!(
                     f,
@@ -37,7 +40,7 @@ fn plain_cause(name: &str) -> &str {
         "TruncatedNalu" => "it ends within its header: is the stream cut there?",
         "OutOfBits" => "it ends before its syntax does: is the stream cut there?",
         "TemporalIdZero" =>
-            "nuh_temporal_id_plus1 is out of its range: 1..7 (7.3.1.2; table 0, row 1)",
+            "nuh_temporal_id_plus1 is out of its range: 1..7 (7.3.1.2; table 0, row 1): it is 0",
         "NoIndependentSlice" => "its dependent slice segment follows no independent one (7.4.7.1)",
         "ChangedMidPicture" => {
             "its slice names a sequence parameter set of another format than its picture's (7.4.2.4.2)"
@@ -49,10 +52,11 @@ fn plain_cause(name: &str) -> &str {
     }
 }
 
-/// The table and the row of an element that is out of its range.
+/// The table and the row of an element that is out of its range, and the number of its unit.
 #[derive(Clone, Copy)]
 struct Row<'a> {
     text: &'a str,
+    unit: &'a str,
 }
 
 impl fmt::Display for Row<'_> {
@@ -75,7 +79,13 @@ impl fmt::Display for Row<'_> {
             f,
             "{element} is out of its range{mark}{bounds} ({clause}; table {table}, row {row})"
         )?;
-        write!(f, "{}", remedy(table, row))
+        match remedy(table, row) {
+            Some(remedy) => write!(f, ": {remedy}"),
+            None => {
+                let unit = self.unit;
+                write!(f, "; `hevc_syntax unit {unit} {unit}` tells what was read")
+            }
+        }
     }
 }
 
@@ -88,12 +98,13 @@ fn numbers_of(text: &str) -> (u8, u8) {
     )
 }
 
-/// What to do about a row.
-fn remedy(table: u8, row: u8) -> &'static str {
+/// What is known of a row's value, and what to do about it.
+fn remedy(table: u8, row: u8) -> Option<&'static str> {
     match (table, row) {
-        (2, 27) => {
-            ": lossless x265 writes 0; `ffmpeg -i x.h265 -c copy -bsf:v hevc_metadata=level=6.2 y.h265` writes another level"
-        }
-        _ => "",
+        (0, _) => Some("it is 0"),
+        (2, 27) => Some(
+            "lossless x265 writes 0; `ffmpeg -i x.h265 -c copy -bsf:v hevc_metadata=level=6.2 y.h265` writes another level",
+        ),
+        _ => None,
     }
 }

@@ -76,7 +76,7 @@ fn explain_refusal<R: Eprint>(runtime: &R, about: About, head: &[u8], line: &str
         let _ = eprintln!(runtime; "{name}: refused unit {unit}: {what}{ending}");
         return;
     }
-    let cause = Cause { text };
+    let cause = Cause { text, unit };
     let layers = num_layers(head);
     if layers == 1 {
         let _ = eprintln!(runtime; "{name}: refused unit {unit}: {cause}{ending}");

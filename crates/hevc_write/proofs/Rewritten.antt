@@ -1,5 +1,5 @@
 -- Units that are rewritten one by one.
-use Rattle.std.proofs.Common.{◌≡◌, ℕ, ◌+◌, ◌≤◌, List, [], ◌∷◌, ◌++◌, length, refl, sym, ap, ◌∙◌}
+use Rattle.std.proofs.Common.{◌≡◌, ℕ, ◌+◌, List, [], ◌∷◌, ◌++◌, length, refl, sym, ap, ◌∙◌}
 use Rattle.std.proofs.Common.{subst, append_assoc, append-nil}
 use Rattle.std.specs.Prelude.{All}
 use Rattle.std.proofs.lemmas.List.Elements.{All-cons, All-nil}
@@ -7,8 +7,8 @@ use Rattle.hevc_spec.specs.Units.{NalUnit, units}
 use Rattle.hevc_bit_writer.specs.WrittenUnits.{started, stream_of}
 use Rattle.hevc_stream_pieces.specs.Pieces.{IsPiece, units_of_pieces}
 use Rattle.hevc_stream_pieces.proofs.Found.{pieces_found}
-use Rattle.hevc_rewrite_laws.specs.Replaced.{StandFor}
-use Rattle.hevc_rewrite_laws.proofs.AllSubLayers.{same_by_default}
+use Rattle.hevc_rewrite_laws.specs.Replaced.{StandFor, WantsAll}
+use Rattle.hevc_rewrite_laws.proofs.AllWanted.{same_by_default}
 use Rattle.hevc_walk.specs.Results.{calls, outputs, verdict}
 use Rattle.hevc_records.specs.Sps.{PlainSps}
 use Rattle.std.specs.Prelude.{Option}
@@ -56,7 +56,7 @@ stand kept (u ∷ us) (piece ∷ pieces) place s =
 module _ (stream bytes : List ℕ) (pieces : List (List ℕ)) (steps : AreSteps none_kept (units stream) pieces)
     (parts : bytes ≡ stream_of pieces) where
   -- so what is written means the same
-  same_meanings : (options : Options) → 6 ≤ options.highest_tid → meanings options bytes ≡ meanings options stream
+  same_meanings : (options : Options) → WantsAll options → meanings options bytes ≡ meanings options stream
   same_meanings options all =
       ap (λ (b : List ℕ). meanings_behind options none_kept (units b)) parts
       ∙ ap (meanings_behind options none_kept) (pieces_found pieces (all_pieces none_kept (units stream) pieces steps))

@@ -1,14 +1,13 @@
 -- What is written for one unit.
-use Rattle.std.proofs.Common.{◌≡◌, ◌≢◌, ℕ, ◌≤◌, Bool, true, false, cond, List, [], ◌∷◌, ◌++◌, refl}
+use Rattle.std.proofs.Common.{◌≡◌, ◌≢◌, ℕ, Bool, true, false, cond, List, [], ◌∷◌, ◌++◌, refl}
 use Rattle.std.proofs.Common.{sym, ap, ◌∙◌, subst, inl, inr, Option, Result, Ok, Err, arith}
-use Rattle.std.specs.Prelude.{◌==◌, OnOk, nat_lt, not, drop}
+use Rattle.std.specs.Prelude.{◌==◌, OnOk, not, drop}
 use Rattle.hevc_elements.specs.declared.parse_error.ParseError.{ParseError}
 use Rattle.hevc_elements.specs.declared.parse_error.ParseError.TheVariants.{WrongNaluType}
 use Rattle.hevc_elements.specs.declared.parse_error.ParseError.TheVariants.{OutOfBits, OutOfRange}
 use Rattle.hevc_elements.specs.declared.parse_error.ParseError.TheVariants.{MissingSps, MissingPps}
 use Rattle.hevc_elements.specs.declared.parse_error.ParseError.TheVariants.{NoMemory}
 use Rattle.hevc_elements.specs.Sets.{RefusesSet}
-use Rattle.std.proofs.lemmas.Bool.{le-ltb}
 use Rattle.hevc_records.specs.SliceHeader.{PlainSliceSegmentHeader}
 use Rattle.hevc_tables.specs.SliceHeaderTable.{active_sets, slice_segment_header}
 use Rattle.hevc_spec.specs.Lines.{Line}
@@ -26,12 +25,12 @@ use Rattle.hevc_records.specs.Pps.{PlainPps}
 use Rattle.hevc_records.specs.Sps.{PlainSps}
 use Rattle.hevc_records.specs.Vps.{PlainVps}
 use Rattle.hevc_rewrite_laws.specs.Replaced.{is_all}
-use Rattle.hevc_rewrite_laws.proofs.AllSubLayers.{low_header}
+use Rattle.hevc_rewrite_laws.proofs.AllWanted.{all_wanted, by_default}
 pub use Rattle.hevc_rewrite_laws.proofs.Sequences.{is_sequence_set, other_sequences, own_sequences}
 use Rattle.hevc_stream.specs.Contents.{Content, refused, video_set, sequence_set, picture_set}
 use Rattle.hevc_stream.specs.Contents.{unread_picture_set, slice, end_of_sequence, end_of_bitstream}
 use Rattle.hevc_stream.specs.Contents.{nothing, content_read, picture_set_read, slice_content}
-use Rattle.hevc_stream.specs.Contents.{coded_content, headed_content, content}
+use Rattle.hevc_stream.specs.Contents.{coded_content, headed_content, content, wants}
 use Rattle.hevc_stream.specs.Kept.{Kept}
 use Rattle.hevc_stream.specs.Options.{default_options}
 use Rattle.hevc_stream.specs.Slices.{temporal_id}
@@ -163,10 +162,10 @@ refused_by : {A : Type 0} (means : A → Content) (r : Reading A) (fault : Fault
     → r ≡ refuses fault rest → is_read_set (content_read means r) ≡ false
 refused_by means r fault rest e = rw e refl
 
--- units of all sub-layers are wanted
+-- units of all sub-layers and layers are wanted
 pub wanted : (bytes : List ℕ) (header : UnitHeader) → unit_header bytes ≡ Ok header
-    → temporal_id header ≤ default_options.highest_tid
-wanted bytes header parsed = low_header bytes header parsed
+    → wants default_options header ≡ true
+wanted bytes header parsed = all_wanted default_options by_default bytes header parsed
 
 module _ (kept : Kept) (bytes : List ℕ) (header : UnitHeader) (parsed : unit_header bytes ≡ Ok header) where
   -- a video set that is refused is none
@@ -274,11 +273,10 @@ pub other_type : (kept : Kept) (bytes : List ℕ) (header : UnitHeader) → unit
     → is_read_set (content default_options kept bytes) ≡ false
 unfolding content
 other_type kept bytes header parsed video sequence picture =
-    let low : nat_lt 6 (temporal_id header) ≡ false = le-ltb 6 (temporal_id header) (wanted bytes header parsed) in
     let v : (header.nal_unit_type == 32) ≡ false = grind (arith, video) in
     let s : (header.nal_unit_type == 33) ≡ false = grind (arith, sequence) in
     let p : (header.nal_unit_type == 34) ≡ false = grind (arith, picture) in
-    rw (parsed, low, v, s, p) (no_set_read kept header bytes)
+    rw (parsed, wanted bytes header parsed, v, s, p) (no_set_read kept header bytes)
 
 -- ---- refused units
 

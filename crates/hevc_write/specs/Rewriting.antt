@@ -1,5 +1,5 @@
 -- A stream whose parameter sets are written anew.
-use Rattle.std.specs.Prelude.{◌≡◌, ◌≤◌, ◌==◌, ◌&&◌, if◌then◌else◌, ℕ, Bool, true, false, List, []}
+use Rattle.std.specs.Prelude.{◌≡◌, ◌==◌, ◌&&◌, if◌then◌else◌, ℕ, Bool, true, false, List, []}
 use Rattle.std.specs.Prelude.{◌∷◌, drop, Some, Ok}
 use Rattle.hevc_spec.specs.Lines.{Line}
 use Rattle.hevc_spec.specs.Payload.{payload_after}
@@ -11,6 +11,7 @@ use Rattle.hevc_tables.specs.SpsTable.{sequence_parameter_set}
 use Rattle.hevc_tables.specs.VpsTable.{video_parameter_set}
 use Rattle.hevc_bit_writer.specs.WrittenUnits.{stream_of}
 use Rattle.hevc_stream_pieces.specs.Pieces.{units_of_pieces}
+use Rattle.hevc_rewrite_laws.specs.Replaced.{WantsAll}
 use Rattle.hevc_walk.specs.Results.{calls, outputs, verdict}
 use Rattle.hevc_stream.specs.Contents.{Content, video_set, sequence_set, picture_set, content}
 use Rattle.hevc_stream.specs.Kept.{Kept, none_kept}
@@ -71,14 +72,14 @@ AreRewritten kept (u ∷ us) (piece ∷ pieces) =
     IsRewritten kept u.bytes piece
     × AreRewritten (kept_behind default_options kept u.bytes) us pieces
 
--- Where all sub-layers are wanted, the bytes ask for the calls and outputs of the stream and end as
+-- Where all sub-layers and layers are wanted, the bytes ask for the calls and outputs of the stream and end as
 -- it does, unit numbers included.
 pub record DecodesTheSame (stream bytes : List ℕ) : Type 0 where
-  pub calls : (options : Options) → 6 ≤ options.highest_tid
+  pub calls : (options : Options) → WantsAll options
       → calls (meanings options bytes) ≡ calls (meanings options stream)
-  pub outputs : (options : Options) → 6 ≤ options.highest_tid
+  pub outputs : (options : Options) → WantsAll options
       → outputs (meanings options bytes) ≡ outputs (meanings options stream)
-  pub verdict : (options : Options) → 6 ≤ options.highest_tid
+  pub verdict : (options : Options) → WantsAll options
       → verdict (meanings options bytes) ≡ verdict (meanings options stream)
 
 -- The bytes are the stream with its sets written anew, each unit after 00 00 01, and these are the

@@ -1,5 +1,5 @@
 pub mod HrdParts
 pub mod LayerParts
-pub mod LayerProfile
+pub mod GeneralProfile
 pub mod ProfileParts
 pub mod VuiParts

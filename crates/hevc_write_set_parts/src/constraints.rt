@@ -3,12 +3,11 @@ ghost use Rattle.std.specs.Prelude.{OnOk};
 ghost use Rattle.hevc_records.specs.ProfileConformance.{has_range_extensions_flags};
 ghost use Rattle.hevc_tables.specs.ProfileTierLevelTable as table;
 ghost use Rattle.hevc_write_set_parts.specs.LayerParts as own;
-ghost use Rattle.hevc_write_set_parts.specs.LayerProfile.{plain_layer_profile};
+ghost use Rattle.hevc_profile.specs.LayerProfile.{plain_layer_profile};
 ghost use Rattle.hevc_write_elements.specs.Filling.{Writes, WritesEither, WritesZeros};
 
-use crate::conformance::{has_14bit, has_extensions, layer_conforms_to};
-use crate::layer_profile::LayerProfile;
 use hevc_bit_writer::BitWriter;
+use hevc_profile::{LayerProfile, has_14bit, has_extensions, layer_conforms_to};
 use hevc_write_elements::rows::{flag, flag_if, zeros};
 use std::alloc::AllocError;
 

@@ -2,13 +2,12 @@
 ghost use Rattle.std.specs.Prelude.{◌<◌, OnOk};
 ghost use Rattle.hevc_tables.specs.ProfileTierLevelTable as table;
 ghost use Rattle.hevc_write_set_parts.specs.LayerParts as own;
-ghost use Rattle.hevc_write_set_parts.specs.LayerProfile.{plain_layer_profile};
+ghost use Rattle.hevc_profile.specs.LayerProfile.{plain_layer_profile};
 ghost use Rattle.hevc_write_elements.specs.Filling.{Writes, WritesTable, WritesTurn};
 
-use crate::conformance::has_inbld;
 use crate::constraints::write_constraints;
-use crate::layer_profile::LayerProfile;
 use hevc_bit_writer::BitWriter;
+use hevc_profile::{LayerProfile, has_inbld};
 use hevc_write_elements::rows::{bits_u8, flag, flag_if, zeros_if};
 use std::alloc::AllocError;
 

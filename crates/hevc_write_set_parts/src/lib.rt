@@ -1,15 +1,14 @@
 //! The parts that parameter sets share, written.
 #![tactic(auto)]
 
-mod conformance;
 mod constraints;
+mod general_profile;
 mod hrd;
 mod hrd_common;
 mod hrd_schedules;
 mod hrd_sub_layers;
 mod laws;
 mod layer;
-mod layer_profile;
 mod profile_tier_level;
 mod sub_layers;
 mod vui;

@@ -5,8 +5,8 @@ ghost use Rattle.hevc_set_parts.specs.ProfileTierLevel.{plain_profile_tier_level
 ghost use Rattle.hevc_write_set_parts.specs.ProfileParts as own;
 ghost use Rattle.hevc_write_elements.specs.Filling.{Writes, WritesIf, WritesTable, WritesZeros};
 
+use crate::general_profile::general_profile;
 use crate::layer::write_layer_profile;
-use crate::layer_profile::LayerProfile;
 use crate::sub_layers::{write_presence, write_sub_layers};
 use hevc_bit_writer::BitWriter;
 use hevc_set_parts::ProfileTierLevel;
@@ -48,7 +48,7 @@ fn write_general(w: &mut BitWriter, x: &ProfileTierLevel) -> Result<(), AllocErr
     ensures { OnOk result (Writes table.general_rows own.general_rows_of
         (plain_profile_tier_level x.now) w.old w.new) }
 {
-    let layer = LayerProfile::general(x);
+    let layer = general_profile(x);
     write_layer_profile(w, &layer)?;
     bits_u8(w, 8, x.general_level_idc.number())?; // Row(2, 27)
     Ok(())

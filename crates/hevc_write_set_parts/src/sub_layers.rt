@@ -6,8 +6,8 @@ ghost use Rattle.hevc_write_set_parts.specs.ProfileParts as own;
 ghost use Rattle.hevc_write_elements.specs.Filling.{Writes, WritesIf, WritesTurn};
 
 use crate::layer::write_layer_profile;
-use crate::layer_profile::LayerProfile;
 use hevc_bit_writer::BitWriter;
+use hevc_profile::LayerProfile;
 use hevc_set_parts::ProfileTierLevel;
 use hevc_write_elements::rows::{bits_u8, flag};
 use std::alloc::AllocError;

@@ -1,5 +1,5 @@
 -- The lines of slice segments in units, and what such units mean.
-use Rattle.std.specs.Prelude.{◌≡◌, ◌≤◌, ◌==◌, if◌then◌else◌, ℕ, Bool, true, List, ◌++◌, Option}
+use Rattle.std.specs.Prelude.{◌≡◌, ◌==◌, if◌then◌else◌, ℕ, Bool, true, List, ◌++◌, Option}
 use Rattle.std.specs.Prelude.{Some, None}
 use Rattle.hevc_spec.specs.Lines.{Line, HasLines, AreGood}
 use Rattle.hevc_spec.specs.Table.{Table}
@@ -9,10 +9,9 @@ use Rattle.hevc_records.specs.Pps.{PlainPps}
 use Rattle.hevc_records.specs.SliceHeader.{PlainSliceSegmentHeader}
 use Rattle.hevc_records.specs.Sps.{PlainSps}
 use Rattle.hevc_tables.specs.SliceHeaderTable.{ActiveSets, active_sets, elements}
-use Rattle.hevc_stream.specs.Contents.{slice, content}
+use Rattle.hevc_stream.specs.Contents.{slice, content, wants}
 use Rattle.hevc_stream.specs.Kept.{Kept, with_set}
 use Rattle.hevc_stream.specs.Options.{Options}
-use Rattle.hevc_stream.specs.Slices.{temporal_id}
 use Rattle.hevc_write_elements.specs.Choices.{IsFilled}
 
 -- ---- sizes
@@ -71,12 +70,12 @@ pub record SliceLines (sps : PlainSps) (pps : PlainPps) (x : PlainSliceSegmentHe
   pub has : HasLines (elements header.nal_unit_type (only_sets sps pps)) own lines
   pub good : AreGood lines
 
--- Where its sub-layer is wanted, a unit of these bytes means the slice header, but for its sizes,
+-- Where it is wanted, a unit of these bytes means the slice header, but for its sizes,
 -- if the sets are kept that it names.
 abbrev pub MeansSlice : PlainSps → PlainPps → PlainSliceSegmentHeader → UnitHeader → List ℕ
     → Type 0
 MeansSlice sps pps x header bytes =
-    (options : Options) (kept : Kept) → temporal_id header ≤ options.highest_tid
+    (options : Options) (kept : Kept) → wants options header ≡ true
     → kept.has_sequence_set ≡ true
     → active_sets kept.sequence_sets kept.picture_sets x.pic_parameter_set_id
     ≡ Some (record { sps = sps; pps = pps })

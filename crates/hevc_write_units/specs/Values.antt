@@ -1,5 +1,5 @@
 -- The lines of parameter sets and slice headers in units, and what such units mean.
-use Rattle.std.specs.Prelude.{◌≡◌, ◌≤◌, ℕ, List, Option, Some, None}
+use Rattle.std.specs.Prelude.{◌≡◌, true, ℕ, List, Option, Some, None}
 use Rattle.hevc_spec.specs.Lines.{Line, HasLines, AreGood}
 use Rattle.hevc_spec.specs.Table.{Table}
 use Rattle.hevc_spec.specs.UnitHeader.{UnitHeader}
@@ -7,7 +7,7 @@ use Rattle.hevc_records.specs.Pps.{PlainPps}
 use Rattle.hevc_records.specs.Sps.{PlainSps}
 use Rattle.hevc_records.specs.Vps.{PlainVps}
 use Rattle.hevc_tables.specs.PpsTable.{picture_parameter_set}
-use Rattle.hevc_stream.specs.Contents.{video_set, sequence_set, picture_set, content}
+use Rattle.hevc_stream.specs.Contents.{video_set, sequence_set, picture_set, content, wants}
 use Rattle.hevc_stream.specs.Kept.{Kept, with_set}
 use Rattle.hevc_stream.specs.Options.{Options}
 use Rattle.hevc_stream.specs.Slices.{temporal_id}
@@ -35,20 +35,20 @@ pub record PictureSetLines (sps : PlainSps) (pps : PlainPps) (header : UnitHeade
 
 -- ---- meanings
 
--- Where its sub-layer is wanted, a unit of these bytes means the set, whatever sets are kept.
+-- Where it is wanted, a unit of these bytes means the set, whatever sets are kept.
 abbrev pub MeansVideoSet : PlainVps → UnitHeader → List ℕ → Type 0
 MeansVideoSet set header bytes =
-    (options : Options) (kept : Kept) → temporal_id header ≤ options.highest_tid
+    (options : Options) (kept : Kept) → wants options header ≡ true
     → content options kept bytes ≡ video_set set
 
 abbrev pub MeansSequenceSet : PlainSps → UnitHeader → List ℕ → Type 0
 MeansSequenceSet set header bytes =
-    (options : Options) (kept : Kept) → temporal_id header ≤ options.highest_tid
+    (options : Options) (kept : Kept) → wants options header ≡ true
     → content options kept bytes ≡ sequence_set set
 
 -- So it is of a picture set where the sequence set is kept that it names.
 abbrev pub MeansPictureSet : PlainSps → PlainPps → UnitHeader → List ℕ → Type 0
 MeansPictureSet sps pps header bytes =
-    (options : Options) (kept : Kept) → temporal_id header ≤ options.highest_tid
+    (options : Options) (kept : Kept) → wants options header ≡ true
     → kept.sequence_sets pps.seq_parameter_set_id ≡ Some sps
     → content options kept bytes ≡ picture_set pps

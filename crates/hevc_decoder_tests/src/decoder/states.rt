@@ -2,22 +2,8 @@
 use crate::expect::{expect, expect_eq, ok};
 use hevc_backend::Backend;
 use hevc_decoder::{DecodeError, DecoderEvent, StatelessDecoder};
+use hevc_worked_units::streams::{INTRA, P_SLICE, PICTURE_SET, SEQUENCE_SET};
 use std::process::Abort;
-
-/// A sequence set: 16 by 16 luma samples.
-const SEQUENCE_SET: &[u8] = &[
-    0x00, 0x00, 0x01, 0x42, 0x01, 0x01, 0x01, 0x60, 0x00, 0x00, 0x03, 0x00, 0x90, 0x00, 0x00, 0x03,
-    0x00, 0x00, 0x03, 0x00, 0x3c, 0xa0, 0x88, 0x45, 0xe5, 0x5a, 0xbc, 0x20, 0x80,
-];
-
-/// A picture set.
-const PICTURE_SET: &[u8] = &[0x00, 0x00, 0x01, 0x44, 0x01, 0xc0, 0x71, 0x80, 0x12];
-
-/// An IDR picture.
-const IDR: &[u8] = &[0x00, 0x00, 0x01, 0x26, 0x01, 0xaf, 0x80];
-
-/// A picture of order count 4.
-const LATER: &[u8] = &[0x00, 0x00, 0x01, 0x02, 0x01, 0xd2, 0x14, 0x97, 0x80];
 
 /// The number of the next picture that was output.
 fn next_number(decoder: &mut StatelessDecoder<Backend>) -> Option<u64> {
@@ -38,7 +24,7 @@ fn accepts(decoder: &mut StatelessDecoder<Backend>) -> bool {
 
 /// The first sequence set is waited for.
 fn waits_for_a_sequence_set(rt: &impl Abort, decoder: &mut StatelessDecoder<Backend>) {
-    expect(rt, decoder.decode(0, IDR) == Ok(7));
+    expect(rt, decoder.decode(0, INTRA) == Ok(7));
     expect(rt, decoder.stream_info().is_none());
     expect(
         rt,
@@ -65,10 +51,10 @@ fn waits_for_a_format(rt: &impl Abort, decoder: &mut StatelessDecoder<Backend>) 
     expect(rt, !decoder.awaiting_format());
 }
 
-/// After a flush, an IDR picture or a sequence set.
+/// After a flush, an INTRA picture or a sequence set.
 fn waits_behind_a_flush(rt: &impl Abort, decoder: &mut StatelessDecoder<Backend>) {
     expect(rt, decoder.flush() == Ok(()));
-    expect(rt, decoder.decode(0, LATER) == Ok(9));
+    expect(rt, decoder.decode(0, P_SLICE) == Ok(9));
     expect(rt, decoder.decode(0, SEQUENCE_SET) == Ok(29));
     expect(rt, decoder.decode(0, PICTURE_SET) == Ok(9));
     expect_eq(rt, decoder.num_pictures(), 0);
@@ -76,14 +62,17 @@ fn waits_behind_a_flush(rt: &impl Abort, decoder: &mut StatelessDecoder<Backend>
 
 /// Nothing: the format is negotiated anew, by the second call of that kind, with a frame.
 fn negotiates_anew(rt: &impl Abort, decoder: &mut StatelessDecoder<Backend>) {
-    expect(rt, decoder.decode(7, IDR) == Err(DecodeError::Backend));
+    expect(rt, decoder.decode(7, INTRA) == Err(DecodeError::Backend));
     expect(
         rt,
-        decoder.decode(7, IDR) == Err(DecodeError::NotEnoughOutputBuffers(1)),
+        decoder.decode(7, INTRA) == Err(DecodeError::NotEnoughOutputBuffers(1)),
     );
-    expect(rt, decoder.decode(7, IDR) == Err(DecodeError::CheckEvents));
+    expect(
+        rt,
+        decoder.decode(7, INTRA) == Err(DecodeError::CheckEvents),
+    );
     expect(rt, accepts(decoder));
-    expect(rt, decoder.decode(7, IDR) == Ok(7));
+    expect(rt, decoder.decode(7, INTRA) == Ok(7));
     expect_eq(rt, decoder.num_pictures(), 1);
 }
 
@@ -114,8 +103,8 @@ fn four_states_by_hand(rt: HostRuntime) {
     come_out(rt, &mut decoder, &[0]);
 
     // And once more after a flush.
-    expect(rt, decoder.decode(8, IDR) == Ok(7));
-    expect(rt, decoder.decode(9, LATER) == Ok(9));
+    expect(rt, decoder.decode(8, INTRA) == Ok(7));
+    expect(rt, decoder.decode(9, P_SLICE) == Ok(9));
     expect(rt, decoder.flush() == Ok(()));
     come_out(rt, &mut decoder, &[1, 2]);
 }

@@ -9,7 +9,7 @@ invariant-loop-nalu l = record {
   within : l.position ≤ length l.stream;
   few : l.kept.units + l.kept.dropped ≤ l.position;
   grows : (added : List ℕ) × (l.out.items ≡ l.fn.out.items ++ added);
-  left : Left l.highest_tid l.highest_layer l.stream l.fn.out.items l.out.items l.kept
+  left : Left l.wanted.highest_tid l.wanted.highest_layer l.stream l.fn.out.items l.out.items l.kept
       (units_from kept_bytes l.position l.stream);
 }
 

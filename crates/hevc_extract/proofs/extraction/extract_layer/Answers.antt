@@ -9,4 +9,4 @@ returns-else-is_err-clause-holds c =
 pub returns-else-is_err-clause-alike : goal.returns-else-is_err-clause-alike
 returns-else-is_err-clause-alike c =
     alike_on_ok c.append_kept-kept.result c.args.highest_tid c.args.highest_layer c.args.stream.now
-    c.append_kept-kept.ensures.layers c.append_kept-kept.ensures.refused
+    c.append_kept-kept.ensures.refused

@@ -1,7 +1,7 @@
 use Rattle.std.proofs.Common.{refl, sym, ◌∙◌}
 use Rattle.hevc_records.specs.ProfileConformance.{is_level}
 use Rattle.hevc_tables.specs.ProfileTierLevelTable.{general_rows, with_general_profile, level, general}
-use Rattle.hevc_write_set_parts.specs.LayerProfile.{general_profile}
+use Rattle.hevc_write_set_parts.specs.GeneralProfile.{general_profile}
 use Rattle.hevc_write_elements.proofs.Steps.{by, done_filled, number_then, table_then}
 use Rattle.hevc_write_set_parts.proofs.profile_tier_level.write_general.Goals as goal
 
@@ -13,5 +13,5 @@ returns c = record {
       number_then _ refl 8 is_level c.in_ok-bits_u8.ensures (λ v2 b2 general_level_idc_row.
       done_filled (λ e at.
       general_level_idc_row (by e (λ r. r.general_level_idc) ∙ sym c.number.ensures)
-      (general_profile_row (by e general_profile ∙ sym c.general-layer.ensures) at))));
+      (general_profile_row (by e general_profile ∙ sym c.general_profile-layer.ensures) at))));
 }

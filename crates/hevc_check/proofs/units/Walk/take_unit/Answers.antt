@@ -7,15 +7,10 @@ use Rattle.hevc_kept_sets.specs.Kept.{options_in}
 use Rattle.hevc_check.proofs.Meant.{set_taken, unwanted_taken, coded_taken}
 use Rattle.hevc_check.proofs.units.Walk.take_unit.Goals as goal
 
-pub returns-then-temporal_id_plus1-options-clause-takes : goal.returns-then-temporal_id_plus1-options-clause-takes
-returns-then-temporal_id_plus1-options-clause-takes c =
+pub returns-then-not-wants-clause-takes : goal.returns-then-not-wants-clause-takes
+returns-then-not-wants-clause-takes c =
     unwanted_taken (bytes_of c.args.nalu) c.args.self.now c.args.nalu.header c.requires.parsed c.requires.started
-    (let above = c.if-temporal_id_plus1-options.true in
-    let most =
-    ap (λ (x : Options). x.highest_tid) c.options.ensures in let told =
-    c.temporal_id_plus1.ensures.value
-    ∙ ap (λ (x : UnitHeader). x.nuh_temporal_id_plus1) c.header-header.ensures.value in
-    grind (arith, nat_tests, above, most, told))
+    (grind (arith, c.wants.ensures, c.options.ensures, c.header-header.ensures.value, c.if-not-wants.true))
 
 pub returns-in_default : goal.returns-in_default
 returns-in_default c = record {

@@ -64,18 +64,18 @@ returns-in_err-check_format-clause-part g c t o segment dpb =
 pub decode_slice-requires-clause-list0 : goal.decode_slice-requires-clause-list0
 decode_slice-requires-clause-list0 g c =
     list0_among _ c.args.self.now.standing.set
-    (slice_of (record { handle_cra_as_bla = false; highest_tid = 6 }) c.args.slice.now c.args.sps.now
+    (slice_of (record { handle_cra_as_bla = false; highest_tid = 6; highest_layer = 63 }) c.args.slice.now c.args.sps.now
     c.args.pps.now) _
-    (c.build_lists.ensures.list0 (record { handle_cra_as_bla = false; highest_tid = 6 }) c.args.sps.now)
+    (c.build_lists.ensures.list0 (record { handle_cra_as_bla = false; highest_tid = 6; highest_layer = 63 }) c.args.sps.now)
     (open_newest c.args.self.now.standing c.in-OpenPicture.opened c.in-OpenPicture.is
     c.requires.sound.newest).references
 
 pub decode_slice-requires-clause-list1 : goal.decode_slice-requires-clause-list1
 decode_slice-requires-clause-list1 g c =
     list1_among _ c.args.self.now.standing.set
-    (slice_of (record { handle_cra_as_bla = false; highest_tid = 6 }) c.args.slice.now c.args.sps.now
+    (slice_of (record { handle_cra_as_bla = false; highest_tid = 6; highest_layer = 63 }) c.args.slice.now c.args.sps.now
     c.args.pps.now) _
-    (c.build_lists.ensures.list1 (record { handle_cra_as_bla = false; highest_tid = 6 }) c.args.sps.now)
+    (c.build_lists.ensures.list1 (record { handle_cra_as_bla = false; highest_tid = 6; highest_layer = 63 }) c.args.sps.now)
     (open_newest c.args.self.now.standing c.in-OpenPicture.opened c.in-OpenPicture.is
     c.requires.sound.newest).references
 

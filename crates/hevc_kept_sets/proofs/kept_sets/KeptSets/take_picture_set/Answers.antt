@@ -108,6 +108,6 @@ invariant_of-self-then-not-branch-clause-wanted c =
     let header =
     has_header bytes c.args.nalu.now.header c.header-header.result.now c.header-header.ensures.parsed
     c.header-header.ensures.value in
-    wanted_pushed self.options.highest_tid self.waiting.items c.push_back.new.self.items c.in_ok-unit.unit
+    wanted_pushed (options_of self.options) self.waiting.items c.push_back.new.self.items c.in_ok-unit.unit
     bytes c.args.nalu.now.header (is_ok c.push_back.result) self.wanted header c.requires.wanted
     c.in_ok-unit.ensures.same c.push_back.ensures.items

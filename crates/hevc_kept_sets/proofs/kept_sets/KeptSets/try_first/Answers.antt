@@ -18,7 +18,7 @@ returns-in-Ok-true-clause-tried c =
     let old = kept_by c.args.self.now.parser in
     let new = kept_by c.read_picture_set.new.parser in
     let wanted =
-    first_is_wanted c.args.self.now.options.highest_tid items others bytes c.pop_front.result
+    first_is_wanted (options_in c.args.self.now) items others bytes c.pop_front.result
     c.nalu.result.header c.pop_front.ensures.items c.unwrap-unit.ensures c.nalu.ensures.parsed c.args.self.now.wanted in
     let reads = subst
     (λ (bs : List ℕ). ReadsPictureSet c.nalu.result.header bs c.read_picture_set.result old new)
@@ -37,7 +37,7 @@ returns-in-Ok-false-clause-tried c =
     let old = kept_by c.args.self.now.parser in
     let new = kept_by c.read_picture_set.new.parser in
     let wanted =
-    first_is_wanted c.args.self.now.options.highest_tid items others bytes c.pop_front.result
+    first_is_wanted (options_in c.args.self.now) items others bytes c.pop_front.result
     c.nalu.result.header c.pop_front.ensures.items c.unwrap-unit.ensures c.nalu.ensures.parsed c.args.self.now.wanted in
     let reads = subst
     (λ (bs : List ℕ). ReadsPictureSet c.nalu.result.header bs c.read_picture_set.result old new)

@@ -1,8 +1,5 @@
 use Rattle.std.proofs.Common.{length, refl, ap, sym, ◌∙◌}
 use Rattle.hevc_queue.specs.Controls.{wanted}
-use Rattle.hevc_backend.specs.declared.negotiation.NegotiationInfo.{NegotiationInfo}
-use Rattle.hevc_backend.specs.declared.call.Call.TheVariants.{NewSequence}
-use Rattle.hevc_queue.specs.Events.{event_of}
 use Rattle.hevc_queue.specs.declared.given.Given.TheVariants.{Sequence}
 use Rattle.hevc_queue.specs.Queue.{Queue}
 use Rattle.hevc_queue.proofs.ControlLaws.{latest_stay}
@@ -18,8 +15,7 @@ invariant_of-self-2 c =
     let more =
     queue_more q.history.items c.and-self-inside.result.items g
     c.in_ok-place.place q.queue c.put.new.self c.sequence_event-event.result
-    c.self.invariant at (c.sequence_event-event.ensures
-    ∙ ap (λ (info : NegotiationInfo). event_of c.in_ok-place.place (NewSequence info)) c.from.ensures)
+    c.self.invariant at c.sequence_event-event.ensures
     c.in_ok-put.ensures.put c.and-self-inside.ensures in
     let filled = latest_stay q.before.items q.history.items g (wanted q.controls) (λ latest. refl)
     (λ latest. refl) c.self.invariant.2 in

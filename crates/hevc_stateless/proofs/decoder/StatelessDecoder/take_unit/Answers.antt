@@ -7,17 +7,14 @@ use Rattle.hevc_kept_sets.specs.Kept.{kept_of, options_in}
 use Rattle.hevc_stateless.proofs.Coding.{unwanted_step}
 use Rattle.hevc_stateless.proofs.decoder.StatelessDecoder.take_unit.Goals as goal
 
-pub returns-then-temporal_id_plus1-options-clause-step : goal.returns-then-temporal_id_plus1-options-clause-step
-returns-then-temporal_id_plus1-options-clause-step g c =
+pub returns-then-not-wants-clause-step : goal.returns-then-not-wants-clause-step
+returns-then-not-wants-clause-step g c =
     unwanted_step (options_in c.args.self.now.kept) (kept_of c.args.self.now.kept)
     (bytes_of c.args.nalu.now) c.args.nalu.now.header c.requires.parsed tt _
     (g.B.StatelessH265DecoderBackend.log c.args.self.now.session.backend)
     (g.B.StatelessH265DecoderBackend.handed c.args.self.now.session.backend)
     (g.B.StatelessH265DecoderBackend.frames c.args.self.now.session.backend).asked c.args.self.now.session
-    (let above = c.if-temporal_id_plus1-options.true in let most = ap
-    (λ (x : Options). x.highest_tid) c.options.ensures in let told = c.temporal_id_plus1.ensures.value
-    ∙ ap (λ (x : UnitHeader). x.nuh_temporal_id_plus1) c.header-header.ensures.value in
-    grind (arith, nat_tests, above, most, told))
+    (grind (arith, c.wants.ensures, c.options.ensures, c.header-header.ensures.value, c.if-not-wants.true))
 
 pub returns-in-VpsNut-clause-step : goal.returns-in-VpsNut-clause-step
 returns-in-VpsNut-clause-step g c = c.take_video_set.ensures.step _

@@ -13,5 +13,5 @@ returns-else-has c =
     sym (c.has.ensures
     ∙ ap (is_chosen old.request.chosen old.units) (c.own_bytes.ensures ∙ ap kept_bytes c.as_ref.ensures.value))
     ∙ c.if-has.false in
-    passes_bare c.args.piece.now.stream u old _ c.args.error c.requires.refused unchosen refl refl refl refl refl
+    passes_bare c.args.piece.now.stream u c.args.error c.requires.refused old _ unchosen refl refl refl refl refl
     c.requires.alike

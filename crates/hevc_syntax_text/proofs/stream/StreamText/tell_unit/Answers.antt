@@ -14,17 +14,20 @@ returns c =
     let old = c.args.self.now in
     let n = c.args.nalu.now in
     let r = c.requires in
-    let mid : StreamText = record old { sets = c.take.new.self; bytes = c.push_elements.new.text } in
-    on_ok c.end_unit.result (EndsUnit (payload_bits 0 c.payload.result.now) c.deref-2.result.now c.in_ok-cause.cause mid
-    c.end_unit.new.self) _
-    (λ e. tells n old mid c.end_unit.new.self
-    c.push_unit_line.new.text.items c.in_ok-told.told.items c.in_ok-cause.cause r.parsed r.long r.chosen
-    c.in_ok-push_unit_line.ensures c.in_ok-told.ensures
+    let style = old.request.style in
+    let mid : StreamText = record old { sets = c.take.new.self; bytes = c.push_variables.new.text } in
+    let o = c.in_ok-outcome.ensures in
+    on_ok c.end_unit.result (EndsUnit (payload_bits 0 c.payload.result.now) c.deref-2.result.now
+    c.in_ok-outcome.outcome.cause mid c.end_unit.new.self) _
+    (λ e. tells n r.parsed r.long old mid c.end_unit.new.self c.push_unit_line.new.text.items
+    c.push_messages.new.text.items c.push_elements.new.text.items c.in_ok-told.told.items c.in_ok-outcome.outcome.cause
+    c.in_ok-outcome.outcome.variables r.chosen c.in_ok-push_unit_line.ensures c.in_ok-told.ensures
+    c.in_ok-push_messages.ensures
     (c.in_ok-push_elements.ensures
-    ∙ ap (λ (t : List Told). c.push_unit_line.new.text.items ++ element_lines old.request.style t) c.deref.ensures.value)
-    c.in_ok-cause.ensures.cause (c.in_ok-cause.ensures.kept, c.in_ok-cause.ensures.alike) refl refl refl
-    (subst (λ (t : List Told). EndsUnit (payload (bytes_of n)) t c.in_ok-cause.cause mid c.end_unit.new.self)
+    ∙ ap (λ (t : List Told). c.push_messages.new.text.items ++ element_lines style t) c.deref.ensures.value)
+    c.in_ok-push_variables.ensures o.cause o.variables o.kept o.counting o.alike refl refl refl
+    (subst (λ (t : List Told). EndsUnit (payload (bytes_of n)) t c.in_ok-outcome.outcome.cause mid c.end_unit.new.self)
     c.deref-2.ensures.value
-    (subst (λ (b : List ℕ). EndsUnit (payload_bits 0 b) c.deref-2.result.now c.in_ok-cause.cause mid
+    (subst (λ (b : List ℕ). EndsUnit (payload_bits 0 b) c.deref-2.result.now c.in_ok-outcome.outcome.cause mid
     c.end_unit.new.self) c.payload.ensures.value e)))
     c.end_unit.ensures

@@ -1,0 +1,7 @@
+//! The tests, by what they test.
+
+mod bumping;
+mod dpb;
+mod expect;
+mod pictures;
+mod refs;

@@ -1,4 +1,0 @@
-//! Tests of the checker of declared bounds.
-mod checks;
-mod orders;
-mod program;

@@ -1,0 +1,5 @@
+pub mod Counting
+pub mod Ends
+pub mod Coming
+pub mod Frames
+pub mod Balance

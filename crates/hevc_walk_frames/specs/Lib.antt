@@ -1,0 +1,4 @@
+pub mod Ends
+pub mod Frames
+pub mod Coming
+pub mod Told
