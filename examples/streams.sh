@@ -1,7 +1,7 @@
 #!/usr/bin/env bash
 # Makes streams with x265 (a Debian package) in a folder, each below 300 kB: B pyramids, wavefronts, many slices, two sub-layers,
-# weights, scaling lists, a cut unit, a unit of no type, changed bytes, a changed format, and a last picture that is skipped. Runs run.sh
-# on them and on the stream of hevc_trace.
+# weights, scaling lists, a cut unit, a unit of no type, changed bytes, a changed format, pictures that are discarded, and a last picture that
+# is skipped. Runs run.sh on them and on the stream of hevc_trace.
 #
 #     examples/streams.sh [FOLDER]
 set -eu
@@ -53,6 +53,11 @@ point = types.index(21, types.index(21) + 1) if types[:5].count(21) else types.i
 last = next(place for place in range(point, len(parts)) if types[place] in (8, 9))
 kept = [part for part, kind in zip(parts, types) if kind in (32, 33, 34)][:3] + parts[point:last + 1]
 (folder / 'skipped-last.h265').write_bytes(b''.join(b'\0\0\1' + part.rstrip(b'\0') for part in kept))
+# Each later sequence discards what still waits of the one before: no_output_of_prior_pics_flag of its IDR slices is set (7.4.7.1).
+parts = (folder / 'cropped.h265').read_bytes().split(b'\0\0\1')
+for place in [place for place, part in enumerate(parts) if part and part[0] >> 1 & 63 in (19, 20)]:
+    parts[place] = parts[place][:2] + bytes([parts[place][2] | 1 << 6]) + parts[place][3:]
+(folder / 'discarding.h265').write_bytes(b'\0\0\1'.join(parts))
 (folder / 'changed-format.h265').write_bytes(stream + (folder / 'wavefronts.h265').read_bytes() + (folder / 'layers.h265').read_bytes())
 PYTHON
 examples/run.sh crates/hevc_trace/stdin "$folder"/*.h265

@@ -64,10 +64,10 @@ MISREAD = {("cprms_present_flag", 0): "FFmpeg takes over no HRD parameters where
 
 @dataclass
 class Unit:
-    """A unit: its type, its place, whether it is refused, at which element, and its elements: place, name, bits, value."""
+    """A unit: its type, its place, why it is refused, at which element FFmpeg stops, and its elements: place, name, bits, value."""
     type: int
     offset: int = None
-    refused: bool = False
+    refused: str = ""
     stopped: str = None
     elements: list = field(default_factory=list)
 
@@ -126,7 +126,7 @@ def ours(text):
             number = int(words[words.index("nal_unit_type") + 1]) if "nal_unit_type" in words else None
             units.append(Unit(number, int(words[words.index("offset") + 1])))
         elif words[0] == "refused":
-            units[-1].refused = True
+            units[-1].refused = line.removeprefix("refused ")
             if words[1] == "InvalidNaluType":
                 units[-1].type = int(words[3])
         elif words[0].isdigit():
@@ -215,6 +215,8 @@ def compared(told, traced, has_packets):
             differences.append(f"unit {number} at {mine.offset}: {said}")
         if misread_from(mine):
             reasons.add(misread_from(mine)[1])
+        if mine.refused and not other.stopped:
+            reasons.add(f"hevc_syntax alone refuses unit {number}: {mine.refused}")
         if other.stopped and bare_of(other.stopped) in GIVEN_UP:
             reasons.add(f"FFmpeg stops at {bare_of(other.stopped)}: {GIVEN_UP[bare_of(other.stopped)]}")
     if not has_packets:

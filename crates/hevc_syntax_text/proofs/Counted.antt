@@ -1,6 +1,6 @@
 -- Order counts in code are those of the walk.
 use Rattle.std.proofs.Common.{◌≡◌, ℕ, ℤ, pos, ◌+◌, ◌≤◌, ◌^◌, Bool, true, false, cond, List, [], ◌∷◌, refl, sym, ap, ◌∙◌}
-use Rattle.std.proofs.Common.{subst, arith, Result, Ok, Err, Option, Some, None, to_z, of_z, w32}
+use Rattle.std.proofs.Common.{subst, arith, Result, Ok, Err, Some, None, to_z, of_z, w32}
 use Rattle.std.specs.Prelude.{nat_le, ◌==◌, IsErr, ◌↔◌, ◌&&◌, int_le, ◌≤ℤ◌, ◌-ℤ◌}
 use Rattle.std.proofs.lemmas.Bool.Decides.{nat_tests}
 use Rattle.std.proofs.lemmas.Int.{ints}

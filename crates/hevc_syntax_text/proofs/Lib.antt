@@ -1,9 +1,7 @@
 pub mod Kept
 pub mod Told
-pub mod Telling
-pub mod Skipping
 pub mod Steps
-pub mod Last
+pub mod Flowing
 pub mod Chains
 pub mod Following
 pub mod Counted

@@ -18,7 +18,6 @@ use Rattle.hevc_syntax_text.specs.declared.cause.Cause.{Cause}
 use Rattle.hevc_syntax_text.specs.declared.counting.Counting.{Counting}
 use Rattle.hevc_syntax_text.specs.declared.variables.Variables.{Variables}
 use Rattle.hevc_syntax_text.specs.declared.cause.Cause.TheVariants.{Header}
-use Rattle.hevc_syntax_text.specs.declared.sets.Sets.{Sets}
 use Rattle.hevc_syntax_text.specs.Causes.{cause_of_unit}
 use Rattle.hevc_syntax_text.specs.Messages.{messages_text}
 use Rattle.hevc_syntax_text.specs.UnitLines.{unit_line}
@@ -32,14 +31,15 @@ use Rattle.hevc_syntax_text.specs.Requests.{is_chosen}
 use Rattle.hevc_syntax_text.specs.Before.{Before, at_beginning, behind, counting_after, found_in}
 use Rattle.hevc_syntax_text.specs.Order.{counting_behind}
 use Rattle.hevc_syntax_text.specs.Standing.{before_of, sets_of, AreAlike}
-use Rattle.hevc_syntax_text.specs.Steps.{TakesUnit, EndsUnit}
+use Rattle.hevc_syntax_text.specs.Steps.{TakesUnit, EndsUnit, HasSameStanding}
 use Rattle.hevc_syntax_text.specs.Written.{units_text, num_refused, refused_in, count_if_chosen}
 use Rattle.hevc_syntax_text.specs.Written.{is_refused, messages, cause, elements, variables, refusal_if_any, unit_text}
 use Rattle.hevc_syntax_text.specs.Variables.{variables_of_unit, variables_text}
 
--- What is written so far and the units that are left make up the whole.
-pub record Left (request : Request) (stream : List ℕ) (text : StreamText) (us : List NalUnit) : Type 0 where
-  pub bytes : text.bytes.items ++ units_text request text.units (before_of text.sets) stream us
+-- What was written, what isn't written yet, and the units that are left make up the whole.
+pub record Left (request : Request) (stream : List ℕ) (done : List ℕ) (text : StreamText) (us : List NalUnit)
+    : Type 0 where
+  pub bytes : done ++ (text.bytes.items ++ units_text request text.units (before_of text.sets) stream us)
       ≡ units_text request 0 at_beginning stream (units stream)
   pub refused : text.refused + num_refused request text.units (before_of text.sets) stream us
       ≡ refused_in request stream
@@ -50,7 +50,7 @@ pub record Left (request : Request) (stream : List ℕ) (text : StreamText) (us 
 -- before the first unit
 pub begins : (request : Request) (stream : List ℕ) (text : StreamText) → text.bytes.items ≡ [] → text.units ≡ 0
     → text.refused ≡ 0 → before_of text.sets ≡ at_beginning → AreAlike text.sets → text.request ≡ request
-    → Left request stream text (units stream)
+    → Left request stream [] text (units stream)
 begins request stream text bytes count refused none alike same = record {
   bytes = rw (bytes, count, none) refl;
   refused = rw (refused, count, none) (omega arith);
@@ -60,9 +60,9 @@ begins request stream text bytes count refused none alike same = record {
 }
 
 -- after one unit more
-pub takes : (request : Request) (stream : List ℕ) (old new : StreamText) (u : NalUnit) (us : List NalUnit)
-    → Left request stream old (u ∷ us) → TakesUnit stream u old new → Left request stream new us
-takes request stream old new u us left t =
+pub takes : (request : Request) (stream done : List ℕ) (old new : StreamText) (u : NalUnit) (us : List NalUnit)
+    → Left request stream done old (u ∷ us) → TakesUnit stream u old new → Left request stream done new us
+takes request stream done old new u us left t =
     let more : new.refused + num_refused request new.units (before_of new.sets) stream us
     ≡ (old.refused + count_if_chosen request old.units (before_of old.sets) stream u)
     + num_refused request (old.units + 1) (before_of new.sets) stream us =
@@ -77,6 +77,25 @@ takes request stream old new u us left t =
       asked = t.request ∙ left.asked;
     }
 
+-- after some of the text was written
+pub passes_on : (request : Request) (stream done front : List ℕ) (old new : StreamText) (us : List NalUnit)
+    → Left request stream done old us → front ++ new.bytes.items ≡ old.bytes.items → HasSameStanding old new
+    → Left request stream (done ++ front) new us
+passes_on request stream done front old new us left parts same =
+    let rest = units_text request old.units (before_of old.sets) stream us in
+    record {
+      bytes =
+          rw (same.units, same.sets)
+          (append_assoc done front (new.bytes.items ++ rest)
+          ∙ ap (λ (x : List ℕ). done ++ x)
+          (sym (append_assoc front new.bytes.items rest) ∙ ap (λ (x : List ℕ). x ++ rest) parts)
+          ∙ left.bytes);
+      refused = rw (same.units, same.sets, same.refused) left.refused;
+      count = rw same.units left.count;
+      alike = rw same.sets left.alike;
+      asked = same.request ∙ left.asked;
+    }
+
 -- a unit counts once
 pub once : (request : Request) (number : ℕ) (before : Before) (stream : List ℕ) (u : NalUnit)
     → count_if_chosen request number before stream u ≤ 1
@@ -87,20 +106,21 @@ once request number before stream u = by_test (is_chosen request.chosen number u
     by_test false = omega arith
 
 -- after the last one
-pub record Done (request : Request) (stream : List ℕ) (text : StreamText) : Type 0 where
-  pub bytes : text.bytes.items ≡ units_text request 0 at_beginning stream (units stream)
+pub record Done (request : Request) (stream done : List ℕ) (text : StreamText) : Type 0 where
+  pub bytes : done ++ text.bytes.items ≡ units_text request 0 at_beginning stream (units stream)
   pub refused : text.refused ≡ refused_in request stream
   pub count : text.units ≡ length (units stream)
   pub asked : text.request ≡ request
 
-pub ends : (request : Request) (stream : List ℕ) (text : StreamText) (us : List NalUnit) → us ≡ []
-    → Left request stream text us → Done request stream text
-ends request stream text us none left =
-    let l : Left request stream text [] = subst (λ (us : List NalUnit). Left request stream text us) none left in
+pub ends : (request : Request) (stream done : List ℕ) (text : StreamText) (us : List NalUnit) → us ≡ []
+    → Left request stream done text us → Done request stream done text
+ends request stream done text us none left =
+    let l : Left request stream done text [] =
+    subst (λ (us : List NalUnit). Left request stream done text us) none left in
     let refused = l.refused in
     let count = l.count in
     record {
-      bytes = sym (append-nil text.bytes.items) ∙ l.bytes;
+      bytes = ap (λ (x : List ℕ). done ++ x) (sym (append-nil text.bytes.items)) ∙ l.bytes;
       refused = omega (arith, refused);
       count = omega (arith, count);
       asked = l.asked;

@@ -1,11 +1,8 @@
 -- The line of a refusal: the cause, and of an element that isn't allowed its name, its value and
 -- its bounds.
-use Rattle.std.specs.Prelude.{ℕ, ◌-◌, ◌==◌, ◌&&◌, not, Bool, true, false, List, [], ◌∷◌, ◌++◌}
-use Rattle.std.specs.Prelude.{codes}
-use Rattle.std.specs.Prelude.{length, take, drop, fold, slice_get, Option, Some, None}
-use Rattle.std.specs.Prelude.{if◌then◌else◌}
+use Rattle.std.specs.Prelude.{ℕ, ◌-◌, Bool, List, [], ◌∷◌, ◌++◌, codes, length, take, fold}
+use Rattle.std.specs.Prelude.{Option, Some, None}
 use Rattle.hevc_spec.specs.declared.Row.{Row}
-use Rattle.hevc_spec.specs.Bits.{Found, found, out_of_bounds, ended, ue_at}
 use Rattle.hevc_bits.specs.declared.header.UnitError.{UnitError}
 use Rattle.hevc_bits.specs.declared.header.UnitError.TheVariants as unit_errors
 use Rattle.hevc_elements.specs.declared.told.Told.{Told}
@@ -13,7 +10,8 @@ use Rattle.hevc_element_names.specs.Names.{name_of, indices_of, bounds_of}
 use Rattle.hevc_element_names.specs.Seen.{Sight, after, nothing_seen}
 use Rattle.hevc_element_lines.specs.declared.style.Style.{Style}
 use Rattle.hevc_element_lines.specs.declared.style.Style.TheVariants.{Words, Json}
-use Rattle.hevc_element_lines.specs.Lines.{indices_text, line_end, place_after}
+use Rattle.hevc_element_lines.specs.Lines.{indices_text, line_end}
+use Rattle.hevc_refused_element.specs.Refused.{refused_among}
 use Rattle.hevc_syntax_text.specs.declared.cause.Cause.{Cause}
 use Rattle.hevc_syntax_text.specs.declared.cause.Cause.TheVariants.{Header, OutOfBits, OutOfRange}
 use Rattle.hevc_syntax_text.specs.declared.cause.Cause.TheVariants.{MissingSps, MissingPps}
@@ -58,23 +56,6 @@ cause_text style (MissingPps id) =
 abbrev pub seen_after : List Told → Sight
 seen_after told = fold after nothing_seen told
 
--- the place after elements, in bits
-abbrev pub place_behind : List Told → ℕ
-place_behind told = fold place_after 16 told
-
-abbrev pub is_out_of_bounds : Found → Bool
-is_out_of_bounds out_of_bounds = true
-is_out_of_bounds (found v rest) = false
-is_out_of_bounds ended = false
-
--- An Exp-Golomb number above 2147483647 comes after the elements of a payload. It is refused
--- without a value, and isn't told.
-abbrev pub comes_before_long : List Bool → List Told → Bool
-comes_before_long bits told = is_out_of_bounds (ue_at (drop (place_behind told - 16) bits))
-
-abbrev pub is_of_row : Row → Told → Bool
-is_of_row row told = told.row.0 == row.0 && told.row.1 == row.1
-
 -- the name and the value of an element, which comes after others
 unfoldable pub element_fields : Style → List Told → Told → List ℕ
 element_fields style before told =
@@ -83,18 +64,15 @@ element_fields style before told =
     (name_of seen told.row.0 told.row.1 ++ indices_text (indices_of seen told.row.0 told.row.1))
     ++ signed_field style (codes "value") told.value
 
--- of a list's last element, under a condition on it
-abbrev pub fields_if : Style → (Told → Bool) → List Told → Option Told → List ℕ
-fields_if style holds before None = []
-fields_if style holds before (Some last) =
-    if holds last then element_fields style before last else []
+-- of one, if there is one
+abbrev pub fields_if_any : Style → List Told → Option Told → List ℕ
+fields_if_any style before None = []
+fields_if_any style before (Some told) = element_fields style before told
 
--- The element that is refused is the last one that was told, where it is of the refused row. A
--- condition has no element, and a number that is too long no value.
+-- of the element of a row that is refused, if it has a value: it comes after all others
 unfoldable pub refused_fields : Style → List Bool → List Told → Row → List ℕ
 refused_fields style bits told row =
-    fields_if style (λ last. is_of_row row last && not (comes_before_long bits told))
-    (take (length told - 1) told) (slice_get told (length told - 1))
+    fields_if_any style (take (length told - 1) told) (refused_among bits told row)
 
 -- the bounds of a row, where it has some
 abbrev pub bounds_field : Style → List ℕ → List ℕ

@@ -2,6 +2,7 @@
 use Rattle.std.specs.Prelude.{◌≡◌, ℕ, ◌+◌, ◌<◌, ◌≤◌, Bool, List, [], ◌∷◌, ◌++◌, length, Option}
 use Rattle.std.specs.Prelude.{Some}
 use Rattle.std.specs.Prelude.{None, Err, is_some, if◌then◌else◌}
+use Rattle.std.specs.Io.KnownBytes.{Appends}
 use Rattle.hevc_spec.specs.Units.{NalUnit, kept_bytes, units_from}
 use Rattle.hevc_bits.specs.ParsedHeader.{parsed_header}
 use Rattle.hevc_bits.specs.declared.header.UnitError.{UnitError}
@@ -56,3 +57,14 @@ abbrev pub IsRefusedNext : ℕ → List ℕ → UnitError → Type 0
 IsRefusedNext position stream error =
     (u : NalUnit) × (others : List NalUnit)
     × (units_from kept_bytes position stream ≡ u ∷ others) × (parsed_header u.bytes ≡ Err error)
+
+-- known bytes grew by a front of a text, and the rest of it is left
+abbrev pub Passes : Option (List ℕ) → Option (List ℕ) → (text rest : List ℕ) → Type 0
+Passes old new text rest = (front : List ℕ) × Appends old new front × (front ++ rest ≡ text)
+
+-- all but the text that isn't written yet is the same
+pub record HasSameStanding (old new : StreamText) : Type 0 where
+  pub units : new.units ≡ old.units
+  pub refused : new.refused ≡ old.refused
+  pub sets : new.sets ≡ old.sets
+  pub request : new.request ≡ old.request

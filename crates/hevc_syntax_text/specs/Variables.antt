@@ -13,7 +13,6 @@ use Rattle.hevc_records.specs.SpsSizes.{max_dpb_size_of}
 use Rattle.hevc_records.specs.Pps.{PlainPps}
 use Rattle.hevc_records.specs.SliceHeader.{PlainSliceSegmentHeader}
 use Rattle.hevc_tables.specs.SpsTable.{sequence_parameter_set}
-use Rattle.hevc_tables.specs.SliceHeaderTable.{ActiveSets}
 use Rattle.hevc_element_lines.specs.declared.style.Style.{Style}
 use Rattle.hevc_element_lines.specs.declared.style.Style.TheVariants.{Words, Json}
 use Rattle.hevc_element_lines.specs.Lines.{line_end}

@@ -1,7 +1,6 @@
 //! The text of the syntax elements of an H.265 byte stream.
 #![tactic(auto)]
 
-mod answer;
 mod cause;
 mod causes;
 mod counting;
@@ -19,6 +18,7 @@ mod unit_line;
 mod unit_types;
 mod variables;
 mod words;
+mod writing;
 
 pub use program::run_syntax;
 pub use words::{Chosen, Request};

@@ -1,12 +1,15 @@
 //! The top call: from the words of the command line to the status.
-ghost use Rattle.std.specs.Prelude.{◌≤◌};
+ghost use Rattle.std.specs.Prelude.{◌≡◌, ◌≤◌, ◌<◌, length, IfOk, IfSome, OnErr, IsErrOf};
+ghost use Rattle.std.specs.Io.KnownBytes.{Appends, IsAtEnd};
+ghost use Rattle.hevc_fault_counts.specs.Faults.{Rose};
+ghost use Rattle.hevc_io.specs.Prefix.{AppendsLess, AppendsPrefix};
 ghost use Rattle.hevc_program_answers.specs.Answers.{ends_of, moment, Answers};
 ghost use Rattle.hevc_syntax_text.specs.Requests.{asked_request};
-ghost use Rattle.hevc_syntax_text.specs.Written.{syntax_program};
+ghost use Rattle.hevc_syntax_text.specs.Written.{status_of, syntax_program, written_of};
 
-use crate::words::read_request;
-use hevc_io::{INPUT_LIMIT, Sink, Source, Word};
-use hevc_program_answers::run_asked;
+use crate::words::{Request, read_request};
+use crate::writing::write_text;
+use hevc_io::{INPUT_LIMIT, Sink, Source, Stop, Word, read_all};
 use std::alloc::Global;
 
 /// Reads the source's stream to its end, and writes for each unit a line with its number, place,
@@ -39,5 +42,37 @@ pub fn run_syntax<S: Source, K: Sink>(
         syntax_program INPUT_LIMIT (asked_request words.now)
         (moment source.old sink.old) (moment source.new sink.new) result }
 {
-    run_asked(alloc, read_request(words), source, sink)
+    let Some(request) = read_request(words) else {
+        return 2;
+    };
+    match tell_source(alloc, request, source, sink) {
+        Ok(status) => status,
+        Err(stop) => stop.status(),
+    }
+}
+
+/// Reads the source to its end, and writes the text of its stream. Answers the status.
+fn tell_source<S: Source, K: Sink>(
+    alloc: Global,
+    request: Request,
+    source: &mut S,
+    sink: &mut K,
+) -> Result<u8, Stop>
+    ensures statuses { IfOk result (λ status. status ≤ 1) }
+    ensures whole { IfOk result
+        (λ status. IsAtEnd (S.left source.new) × IfSome (S.left source.old) (λ stream.
+        Appends (K.written sink.old) (K.written sink.new) (written_of request stream)
+        × (status ≡ status_of request stream) × (length stream ≤ INPUT_LIMIT))) }
+    ensures part { IfSome (S.left source.old) (λ stream.
+        AppendsPrefix (K.written sink.old) (K.written sink.new) (written_of request stream)) }
+    ensures less { OnErr result (IfSome (S.left source.old) (λ stream.
+        AppendsLess (K.written sink.old) (K.written sink.new) (written_of request stream))) }
+    ensures read { IsErrOf result Stop.Read
+        → Rose (S.faults source.old) (S.faults source.new) × (sink.new ≡ sink.old) }
+    ensures write { IsErrOf result Stop.Write → Rose (K.faults sink.old) (K.faults sink.new) }
+    ensures long { IsErrOf result Stop.TooLong → (sink.new ≡ sink.old)
+        × IfSome (S.left source.old) (λ stream. INPUT_LIMIT < length stream) }
+{
+    let stream = read_all(alloc, source, INPUT_LIMIT)?;
+    write_text(alloc, request, &stream, sink)
 }

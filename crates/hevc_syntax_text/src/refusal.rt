@@ -1,22 +1,21 @@
 //! The line of a refusal.
-ghost use Rattle.std.specs.Prelude.{◌≡◌, ◌++◌, ◌<◌, ◌&&◌, not, length, IfOk, OnOk};
-ghost use Rattle.hevc_spec.specs.Payload.{bits, payload_bits};
-ghost use Rattle.hevc_spec.specs.Bits.{ue_at};
+ghost use Rattle.std.specs.Prelude.{◌≡◌, ◌++◌, ◌<◌, length, IfOk, OnOk};
+ghost use Rattle.hevc_spec.specs.Payload.{payload_bits};
 ghost use Rattle.hevc_bits.specs.declared.stream_limit.TheConstants.{STREAM_LIMIT};
 ghost use Rattle.hevc_element_names.specs.Seen.{sight_of};
 ghost use Rattle.hevc_syntax_text.specs.Fields.{number_field};
 ghost use Rattle.hevc_syntax_text.specs.Refusals.{after_cause, before_cause, bounds_field};
-ghost use Rattle.hevc_syntax_text.specs.Refusals.{cause_name, cause_text, comes_before_long};
-ghost use Rattle.hevc_syntax_text.specs.Refusals.{details, element_fields, header_cause, is_of_row};
-ghost use Rattle.hevc_syntax_text.specs.Refusals.{is_out_of_bounds, place_behind, refusal_line};
-ghost use Rattle.hevc_syntax_text.specs.Refusals.{refused_fields, seen_after};
+ghost use Rattle.hevc_syntax_text.specs.Refusals.{cause_name, cause_text, details, element_fields};
+ghost use Rattle.hevc_syntax_text.specs.Refusals.{header_cause, refusal_line, refused_fields};
+ghost use Rattle.hevc_syntax_text.specs.Refusals.{seen_after};
 
 use crate::cause::Cause;
 use crate::fields::{push_byte_field, push_name_field, push_signed_field, push_text_field};
-use hevc_bits::{BitError, NaluReader, UnitError};
-use hevc_element_lines::{Style, line_end, place_after};
+use hevc_bits::UnitError;
+use hevc_element_lines::{Style, line_end};
 use hevc_element_names::{Seen, bounds_of};
 use hevc_elements::Told;
+use hevc_refused_element::refused_among;
 use hevc_spec::Row;
 use std::alloc::{AllocError, Global};
 
@@ -137,29 +136,16 @@ fn push_refused(
     ensures { OnOk result (text.new.items ≡ text.old.items
         ++ refused_fields style (payload_bits 0 payload.now) told.now row) }
 {
-    let Some((last, before)) = told.split_last() else {
+    let Some(refused) = refused_among(payload, told, row) else {
         return Ok(());
     };
-    if !is_refused(payload, told, row, last) {
-        return Ok(());
-    }
-    push_element(alloc, text, style, before, last)
-}
-
-/// Whether the last element is the one of a row that is refused.
-fn is_refused(payload: &[u8], told: &[Told], row: Row, last: &Told) -> bool
-    requires { length payload.now < STREAM_LIMIT }
-    ensures { result ≡ (is_of_row row last.now
-        && not (comes_before_long (payload_bits 0 payload.now) told.now)) }
-{
-    is_of_row(row, last) && !comes_before_long(payload, told)
-}
-
-/// Whether an element is of a row.
-fn is_of_row(row: Row, told: &Told) -> bool
-    ensures { result ≡ is_of_row row told.now }
-{
-    told.row.0 == row.0 && told.row.1 == row.1
+    push_element(
+        alloc,
+        text,
+        style,
+        &told[..told.len().saturating_sub(1)],
+        &refused,
+    )
 }
 
 /// Adds the name and the value of an element that comes after others.
@@ -188,40 +174,6 @@ fn see_all(alloc: Global, told: &[Told]) -> Result<Seen, AllocError>
         seen.see(one)?;
     }
     Ok(seen)
-}
-
-/// Whether an Exp-Golomb number that is too long comes after the elements of a payload.
-fn comes_before_long(payload: &[u8], told: &[Told]) -> bool
-    requires { length payload.now < STREAM_LIMIT }
-    ensures { result ≡ comes_before_long (payload_bits 0 payload.now) told.now }
-{
-    let place = place_behind(told);
-    let mut reader = NaluReader::new(payload);
-    if reader.skip_bits(place.saturating_sub(16) as usize).is_err() {
-        return false;
-    }
-    is_long(&mut reader)
-}
-
-/// Whether an Exp-Golomb number that is too long comes next.
-fn is_long(reader: &mut NaluReader<'_>) -> bool
-    ensures { result ≡ is_out_of_bounds (ue_at (bits reader.old)) }
-{
-    match reader.read_ue() {
-        Err(BitError::OutOfRange) => true,
-        _ => false,
-    }
-}
-
-/// The place after elements, in bits.
-fn place_behind(told: &[Told]) -> u64
-    ensures { result ≡ place_behind told.now }
-{
-    let mut place = 16;
-    for one in told {
-        place = place_after(place, one);
-    }
-    place
 }
 
 /// Adds bounds, where there are some.

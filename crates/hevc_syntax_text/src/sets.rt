@@ -21,6 +21,7 @@ use crate::outcome::Outcome;
 use hevc_bits::{Nalu, NaluHeader, NaluType};
 use hevc_elements::Told;
 use hevc_kept_sets::{KeptSets, Options, Parser};
+use hevc_refused_element::elements_of;
 use std::alloc::{AllocError, Global};
 
 /// The parameter sets that are kept.
@@ -55,16 +56,7 @@ impl Sets {
         requires { length nalu.now.stream < STREAM_LIMIT }
         ensures { IfOk result (λ told. told.items ≡ told_of_unit (sets_of self.now) nalu.now) }
     {
-        let mut room = 256;
-        for _ in 0..28 {
-            let list = Vec::with_capacity(self.alloc, room)?;
-            let told = self.kept.parser().tell(nalu, list)?;
-            if told.len() < told.capacity() {
-                return Ok(told);
-            }
-            room = room.saturating_mul(4);
-        }
-        Err(AllocError)
+        elements_of(self.alloc, self.kept.parser(), nalu)
     }
 
     /// Takes a unit: what it has is kept, a picture that begins is counted, and the cause is given

@@ -1,6 +1,6 @@
 //! The text of a stream, unit by unit.
-ghost use Rattle.std.specs.Prelude.{◌≡◌, ◌≤◌, ◌<◌, ◌++◌, ◌==◌, [], length, true, Ok, Err, IfOk};
-ghost use Rattle.std.specs.Prelude.{OnOk, Some, if◌then◌else◌};
+ghost use Rattle.std.specs.Prelude.{◌≡◌, ◌≤◌, ◌<◌, ◌++◌, [], length, true, Ok, Err, IfOk};
+ghost use Rattle.std.specs.Prelude.{OnOk, Some};
 ghost use Rattle.hevc_spec.specs.Payload.{payload_bits};
 ghost use Rattle.hevc_bits.specs.FoundUnit.{bytes_of, unit_of};
 ghost use Rattle.hevc_bits.specs.ParsedHeader.{parsed_header};
@@ -11,7 +11,7 @@ ghost use Rattle.hevc_syntax_text.specs.Before.{at_beginning};
 ghost use Rattle.hevc_syntax_text.specs.Standing.{before_of, AreAlike};
 ghost use Rattle.hevc_syntax_text.specs.Steps.{EndsUnit, Fits, IsRefusedNext, TakesNextIfAny};
 ghost use Rattle.hevc_syntax_text.specs.Steps.{TakesUnit};
-ghost use Rattle.hevc_syntax_text.specs.Written.{before_units, last_line, status_of, written_of};
+ghost use Rattle.hevc_syntax_text.specs.Written.{before_units, last_line};
 
 use crate::cause::Cause;
 use crate::fields::push_number_field;
@@ -25,41 +25,25 @@ use hevc_bare_units::{Piece, next_piece, own_bytes};
 use hevc_bits::{Nalu, NaluHeader, UnitError};
 use hevc_element_lines::{Style, line_end, push_elements, push_number};
 use hevc_elements::Told;
-use hevc_program_answers::Answer;
 use std::alloc::{AllocError, Global};
 
-/// What is written so far of a stream.
+/// A stream that is told unit by unit.
 #[derive(Drop)]
 pub(crate) struct StreamText {
     alloc: Global,
-    request: Request,
+    pub(crate) request: Request,
     sets: Sets,
-    bytes: Vec<u8>,
+    /// The text that isn't written yet.
+    pub(crate) bytes: Vec<u8>,
     /// How many units there were.
-    units: u64,
+    pub(crate) units: u64,
     /// How many of those that are chosen are refused.
-    refused: u64,
-}
-
-/// The text of a stream of less than 2^60 bytes, and the status.
-///
-/// Errors: no memory.
-pub(crate) fn text_of(alloc: Global, request: Request, stream: &[u8]) -> Result<Answer, AllocError>
-    requires { length stream.now < STREAM_LIMIT }
-    ensures bytes { IfOk result (λ answer. answer.bytes.items ≡ written_of request stream.now) }
-    ensures status { IfOk result (λ answer. answer.status ≡ status_of request stream.now) }
-{
-    let mut text = StreamText::new(alloc, request);
-    let mut position = 0;
-    while let Some(next) = text.take_next(stream, position)? {
-        position = next;
-    }
-    text.finish()
+    pub(crate) refused: u64,
 }
 
 impl StreamText {
     /// Before the first unit.
-    fn new(alloc: Global, request: Request) -> StreamText
+    pub(crate) fn new(alloc: Global, request: Request) -> StreamText
         ensures bytes { result.bytes.items ≡ [] }
         ensures counts { (result.units ≡ 0) × (result.refused ≡ 0) }
         ensures first { before_of result.sets ≡ at_beginning }
@@ -78,7 +62,11 @@ impl StreamText {
 
     /// Takes the first unit whose start code is at `position` or after it, if there is one, and
     /// gives the place after it.
-    fn take_next(&mut self, stream: &[u8], position: usize) -> Result<Option<usize>, AllocError>
+    pub(crate) fn take_next(
+        &mut self,
+        stream: &[u8],
+        position: usize,
+    ) -> Result<Option<usize>, AllocError>
         requires short { length stream.now < STREAM_LIMIT }
         requires within { position ≤ length stream.now }
         requires fits { Fits self.old }
@@ -210,30 +198,16 @@ impl StreamText {
         push_bare_line(&mut self.bytes, self.request.style, self.units, piece)?;
         self.end_unit(&[], &[], Some(Cause::Header(error)))
     }
-
-    /// Adds the last line, and gives the text and the status.
-    fn finish(mut self) -> Result<Answer, AllocError>
-        ensures bytes { IfOk result (λ answer. answer.bytes.items
-            ≡ self.bytes.items ++ last_line self.request.style self.units self.refused) }
-        ensures status { IfOk result
-            (λ answer. answer.status ≡ (if self.refused == 0 then 0 else 1)) }
-    {
-        push_last(
-            &mut self.bytes,
-            self.request.style,
-            self.units,
-            self.refused,
-        )?;
-        Ok(Answer {
-            bytes: self.bytes,
-            status: u8::from(self.refused > 0),
-        })
-    }
 }
 
 /// Adds the last line.
 #[tactic(auto, using(std::proofs::Common::append_assoc))]
-fn push_last(text: &mut Vec<u8>, style: Style, units: u64, refused: u64) -> Result<(), AllocError>
+pub(crate) fn push_last(
+    text: &mut Vec<u8>,
+    style: Style,
+    units: u64,
+    refused: u64,
+) -> Result<(), AllocError>
     ensures { OnOk result (text.new.items ≡ text.old.items ++ last_line style units refused) }
 {
     text.extend_from_slice(before_units(style))?;

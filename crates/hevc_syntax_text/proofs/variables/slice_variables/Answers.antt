@@ -1,13 +1,10 @@
 use Rattle.std.proofs.Common.{◌≡◌, ◌∙◌, ap, sym, true, ℤ, Bool, Option, Some, None, cond, to_z, of_z, w32, arith}
 use Rattle.std.proofs.lemmas.Int.{ints}
-use Rattle.hevc_records.specs.Pps.{PlainPps}
 use Rattle.hevc_sequence_set.specs.Sps.{plain_sps}
 use Rattle.hevc_tables.specs.SliceHeaderTable.{ActiveSets}
 use Rattle.hevc_picture_slice.specs.Pps.{plain_pps}
 use Rattle.hevc_picture_slice.specs.SliceHeader.{plain_slice_header}
 use Rattle.hevc_picture_slice.specs.declared.slice_header.SliceHeader.{SliceHeader}
-use Rattle.hevc_syntax_text.specs.declared.counting.Counting.{Counting}
-use Rattle.hevc_syntax_text.specs.declared.variables.Variables.{Variables}
 use Rattle.hevc_syntax_text.specs.declared.variables.Variables.TheVariants.{OfPicture}
 use Rattle.hevc_syntax_text.specs.Order.{behind_picture, head_at}
 use Rattle.hevc_syntax_text.specs.Variables.{slice_qp_y, told_count}

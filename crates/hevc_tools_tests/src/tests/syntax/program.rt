@@ -255,3 +255,23 @@ fn faults_have_their_statuses(rt: HostRuntime) {
     let first = ok(rt, vec![in alloc; 1]);
     writes(rt, alloc, NONE, &bytes, Vec::new(alloc), first, 4, "");
 }
+
+/// A long text is written in blocks, each of which is there where a later write fails.
+#[test]
+fn a_long_text_is_written_as_it_is_made(rt: HostRuntime) {
+    let rt = &rt;
+    let alloc = rt.alloc();
+    let bytes = stream(rt, alloc, &[SPS; 40]);
+    let words = words_of(rt, alloc, NONE);
+    let mut source = MemorySource::new(ok(rt, Vec::from_slice(alloc, &bytes)), Vec::new(alloc));
+    let mut whole = MemorySink::new(alloc, Vec::new(alloc));
+    let status = run_syntax(alloc, &words, &mut source, &mut whole);
+    expect_eq(rt, status, 0);
+    let mut again = MemorySource::new(bytes, Vec::new(alloc));
+    let mut front = MemorySink::new(alloc, ok(rt, vec![in alloc; 2]));
+    let second = run_syntax(alloc, &words, &mut again, &mut front);
+    expect_eq(rt, second, 4);
+    expect_eq(rt, front.written().len() >= 65_536, true);
+    expect_eq(rt, front.written().len() < whole.written().len(), true);
+    expect_eq(rt, whole.written().starts_with(front.written()), true);
+}

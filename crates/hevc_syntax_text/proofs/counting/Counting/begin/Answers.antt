@@ -1,4 +1,4 @@
-use Rattle.std.proofs.Common.{◌≡◌, ◌∙◌, ap, sym, Ok}
+use Rattle.std.proofs.Common.{◌∙◌, ap, sym, Ok}
 use Rattle.hevc_walk.specs.Pictures.{head}
 use Rattle.hevc_syntax_text.specs.Order.{context_of}
 use Rattle.hevc_syntax_text.proofs.Counted.{is_context, is_first, slice_at, signed_lsb, in_range, out_of_range}

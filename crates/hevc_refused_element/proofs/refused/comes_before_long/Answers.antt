@@ -1,9 +1,9 @@
 use Rattle.std.proofs.Common.{◌≡◌, ◌-◌, ◌∙◌, ap, sym, ℕ, List, Bool, drop}
 use Rattle.hevc_spec.specs.Payload.{bits}
 use Rattle.hevc_spec.specs.Bits.{ue_at}
-use Rattle.hevc_syntax_text.specs.Refusals.{is_out_of_bounds, place_behind}
-use Rattle.hevc_syntax_text.proofs.Skipping.{not_skipped}
-use Rattle.hevc_syntax_text.proofs.refusal.comes_before_long.Goals as goal
+use Rattle.hevc_refused_element.specs.Refused.{is_out_of_bounds, place_behind}
+use Rattle.hevc_refused_element.proofs.Skipping.{not_skipped}
+use Rattle.hevc_refused_element.proofs.refused.comes_before_long.Goals as goal
 
 pub returns-then-is_err : goal.returns-then-is_err
 returns-then-is_err c =

@@ -10,7 +10,7 @@ use Rattle.hevc_bits.specs.Reading.{Finds}
 use Rattle.hevc_bits.specs.declared.bit_error.BitError.{BitError}
 use Rattle.hevc_bits.specs.declared.bit_error.BitError.TheVariants.{OutOfBits, OutOfRange}
 use Rattle.hevc_elements.proofs.LongBits.{never_out}
-use Rattle.hevc_syntax_text.specs.Refusals.{is_out_of_bounds}
+use Rattle.hevc_refused_element.specs.Refused.{is_out_of_bounds}
 
 -- those that are left
 pub skipped : (n : ℕ) (bits rest : List Bool) (v : ℕ) → bits_at n bits ≡ found v rest → rest ≡ drop n bits
