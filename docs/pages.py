@@ -214,17 +214,6 @@ def named_rows():
         yield int(table), clause, named
 
 
-def runs(numbers):
-    """Numbers in rising order, cut where one is left out."""
-    parts = []
-    for number in numbers:
-        if parts and parts[-1][-1] + 1 == number:
-            parts[-1].append(number)
-        else:
-            parts.append([number])
-    return parts
-
-
 def array_of(name, texts):
     """An array of texts, laid out as rt fmt does."""
     head = f"pub(crate) const {name}: [&str; {len(texts)}] = "
@@ -240,10 +229,11 @@ def row_names():
     clauses = [clause for _, clause, _ in named_rows()]
     parts = [ROW_NAMES_HEAD, "\n/// The clause that has the syntax of each table.\n" + array_of("CLAUSES", clauses)]
     for table, clause, named in named_rows():
-        for run in runs(sorted(named)):
-            name = f"TABLE_{table}" + ("" if run[0] == 1 else f"_FROM_{run[0]}")
-            rows = f"row {run[0]}" if len(run) == 1 else f"rows {run[0]} to {run[-1]}"
-            parts.append(f"\n/// Table {table} ({clause}), {rows}.\n" + array_of(name, [named[row] for row in run]))
+        last = max(named)
+        rows = "row 1" if last == 1 else f"rows 1 to {last}"
+        gap = ", of which those that aren't there are empty" if len(named) < last else ""
+        texts = [named.get(row, "") for row in range(1, last + 1)]
+        parts.append(f"\n/// Table {table} ({clause}), {rows}{gap}.\n" + array_of(f"TABLE_{table}", texts))
     return "".join(parts)
 
 

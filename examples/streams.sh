@@ -25,6 +25,7 @@ encode slices 1280 720 6 --wpp --slices 6 --bframes 2 --bitrate 1200
 encode layers 416 240 40 --temporal-layers --bframes 3 --bitrate 300
 encode weights 416 240 30 --weightp --weightb --bframes 3 --bitrate 300
 encode scaling-lists 416 240 20 --scaling-list default --bframes 2 --bitrate 300
+encode discarding 416 240 24 --keyint 8 --min-keyint 8 --no-open-gop --bframes 3 --b-adapt 0 --b-pyramid --bitrate 300
 encode cropped 420 234 20 --repeat-headers --aud --keyint 8 --bframes 2 --bitrate 300
 
 python3 - "$folder" <<'PYTHON'
@@ -54,7 +55,7 @@ last = next(place for place in range(point, len(parts)) if types[place] in (8, 9
 kept = [part for part, kind in zip(parts, types) if kind in (32, 33, 34)][:3] + parts[point:last + 1]
 (folder / 'skipped-last.h265').write_bytes(b''.join(b'\0\0\1' + part.rstrip(b'\0') for part in kept))
 # Each later sequence discards what still waits of the one before: no_output_of_prior_pics_flag of its IDR slices is set (7.4.7.1).
-parts = (folder / 'cropped.h265').read_bytes().split(b'\0\0\1')
+parts = (folder / 'discarding.h265').read_bytes().split(b'\0\0\1')
 for place in [place for place, part in enumerate(parts) if part and part[0] >> 1 & 63 in (19, 20)]:
     parts[place] = parts[place][:2] + bytes([parts[place][2] | 1 << 6]) + parts[place][3:]
 (folder / 'discarding.h265').write_bytes(b'\0\0\1'.join(parts))

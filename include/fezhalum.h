@@ -277,6 +277,12 @@ uint32_t fezhalum_seek(fezhalum *decoder);
 /* Accepts the format that was negotiated. FEZHALUM_OK, FEZHALUM_NOT_AWAITED: none was awaited, and nothing has changed. */
 uint32_t fezhalum_accept_format(fezhalum *decoder);
 
+/* What H.265 calls the element of a refused unit's table and row, and what is allowed for it ("0..15", or a condition): as
+ * much as there is room for, and zeros after it, one at least. The answer is how many characters the whole has: 0 where there is no such
+ * row, or every value is allowed. No name has 512. */
+size_t fezhalum_element_name(uint8_t table, uint8_t row, char *text, size_t room);
+size_t fezhalum_element_bounds(uint8_t table, uint8_t row, char *text, size_t room);
+
 /* For examples/c/layout.c: structs with another number in each field (of the first and the last list in the last places), and their sizes. */
 size_t fezhalum_layout_event(fezhalum_event *event);
 size_t fezhalum_layout_decode_call(fezhalum_decode_call *call);

@@ -26,7 +26,7 @@ STRUCTS = {
 }
 FLAGS = ('profile', 'vui', 'vps', 'sps', 'pps', 'slice')
 TYPES = {
-    'uint8_t': 'u8', 'uint16_t': 'u16', 'uint32_t': 'u32', 'uint64_t': 'u64', 'int8_t': 'i8', 'int32_t': 'i32', 'size_t': 'usize',
+    'uint8_t': 'u8', 'uint16_t': 'u16', 'uint32_t': 'u32', 'uint64_t': 'u64', 'int8_t': 'i8', 'int32_t': 'i32', 'size_t': 'usize', 'char': 'u8',
     'fezhalum': 'Fezhalum', 'fezhalum_sets': 'FezhalumSets',
     'v4l2_ctrl_hevc_sps': 'V4l2CtrlHevcSps', 'v4l2_ctrl_hevc_pps': 'V4l2CtrlHevcPps',
     'v4l2_ctrl_hevc_scaling_matrix': 'V4l2CtrlHevcScalingMatrix', 'v4l2_ctrl_hevc_decode_params': 'V4l2CtrlHevcDecodeParams',
@@ -40,6 +40,7 @@ SLICES = {
     ('bytes', '&[u8]'): [('bytes', '*const u8'), ('size', 'usize')],
     ('options', '&[u32]'): [('options', '*const u32'), ('num_options', 'usize')],
     ('offsets', '&mut [u32]'): [('offsets', '*mut u32'), ('room', 'usize')],
+    ('text', '&mut [u8]'): [('text', '*mut u8'), ('room', 'usize')],
     ('alloc', 'Global'): [],
 }
 
@@ -149,7 +150,7 @@ def named(kind):
 def code_calls():
     """The same of the exports. A slice is a pointer and a number; an allocator is nothing."""
     calls = {}
-    for path in ('lib.rt', 'layout.rt', 'sets.rt', 'controls.rt'):
+    for path in ('lib.rt', 'layout.rt', 'sets.rt', 'controls.rt', 'elements.rt'):
         exports = re.findall(r'pub (?:unsafe )?extern "C" fn (\w+)\(([^)]*)\)(?: -> (\w+))?', crate('fezhalum/src/' + path))
         for name, given, result in exports:
             found = [tuple(part.strip() for part in one.split(':')) for one in given.split(',') if one.strip()]

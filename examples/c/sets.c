@@ -39,9 +39,21 @@ static void print_slice(const fezhalum_slice *s) {
         s->num_ref_idx_l0_active_minus1 + 1, s->num_ref_idx_l1_active_minus1 + 1, s->slice_qp_delta, s->num_entry_point_offsets, s->header_bit_size);
 }
 
+/* Why a unit is refused: the element's name and what is allowed for it, or table and row. */
+static void print_refusal(uint32_t status, const fezhalum_unit *unit) {
+    char name[512], bounds[512];
+    printf("type %" PRIu32 " refused: %s", unit->nal_unit_type, fezhalum_status_string(status));
+    if (status != FEZHALUM_OUT_OF_RANGE || !fezhalum_element_name((uint8_t)unit->table, (uint8_t)unit->row, name, sizeof name)) {
+        printf(", %" PRIu32 ":%" PRIu32 "\n", unit->table, unit->row);
+        return;
+    }
+    fezhalum_element_bounds((uint8_t)unit->table, (uint8_t)unit->row, bounds, sizeof bounds);
+    printf(", %s: %s\n", name, bounds);
+}
+
 static void print_read(uint32_t status, const fezhalum_read *told) {
     uint32_t type = told->unit.nal_unit_type;
-    if (status != FEZHALUM_OK) printf("type %" PRIu32 " refused: %s, %" PRIu32 ":%" PRIu32 "\n", type, fezhalum_status_string(status), told->unit.table, told->unit.row);
+    if (status != FEZHALUM_OK) print_refusal(status, &told->unit);
     else if (type == 32) print_vps(&told->vps);
     else if (type == 33) print_sps(&told->sps);
     else if (type == 34) print_pps(&told->pps);

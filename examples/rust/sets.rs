@@ -73,9 +73,19 @@ fn text(status: u32) -> &'static str {
     }
 }
 
+/// Why a unit is refused: the element's name and what is allowed for it, or table and row.
+fn print_refusal(kind: u32, why: &Refusal) {
+    let name = if why.status == 8 { why.name() } else { String::new() };
+    if name.is_empty() {
+        println!("type {kind} refused: {}, {}:{}", text(why.status), why.table, why.row);
+    } else {
+        println!("type {kind} refused: {}, {name}: {}", text(why.status), why.bounds());
+    }
+}
+
 fn print_read(told: &sys::Read, read: Result<(), Refusal>) {
     match (read, told.unit.nal_unit_type) {
-        (Err(why), kind) => println!("type {kind} refused: {}, {}:{}", text(why.status), why.table, why.row),
+        (Err(why), kind) => print_refusal(kind, &why),
         (Ok(()), 32) => print_vps(&told.vps),
         (Ok(()), 33) => print_sps(&told.sps),
         (Ok(()), 34) => print_pps(&told.pps),

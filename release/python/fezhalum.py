@@ -165,9 +165,9 @@ def _element_name(table: int, row: int) -> str | None:
     """The name of a row's element, where the library tells it."""
     if not hasattr(_LIBRARY, "fezhalum_element_name"):
         return None
-    text = ctypes.create_string_buffer(256)
-    length = _LIBRARY.fezhalum_element_name(table, row, text, ctypes.c_size_t(len(text)))
-    return text.raw[:length].decode() or None
+    text = ctypes.create_string_buffer(512)
+    _LIBRARY.fezhalum_element_name(table, row, text, ctypes.c_size_t(len(text)))
+    return text.value.decode() or None
 
 
 def _plain(struct, kind: str) -> dict:

@@ -2,6 +2,7 @@
 #![tactic(auto)]
 
 mod controls;
+mod elements;
 mod layout;
 mod sets;
 

@@ -2,6 +2,7 @@
 
 mod bit_writer;
 mod bits;
+mod element_calls;
 mod element_lines;
 mod elements;
 mod expect;

@@ -1,11 +1,12 @@
 //! The name of a row.
-ghost use Rattle.std.specs.Prelude.{◌≡◌, ◌≤◌, ◌<◌, ◌↔◌, length, true, is_some, IfSome, IsSome};
+ghost use Rattle.std.specs.Prelude.{◌≡◌, ◌≤◌, ◌<◌, ◌↔◌, ◌-◌, [], length, map, true, is_some};
+ghost use Rattle.std.specs.Prelude.{IfSome, IsSome, slice_index_or};
 ghost use Rattle.hevc_row_names.specs.Rows.{is_row, is_among};
+ghost use Rattle.hevc_row_names.specs.Texts.{clause_of, text_of};
 
 use crate::rows::{
-    CLAUSES, TABLE_0, TABLE_1, TABLE_2, TABLE_2_FROM_27, TABLE_3, TABLE_4, TABLE_5, TABLE_6,
-    TABLE_7, TABLE_8, TABLE_9, TABLE_10, TABLE_11, TABLE_12, TABLE_13, TABLE_14, TABLE_15,
-    TABLE_16,
+    CLAUSES, TABLE_0, TABLE_1, TABLE_2, TABLE_3, TABLE_4, TABLE_5, TABLE_6, TABLE_7, TABLE_8,
+    TABLE_9, TABLE_10, TABLE_11, TABLE_12, TABLE_13, TABLE_14, TABLE_15, TABLE_16,
 };
 
 /// What H.265 calls a row, and where it has it.
@@ -21,7 +22,9 @@ pub struct RowName {
 /// What H.265 calls a row of a table, both by their numbers in docs/TABLES.md. There is a name for
 /// each row, and none for other numbers.
 pub fn row_name(table: u8, row: u8) -> Option<RowName>
-    ensures { is_some result ≡ is_row table row }
+    ensures rows { is_some result ≡ is_row table row }
+    ensures element { IfSome result (λ name. name.element.now ≡ text_of table row) }
+    ensures clause { IfSome result (λ name. name.clause.now ≡ clause_of table) }
 {
     let element = element_of(table, row)?;
     let clause = CLAUSES[usize::from(table)];
@@ -31,6 +34,7 @@ pub fn row_name(table: u8, row: u8) -> Option<RowName>
 /// The elements of a row of a table.
 fn element_of(table: u8, row: u8) -> Option<&'static str>
     ensures rows { is_some result ≡ is_row table row }
+    ensures text { IfSome result (λ text. text.now ≡ text_of table row) }
     ensures tables { IfSome result (λ _. table ≤ 16) }
 {
     match table {
@@ -57,18 +61,21 @@ fn element_of(table: u8, row: u8) -> Option<&'static str>
 
 /// The elements of a row of table 2, which has no rows 16 to 26.
 fn profile_element(row: u8) -> Option<&'static str>
-    ensures { is_some result ≡ is_row 2 row }
+    ensures rows { is_some result ≡ is_row 2 row }
+    ensures text { IfSome result (λ text. text.now ≡ text_of 2 row) }
 {
-    if row < 27 {
-        nth(&TABLE_2, row)
+    if (16..27).contains(&row) {
+        None
     } else {
-        nth(&TABLE_2_FROM_27, row - 26)
+        nth(&TABLE_2, row)
     }
 }
 
 /// The elements of row 1 and those after it, by the number of the row.
 fn nth(rows: &[&'static str], row: u8) -> Option<&'static str>
-    ensures { is_some result ≡ is_among (length rows.now) row }
+    ensures some { is_some result ≡ is_among (length rows.now) row }
+    ensures text { IfSome result (λ text.
+        text.now ≡ slice_index_or (map (λ t. t.now) rows.now) (row - 1) []) }
 {
     let index = usize::from(row).checked_sub(1)?;
     rows.get(index).copied()

@@ -53,8 +53,8 @@ pub(crate) const TABLE_1: [&str; 25] = [
     "vps_extension_flag",
 ];
 
-/// Table 2 (7.3.3), rows 1 to 15.
-pub(crate) const TABLE_2: [&str; 15] = [
+/// Table 2 (7.3.3), rows 1 to 31, of which those that aren't there are empty.
+pub(crate) const TABLE_2: [&str; 31] = [
     "general_profile_space",
     "general_tier_flag",
     "general_profile_idc",
@@ -70,10 +70,17 @@ pub(crate) const TABLE_2: [&str; 15] = [
     "general_reserved_zero_43bits",
     "general_inbld_flag",
     "general_reserved_zero_bit",
-];
-
-/// Table 2 (7.3.3), rows 27 to 31.
-pub(crate) const TABLE_2_FROM_27: [&str; 5] = [
+    "",
+    "",
+    "",
+    "",
+    "",
+    "",
+    "",
+    "",
+    "",
+    "",
+    "",
     "general_level_idc",
     "sub_layer_profile_present_flag[ i ], sub_layer_level_present_flag[ i ]",
     "reserved_zero_2bits[ i ]",
