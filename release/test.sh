@@ -93,8 +93,8 @@ fi
 if has python3 "Python"; then
     export PYTHONPATH=$release/python FEZHALUM_INCLUDE=$here/include FEZHALUM_LIBRARY=$here/lib/libfezhalum.so
     compare Python python3 release/users/show.py
-    python3 -m fezhalum "${streams[0]}" > "$work/said" || fails "python3 -m fezhalum: status $?"
-    python3 -m fezhalum --json "${streams[0]}" | python3 -c 'import json, sys; [json.loads(line) for line in sys.stdin]' ||
+    python3 -m fezhalum crates/hevc_bench/stdin > "$work/said" || fails "python3 -m fezhalum: status $?"
+    python3 -m fezhalum --json crates/hevc_bench/stdin | python3 -c 'import json, sys; [json.loads(line) for line in sys.stdin]' ||
         fails "python3 -m fezhalum --json: isn't JSON"
 fi
 if has aarch64-linux-gnu-gcc "aarch64" && has qemu-aarch64 "aarch64"; then

@@ -4,4 +4,4 @@
 mod ended;
 mod names;
 
-pub use names::{element_bounds, element_name};
+pub use names::{element_bounds, element_name, write_text};

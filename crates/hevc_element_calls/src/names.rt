@@ -46,8 +46,9 @@ fn bounds_of(table: u8, row: u8) -> &'static [u8]
     }
 }
 
-/// Writes as much of a text as there is room for. The answer is its size.
-fn write_text(text: &[u8], room: &mut [u8]) -> usize
+/// Writes as much of a text as there is room for, and zeros in all of the room after it, of which
+/// there is one at least. The answer is how many bytes the text has.
+pub fn write_text(text: &[u8], room: &mut [u8]) -> usize
     ensures { TellsText text.now room.old room.new result }
 {
     write_ended(text, room);

@@ -8,5 +8,6 @@ pub mod Pulling
 pub mod Reads
 pub mod Seeking
 pub mod Status
+pub mod Tells
 pub mod Units
 pub mod Views

@@ -14,6 +14,7 @@ mod pulled;
 mod reads;
 mod seeking;
 mod status;
+mod tells;
 mod units;
 
 pub use calls::{DecodeCall, accept_format, decode, flush, next_event, seek};
@@ -28,4 +29,5 @@ pub use laws::{all_ends_are_told, told_ends_are_so};
 pub use pulled::Pulled;
 pub use reads::{UnitRead, read_unit};
 pub use status::{FORMAT_NOT_AWAITED, MISSING_SPS, NO_CONTROLS, TOO_LONG};
+pub use tells::tell_unit;
 pub use units::{UnitCall, next_unit};

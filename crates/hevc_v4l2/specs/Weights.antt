@@ -7,6 +7,7 @@ use Rattle.hevc_records.specs.PredWeightTable.{PlainPredWeightTable}
 use Rattle.hevc_v4l2.specs.declared.error.ControlError.{ControlError}
 use Rattle.hevc_v4l2.specs.declared.error.ControlError.TheVariants.{ChromaDenominator, LumaOffset}
 use Rattle.hevc_v4l2.specs.declared.error.ControlError.TheVariants.{ChromaOffset}
+use Rattle.hevc_v4l2.specs.declared.weights.ChromaOffsets.{ChromaOffsets}
 use Rattle.hevc_v4l2.specs.declared.weights.V4l2HevcPredWeightTable.{V4l2HevcPredWeightTable}
 use Rattle.hevc_v4l2.specs.Arrays.{is_signed_byte, no_pair, padded}
 
@@ -50,6 +51,15 @@ abbrev pub chroma_offsets_l1 : (half_range : ℤ) → PlainPredWeightTable → L
 chroma_offsets_l1 half_range t =
     chroma_offsets half_range t.chroma_log2_weight_denom
     t.delta_chroma_weight_l1 t.delta_chroma_offset_l1
+
+-- those of both lists, where ChromaLog2WeightDenom is at most 7 (7.4.7.3)
+abbrev pub chroma_offsets_of : (half_range : ℤ) → PlainPredWeightTable → Option ChromaOffsets
+chroma_offsets_of half_range t =
+    if nat_lt 7 t.chroma_log2_weight_denom then None
+    else Some (record {
+      l0 = chroma_offsets_l0 half_range t;
+      l1 = chroma_offsets_l1 half_range t;
+    })
 
 abbrev pub luma_fits : PlainPredWeightTable → Bool
 luma_fits t = list_all is_signed_byte t.luma_offset_l0 && list_all is_signed_byte t.luma_offset_l1

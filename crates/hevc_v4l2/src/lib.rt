@@ -24,4 +24,4 @@ pub use picture_set::{V4l2CtrlHevcPps, pps_control};
 pub use scaling::{V4l2CtrlHevcScalingMatrix, scaling_control};
 pub use sequence_set::{V4l2CtrlHevcSps, sps_control};
 pub use slice::{SliceControls, V4l2CtrlHevcSliceParams, slice_controls};
-pub use weights::V4l2HevcPredWeightTable;
+pub use weights::{ChromaOffsets, V4l2HevcPredWeightTable, chroma_offsets_of};

@@ -1,5 +1,5 @@
 //! A slice segment: `struct v4l2_ctrl_hevc_slice_params`.
-ghost use Rattle.std.specs.Prelude.{◌≡◌, ◌≤◌, ◌*◌, pos, ◌≤ℤ◌, map, None, Some, IfNone, IfOk};
+ghost use Rattle.std.specs.Prelude.{◌≡◌, ◌≤◌, ◌*◌, map, None, Some, IfNone, IfOk};
 ghost use Rattle.std.specs.Prelude.{IfSome};
 ghost use Rattle.std.specs.Result.{result_err};
 ghost use Rattle.hevc_set_parts.specs.SliceType.{slice_type_number};
@@ -18,7 +18,7 @@ ghost use Rattle.hevc_v4l2.specs.Slice.{sizes_error, slice_error, slice_flags};
 use crate::buffer::{has_current, place_indices};
 use crate::error::ControlError;
 use crate::long_term::long_term_size;
-use crate::weights::{V4l2HevcPredWeightTable, weights_control};
+use crate::weights::{V4l2HevcPredWeightTable, half_range, weights_control};
 use hevc_dpb::Dpb;
 use hevc_events::flag_bits;
 use hevc_picture_slice::{Slice, SliceHeader};
@@ -184,16 +184,6 @@ fn included_bits(header: &SliceHeader, bits: u32) -> u32
     } else {
         bits
     }
-}
-
-/// WpOffsetHalfRangeC (7.4.3.2.2).
-#[tactic(auto, using(crate::proofs::Ranges::half_range_within))]
-fn half_range(sps: &Sps) -> i32
-    ensures value { result ≡ pos sps.now.wp_offset_half_range_c }
-    ensures least { pos 1 ≤ℤ result }
-    ensures most { result ≤ℤ pos 8192 }
-{
-    sps.wp_offset_half_range_c as i32
 }
 
 /// The indices of both lists; None where the current picture is in one.

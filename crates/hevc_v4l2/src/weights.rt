@@ -5,6 +5,7 @@ ghost use Rattle.std.specs.Int.{int_shr};
 ghost use Rattle.std.specs.Result.{result_err};
 ghost use Rattle.hevc_video_set.specs.PredWeightTable.{plain_pred_weight_table};
 ghost use Rattle.hevc_v4l2.specs.Weights.{chroma_offset, chroma_offset_pair, chroma_offsets};
+ghost use Rattle.hevc_v4l2.specs.Weights.{chroma_offsets_of};
 ghost use Rattle.hevc_v4l2.specs.Weights.{chroma_fits, clip3, control_of_weights, luma_fits};
 ghost use Rattle.hevc_v4l2.specs.Weights.{offsets_error, weights_error, with_chroma_offsets};
 
@@ -13,6 +14,7 @@ use crate::arrays::{
     signed_bytes_of,
 };
 use crate::error::ControlError;
+use hevc_sequence_set::Sps;
 use hevc_video_set::PredWeightTable;
 
 /// `struct v4l2_hevc_pred_weight_table`: the weights and offsets of weighted prediction (7.3.6.3),
@@ -48,6 +50,61 @@ struct ChromaScale {
     ghost denominator: { log2_denominator ≤ 7 },
 }
 
+/// The offsets of chroma of a slice's weights, of Cb and Cr: -8192 to 8191.
+#[derive(Clone, Copy)]
+pub struct ChromaOffsets {
+    /// ChromaOffsetL0 (7-56) of each entry of list 0.
+    pub l0: [[i16; 2]; 15],
+    /// ChromaOffsetL1 of each entry of list 1.
+    pub l1: [[i16; 2]; 15],
+}
+
+/// The offsets of chroma of these weights, by WpOffsetHalfRangeC of the sequence set (7-56). None
+/// where ChromaLog2WeightDenom is above 7, which H.265 doesn't allow (7.4.7.3).
+pub fn chroma_offsets_of(table: &PredWeightTable, sps: &Sps) -> Option<ChromaOffsets>
+    ensures { result
+        ≡ chroma_offsets_of (pos sps.now.wp_offset_half_range_c)
+        (plain_pred_weight_table table.now) }
+{
+    offsets_by(table, half_range(sps))
+}
+
+/// WpOffsetHalfRangeC (7.4.3.2.2).
+#[tactic(auto, using(crate::proofs::Ranges::half_range_within))]
+pub(crate) fn half_range(sps: &Sps) -> i32
+    ensures value { result ≡ pos sps.now.wp_offset_half_range_c }
+    ensures least { pos 1 ≤ℤ result }
+    ensures most { result ≤ℤ pos 8192 }
+{
+    sps.wp_offset_half_range_c as i32
+}
+
+/// The offsets of chroma, by WpOffsetHalfRangeC.
+fn offsets_by(table: &PredWeightTable, half_range: i32) -> Option<ChromaOffsets>
+    requires least { pos 1 ≤ℤ half_range }
+    requires most { half_range ≤ℤ pos 8192 }
+    ensures { result ≡ chroma_offsets_of half_range (plain_pred_weight_table table.now) }
+{
+    if table.chroma_log2_weight_denom > 7 {
+        return None;
+    }
+    let scale = ChromaScale {
+        half_range,
+        log2_denominator: table.chroma_log2_weight_denom,
+    };
+    let l0 = chroma_offsets(
+        scale,
+        &table.delta_chroma_weight_l0,
+        &table.delta_chroma_offset_l0,
+    );
+    let l1 = chroma_offsets(
+        scale,
+        &table.delta_chroma_weight_l1,
+        &table.delta_chroma_offset_l1,
+    );
+    Some(ChromaOffsets { l0, l1 })
+}
+
 /// The weights as a stateless decoder takes them, by WpOffsetHalfRangeC.
 ///
 /// Errors: `ChromaDenominator`; else `LumaOffset`; else `ChromaOffset`.
@@ -62,24 +119,10 @@ pub(crate) fn weights_control(
     ensures refused { result_err result
         ≡ weights_error half_range (plain_pred_weight_table table.now) }
 {
-    if table.chroma_log2_weight_denom > 7 {
-        return Err(ControlError::ChromaDenominator);
+    match offsets_by(table, half_range) {
+        Some(offsets) => with_chroma_offsets(table, &offsets.l0, &offsets.l1),
+        None => Err(ControlError::ChromaDenominator),
     }
-    let scale = ChromaScale {
-        half_range,
-        log2_denominator: table.chroma_log2_weight_denom,
-    };
-    let offsets_l0 = chroma_offsets(
-        scale,
-        &table.delta_chroma_weight_l0,
-        &table.delta_chroma_offset_l0,
-    );
-    let offsets_l1 = chroma_offsets(
-        scale,
-        &table.delta_chroma_weight_l1,
-        &table.delta_chroma_offset_l1,
-    );
-    with_chroma_offsets(table, &offsets_l0, &offsets_l1)
 }
 
 /// The weights with these offsets of chroma.

@@ -1,2 +1,11 @@
+pub mod Arrays
+pub mod Extension
+pub mod Lists
+pub mod Offsets
+pub mod Picture
 pub mod Range
+pub mod References
 pub mod Scaling
+pub mod ScreenContent
+pub mod Slice
+pub mod Surfaces
